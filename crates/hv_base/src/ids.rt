@@ -33,7 +33,7 @@ pub struct RowId {
 
 /// How many rows a transaction inserted and deleted in one partition of one table. The text of an
 /// unpartitioned table is empty.
-#[derive(Debug, Drop)]
+#[derive(Debug, Drop, PartialEq, Eq)]
 pub struct Touch {
     pub table: TableId,
     pub partition: Text,
