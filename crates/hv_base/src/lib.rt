@@ -14,3 +14,6 @@ pub use failure::{Failed, NoMemory};
 pub use ids::{JobId, Limits, RowId, TableId, Touch, TxnId, WriteId};
 pub use list::List;
 pub use text::Text;
+
+#[cfg(test)]
+mod tests;
