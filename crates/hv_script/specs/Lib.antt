@@ -1,0 +1,4 @@
+pub mod Items
+pub mod Reading
+pub mod Script
+pub mod Words

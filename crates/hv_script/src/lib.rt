@@ -1,0 +1,13 @@
+//! The words of the command line, and the script: its items, in order.
+#![tactic(auto)]
+
+mod items;
+mod reader;
+mod script;
+#[cfg(test)]
+mod tests;
+mod words;
+
+pub use items::{Item, Move, Stand};
+pub use script::{MAX_SCRIPT, MAX_STATEMENTS, MAX_TEXT, Script, ScriptFault, read_script};
+pub use words::{Command, DEFAULT_WORKERS, read_words};

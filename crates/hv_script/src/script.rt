@@ -1,0 +1,159 @@
+ghost use Rattle.std.specs.Prelude.{◌≡◌, ◌<◌, ◌^◌, length, map, IfOk};
+ghost use Rattle.hv_script.specs.Script.{HaveAscii, IsReading, begins_directive, earlier, front, high_line, item_line, limit_line, refused_line, texts_of};
+ghost use Rattle.hv_script.specs.Items.{first_of, items_of};
+
+use crate::items::Item;
+use crate::reader::{items, next_line};
+use hv_base::{List, NoMemory, Text};
+use std::alloc::Global;
+use thiserror::Error;
+
+/// The most bytes of a script.
+pub const MAX_SCRIPT: usize = 16_777_216;
+/// The most statements of a script.
+pub const MAX_STATEMENTS: usize = 10_000;
+/// The most bytes of a statement's text.
+pub const MAX_TEXT: usize = 32_768;
+
+/// A script: its statements' texts, in order. The statement at place k has the number k + 1.
+#[derive(Debug, Drop)]
+pub struct Script {
+    pub texts: List<Text>,
+}
+
+#[derive(Debug, Drop, Error)]
+pub enum ScriptFault {
+    /// The first line that is refused, from 1.
+    #[error("script refused at line {line}")]
+    Refused { line: u64 },
+    #[error("out of memory")]
+    NoMemory,
+}
+
+impl From<NoMemory> for ScriptFault {
+    ghost use Rattle.hv_script.specs.declared.script.ScriptFault.TheVariants.{NoMemory as OutOfMemory};
+
+    ghost from_gives = { λ _ fault. fault ≡ OutOfMemory };
+
+    fn from(_refused: NoMemory) -> ScriptFault {
+        ScriptFault::NoMemory
+    }
+}
+
+/// The line of the first byte that isn't ASCII.
+fn first_high(bytes: &[u8]) -> Option<u64>
+    requires short { length bytes.now < 2 ^ 63 }
+    ensures value { result ≡ high_line 1 bytes.now }
+{
+    let mut line = 1;
+    for byte in bytes {
+        if *byte > 127 {
+            return Some(line);
+        }
+        line = next_line(line, *byte);
+    }
+    None
+}
+
+/// The line of the first byte that is too much.
+fn first_beyond(script: &[u8]) -> Option<u64>
+    ensures value { result ≡ limit_line script.now }
+{
+    if script.len() > MAX_SCRIPT {
+        let feeds = script[..MAX_SCRIPT]
+            .iter()
+            .filter(|byte| **byte == b'\n')
+            .count();
+        Some(1 + feeds as u64)
+    } else {
+        None
+    }
+}
+
+fn is_directive(bytes: &[u8]) -> bool
+    ensures value { result ≡ begins_directive (first_of bytes.now) }
+{
+    match bytes {
+        [] => false,
+        [first, ..] => *first == b'!',
+    }
+}
+
+/// The line of the first item that is refused.
+fn first_refused(items: &[Item]) -> Option<u64>
+    ensures value { result ≡ item_line 0 items.now }
+{
+    for (count, item) in items.iter().enumerate() {
+        let bytes = item.bytes.as_slice();
+        if is_directive(bytes) || bytes.len() > MAX_TEXT || count >= MAX_STATEMENTS {
+            return Some(item.line);
+        }
+    }
+    None
+}
+
+fn earlier_of(line: Option<u64>, other: Option<u64>) -> Option<u64>
+    ensures value { result ≡ earlier line other }
+{
+    match (line, other) {
+        (None, other) => other,
+        (Some(line), None) => Some(line),
+        (Some(line), Some(other)) => Some(line.min(other)),
+    }
+}
+
+/// The first line at which a script is refused, whose items before the limit these are.
+fn refusal(script: &[u8], before: &[u8], items: &[Item]) -> Option<u64>
+    requires short { length before.now < 2 ^ 63 }
+    requires before { before.now ≡ front script.now }
+    requires items { items.now ≡ items_of before.now }
+    ensures value { result ≡ refused_line script.now }
+{
+    earlier_of(
+        earlier_of(first_high(before), first_beyond(script)),
+        first_refused(items),
+    )
+}
+
+/// What of a script is read.
+fn readable(script: &[u8]) -> &[u8]
+    ensures value { result.now ≡ front script.now }
+    ensures short { length result.now < 2 ^ 63 }
+{
+    if script.len() > MAX_SCRIPT {
+        &script[..MAX_SCRIPT]
+    } else {
+        script
+    }
+}
+
+/// The texts of items of which no byte is above 127.
+fn texts(alloc: Global, items: &[Item]) -> Result<Vec<Text>, NoMemory>
+    requires ascii { HaveAscii items.now }
+    ensures value { IfOk result (λ found. found.items ≡ map (λ (item : Item). item.bytes) items.now) }
+{
+    let mut texts = Vec::with_capacity(alloc, items.len())?;
+    for item in items {
+        let bytes = Vec::from_slice(alloc, item.bytes.as_slice())?;
+        texts.push(Text::from_bytes(bytes))?;
+    }
+    Ok(texts)
+}
+
+/// The script that these bytes are.
+///
+/// # Errors
+/// `Refused` with the first line where a fault stands: a byte above 127, the byte after 16 MiB, a
+/// directive, statement 10,001, or a text above 32,768 bytes.
+pub fn read_script(alloc: Global, script: &[u8]) -> Result<Script, ScriptFault>
+    ensures read { IsReading (refused_line script.now) (texts_of script.now) result }
+{
+    let before = readable(script);
+    let items = items(alloc, before)?;
+    match refusal(script, before, &items) {
+        Some(line) => Err(ScriptFault::Refused { line }),
+        None => Ok(Script {
+            texts: List::from_vec(texts(alloc, &items)?),
+        }),
+    }
+}
