@@ -1,2 +1,5 @@
 pub mod Spelling
 pub mod Journal
+pub mod State
+pub mod Answers
+pub mod Legal

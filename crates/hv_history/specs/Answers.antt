@@ -1,0 +1,123 @@
+-- What the program prints for a statement whose transaction ended. Source: the texts are this project's profile.
+use Rattle.std.specs.Prelude.{◌≡◌, ℕ, ◌==◌, Bool, true, false, if◌then◌else◌, Option, Some, None, List, [], ◌∷◌, ◌++◌, map, sum_by, codes}
+use Rattle.std.specs.List.{flat_map, join_with_byte}
+use Rattle.std.specs.Option.{option_map, option_map_or}
+use Rattle.std.specs.Fmt.{decimal}
+use Rattle.hv_base.specs.declared.ids.Touch.{Touch}
+use Rattle.hv_base.specs.declared.ids.RowId.{RowId}
+use Rattle.hv_value.specs.declared.row.Row.{Row}
+use Rattle.hv_value.specs.Printing.{printed}
+use Rattle.hv_logic.specs.Meaning.{Meaning, Refused, Rows, Change, Make, Plain, Unbuilt}
+use Rattle.hv_history.specs.declared.entry.FilePlace.{FilePlace}
+use Rattle.hv_history.specs.declared.entry.Cause.{Cause}
+use Rattle.hv_history.specs.declared.entry.Cause.TheVariants as cause
+use Rattle.hv_history.specs.State.{State, Table, Snapshot, Transaction, Ending, Committed, Aborted, Made, Dropped, numbered, meaning}
+
+abbrev pub tab : ℕ
+tab = 9
+
+abbrev pub line_feed : ℕ
+line_feed = 10
+
+abbrev pub line : List ℕ → List ℕ
+line text = text ++ line_feed ∷ []
+
+-- ---- a query prints its columns' names and its rows, with a tab between two values
+
+abbrev pub row_line : Row → List ℕ
+row_line row = line (join_with_byte tab (map printed row.values))
+
+unfoldable pub listing : List (List ℕ) → List Row → List ℕ
+listing names rows = line (join_with_byte tab names) ++ flat_map row_line rows
+
+-- ---- a change prints how many rows it inserted and deleted
+
+unfoldable pub counts_line : List Touch → List ℕ
+counts_line wrote =
+    line (codes "OK inserted " ++ decimal (sum_by (λ (touch : Touch). touch.inserted) wrote)
+    ++ codes " deleted " ++ decimal (sum_by (λ (touch : Touch). touch.deleted) wrote))
+
+unfoldable pub ok_line : List ℕ
+ok_line = line (codes "OK")
+
+abbrev pub committed_text : Meaning → List Touch → List ℕ
+committed_text (Rows names rows) wrote = listing names rows
+committed_text (Change info effect) wrote = counts_line wrote
+committed_text _ wrote = ok_line
+
+-- ---- a refusal prints FAILED, its number and its name
+
+abbrev pub refusal_name : ℕ → List ℕ
+refusal_name number =
+    if number == 10 then codes "NoTable"
+    else (if number == 11 then codes "NoColumn"
+    else (if number == 12 then codes "Ambiguous"
+    else (if number == 13 then codes "BadType"
+    else (if number == 14 then codes "BadCount"
+    else (if number == 15 then codes "NotGrouped"
+    else (if number == 16 then codes "FixedColumn"
+    else (if number == 17 then codes "MergeClauses"
+    else (if number == 18 then codes "TableExists" else codes "Limit"))))))))
+
+unfoldable pub failed_line : ℕ → List ℕ → List ℕ
+failed_line number text = line (codes "FAILED " ++ decimal number ++ codes " " ++ text)
+
+-- a space and the text, where there is one
+abbrev pub after_space : List ℕ → List ℕ
+after_space [] = []
+after_space (b ∷ text) = codes " " ++ b ∷ text
+
+abbrev pub name_of : Option Table → List ℕ
+name_of None = []
+name_of (Some table) = table.info.name
+
+abbrev pub name_at : Option Snapshot → ℕ → List ℕ
+name_at None table = []
+name_at (Some snapshot) table = name_of (numbered snapshot.tables table)
+
+abbrev pub row_text : RowId → List ℕ
+row_text row = join_with_byte 58 (map decimal (row.write.0 ∷ row.statement ∷ row.bucket ∷ row.row ∷ []))
+
+-- a bucket's file: five digits behind its name
+abbrev pub five_digits : ℕ → List ℕ
+five_digits n = map (λ k. 48 + n / k % 10) (10000 ∷ 1000 ∷ 100 ∷ 10 ∷ 1 ∷ [])
+
+abbrev pub place_text : FilePlace → List ℕ
+place_text place = place.dir ++ codes "/bucket_" ++ five_digits place.bucket
+
+unfoldable pub cause_text : Option Snapshot → Cause → List ℕ
+cause_text snapshot (cause.Refused number) = failed_line number (refusal_name number)
+cause_text snapshot (cause.Conflict by table partition) =
+    failed_line 30 (codes "Conflict with " ++ decimal by.0 ++ codes " on " ++ name_at snapshot table.0 ++ after_space partition)
+cause_text snapshot (cause.Request by) = failed_line 31 (codes "Aborted by " ++ decimal by.0)
+cause_text snapshot cause.Full = failed_line 32 (codes "JournalFull")
+cause_text snapshot (cause.Twice partition row) = failed_line 36 (codes "MergeTwice " ++ row_text row ++ after_space partition)
+cause_text snapshot (cause.Blocked holder) = failed_line 37 (codes "Blocked by " ++ decimal holder.0)
+cause_text snapshot (cause.ReadFault count) = failed_line 38 (codes "ReadFault " ++ decimal count)
+cause_text snapshot (cause.WriteFault count) = failed_line 39 (codes "WriteFault " ++ decimal count)
+cause_text snapshot (cause.Damaged place) = failed_line 43 (codes "Damaged " ++ place_text place ++ codes " at " ++ decimal place.at)
+cause_text snapshot cause.RowLimit = failed_line 41 (codes "RowLimit")
+cause_text snapshot cause.PartitionLimit = failed_line 42 (codes "PartitionLimit")
+cause_text snapshot cause.Memory = failed_line 40 (codes "NoMemory")
+-- a run that stopped prints nothing, so this one is never shown
+cause_text snapshot cause.Lost = []
+
+-- ---- the answer
+
+abbrev pub ending_text : Transaction → Ending → List ℕ
+ending_text transaction (Committed place wrote) = committed_text (meaning transaction) wrote
+ending_text transaction (Made place table) = ok_line
+ending_text transaction (Dropped place table) = ok_line
+ending_text transaction (Aborted place cause) = cause_text transaction.snapshot cause
+
+-- what is printed for a transaction, None while it is open
+abbrev pub answer_of : Transaction → Option (List ℕ)
+answer_of transaction = option_map (ending_text transaction) transaction.ending
+
+abbrev pub answer_in : Option Transaction → Option (List ℕ)
+answer_in None = None
+answer_in (Some transaction) = answer_of transaction
+
+-- what is printed for the transaction of that number, None where there is none or it is open
+abbrev pub answer : State → ℕ → Option (List ℕ)
+answer state txn = answer_in (numbered state.transactions txn)
