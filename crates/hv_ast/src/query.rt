@@ -1,0 +1,119 @@
+use crate::expr::Expr;
+use hv_base::{Boxed, List, Text};
+
+/// `expr [ASC | DESC]`
+#[derive(Debug, Drop, PartialEq, Eq)]
+pub struct Key {
+    pub expr: Expr,
+    pub descending: bool,
+}
+
+/// What a window function counts or sums.
+#[derive(Debug, Drop, PartialEq, Eq)]
+pub enum WindowFunction {
+    RowNumber,
+    Rank,
+    Sum(Expr),
+}
+
+/// `function OVER ( [PARTITION BY expr {, expr}] ORDER BY key {, key} )`
+#[derive(Debug, Drop, PartialEq, Eq)]
+pub struct Window {
+    pub function: WindowFunction,
+    pub partition: List<Expr>,
+    pub order: List<Key>,
+}
+
+/// An item of a select's list.
+#[derive(Debug, Drop, PartialEq, Eq)]
+pub enum Item {
+    /// `*`
+    All,
+    /// `table . *`
+    AllOf(Text),
+    /// An expression and its alias.
+    One(Expr, Option<Text>),
+    /// A window and its alias.
+    Window(Window, Option<Text>),
+}
+
+#[derive(Clone, Copy, Debug, PartialEq, Eq)]
+pub enum JoinKind {
+    /// A comma, or CROSS JOIN.
+    Cross,
+    Inner,
+    Left,
+    Right,
+    Full,
+    LeftSemi,
+}
+
+/// What a lateral view makes rows of.
+#[derive(Debug, Drop, PartialEq, Eq)]
+pub enum Explode {
+    /// `EXPLODE`, and the name of its column, if it is written.
+    Elements(Option<Text>),
+    /// `POSEXPLODE`, and the names of its two columns.
+    Positions(Text, Text),
+}
+
+/// `LATERAL VIEW [OUTER] explode ( array ) alias [AS names]`
+#[derive(Debug, Drop, PartialEq, Eq)]
+pub struct Lateral {
+    pub outer: bool,
+    pub array: Expr,
+    pub alias: Text,
+    pub explode: Explode,
+}
+
+/// What stands in FROM, or behind USING.
+#[derive(Debug, Drop, PartialEq, Eq)]
+pub enum Source {
+    /// A table's name and its alias.
+    Table(Text, Option<Text>),
+    /// A query in parentheses and its alias.
+    Query(Boxed<Query>, Text),
+}
+
+/// A source that is joined to those before it.
+#[derive(Debug, Drop, PartialEq, Eq)]
+pub struct Join<S = Source> {
+    pub kind: JoinKind,
+    pub source: S,
+    pub on: Option<Expr>,
+}
+
+/// `FROM source {join} {lateral}`
+#[derive(Debug, Drop, PartialEq, Eq)]
+pub struct From<S = Source> {
+    pub source: S,
+    pub joins: List<Join<S>>,
+    pub laterals: List<Lateral>,
+}
+
+#[derive(Debug, Drop, PartialEq, Eq)]
+pub struct Select<S = Source> {
+    pub distinct: bool,
+    pub items: List<Item>,
+    pub from: Option<From<S>>,
+    pub filter: Option<Expr>,
+    /// Empty without GROUP BY.
+    pub group: List<Expr>,
+    pub having: Option<Expr>,
+}
+
+/// `UNION [ALL | DISTINCT] select`
+#[derive(Debug, Drop, PartialEq, Eq)]
+pub struct Union<S = Source> {
+    pub all: bool,
+    pub select: Select<S>,
+}
+
+#[derive(Debug, Drop, PartialEq, Eq)]
+pub struct Query<S = Source> {
+    pub select: Select<S>,
+    pub unions: List<Union<S>>,
+    /// Empty without ORDER BY.
+    pub order: List<Key>,
+    pub limit: Option<u64>,
+}

@@ -1,0 +1,25 @@
+use hv_base::Text;
+
+/// What a token is.
+#[derive(Debug, Drop, PartialEq, Eq)]
+pub enum Lexeme {
+    /// A word, in lower case: a keyword or an identifier.
+    Word(Text),
+    /// An identifier between backquotes, in lower case. It is never a keyword.
+    Quoted(Text),
+    /// A number of type INT.
+    Int(i32),
+    /// A number of type BIGINT.
+    Big(i64),
+    /// A string after its escapes.
+    Str(Text),
+    /// A symbol, as `<=`.
+    Symbol(Text),
+}
+
+/// A token of a text, and the place of its first byte, from 0.
+#[derive(Debug, Drop, PartialEq, Eq)]
+pub struct Token {
+    pub what: Lexeme,
+    pub at: u64,
+}

@@ -1,3 +1,0 @@
-pub mod Sorting
-pub mod Rows
-pub mod Meaning
