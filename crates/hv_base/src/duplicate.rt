@@ -7,6 +7,9 @@ use crate::text::Text;
 use std::alloc::Global;
 
 /// A copy that equals its source.
+///
+/// A type that holds itself through `List` or `Boxed` writes its `duplicate` as a cycle with a
+/// function over a slice of its own values, since a recursion isn't followed through the impls here.
 pub trait Duplicate: Sized {
     fn duplicate(&self, alloc: Global) -> Result<Self, NoMemory>
         ensures same { IfOk result (λ copy. copy ≡ self.now) };
@@ -26,6 +29,15 @@ impl<T: Duplicate + Drop> Duplicate for List<T> {
             copy.push(item.duplicate(alloc)?)?;
         }
         Ok(List::from_vec(copy))
+    }
+}
+
+impl<T: Duplicate + Drop> Duplicate for Option<T> {
+    fn duplicate(&self, alloc: Global) -> Result<Option<T>, NoMemory> {
+        match self {
+            Some(value) => Ok(Some(value.duplicate(alloc)?)),
+            None => Ok(None),
+        }
     }
 }
 
