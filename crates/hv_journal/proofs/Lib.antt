@@ -6,3 +6,4 @@ pub mod Again
 pub mod Forms
 pub mod Only
 pub mod Books
+pub mod Room

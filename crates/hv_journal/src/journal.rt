@@ -3,8 +3,8 @@ ghost use Rattle.hv_history.specs.declared.entry.Entry.{Entry};
 ghost use Rattle.hv_history.specs.Journal.{IsJournal, Reads, IsBadAt, place_of};
 ghost use Rattle.hv_journal.specs.Gates.{IsClosed, Opens, IsFaultOf, IsFaultIn};
 
-use crate::decoding::read_record;
 use crate::fault::{JournalFault, RecordFault};
+use crate::reading::records::read_record;
 use hv_history::Entry;
 use std::alloc::Global;
 

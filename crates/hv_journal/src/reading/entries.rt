@@ -2,9 +2,9 @@ ghost use Rattle.std.specs.Prelude.{◌≡◌, ◌∷◌, ◌++◌, IfOk};
 ghost use Rattle.hv_history.specs.Spelling.{entry_spelling, HasSpelling};
 ghost use Rattle.hv_journal.specs.Reading.{Gives, boot_at, opened_at, start_at, given_at, commit_at, abort_at, create_at, drop_at, asked_at, picked_at, published_at, empty_at, cleaned_at, failed_at, forgot_at, fields_at, entry_at};
 
-use crate::causes::{cause_of, job_cause_of};
 use crate::fault::RecordFault;
-use crate::fields::{half_of, kind_of, text_of, touches_of, word_of};
+use crate::reading::causes::{cause_of, job_cause_of};
+use crate::reading::fields::{half_of, kind_of, text_of, touches_of, word_of};
 use hv_base::{JobId, TableId, TxnId, WriteId};
 use hv_history::Entry;
 use std::alloc::Global;

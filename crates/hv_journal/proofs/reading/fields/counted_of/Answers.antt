@@ -3,7 +3,7 @@ use Rattle.std.proofs.lemmas.Result.{err_from_is_err_and}
 use Rattle.std.proofs.lemmas.Grind.{common_steps}
 use Rattle.hv_journal.specs.Reading.{counted_at}
 use Rattle.hv_journal.proofs.Counted.{goes_on, ends, is_done, takes_more}
-use Rattle.hv_journal.proofs.fields.counted_of.Goals as goal
+use Rattle.hv_journal.proofs.reading.fields.counted_of.Goals as goal
 
 pub returns-in_err-touch-clause-exact : goal.returns-in_err-touch-clause-exact
 returns-in_err-touch-clause-exact c =

@@ -4,9 +4,9 @@ ghost use Rattle.hv_history.specs.Spelling.{entry_spelling, HasSpelling};
 ghost use Rattle.hv_history.specs.Journal.{record_of, HasRecord};
 ghost use Rattle.hv_journal.specs.Reading.{Gives, whole_of, record_at};
 
-use crate::entries::entry_of;
 use crate::fault::RecordFault;
-use crate::fields::half_of;
+use crate::reading::entries::entry_of;
+use crate::reading::fields::half_of;
 use hv_history::Entry;
 use std::alloc::Global;
 

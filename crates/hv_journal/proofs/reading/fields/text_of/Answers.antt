@@ -1,6 +1,6 @@
 use Rattle.std.proofs.Common.{◌∙◌, rules, arith}
 use Rattle.hv_journal.proofs.Texts.{text_none, text_some, text_front}
-use Rattle.hv_journal.proofs.fields.text_of.Goals as goal
+use Rattle.hv_journal.proofs.reading.fields.text_of.Goals as goal
 
 pub returns-in_default-clause-exact : goal.returns-in_default-clause-exact
 returns-in_default-clause-exact c =

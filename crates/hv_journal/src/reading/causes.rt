@@ -3,7 +3,7 @@ ghost use Rattle.hv_history.specs.Spelling.{cause_spelling, job_cause_spelling, 
 ghost use Rattle.hv_journal.specs.Reading.{Gives, refused_at, conflict_at, request_at, twice_at, blocked_at, read_fault_at, write_fault_at, damaged_at, cause_fields_at, cause_at, job_read_fault_at, job_write_fault_at, job_damaged_at, job_cause_fields_at, job_cause_at};
 
 use crate::fault::RecordFault;
-use crate::fields::{half_of, place_of, row_of, text_of, word_of};
+use crate::reading::fields::{half_of, place_of, row_of, text_of, word_of};
 use hv_base::{TableId, TxnId};
 use hv_history::{Cause, JobCause};
 use std::alloc::Global;

@@ -1,6 +1,6 @@
 use Rattle.std.proofs.Common.{sym, ◌∙◌, arith}
 use Rattle.hv_journal.proofs.Only.{record_front as record_parts}
-use Rattle.hv_journal.proofs.decoding.record_front.Goals as goal
+use Rattle.hv_journal.proofs.reading.records.record_front.Goals as goal
 
 pub returns-clause-found : goal.returns-clause-found
 returns-clause-found c =

@@ -1,7 +1,7 @@
 use Rattle.std.proofs.Common.{◌≡◌, ◌-◌, length}
 use Rattle.hv_journal.specs.Reading.{counted_at}
 use Rattle.hv_journal.proofs.Counted.{with_front, TakesTouches}
-use Rattle.hv_journal.proofs.fields.counted_of.Given as goal
+use Rattle.hv_journal.proofs.reading.fields.counted_of.Given as goal
 
 abbrev pub invariant-loop : goal.invariant-loop
 invariant-loop l = record {
