@@ -1,0 +1,2 @@
+pub mod RenameLemmas
+pub mod TreeLemmas
