@@ -7,3 +7,4 @@ pub mod Forms
 pub mod Only
 pub mod Books
 pub mod Room
+pub mod Appended

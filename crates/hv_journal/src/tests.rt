@@ -1,6 +1,7 @@
 use super::*;
 use hv_base::{JobId, List, RowId, TableId, Text, Touch, TxnId, WriteId};
 use hv_history::{Cause, Entry, FilePlace, JobCause, JobKind};
+use hv_shelf::{Fail as Planned, MemoryShelf, Op};
 use std::alloc::Global;
 use std::process::Abort;
 use std::test::Fail;
@@ -294,6 +295,52 @@ fn journals(rt: HostRuntime) -> Result<(), Fail> {
             Err(JournalFault::BadJournal { at: found }) => assert_eq!(rt; found, *at),
             _ => panic!(rt; "{bytes:?} is read"),
         }
+    }
+    Ok(())
+}
+
+/// Appends a Boot to an empty journal that fails at one call of `op` if there are so many. Answers whether
+/// it was acknowledged, and where the closed gate is said to stand.
+fn append_boot(
+    rt: &impl Abort,
+    alloc: Global,
+    op: Op,
+    nth: u64,
+) -> Result<(MemoryShelf, bool, u64), Fail> {
+    let mut shelf = MemoryShelf::new(alloc, vec![in alloc; Planned { op, nth }]?)?;
+    open_empty(&mut shelf)?;
+    assert!(rt; shelf.journal().len() == 1);
+    let boot = decode_entry(alloc, b"\x01\0\0\0\0\0\0\0\0")?;
+    let mut buffer = Vec::with_capacity(alloc, 64)?;
+    assert!(rt; record_length(&boot) == 13);
+    let mut place = 0;
+    let done = append(&mut shelf, &mut place, &boot, &mut buffer).is_ok();
+    Ok((shelf, done, place))
+}
+
+#[test]
+fn appends_behind_the_closed_gate(rt: HostRuntime) -> Result<(), Fail> {
+    let alloc = rt.alloc();
+    let (shelf, done, place) = append_boot(&rt, alloc, Op::JournalSync, 9)?;
+    assert!(rt; done);
+    assert_eq!(rt;
+        shelf.journal(),
+        b"\x01\0\0\0\x09\x01\0\0\0\0\0\0\0\0\0".as_slice()
+    );
+    assert_eq!(rt; place, 14);
+    // The record and its gate come first, and the gate before them is opened last.
+    let calls = [
+        (Op::JournalWrite, 1, 1, 0),
+        (Op::JournalSync, 1, 15, 0),
+        (Op::JournalWrite, 2, 15, 0),
+        (Op::JournalSync, 2, 15, 1),
+    ];
+    for (op, nth, len, gate) in calls {
+        let (shelf, done, place) = append_boot(&rt, alloc, op, nth)?;
+        assert!(rt; !done);
+        assert_eq!(rt; place, 0);
+        assert_eq!(rt; shelf.journal().len(), len);
+        assert_eq!(rt; shelf.journal().first(), Some(&gate));
     }
     Ok(())
 }
