@@ -1,7 +1,7 @@
 -- The journal: gates and records. A gate is a byte; 0 is closed, any other is open. Behind an open gate
 -- stands a record, and then the next gate; at the first closed gate the book ends, and what stands behind
 -- it doesn't matter. This project's profile.
-use Rattle.std.specs.Prelude.{◌≡◌, ◌≢◌, ℕ, suc, zero, ◌+◌, ◌<◌, ◌^◌, List, [], ◌∷◌, ◌++◌, length}
+use Rattle.std.specs.Prelude.{◌≡◌, ◌≢◌, ℕ, suc, zero, ◌+◌, ◌<◌, ◌≤◌, ◌^◌, List, [], ◌∷◌, ◌++◌, length}
 use Rattle.std.specs.List.{flat_map}
 use Rattle.hv_history.specs.declared.entry.Entry.{Entry}
 use Rattle.hv_history.specs.Spelling.{half, entry_spelling, HasSpelling}
@@ -44,10 +44,12 @@ IsBadGate (zero ∷ after) = ⊥
 IsBadGate (suc gate ∷ after) =
     (e : Entry) (rest : List ℕ) → HasRecord e → after ≡ record_of e ++ rest → ⊥
 
--- the bytes begin with records of some book up to this place, and no good gate stands there
+-- the bytes are more than an empty book's; they begin with records up to this place, and no good gate
+-- stands there
 abbrev pub IsBadAt : List ℕ → ℕ → Type 0
 IsBadAt bytes at =
-    (book : List Entry) × (rest : List ℕ) × Leads book bytes rest × (at ≡ place_of book) × IsBadGate rest
+    (book : List Entry) × (rest : List ℕ) × (2 ≤ length bytes) × Leads book bytes rest
+    × (at ≡ place_of book) × IsBadGate rest
 
 -- a journal as it is written: open gates are 1, and nothing stands behind the closed one
 unfoldable pub journal_of : List Entry → List ℕ

@@ -1,0 +1,21 @@
+use Rattle.std.proofs.Common.{◌≡◌, [], ◌∷◌, ◌++◌, refl, sym, subst, arith}
+use Rattle.std.proofs.lemmas.Grind.{common_steps}
+use Rattle.std.proofs.lemmas.Result.{err_from_is_err_and}
+use Rattle.hv_history.specs.Journal.{record_of}
+use Rattle.hv_journal.specs.Appending.{Holds}
+use Rattle.hv_journal.proofs.Appended.{gate_closed, gate_opened}
+use Rattle.hv_journal.proofs.appending.append.Goals as goal
+
+pub returns-in_err-write_through-2-clause-no_memory : goal.returns-in_err-write_through-2-clause-no_memory
+returns-in_err-write_through-2-clause-no_memory g c = λ full book at held.
+    let told = g.D.Shelf.told in
+    let bytes : c.as_slice.result.now ≡ record_of c.args.entry.now ++ 0 ∷ [] = grind (arith, common_steps) in
+    let before = gate_closed (told c.args.shelf.now) (told c.write_through.new.shelf) c.args.entry.now book c.args.place.now c.as_slice.result.now bytes c.in_ok-write_through.ensures.done at held in
+    let p = err_from_is_err_and c.from_residual-in_err-write_through-2.result c.from_residual-in_err-write_through-2.ensures.1 in
+    subst (λ x. Holds x book) (sym (c.in_err-write_through-2.ensures.no_memory (cc (full, p.1, p.2)))) before
+
+pub returns-clause-added : goal.returns-clause-added
+returns-clause-added g c = λ book at held.
+    let told = g.D.Shelf.told in
+    let bytes : c.as_slice.result.now ≡ record_of c.args.entry.now ++ 0 ∷ [] = grind (arith, common_steps) in
+    gate_opened (told c.args.shelf.now) (told c.write_through.new.shelf) (told c.write_through-2.new.shelf) c.args.entry.now book c.args.place.now c.as_slice.result.now _ c.encode_entry.ensures.has bytes refl c.in_ok-write_through.ensures.done c.in_ok-write_through-2.ensures.done at held

@@ -1,0 +1,283 @@
+ghost use Rattle.std.specs.Prelude.{◌≡◌, ◌∷◌, ◌++◌, IfOk};
+ghost use Rattle.hv_history.specs.Spelling.{entry_spelling, HasSpelling};
+ghost use Rattle.hv_journal.specs.Reading.{Gives, boot_at, opened_at, start_at, given_at, commit_at, abort_at, create_at, drop_at, asked_at, picked_at, published_at, empty_at, cleaned_at, failed_at, forgot_at, fields_at, entry_at};
+
+use crate::fault::RecordFault;
+use crate::reading::causes::{cause_of, job_cause_of};
+use crate::reading::fields::{half_of, kind_of, text_of, touches_of, word_of};
+use hv_base::{JobId, TableId, TxnId, WriteId};
+use hv_history::Entry;
+use std::alloc::Global;
+
+#[tactic(auto, unfolding(crate::specs::Reading::boot_at))]
+fn boot_of(bytes: &[u8]) -> Result<(Entry, &[u8]), RecordFault>
+    ensures exact { Gives (λ x. (x.0, x.1.now)) result (boot_at bytes.now) }
+    ensures found { IfOk result (λ x. HasSpelling x.0 × (1 ∷ bytes.now ≡ entry_spelling x.0 ++ x.1.now)) }
+{
+    let (run, rest) = word_of(bytes)?;
+    Ok((Entry::Boot { run }, rest))
+}
+
+#[tactic(auto, unfolding(crate::specs::Reading::opened_at))]
+fn opened_of(alloc: Global, bytes: &[u8]) -> Result<(Entry, &[u8]), RecordFault>
+    ensures exact { Gives (λ x. (x.0, x.1.now)) result (opened_at bytes.now) }
+    ensures found { IfOk result (λ x. HasSpelling x.0 × (2 ∷ bytes.now ≡ entry_spelling x.0 ++ x.1.now)) }
+{
+    let (txn, rest) = word_of(bytes)?;
+    let (session, rest) = text_of(alloc, rest)?;
+    let (number, rest) = word_of(rest)?;
+    let (text, rest) = text_of(alloc, rest)?;
+    Ok((
+        Entry::Opened {
+            txn: TxnId(txn),
+            session,
+            number,
+            text,
+        },
+        rest,
+    ))
+}
+
+#[tactic(auto, unfolding(crate::specs::Reading::start_at))]
+fn start_of(bytes: &[u8]) -> Result<(Entry, &[u8]), RecordFault>
+    ensures exact { Gives (λ x. (x.0, x.1.now)) result (start_at bytes.now) }
+    ensures found { IfOk result (λ x. HasSpelling x.0 × (3 ∷ bytes.now ≡ entry_spelling x.0 ++ x.1.now)) }
+{
+    let (txn, rest) = word_of(bytes)?;
+    let (statement, rest) = half_of(rest)?;
+    Ok((
+        Entry::Start {
+            txn: TxnId(txn),
+            statement,
+        },
+        rest,
+    ))
+}
+
+#[tactic(auto, unfolding(crate::specs::Reading::given_at))]
+fn given_of(bytes: &[u8]) -> Result<(Entry, &[u8]), RecordFault>
+    ensures exact { Gives (λ x. (x.0, x.1.now)) result (given_at bytes.now) }
+    ensures found { IfOk result (λ x. HasSpelling x.0 × (4 ∷ bytes.now ≡ entry_spelling x.0 ++ x.1.now)) }
+{
+    let (txn, rest) = word_of(bytes)?;
+    let (table, rest) = word_of(rest)?;
+    let (write, rest) = word_of(rest)?;
+    Ok((
+        Entry::Given {
+            txn: TxnId(txn),
+            table: TableId(table),
+            write: WriteId(write),
+        },
+        rest,
+    ))
+}
+
+#[tactic(auto, unfolding(crate::specs::Reading::commit_at))]
+fn commit_of(alloc: Global, bytes: &[u8]) -> Result<(Entry, &[u8]), RecordFault>
+    ensures exact { Gives (λ x. (x.0, x.1.now)) result (commit_at bytes.now) }
+    ensures found { IfOk result (λ x. HasSpelling x.0 × (5 ∷ bytes.now ≡ entry_spelling x.0 ++ x.1.now)) }
+{
+    let (txn, rest) = word_of(bytes)?;
+    let (wrote, rest) = touches_of(alloc, rest)?;
+    Ok((
+        Entry::Commit {
+            txn: TxnId(txn),
+            wrote,
+        },
+        rest,
+    ))
+}
+
+#[tactic(auto, unfolding(crate::specs::Reading::abort_at))]
+fn abort_of(alloc: Global, bytes: &[u8]) -> Result<(Entry, &[u8]), RecordFault>
+    ensures exact { Gives (λ x. (x.0, x.1.now)) result (abort_at bytes.now) }
+    ensures found { IfOk result (λ x. HasSpelling x.0 × (6 ∷ bytes.now ≡ entry_spelling x.0 ++ x.1.now)) }
+{
+    let (txn, rest) = word_of(bytes)?;
+    let (cause, rest) = cause_of(alloc, rest)?;
+    Ok((
+        Entry::Abort {
+            txn: TxnId(txn),
+            cause,
+        },
+        rest,
+    ))
+}
+
+#[tactic(auto, unfolding(crate::specs::Reading::create_at))]
+fn create_of(bytes: &[u8]) -> Result<(Entry, &[u8]), RecordFault>
+    ensures exact { Gives (λ x. (x.0, x.1.now)) result (create_at bytes.now) }
+    ensures found { IfOk result (λ x. HasSpelling x.0 × (7 ∷ bytes.now ≡ entry_spelling x.0 ++ x.1.now)) }
+{
+    let (txn, rest) = word_of(bytes)?;
+    let (table, rest) = word_of(rest)?;
+    Ok((
+        Entry::Create {
+            txn: TxnId(txn),
+            table: TableId(table),
+        },
+        rest,
+    ))
+}
+
+#[tactic(auto, unfolding(crate::specs::Reading::drop_at))]
+fn drop_of(bytes: &[u8]) -> Result<(Entry, &[u8]), RecordFault>
+    ensures exact { Gives (λ x. (x.0, x.1.now)) result (drop_at bytes.now) }
+    ensures found { IfOk result (λ x. HasSpelling x.0 × (8 ∷ bytes.now ≡ entry_spelling x.0 ++ x.1.now)) }
+{
+    let (txn, rest) = word_of(bytes)?;
+    let (table, rest) = word_of(rest)?;
+    Ok((
+        Entry::Drop {
+            txn: TxnId(txn),
+            table: TableId(table),
+        },
+        rest,
+    ))
+}
+
+#[tactic(auto, unfolding(crate::specs::Reading::asked_at))]
+fn asked_of(alloc: Global, bytes: &[u8]) -> Result<(Entry, &[u8]), RecordFault>
+    ensures exact { Gives (λ x. (x.0, x.1.now)) result (asked_at bytes.now) }
+    ensures found { IfOk result (λ x. HasSpelling x.0 × (9 ∷ bytes.now ≡ entry_spelling x.0 ++ x.1.now)) }
+{
+    let (job, rest) = word_of(bytes)?;
+    let (table, rest) = word_of(rest)?;
+    let (partition, rest) = text_of(alloc, rest)?;
+    let (kind, rest) = kind_of(rest)?;
+    let (by, rest) = word_of(rest)?;
+    Ok((
+        Entry::Asked {
+            job: JobId(job),
+            table: TableId(table),
+            partition,
+            kind,
+            by,
+        },
+        rest,
+    ))
+}
+
+#[tactic(auto, unfolding(crate::specs::Reading::picked_at))]
+fn picked_of(bytes: &[u8]) -> Result<(Entry, &[u8]), RecordFault>
+    ensures exact { Gives (λ x. (x.0, x.1.now)) result (picked_at bytes.now) }
+    ensures found { IfOk result (λ x. HasSpelling x.0 × (10 ∷ bytes.now ≡ entry_spelling x.0 ++ x.1.now)) }
+{
+    let (job, rest) = word_of(bytes)?;
+    let (watermark, rest) = word_of(rest)?;
+    Ok((
+        Entry::Picked {
+            job: JobId(job),
+            watermark: WriteId(watermark),
+        },
+        rest,
+    ))
+}
+
+#[tactic(auto, unfolding(crate::specs::Reading::published_at))]
+fn published_of(bytes: &[u8]) -> Result<(Entry, &[u8]), RecordFault>
+    ensures exact { Gives (λ x. (x.0, x.1.now)) result (published_at bytes.now) }
+    ensures found { IfOk result (λ x. HasSpelling x.0 × (11 ∷ bytes.now ≡ entry_spelling x.0 ++ x.1.now)) }
+{
+    let (job, rest) = word_of(bytes)?;
+    let (low, rest) = word_of(rest)?;
+    let (high, rest) = word_of(rest)?;
+    let (mark, rest) = word_of(rest)?;
+    Ok((
+        Entry::Published {
+            job: JobId(job),
+            low: WriteId(low),
+            high: WriteId(high),
+            mark: TxnId(mark),
+        },
+        rest,
+    ))
+}
+
+#[tactic(auto, unfolding(crate::specs::Reading::empty_at))]
+fn empty_of(bytes: &[u8]) -> Result<(Entry, &[u8]), RecordFault>
+    ensures exact { Gives (λ x. (x.0, x.1.now)) result (empty_at bytes.now) }
+    ensures found { IfOk result (λ x. HasSpelling x.0 × (12 ∷ bytes.now ≡ entry_spelling x.0 ++ x.1.now)) }
+{
+    let (job, rest) = word_of(bytes)?;
+    Ok((Entry::Empty { job: JobId(job) }, rest))
+}
+
+#[tactic(auto, unfolding(crate::specs::Reading::cleaned_at))]
+fn cleaned_of(bytes: &[u8]) -> Result<(Entry, &[u8]), RecordFault>
+    ensures exact { Gives (λ x. (x.0, x.1.now)) result (cleaned_at bytes.now) }
+    ensures found { IfOk result (λ x. HasSpelling x.0 × (13 ∷ bytes.now ≡ entry_spelling x.0 ++ x.1.now)) }
+{
+    let (job, rest) = word_of(bytes)?;
+    Ok((Entry::Cleaned { job: JobId(job) }, rest))
+}
+
+#[tactic(auto, unfolding(crate::specs::Reading::failed_at))]
+fn failed_of(alloc: Global, bytes: &[u8]) -> Result<(Entry, &[u8]), RecordFault>
+    ensures exact { Gives (λ x. (x.0, x.1.now)) result (failed_at bytes.now) }
+    ensures found { IfOk result (λ x. HasSpelling x.0 × (14 ∷ bytes.now ≡ entry_spelling x.0 ++ x.1.now)) }
+{
+    let (job, rest) = word_of(bytes)?;
+    let (cause, rest) = job_cause_of(alloc, rest)?;
+    Ok((
+        Entry::Failed {
+            job: JobId(job),
+            cause,
+        },
+        rest,
+    ))
+}
+
+#[tactic(auto, unfolding(crate::specs::Reading::forgot_at))]
+fn forgot_of(bytes: &[u8]) -> Result<(Entry, &[u8]), RecordFault>
+    ensures exact { Gives (λ x. (x.0, x.1.now)) result (forgot_at bytes.now) }
+    ensures found { IfOk result (λ x. HasSpelling x.0 × (15 ∷ bytes.now ≡ entry_spelling x.0 ++ x.1.now)) }
+{
+    let (table, rest) = word_of(bytes)?;
+    let (write, rest) = word_of(rest)?;
+    Ok((
+        Entry::Forgot {
+            table: TableId(table),
+            write: WriteId(write),
+        },
+        rest,
+    ))
+}
+
+/// The fields behind an entry's tag.
+fn fields_of(alloc: Global, tag: u8, rest: &[u8]) -> Result<(Entry, &[u8]), RecordFault>
+    ensures exact { Gives (λ x. (x.0, x.1.now)) result (fields_at tag rest.now) }
+    ensures found { IfOk result
+        (λ x. HasSpelling x.0 × (tag ∷ rest.now ≡ entry_spelling x.0 ++ x.1.now)) }
+{
+    match tag {
+        1 => boot_of(rest),
+        2 => opened_of(alloc, rest),
+        3 => start_of(rest),
+        4 => given_of(rest),
+        5 => commit_of(alloc, rest),
+        6 => abort_of(alloc, rest),
+        7 => create_of(rest),
+        8 => drop_of(rest),
+        9 => asked_of(alloc, rest),
+        10 => picked_of(rest),
+        11 => published_of(rest),
+        12 => empty_of(rest),
+        13 => cleaned_of(rest),
+        14 => failed_of(alloc, rest),
+        15 => forgot_of(rest),
+        _ => Err(RecordFault::Damaged),
+    }
+}
+
+#[tactic(auto, unfolding(crate::specs::Reading::entry_at))]
+pub fn entry_of(alloc: Global, bytes: &[u8]) -> Result<(Entry, &[u8]), RecordFault>
+    ensures exact { Gives (λ x. (x.0, x.1.now)) result (entry_at bytes.now) }
+    ensures found { IfOk result
+        (λ x. HasSpelling x.0 × (bytes.now ≡ entry_spelling x.0 ++ x.1.now)) }
+{
+    match bytes {
+        [] => Err(RecordFault::Damaged),
+        [tag, rest @ ..] => fields_of(alloc, *tag, rest),
+    }
+}

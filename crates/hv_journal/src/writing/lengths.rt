@@ -1,0 +1,120 @@
+ghost use Rattle.std.specs.Prelude.{◌≡◌, ◌<◌, ◌^◌, length};
+ghost use Rattle.std.specs.List.{flat_map};
+ghost use Rattle.hv_history.specs.Spelling.{text, touch_spelling, touches_spelling, place_spelling, cause_spelling, job_cause_spelling, entry_spelling};
+ghost use Rattle.hv_history.specs.Journal.{record_of};
+
+use hv_base::{List, Text, Touch};
+use hv_history::{Cause, Entry, FilePlace, JobCause};
+
+#[tactic(auto, using(crate::proofs::Room::room))]
+fn text_length(t: &Text) -> usize
+    requires { length t.now < 2 ^ 32 }
+    ensures { result ≡ length (text t.now) }
+{
+    4 + t.len()
+}
+
+#[tactic(auto, using(crate::proofs::Room::room), unfolding(hv_history::specs::Spelling::touch_spelling))]
+fn touch_length(t: &Touch) -> usize
+    requires { length (touch_spelling t.now) < 2 ^ 32 }
+    ensures { result ≡ length (touch_spelling t.now) }
+{
+    24 + text_length(&t.partition)
+}
+
+fn each_length(touches: &[Touch]) -> usize
+    requires { length (flat_map touch_spelling touches.now) < 2 ^ 32 }
+    ensures { result ≡ length (flat_map touch_spelling touches.now) }
+{
+    let mut total = 0;
+    for touch in touches {
+        total += touch_length(touch);
+    }
+    total
+}
+
+#[tactic(auto, using(crate::proofs::Room::room), unfolding(hv_history::specs::Spelling::touches_spelling))]
+fn touches_length(touches: &List<Touch>) -> usize
+    requires { length (touches_spelling touches.now) < 2 ^ 32 }
+    ensures { result ≡ length (touches_spelling touches.now) }
+{
+    4 + each_length(touches.as_slice())
+}
+
+#[tactic(auto, using(crate::proofs::Room::room), unfolding(hv_history::specs::Spelling::place_spelling))]
+fn place_length(place: &FilePlace) -> usize
+    requires { length (place_spelling place.now) < 2 ^ 32 }
+    ensures { result ≡ length (place_spelling place.now) }
+{
+    20 + text_length(&place.partition) + text_length(&place.dir)
+}
+
+#[tactic(auto, using(crate::proofs::Room::room))]
+fn cause_length(cause: &Cause) -> usize
+    requires { length (cause_spelling cause.now) < 2 ^ 32 }
+    ensures { result ≡ length (cause_spelling cause.now) }
+{
+    match cause {
+        Cause::Refused { .. } => 5,
+        Cause::Conflict { partition, .. } => 17 + text_length(partition),
+        Cause::Request { .. } => 9,
+        Cause::Full => 1,
+        Cause::Twice { partition, .. } => 25 + text_length(partition),
+        Cause::Blocked { .. } => 9,
+        Cause::ReadFault { .. } => 9,
+        Cause::WriteFault { .. } => 9,
+        Cause::Damaged { place } => 1 + place_length(place),
+        Cause::RowLimit => 1,
+        Cause::PartitionLimit => 1,
+        Cause::Memory => 1,
+        Cause::Lost => 1,
+    }
+}
+
+#[tactic(auto, using(crate::proofs::Room::room))]
+fn job_cause_length(cause: &JobCause) -> usize
+    requires { length (job_cause_spelling cause.now) < 2 ^ 32 }
+    ensures { result ≡ length (job_cause_spelling cause.now) }
+{
+    match cause {
+        JobCause::ReadFault { .. } => 9,
+        JobCause::WriteFault { .. } => 9,
+        JobCause::Damaged { place } => 1 + place_length(place),
+        JobCause::Memory => 1,
+        JobCause::Lost => 1,
+        JobCause::Gone => 1,
+    }
+}
+
+#[tactic(auto, using(crate::proofs::Room::room))]
+pub fn body_length(entry: &Entry) -> usize
+    requires { length (entry_spelling entry.now) < 2 ^ 32 }
+    ensures { result ≡ length (entry_spelling entry.now) }
+{
+    match entry {
+        Entry::Boot { .. } => 9,
+        Entry::Opened { session, text, .. } => 17 + text_length(session) + text_length(text),
+        Entry::Start { .. } => 13,
+        Entry::Given { .. } => 25,
+        Entry::Commit { wrote, .. } => 9 + touches_length(wrote),
+        Entry::Abort { cause, .. } => 9 + cause_length(cause),
+        Entry::Create { .. } => 17,
+        Entry::Drop { .. } => 17,
+        Entry::Asked { partition, .. } => 26 + text_length(partition),
+        Entry::Picked { .. } => 17,
+        Entry::Published { .. } => 33,
+        Entry::Empty { .. } => 9,
+        Entry::Cleaned { .. } => 9,
+        Entry::Failed { cause, .. } => 9 + job_cause_length(cause),
+        Entry::Forgot { .. } => 17,
+    }
+}
+
+/// How many bytes the entry's record has.
+#[tactic(auto, using(crate::proofs::Room::room), unfolding(hv_history::specs::Journal::record_of))]
+pub fn record_length(entry: &Entry) -> usize
+    requires { length (entry_spelling entry.now) < 2 ^ 32 }
+    ensures { result ≡ length (record_of entry.now) }
+{
+    4 + body_length(entry)
+}
