@@ -1,0 +1,4 @@
+pub mod ReadingLemmas
+pub mod SinkLemmas
+pub mod SourceLemmas
+pub mod ToldLemmas
