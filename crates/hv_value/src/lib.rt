@@ -1,10 +1,14 @@
 //! The values of SQL: their order, their printed texts and their conversions.
 #![tactic(auto)]
 
+mod copies;
+mod hashing;
 mod order;
 mod row;
+mod sql_type;
 mod value;
 
 pub use order::{compare_rows, sorted_rows_are_one_list};
 pub use row::Row;
+pub use sql_type::{Elem, SqlType};
 pub use value::Value;
