@@ -6,10 +6,9 @@ use Rattle.std.specs.Ordering.{eq_by_cmp}
 use Rattle.std.specs.List.{flat_map}
 use Rattle.std.proofs.Common.{sym, ap, ◌∙◌}
 use Rattle.std.proofs.lemmas.List.{length-map}
-use Rattle.hv_value.specs.declared.row.Row.{Row}
 use Rattle.hv_value.specs.declared.value.Value.{Value}
 use Rattle.hv_value.specs.declared.value.Value.TheOpen.{Value-F}
-use Rattle.hv_value.specs.declared.value.Value.TheFolds.{fold-Value, fold_out-Value, map-Value}
+use Rattle.hv_value.specs.declared.value.Value.TheFolds.{fold_out-Value, map-Value}
 use Rattle.hv_value.specs.declared.value.Value.TheVariants.{Null, Bool as Bool', Int, Big, Str, Day, Array, rolls-Null, rolls-Bool, rolls-Int, rolls-Big, rolls-Str, rolls-Day, rolls-Array}
 use Rattle.hv_value.specs.declared.value.Value.TheViews.{out-Value, out-roll-Value}
 use Rattle.hv_value.specs.Order.{value_cmp, row_cmp}

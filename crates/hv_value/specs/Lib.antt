@@ -3,3 +3,7 @@ pub mod OrderLaws
 pub mod Sorting
 pub mod Hashing
 pub mod HashingLaws
+pub mod Bytes
+pub mod Dates
+pub mod Printing
+pub mod PrintingLaws

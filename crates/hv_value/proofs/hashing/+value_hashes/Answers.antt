@@ -1,5 +1,5 @@
 -- Each arm writes what the variant's layer writes.
-use Rattle.std.proofs.Common.{◌≡◌, ap, ◌∙◌, sym, length}
+use Rattle.std.proofs.Common.{ap, ◌∙◌, sym}
 use Rattle.std.specs.Hash as fed
 use Rattle.std.specs.List.{fold, flat_map}
 use Rattle.hv_value.specs.Hashing.{value_writes}
