@@ -7,3 +7,4 @@ pub mod Bytes
 pub mod Dates
 pub mod Printing
 pub mod PrintingLaws
+pub mod Conversion

@@ -6,6 +6,7 @@ mod dates;
 mod hashing;
 mod order;
 mod printing;
+mod reading;
 mod row;
 mod sql_type;
 mod value;
