@@ -1,0 +1,3 @@
+pub mod DateSteps
+pub mod OrderSteps
+pub mod PrintSteps

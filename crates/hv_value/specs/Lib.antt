@@ -1,0 +1,10 @@
+pub mod Order
+pub mod OrderLaws
+pub mod Sorting
+pub mod Hashing
+pub mod HashingLaws
+pub mod Bytes
+pub mod Dates
+pub mod Printing
+pub mod PrintingLaws
+pub mod Conversion

@@ -1,0 +1,19 @@
+//! The values of SQL: their order, their printed texts and their conversions.
+#![tactic(auto)]
+
+mod copies;
+mod dates;
+mod hashing;
+mod order;
+mod printing;
+mod reading;
+mod row;
+mod sql_type;
+mod value;
+
+pub use dates::CivilDate;
+pub use order::{compare_rows, sorted_rows_are_one_list};
+pub use printing::print_value;
+pub use row::Row;
+pub use sql_type::{Elem, SqlType};
+pub use value::Value;
