@@ -15,7 +15,7 @@ use Rattle.std.specs.FinMap as tree
 use Rattle.hv_shelf.specs.declared.place.Place.{Place}
 use Rattle.hv_shelf.specs.declared.place.DirAt.{DirAt}
 use Rattle.hv_shelf.specs.Disk.{IsFree, renamed_get}
-use Rattle.hv_shelf.specs.Places.{place_cmp, place_total, place_antisymmetric, is_in, place_named, dir_named}
+use Rattle.hv_shelf.specs.Places.{place_cmp, place_total, place_antisymmetric, is_in, place_named, dir_named, renamed_place}
 use Rattle.hv_shelf.proofs.TreeLemmas.{Files, get-files}
 
 -- ## One place is another
@@ -91,9 +91,6 @@ none_behind true x o e = absurd (cc)
 none_behind false x o e = e
 
 -- ## Where a file stands after a rename
-
-abbrev pub renamed_place : DirAt → List ℕ → Place → Place
-renamed_place from to place = cond (is_in from place) (place_named place to) place
 
 abbrev pub renamed_file : DirAt → List ℕ → Place × List ℕ → Place × List ℕ
 renamed_file from to file = (renamed_place from to file.0, file.1)

@@ -22,7 +22,8 @@ pub record Store : Type 0 where
 
 abbrev pub store_code : Coded Store
 store_code =
-    code_by (Tree × List ℕ) (coded× (tree.code place_code (coded_list coded_ℕ)) (coded_list coded_ℕ))
+    code_by (Tree × List ℕ)
+    (coded× (tree.code place_code (coded_list coded_ℕ)) (coded_list coded_ℕ))
     (λ s. (s.tree, s.journal)) (λ p. record { tree = p.0; journal = p.1 }) (λ s. refl)
 
 -- ## Reading
@@ -39,7 +40,8 @@ pub record IsListing (table : TableId) (places : List Place) : Type 0 where
 -- A read of the journal into this buffer answered `count`: so many bytes from `at` on went into the
 -- front of the buffer, at least one where both have one.
 abbrev pub ReadsAt : (at count : ℕ) (buffer journal : List ℕ) → Type 0
-ReadsAt at count buffer journal = GivesNext count buffer (drop at journal) (drop (at + count) journal)
+ReadsAt at count buffer journal =
+    GivesNext count buffer (drop at journal) (drop (at + count) journal)
 
 -- ## What a call that succeeds leaves
 
@@ -66,14 +68,17 @@ renamed_get from to files place =
 -- All files of the directory `from` stand under the name `to` in the same partition. Where a file
 -- stood under `to` before, nothing is said of the files under either name.
 pub record IsRenamed (from : DirAt) (to : List ℕ) (before now : Store) : Type 0 where
-  pub moved : IsFree (dir_named from to) before.tree → (place : Place) → tree.get now.tree place ≡ renamed_get from to before.tree place
-  pub others : (place : Place) → is_in from place ≡ false → is_in (dir_named from to) place ≡ false →
+  pub moved : IsFree (dir_named from to) before.tree → (place : Place) →
+      tree.get now.tree place ≡ renamed_get from to before.tree place
+  pub others : (place : Place) →
+      is_in from place ≡ false → is_in (dir_named from to) place ≡ false →
       tree.get now.tree place ≡ tree.get before.tree place
   pub journal_is : now.journal ≡ before.journal
 
 -- These bytes were written into the journal from `at` on, over what stood there and past its end.
 pub record HasWritten (at : ℕ) (bytes : List ℕ) (before now : Store) : Type 0 where
-  pub journal_is : now.journal ≡ take at before.journal ++ bytes ++ drop (at + length bytes) before.journal
+  pub journal_is : now.journal
+      ≡ take at before.journal ++ bytes ++ drop (at + length bytes) before.journal
   pub tree_is : now.tree ≡ before.tree
 
 -- ## What a failed call may leave: first of all, nothing changed
@@ -82,7 +87,8 @@ pub record HasWritten (at : ℕ) (bytes : List ℕ) (before now : Store) : Type 
 pub record BreaksFile (place : Place) (before now : Store) : Type 0 where
   pub found : Option (List ℕ)
   pub here : tree.get now.tree place ≡ found
-  pub others : (other : Place) → ¬ (other ≡ place) → tree.get now.tree other ≡ tree.get before.tree other
+  pub others : (other : Place) → ¬ (other ≡ place) →
+      tree.get now.tree other ≡ tree.get before.tree other
   pub journal_is : now.journal ≡ before.journal
 
 abbrev pub TornFile : Place → Store → Store → Type 0

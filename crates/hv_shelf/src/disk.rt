@@ -1,6 +1,6 @@
-ghost use Rattle.std.specs.Prelude.{◌≡◌, ℕ, ◌+◌, ◌≤◌, [], length, option_map, option_copied, cond, IfOk, OnOk, OnErr};
+ghost use Rattle.std.specs.Prelude.{◌≡◌, ℕ, ◌+◌, ◌≤◌, [], length, option_map, option_copied, IfOk, OnOk, OnErr};
 ghost use Rattle.std.specs.FinMap as tree;
-ghost use Rattle.hv_shelf.specs.Places.{is_in, place_named};
+ghost use Rattle.hv_shelf.specs.Places.{renamed_place};
 ghost use Rattle.hv_shelf.specs.Disk.{Store, places_of, ReadsAt, HasFile, IsRemoved, IsRenamed, HasWritten, IsListing};
 
 use crate::place::{DirAt, Place};
@@ -29,20 +29,21 @@ impl Model for MemoryDisk {
 
     ghost coded = { store_code };
 
-    ghost view = { λ d. record { tree = tree.from_entries d.files.entries; journal = d.journal.items } };
+    ghost view = { λ d.
+        record { tree = tree.from_entries d.files.entries; journal = d.journal.items } };
 
     ghost invariant = { λ d. IsOrdered place_cmp d.files };
 }
 
 impl MemoryDisk {
-    /// Nothing. It takes no memory.
-    pub fn new(alloc: Global) -> MemoryDisk
-        ensures { result ≡ record { tree = tree.empty; journal = [] } }
+    /// Nothing, with room for the journal's first bytes.
+    pub fn new(alloc: Global) -> Result<MemoryDisk, NoMemory>
+        ensures { IfOk result (λ disk. disk ≡ record { tree = tree.empty; journal = [] }) }
     {
-        MemoryDisk {
+        Ok(MemoryDisk {
             files: BTreeMap::new(alloc),
-            journal: Vec::new(alloc),
-        }
+            journal: Vec::with_capacity(alloc, AHEAD)?,
+        })
     }
 
     /// The journal's bytes.
@@ -162,7 +163,7 @@ impl MemoryDisk {
 
 /// Where the file at `place` stands after its directory was renamed, if that is `from`.
 fn place_after(alloc: Global, from: &DirAt, to: &Text, place: &Place) -> Result<Place, NoMemory>
-    ensures { IfOk result (λ p. p ≡ cond (is_in from.now place.now) (place_named place.now to.now) place.now) }
+    ensures { IfOk result (λ after. after ≡ renamed_place from.now to.now place.now) }
 {
     let dir = if from.has(place) { to } else { &place.dir };
     Ok(Place {

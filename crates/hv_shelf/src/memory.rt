@@ -1,9 +1,9 @@
-ghost use Rattle.std.specs.Prelude.{◌≡◌, ℕ, ◌≤◌, [], replicate, length, Option, Some, option_map, IfOk, OnOk, OnErr, IsErr, IsErrOf};
+ghost use Rattle.std.specs.Prelude.{◌≡◌, ℕ, ◌≤◌, [], length, Option, Some, option_map, IfOk, OnOk, OnErr, IsErr, IsErrOf};
 ghost use Rattle.std.specs.FinMap as tree;
 ghost use Rattle.hv_base.specs.Told.{Tells, Moves};
 ghost use Rattle.hv_shelf.specs.Causes.{SoftCause, HardCause};
 ghost use Rattle.hv_shelf.specs.Disk.{places_of, ReadsAt, HasFile, IsRemoved, IsRenamed, HasWritten, TornFile, TornRemove, TornRename, TornWrite, IsListing};
-ghost use Rattle.hv_shelf.specs.Plan.{IsCall};
+ghost use Rattle.hv_shelf.specs.Plan.{IsCall, new_plan};
 
 use crate::disk::MemoryDisk;
 use crate::fault::ShelfFault;
@@ -37,12 +37,10 @@ impl MemoryShelf {
     /// A store that holds nothing and fails at the calls listed.
     pub fn new(alloc: Global, fail: Vec<Fail>) -> Result<MemoryShelf, NoMemory>
         ensures store { IfOk result (λ m. m.store ≡ record { tree = tree.empty; journal = [] }) }
-        ensures plan { IfOk result (λ m. m.plan ≡ record { fail = fail.items; calls = replicate 9 0; faults = 0; hard = 0 }) }
+        ensures plan { IfOk result (λ m. m.plan ≡ new_plan fail.items) }
     {
-        let mut disk = MemoryDisk::new(alloc);
-        disk.reserve();
         Ok(MemoryShelf {
-            disk,
+            disk: MemoryDisk::new(alloc)?,
             plan: FaultPlan::new(fail),
         })
     }
@@ -96,9 +94,10 @@ impl Shelf for MemoryShelf {
         requires reached { at ≤ length self.old.store.journal }
         ensures done { OnOk result (HasWritten at bytes.now self.old.store self.new.store) }
         ensures unchanged { OnErr result (self.new.store ≡ self.old.store) }
-        ensures cause { HardCause (IsErrOf result ShelfFault.Failed) self.old.plan.faults self.new.plan.faults
-            self.old.plan.hard self.new.plan.hard }
-        ensures exact { IsCall Op.JournalWrite (IsErrOf result ShelfFault.Failed) self.old.plan self.new.plan }
+        ensures cause { HardCause (IsErrOf result ShelfFault.Failed)
+            self.old.plan.faults self.new.plan.faults self.old.plan.hard self.new.plan.hard }
+        ensures exact { IsCall Op.JournalWrite (IsErrOf result ShelfFault.Failed)
+            self.old.plan self.new.plan }
     {
         self.plan.hard(Op::JournalWrite)?;
         self.disk.write(at as usize, bytes)?;
@@ -120,20 +119,23 @@ impl Shelf for MemoryShelf {
         ensures rising { IfOk result (λ places. IsListing table places.items) }
         ensures done { IfOk result (λ places. places.items ≡ places_of table self.old.store.tree) }
         ensures same { self.new.store ≡ self.old.store }
-        ensures cause { SoftCause (IsErrOf result ShelfFault.Failed) self.old.plan.faults self.new.plan.faults
-            self.old.plan.hard self.new.plan.hard }
-        ensures exact { IsCall Op.List (IsErrOf result ShelfFault.Failed) self.old.plan self.new.plan }
+        ensures cause { SoftCause (IsErrOf result ShelfFault.Failed)
+            self.old.plan.faults self.new.plan.faults self.old.plan.hard self.new.plan.hard }
+        ensures exact { IsCall Op.List (IsErrOf result ShelfFault.Failed)
+            self.old.plan self.new.plan }
     {
         self.plan.soft(Op::List)?;
         Ok(self.disk.list(alloc, table)?)
     }
 
     fn get(&mut self, alloc: Global, place: &Place) -> Result<Option<Vec<u8>>, ShelfFault>
-        ensures done { IfOk result (λ file. option_map (λ v. v.items) file ≡ tree.get self.old.store.tree place.now) }
+        ensures done { IfOk result (λ file.
+            option_map (λ v. v.items) file ≡ tree.get self.old.store.tree place.now) }
         ensures same { self.new.store ≡ self.old.store }
-        ensures cause { SoftCause (IsErrOf result ShelfFault.Failed) self.old.plan.faults self.new.plan.faults
-            self.old.plan.hard self.new.plan.hard }
-        ensures exact { IsCall Op.Get (IsErrOf result ShelfFault.Failed) self.old.plan self.new.plan }
+        ensures cause { SoftCause (IsErrOf result ShelfFault.Failed)
+            self.old.plan.faults self.new.plan.faults self.old.plan.hard self.new.plan.hard }
+        ensures exact { IsCall Op.Get (IsErrOf result ShelfFault.Failed)
+            self.old.plan self.new.plan }
     {
         self.plan.soft(Op::Get)?;
         match self.disk.file(place) {
@@ -145,9 +147,10 @@ impl Shelf for MemoryShelf {
     fn put(&mut self, place: &Place, bytes: &[u8]) -> Result<(), ShelfFault>
         ensures done { OnOk result (HasFile place.now bytes.now self.old.store self.new.store) }
         ensures unchanged { OnErr result (self.new.store ≡ self.old.store) }
-        ensures cause { SoftCause (IsErrOf result ShelfFault.Failed) self.old.plan.faults self.new.plan.faults
-            self.old.plan.hard self.new.plan.hard }
-        ensures exact { IsCall Op.Put (IsErrOf result ShelfFault.Failed) self.old.plan self.new.plan }
+        ensures cause { SoftCause (IsErrOf result ShelfFault.Failed)
+            self.old.plan.faults self.new.plan.faults self.old.plan.hard self.new.plan.hard }
+        ensures exact { IsCall Op.Put (IsErrOf result ShelfFault.Failed)
+            self.old.plan self.new.plan }
     {
         self.plan.soft(Op::Put)?;
         self.disk.put(place, bytes)?;
@@ -157,9 +160,10 @@ impl Shelf for MemoryShelf {
     fn rename(&mut self, from: &DirAt, to: &Text) -> Result<(), ShelfFault>
         ensures done { OnOk result (IsRenamed from.now to.now self.old.store self.new.store) }
         ensures unchanged { OnErr result (self.new.store ≡ self.old.store) }
-        ensures cause { HardCause (IsErrOf result ShelfFault.Failed) self.old.plan.faults self.new.plan.faults
-            self.old.plan.hard self.new.plan.hard }
-        ensures exact { IsCall Op.Rename (IsErrOf result ShelfFault.Failed) self.old.plan self.new.plan }
+        ensures cause { HardCause (IsErrOf result ShelfFault.Failed)
+            self.old.plan.faults self.new.plan.faults self.old.plan.hard self.new.plan.hard }
+        ensures exact { IsCall Op.Rename (IsErrOf result ShelfFault.Failed)
+            self.old.plan self.new.plan }
     {
         self.plan.hard(Op::Rename)?;
         self.disk.rename(from, to)?;
@@ -190,3 +194,6 @@ impl Shelf for MemoryShelf {
         self.plan.hard_count()
     }
 }
+
+#[cfg(test)]
+mod tests;

@@ -1,7 +1,6 @@
-ghost use Rattle.std.specs.Prelude.{◌≡◌, ◌↔◌, ℕ, ◌<◌, [], replicate, slice_set, IsTrue, IsErr};
-ghost use Rattle.hv_base.specs.Faults.{one_more};
+ghost use Rattle.std.specs.Prelude.{◌≡◌, ◌↔◌, ℕ, ◌<◌, IsTrue, IsErr};
 ghost use Rattle.hv_shelf.specs.Causes.{SoftCause, HardCause};
-ghost use Rattle.hv_shelf.specs.Plan.{Plan, number_of, calls_of, IsDue, IsCall};
+ghost use Rattle.hv_shelf.specs.Plan.{Plan, number_of, calls_after, new_plan, IsDue, IsCall};
 
 use hv_base::{Failed, raise};
 use std::marker::Model;
@@ -43,7 +42,8 @@ impl Model for FaultPlan {
 
     ghost coded = { plan_code };
 
-    ghost view = { λ p. record { fail = p.fail.items; calls = p.calls; faults = p.faults; hard = p.hard } };
+    ghost view = { λ p.
+        record { fail = p.fail.items; calls = p.calls; faults = p.faults; hard = p.hard } };
 }
 
 impl Op {
@@ -58,7 +58,7 @@ impl Op {
 impl FaultPlan {
     /// The calls listed fail, and no other. No call was made yet.
     pub fn new(fail: Vec<Fail>) -> FaultPlan
-        ensures { result ≡ record { fail = fail.items; calls = replicate 9 0; faults = 0; hard = 0 } }
+        ensures { result ≡ new_plan fail.items }
     {
         FaultPlan {
             fail,
@@ -83,7 +83,7 @@ impl FaultPlan {
     /// Counts a call, and says whether it is to fail.
     fn call(&mut self, op: Op) -> bool
         ensures due { IsTrue result ↔ IsDue op self.old }
-        ensures after { self.new ≡ record self.old { calls = slice_set self.old.calls (number_of op) (one_more (calls_of op self.old)) } }
+        ensures after { self.new ≡ record self.old { calls = calls_after op self.old } }
     {
         let number = op.number();
         let due = Fail {
@@ -98,7 +98,8 @@ impl FaultPlan {
     /// that one ends.
     pub fn soft(&mut self, op: Op) -> Result<(), Failed>
         ensures exact { IsCall op (IsErr result) self.old self.new }
-        ensures cause { SoftCause (IsErr result) self.old.faults self.new.faults self.old.hard self.new.hard }
+        ensures cause { SoftCause (IsErr result)
+            self.old.faults self.new.faults self.old.hard self.new.hard }
     {
         if !self.call(op) {
             return Ok(());
@@ -113,7 +114,8 @@ impl FaultPlan {
     /// A call on the journal, or a rename: where it is to fail both counts rise.
     pub fn hard(&mut self, op: Op) -> Result<(), Failed>
         ensures exact { IsCall op (IsErr result) self.old self.new }
-        ensures cause { HardCause (IsErr result) self.old.faults self.new.faults self.old.hard self.new.hard }
+        ensures cause { HardCause (IsErr result)
+            self.old.faults self.new.faults self.old.hard self.new.hard }
     {
         if !self.call(op) {
             return Ok(());
