@@ -115,13 +115,14 @@ abbrev pub quoted_by : ℕ → Result Text Fault → Front
 quoted_by n (Ok text) = token (Str text) n
 quoted_by n (Err e) = fault e
 
+-- n bytes stand before the closing quote
+abbrev pub string_until : ℕ → Text → Option ℕ → Front
+string_until at rest None = fault (open_string at)
+string_until at rest (Some n) = quoted_by (n + 2) (unescaped false (at + 1) (take n rest))
+
 -- a string whose opening quote is at `at`, with the text behind that quote
 abbrev pub string : ℕ → ℕ → Text → Front
 string at quote rest = string_until at rest (closing quote false rest)
-  where
-    string_until : ℕ → Text → Option ℕ → Front
-    string_until at rest None = fault (open_string at)
-    string_until at rest (Some n) = quoted_by (n + 2) (unescaped false (at + 1) (take n rest))
 
 -- ---- identifiers in backquotes: one printable ASCII character or more, read in lower case
 
@@ -136,13 +137,15 @@ name_of at [] bad = fault (bad_character at)
 name_of at name None = token (Quoted (map to_ascii_lowercase name)) (length name + 2)
 name_of at name (Some bad) = fault (bad_character (at + 1 + bad))
 
+-- n bytes stand before the closing backquote
+abbrev pub quoted_until : ℕ → Text → Option ℕ → Front
+quoted_until at rest None = fault (open_string at)
+quoted_until at rest (Some n) =
+    name_of at (take n rest) (position (λ b. not (is_printable b)) (take n rest))
+
 -- an identifier whose opening backquote is at `at`, with the text behind it
 abbrev pub quoted : ℕ → Text → Front
-quoted at rest = until at rest (position is_backquote rest)
-  where
-    until : ℕ → Text → Option ℕ → Front
-    until at rest None = fault (open_string at)
-    until at rest (Some n) = let name = take n rest in name_of at name (position (λ b. not (is_printable b)) name)
+quoted at rest = quoted_until at rest (position is_backquote rest)
 
 -- ---- symbols, the longest first
 

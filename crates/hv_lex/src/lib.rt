@@ -1,0 +1,16 @@
+//! The lexer: a statement's text as tokens.
+#![tactic(auto)]
+
+mod fault;
+mod fronts;
+mod numbers;
+mod pieces;
+mod reserved;
+mod strings;
+mod symbols;
+mod tokens;
+mod words;
+
+pub use fault::LexFault;
+pub use reserved::is_reserved;
+pub use tokens::lex;
