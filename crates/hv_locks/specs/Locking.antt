@@ -1,4 +1,4 @@
--- Table locks, as Hive's lock manager for transactions gives them (Hive Transactions; DbTxnManager):
+-- Table locks, as Hive's lock manager for transactions gives them (Hive Transactions, DbTxnManager):
 -- the lock table, what stands in a transaction's way, and what each call makes of the table.
 use Rattle.std.specs.Prelude.{◌≡◌, ◌≢◌, ℕ, ◌==◌, ◌≤◌, Bool, false, not, ◌&&◌, ◌||◌, List, [], ◌∷◌, map, filter, Option, None, Some, if◌then◌else◌, All, Contains}
 use Rattle.std.specs.List.{list_any}
@@ -25,7 +25,8 @@ abbrev pub holds_lock : List Entry → ℕ → Bool
 holds_lock entries txn = list_any (λ mine. is_of txn mine && mine.held) entries
 
 -- an entry stands in the way of what a transaction waits for: a held one in the way of all of it,
--- and one that waits itself in the way of what was asked later, unless the transaction holds a lock
+-- whenever it was asked for, and one that waits itself in the way of what was asked for later, unless
+-- the transaction holds a lock; a transaction never stands in its own way
 abbrev pub stands_in_way : List Entry → ℕ → Entry → List Entry → Bool
 stands_in_way entries txn other later =
     not (is_of txn other)
@@ -45,7 +46,8 @@ blockers_of entries txn = blockers_among entries txn entries
 -- the lowest-numbered of the blockers, and none where nobody blocks
 abbrev pub IsLowest : List ℕ → Option TxnId → Type 0
 IsLowest blockers None = blockers ≡ []
-IsLowest blockers (Some blocker) = Contains blockers blocker.0 × All (λ other. blocker.0 ≤ other) blockers
+IsLowest blockers (Some blocker) =
+    Contains blockers blocker.0 × All (λ other. blocker.0 ≤ other) blockers
 
 -- granted where nobody blocks, and else waiting for the lowest-numbered blocker
 abbrev pub IsStateOf : List ℕ → LockState → Type 0
@@ -72,7 +74,8 @@ abbrev pub locks_of : List Entry → ℕ → List Lock
 locks_of entries txn = map (λ entry. entry.lock) (filter (is_of txn) entries)
 
 abbrev pub held_by : List Entry → ℕ → List Lock
-held_by entries txn = map (λ entry. entry.lock) (filter (λ entry. is_of txn entry && entry.held) entries)
+held_by entries txn =
+    map (λ entry. entry.lock) (filter (λ entry. is_of txn entry && entry.held) entries)
 
 -- what the other transactions hold stays
 abbrev pub OthersKeep : ℕ → List Entry → List Entry → Type 0

@@ -54,7 +54,8 @@ IsRangeOf list low high Part =
 abbrev pub is_open_by : ℕ → Exception → Bool
 is_open_by high exception = nat_le exception.write.0 high && not exception.aborted
 
--- a base that holds all writes up to one may be read: that write was given, and none up to it was open
+-- a base that holds all writes up to one may be read: that write was given, and none up to it
+-- was open
 abbrev pub is_valid_base : WriteIds → ℕ → Bool
 is_valid_base list high =
     nat_le high list.high.0 && not (list_any (is_open_by high) list.exceptions)

@@ -30,7 +30,7 @@ pub enum Range {
     Part,
 }
 
-/// The writes to one table that a reader sees: those up to a high watermark, without the exceptions.
+/// The writes to one table that a reader sees: those up to a high watermark, without exceptions.
 #[derive(Debug, Drop, PartialEq, Eq)]
 pub struct WriteIdList {
     high: WriteId,
@@ -44,7 +44,8 @@ impl Model for WriteIdList {
 
     ghost view = { λ list. record { high = list.high; exceptions = list.exceptions } };
 
-    ghost invariant = { λ list. IsInOrder (record { high = list.high; exceptions = list.exceptions }) };
+    ghost invariant = { λ list.
+        IsInOrder (record { high = list.high; exceptions = list.exceptions }) };
 
     ghost inverse = { λ list. record { high = list.high; exceptions = list.exceptions } };
 }
