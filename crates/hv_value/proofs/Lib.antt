@@ -1,3 +1,4 @@
+pub mod DateReading
 pub mod DateSteps
 pub mod OrderSteps
 pub mod PrintSteps

@@ -5,7 +5,8 @@ use Rattle.std.specs.Char.{is_ascii_digit}
 use Rattle.std.specs.Fmt.{signed_decimal}
 use Rattle.std.specs.Int.{int_wrap, w32}
 use Rattle.std.specs.List.{prefix_len, suffix_len, list_all}
-use Rattle.hv_value.specs.Bytes.{space, plus_sign, minus_sign, point, digit_zero}
+use Rattle.hv_value.specs.Bytes.{space, plus_sign, minus_sign, point}
+use Rattle.hv_value.specs.Digits.{digit_count, numeral_value}
 
 -- ---- reading an integer
 
@@ -21,16 +22,6 @@ without_front bytes = drop (prefix_len is_space bytes) bytes
 -- the bytes without their outer spaces
 abbrev pub trimmed : List ℕ → List ℕ
 trimmed bytes = without_front (without_end bytes)
-
--- the number that decimal digits write
-abbrev pub with_digit : ℕ → ℕ → ℕ
-with_digit n digit = 10 * n + (digit - digit_zero)
-
-unfoldable pub numeral_value : List ℕ → ℕ
-numeral_value digits = fold with_digit 0 digits
-
-abbrev pub digit_count : List ℕ → ℕ
-digit_count bytes = prefix_len is_ascii_digit bytes
 
 -- nothing, or a point with digits or none behind it
 abbrev pub is_fraction : List ℕ → Bool

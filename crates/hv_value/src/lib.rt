@@ -11,7 +11,7 @@ mod row;
 mod sql_type;
 mod value;
 
-pub use dates::CivilDate;
+pub use dates::{CivilDate, parse_date};
 pub use order::{compare_rows, sorted_rows_are_one_list};
 pub use printing::print_value;
 pub use row::Row;
