@@ -1,8 +1,8 @@
 -- A number that was cut to 64 bits names a date where the whole number does.
-use Rattle.std.proofs.Common.{◌≡◌, ℕ, ◌-◌, ◌^◌, ◌<◌, ◌≤◌, ◌⊎◌, inl, inr, min, Bool, true, false, cond, ◌&&◌, nat_le, refl, sym, ap, ◌∙◌, arith, pos, Option, Some, None, ◌+◌, List, take, drop}
+use Rattle.std.proofs.Common.{◌≡◌, ℕ, ◌-◌, ◌^◌, ◌<◌, ◌≤◌, ◌⊎◌, inl, inr, min, true, false, cond, sym, ap, ◌∙◌, arith, pos, Some, None, ◌+◌, List, take, drop}
 use Rattle.std.proofs.lemmas.Bool.{cases_order}
 use Rattle.std.proofs.lemmas.Bool.Decides.{nat_tests}
-use Rattle.jiff_core.specs.Calendar.{days_from_civil, days_in_month}
+use Rattle.jiff_core.specs.Calendar.{days_from_civil}
 use Rattle.jiff_core.proofs.CalendarLemmas.{days_in_month_bounds}
 use Rattle.hv_value.specs.Digits.{digit_count, numeral_value}
 use Rattle.hv_value.specs.Dates.{is_date, numbered, is_dashed, dashed_day}
@@ -57,6 +57,6 @@ pub dashed_day-is : (bytes : List ℕ) (y m d : ℕ) → is_dashed bytes ≡ tru
 dashed_day-is bytes y m d e ey em ed =
     (λ i. numbered (ey i) (em i) (ed i))
     ∙ numbered-cut (numeral_value (take 4 bytes)) (numeral_value (take (digit_count (drop 5 bytes)) (drop 5 bytes)))
-        (numeral_value (drop (digit_count (drop 5 bytes) + 1) (drop 5 bytes)))
+    (numeral_value (drop (digit_count (drop 5 bytes) + 1) (drop 5 bytes)))
     ∙ ap (λ b. cond b (numbered (numeral_value (take 4 bytes)) (numeral_value (take (digit_count (drop 5 bytes)) (drop 5 bytes)))
-        (numeral_value (drop (digit_count (drop 5 bytes) + 1) (drop 5 bytes)))) None) (sym e)
+    (numeral_value (drop (digit_count (drop 5 bytes) + 1) (drop 5 bytes)))) None) (sym e)

@@ -78,7 +78,7 @@ dashed_day bytes =
     let month_digits = digit_count month in
     if is_dashed bytes
     then numbered (numeral_value (take 4 bytes)) (numeral_value (take month_digits month))
-        (numeral_value (drop (month_digits + 1) month))
+    (numeral_value (drop (month_digits + 1) month))
     else None
 
 -- the day number of the date that a text begins with; a space behind it and what follows are passed over

@@ -14,4 +14,3 @@ numeral_value digits = fold with_digit 0 digits
 -- how many digits the bytes begin with
 abbrev pub digit_count : List ℕ → ℕ
 digit_count bytes = prefix_len is_ascii_digit bytes
-

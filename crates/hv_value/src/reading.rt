@@ -40,7 +40,10 @@ pub(crate) fn digit_count(bytes: &[u8]) -> usize
     ensures value { result ≡ digit_count bytes.now }
     ensures within { result ≤ length bytes.now }
 {
-    bytes.iter().take_while(|byte| byte.is_ascii_digit()).count()
+    bytes
+        .iter()
+        .take_while(|byte| byte.is_ascii_digit())
+        .count()
 }
 
 fn all_digits(bytes: &[u8]) -> bool
@@ -65,7 +68,9 @@ pub(crate) fn capped_value(digits: &[u8]) -> u64
 {
     let mut value: u64 = 0;
     for digit in digits {
-        value = value.saturating_mul(10).saturating_add(u64::from(digit.saturating_sub(b'0')));
+        value = value
+            .saturating_mul(10)
+            .saturating_add(u64::from(digit.saturating_sub(b'0')));
     }
     value
 }
