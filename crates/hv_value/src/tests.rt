@@ -67,42 +67,33 @@ fn rows_come_value_by_value(rt: HostRuntime) -> Result<(), Fail> {
     Ok(())
 }
 
-fn printed(alloc: Global, value: &Value) -> Result<Vec<u8>, NoMemory> {
+fn prints(rt: &impl Abort, alloc: Global, value: &Value, is: &str) -> Result<(), NoMemory> {
     let mut out = Vec::new(alloc);
     print_value(value, &mut out)?;
-    Ok(out)
+    assert!(rt; out.as_slice() == is.as_bytes(), "{is}");
+    Ok(())
 }
 
 #[test]
 fn values_are_printed(rt: HostRuntime) -> Result<(), Fail> {
     let alloc = rt.alloc();
-    assert_eq!(rt; printed(alloc, &Value::Null)?.as_slice(), b"NULL");
-    assert_eq!(rt; printed(alloc, &Value::Bool(true))?.as_slice(), b"true");
-    assert_eq!(rt;
-        printed(alloc, &Value::Int(-2_147_483_648))?.as_slice(),
-        b"-2147483648"
-    );
-    assert_eq!(rt; printed(alloc, &Value::Big(42))?.as_slice(), b"42");
-    assert_eq!(rt;
-        printed(alloc, &text(alloc, "a\t\"b\"\n\\")?)?.as_slice(),
-        b"a\\t\"b\"\\n\\\\"
-    );
-    assert_eq!(rt; printed(alloc, &Value::Day(0))?.as_slice(), b"1970-01-01");
-    assert_eq!(rt;
-        printed(alloc, &Value::Day(-719_162))?.as_slice(),
-        b"0001-01-01"
-    );
-    assert_eq!(rt;
-        printed(alloc, &Value::Day(2_932_896))?.as_slice(),
-        b"9999-12-31"
-    );
-    assert_eq!(rt; printed(alloc, &Value::Day(2_932_897))?.as_slice(), b"NULL");
+    prints(&rt, alloc, &Value::Null, "NULL")?;
+    prints(&rt, alloc, &Value::Bool(true), "true")?;
+    prints(&rt, alloc, &Value::Int(-2_147_483_648), "-2147483648")?;
+    prints(&rt, alloc, &Value::Big(42), "42")?;
+    prints(
+        &rt,
+        alloc,
+        &text(alloc, "a\t\"b\"\n\\")?,
+        "a\\t\"b\"\\n\\\\",
+    )?;
+    prints(&rt, alloc, &Value::Day(0), "1970-01-01")?;
+    prints(&rt, alloc, &Value::Day(-719_162), "0001-01-01")?;
+    prints(&rt, alloc, &Value::Day(2_932_896), "9999-12-31")?;
+    prints(&rt, alloc, &Value::Day(2_932_897), "NULL")?;
     let array = Value::Array(pair(alloc, text(alloc, "x\"y")?, Value::Null)?);
-    assert_eq!(rt; printed(alloc, &array)?.as_slice(), b"[\"x\\\"y\",NULL]");
-    assert_eq!(rt;
-        printed(alloc, &Value::Array(List::empty(alloc)))?.as_slice(),
-        b"[]"
-    );
+    prints(&rt, alloc, &array, "[\"x\\\"y\",NULL]")?;
+    prints(&rt, alloc, &Value::Array(List::empty(alloc)), "[]")?;
     Ok(())
 }
 
