@@ -1,3 +1,5 @@
+pub mod DateReading
 pub mod DateSteps
+pub mod DateText
 pub mod OrderSteps
 pub mod PrintSteps

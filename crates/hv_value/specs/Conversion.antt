@@ -1,11 +1,23 @@
 -- Conversion of a value to a type (Hive Language Manual, types and CAST; what it leaves open is this
 -- project's profile). What isn't a conversion counts as NULL.
-use Rattle.std.specs.Prelude.{ℕ, ◌+◌, ◌-◌, ◌*◌, ◌^◌, ◌==◌, if◌then◌else◌, Bool, true, false, not, ◌&&◌, ◌||◌, slice_index, List, [], ◌∷◌, length, take, drop, fold, nat_lt, ℤ, pos, negsuc, neg_ℤ, Option, None, Some, option_map, option_and_then, codes}
+use Rattle.std.specs.Prelude.{ℕ, ◌-◌, ◌^◌, ◌==◌, if◌then◌else◌, Bool, true, false, not, ◌&&◌, ◌||◌, slice_index, List, length, take, drop, nat_lt, ℤ, pos, negsuc, neg_ℤ, Option, None, Some, option_map, option_and_then, codes}
 use Rattle.std.specs.Char.{is_ascii_digit}
 use Rattle.std.specs.Fmt.{signed_decimal}
 use Rattle.std.specs.Int.{int_wrap, w32}
 use Rattle.std.specs.List.{prefix_len, suffix_len, list_all}
-use Rattle.hv_value.specs.Bytes.{space, plus_sign, minus_sign, point, digit_zero}
+use Rattle.std.specs.Ordering.{int_eq}
+use Rattle.hv_value.specs.declared.dates.CivilDate.{CivilDate}
+use Rattle.hv_value.specs.declared.sql_type.Elem.{Elem}
+use Rattle.hv_value.specs.declared.sql_type.Elem.TheVariants as elem
+use Rattle.hv_value.specs.declared.sql_type.SqlType.{SqlType}
+use Rattle.hv_value.specs.declared.sql_type.SqlType.TheVariants as type
+use Rattle.hv_value.specs.declared.value.Value.{Value}
+use Rattle.hv_value.specs.declared.value.Value.TheOpen.{Value-F}
+use Rattle.hv_value.specs.declared.value.Value.TheVariants as value
+use Rattle.hv_value.specs.declared.value.Value.TheViews.{out-Value}
+use Rattle.hv_value.specs.Dates.{date_of, civil_text, day_of_text}
+use Rattle.hv_value.specs.Bytes.{space, plus_sign, minus_sign, point}
+use Rattle.hv_value.specs.Digits.{digit_count, numeral_value}
 
 -- ---- reading an integer
 
@@ -21,16 +33,6 @@ without_front bytes = drop (prefix_len is_space bytes) bytes
 -- the bytes without their outer spaces
 abbrev pub trimmed : List ℕ → List ℕ
 trimmed bytes = without_front (without_end bytes)
-
--- the number that decimal digits write
-abbrev pub with_digit : ℕ → ℕ → ℕ
-with_digit n digit = 10 * n + (digit - digit_zero)
-
-unfoldable pub numeral_value : List ℕ → ℕ
-numeral_value digits = fold with_digit 0 digits
-
-abbrev pub digit_count : List ℕ → ℕ
-digit_count bytes = prefix_len is_ascii_digit bytes
 
 -- nothing, or a point with digits or none behind it
 abbrev pub is_fraction : List ℕ → Bool
@@ -72,3 +74,90 @@ int_of text = option_and_then (kept_if is_int) (integer_of text)
 
 abbrev pub big_of : List ℕ → Option ℤ
 big_of text = option_and_then (kept_if is_big) (integer_of text)
+
+-- ---- from each kind
+
+abbrev pub some_int : Option ℤ → Value
+some_int None = value.Null
+some_int (Some z) = value.Int z
+
+abbrev pub some_big : Option ℤ → Value
+some_big None = value.Null
+some_big (Some z) = value.Big z
+
+abbrev pub some_day : Option ℤ → Value
+some_day None = value.Null
+some_day (Some z) = value.Day z
+
+abbrev pub from_bool : Bool → SqlType → Value
+from_bool b type.Boolean = value.Bool b
+from_bool b type.Int = value.Int (if b then pos 1 else pos 0)
+from_bool b type.BigInt = value.Big (if b then pos 1 else pos 0)
+from_bool b type.Str = value.Str (if b then codes "TRUE" else codes "FALSE")
+from_bool b _ = value.Null
+
+abbrev pub is_nonzero : ℤ → Bool
+is_nonzero z = not (int_eq z (pos 0))
+
+abbrev pub from_int : ℤ → SqlType → Value
+from_int z type.Boolean = value.Bool (is_nonzero z)
+from_int z type.Int = value.Int z
+from_int z type.BigInt = value.Big z
+from_int z type.Str = value.Str (signed_decimal z)
+from_int z _ = value.Null
+
+-- a BIGINT keeps its low 32 bits as an INT
+abbrev pub from_big : ℤ → SqlType → Value
+from_big z type.Boolean = value.Bool (is_nonzero z)
+from_big z type.Int = value.Int (int_wrap w32 z)
+from_big z type.BigInt = value.Big z
+from_big z type.Str = value.Str (signed_decimal z)
+from_big z _ = value.Null
+
+abbrev pub from_text : List ℕ → SqlType → Value
+from_text text type.Int = some_int (int_of text)
+from_text text type.BigInt = some_big (big_of text)
+from_text text type.Str = value.Str text
+from_text text type.Date = some_day (day_of_text text)
+from_text text _ = value.Null
+
+abbrev pub from_date : ℤ → Option CivilDate → SqlType → Value
+from_date day None to = value.Null
+from_date day (Some date) type.Str = value.Str (civil_text date)
+from_date day (Some date) type.Date = value.Day day
+from_date day (Some date) _ = value.Null
+
+-- a day number that is no date's counts as NULL
+abbrev pub from_day : ℤ → SqlType → Value
+from_day day to = from_date day (date_of day) to
+
+-- NULL, or a value of the element type
+abbrev pub is_layer_of : Elem → Value-F Value → Bool
+is_layer_of e Value-F.Null = true
+is_layer_of elem.Boolean (Value-F.Bool b) = true
+is_layer_of elem.Int (Value-F.Int z) = true
+is_layer_of elem.BigInt (Value-F.Big z) = true
+is_layer_of elem.Str (Value-F.Str text) = true
+is_layer_of elem.Date (Value-F.Day day) = true
+is_layer_of _ _ = false
+
+abbrev pub is_item_of : Elem → Value → Bool
+is_item_of e item = is_layer_of e (out-Value item)
+
+-- an array converts to its own type alone
+abbrev pub from_items : List Value → SqlType → Value
+from_items items (type.ArrayOf e) = if list_all (is_item_of e) items then value.Array items else value.Null
+from_items items _ = value.Null
+
+abbrev pub from_layer : Value-F Value → SqlType → Value
+from_layer Value-F.Null to = value.Null
+from_layer (Value-F.Bool b) to = from_bool b to
+from_layer (Value-F.Int z) to = from_int z to
+from_layer (Value-F.Big z) to = from_big z to
+from_layer (Value-F.Str text) to = from_text text to
+from_layer (Value-F.Day day) to = from_day day to
+from_layer (Value-F.Array items) to = from_items items to
+
+-- the value as a value of the type
+unfoldable pub converted : Value → SqlType → Value
+converted v to = from_layer (out-Value v) to

@@ -1,11 +1,12 @@
 -- The dates of the years 1 to 9999 of the Gregorian calendar, which is taken back before its time
 -- (this project's profile).
-use Rattle.std.specs.Prelude.{ℕ, ◌+◌, ◌/◌, ◌%◌, List, [], ◌∷◌, map, find, ℤ, pos, Option, None, Some, codes}
-use Rattle.std.specs.List.{flat_map, range_with_len}
+use Rattle.std.specs.Prelude.{ℕ, ◌+◌, ◌/◌, ◌%◌, ◌==◌, ◌&&◌, if◌then◌else◌, not, nat_le, length, take, drop, slice_index, Bool, List, [], ◌∷◌, map, find, ℤ, pos, Option, None, Some, codes}
+use Rattle.std.specs.List.{prefix_len, flat_map, range_with_len}
 use Rattle.std.specs.Ordering.{int_eq}
 use Rattle.jiff_core.specs.Calendar.{days_from_civil, days_in_month}
 use Rattle.hv_value.specs.declared.dates.CivilDate.{CivilDate}
-use Rattle.hv_value.specs.Bytes.{digit_zero, minus_sign}
+use Rattle.hv_value.specs.Bytes.{space, digit_zero, minus_sign}
+use Rattle.hv_value.specs.Digits.{digit_count, numeral_value}
 
 abbrev pub dates_of_month : ℕ → ℕ → List CivilDate
 dates_of_month y m =
@@ -44,3 +45,42 @@ text_of_date (Some date) = civil_text date
 
 abbrev pub day_text : ℤ → List ℕ
 day_text day = text_of_date (date_of day)
+
+-- ---- reading a date
+
+abbrev pub is_other_than_space : ℕ → Bool
+is_other_than_space byte = not (byte == space)
+
+-- the calendar has this day, in the years 1 to 9999
+abbrev pub is_date : ℕ → ℕ → ℕ → Bool
+is_date y m d =
+    nat_le 1 y && nat_le y 9999 && nat_le 1 m && nat_le m 12 && nat_le 1 d && nat_le d (days_in_month (pos y) m)
+
+abbrev pub numbered : ℕ → ℕ → ℕ → Option ℤ
+numbered y m d = if is_date y m d then Some (days_from_civil (pos y) m d) else None
+
+-- one or two digits
+abbrev pub is_short : ℕ → Bool
+is_short digits = nat_le 1 digits && nat_le digits 2
+
+-- four digits, `-`, one or two digits, `-`, one or two digits
+abbrev pub is_dashed : List ℕ → Bool
+is_dashed bytes =
+    let month = drop 5 bytes in
+    let month_digits = digit_count month in
+    let day = drop (month_digits + 1) month in
+    (digit_count bytes == 4) && (slice_index bytes 4 == minus_sign) && is_short month_digits
+    && (slice_index month month_digits == minus_sign) && is_short (digit_count day) && (length day == digit_count day)
+
+abbrev pub dashed_day : List ℕ → Option ℤ
+dashed_day bytes =
+    let month = drop 5 bytes in
+    let month_digits = digit_count month in
+    if is_dashed bytes
+    then numbered (numeral_value (take 4 bytes)) (numeral_value (take month_digits month))
+    (numeral_value (drop (month_digits + 1) month))
+    else None
+
+-- the day number of the date that a text begins with; a space behind it and what follows are passed over
+abbrev pub day_of_text : List ℕ → Option ℤ
+day_of_text text = dashed_day (take (prefix_len is_other_than_space text) text)

@@ -5,6 +5,7 @@ pub mod Hashing
 pub mod HashingLaws
 pub mod Bytes
 pub mod Dates
+pub mod Digits
 pub mod Printing
 pub mod PrintingLaws
 pub mod Conversion

@@ -82,7 +82,7 @@ fn last_digit(number: u16) -> u8
 
 // A date as `yyyy-mm-dd`.
 #[tactic(auto, unfolding(crate::specs::Dates::civil_text))]
-fn print_date(date: CivilDate, out: &mut Vec<u8>) -> Result<(), NoMemory>
+pub(crate) fn print_date(date: CivilDate, out: &mut Vec<u8>) -> Result<(), NoMemory>
     ensures { Prints (civil_text date) out.old.items result out.new.items }
 {
     let CivilDate { year, month, day } = date;

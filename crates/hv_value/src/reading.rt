@@ -1,7 +1,8 @@
 ghost use Rattle.std.specs.Prelude.{◌≡◌, ◌≤◌, ◌-◌, ◌^◌, length, drop, take, min, option_map, option_and_then, pos, neg_ℤ};
 ghost use Rattle.std.specs.Char.{is_ascii_digit};
 ghost use Rattle.std.specs.List.{prefix_len, suffix_len, list_all};
-ghost use Rattle.hv_value.specs.Conversion.{is_space, without_end, without_front, trimmed, digit_count, numeral_value, is_fraction, unsigned_of, signed_of, integer_of, kept_if, is_big, big_of, int_of};
+ghost use Rattle.hv_value.specs.Digits.{digit_count, numeral_value};
+ghost use Rattle.hv_value.specs.Conversion.{is_space, without_end, without_front, trimmed, is_fraction, unsigned_of, signed_of, integer_of, kept_if, is_big, big_of, int_of};
 
 fn spaces_before(bytes: &[u8]) -> usize
     ensures value { result ≡ prefix_len is_space bytes.now }
@@ -35,11 +36,14 @@ fn trimmed(bytes: &[u8]) -> &[u8]
     without_front(without_end(bytes))
 }
 
-fn digit_count(bytes: &[u8]) -> usize
+pub(crate) fn digit_count(bytes: &[u8]) -> usize
     ensures value { result ≡ digit_count bytes.now }
     ensures within { result ≤ length bytes.now }
 {
-    bytes.iter().take_while(|byte| byte.is_ascii_digit()).count()
+    bytes
+        .iter()
+        .take_while(|byte| byte.is_ascii_digit())
+        .count()
 }
 
 fn all_digits(bytes: &[u8]) -> bool
@@ -58,13 +62,15 @@ fn is_fraction(bytes: &[u8]) -> bool
 }
 
 // The number that the digits write, or u64::MAX where it is larger.
-#[tactic(auto, unfolding(crate::specs::Conversion::numeral_value))]
-fn capped_value(digits: &[u8]) -> u64
+#[tactic(auto, unfolding(crate::specs::Digits::numeral_value))]
+pub(crate) fn capped_value(digits: &[u8]) -> u64
     ensures { result ≡ min (numeral_value digits.now) (2 ^ 64 - 1) }
 {
     let mut value: u64 = 0;
     for digit in digits {
-        value = value.saturating_mul(10).saturating_add(u64::from(digit.saturating_sub(b'0')));
+        value = value
+            .saturating_mul(10)
+            .saturating_add(u64::from(digit.saturating_sub(b'0')));
     }
     value
 }

@@ -1,5 +1,5 @@
 use Rattle.std.proofs.Common.{◌≡◌, ◌-◌, ◌^◌, min, take, fold}
-use Rattle.hv_value.specs.Conversion.{with_digit}
+use Rattle.hv_value.specs.Digits.{with_digit}
 use Rattle.hv_value.proofs.reading.capped_value.Given as goal
 
 abbrev pub invariant-loop-digit : goal.invariant-loop-digit
