@@ -14,22 +14,12 @@ pub record Input : Type 0 where
 -- after a read that gave so many bytes
 abbrev pub input_after_read : Input → ℕ → Input
 input_after_read input count =
-    record {
-      left = drop count input.left;
-      calls = one_more input.calls;
-      fail = input.fail;
-      faults = input.faults;
-    }
+    record { left = drop count input.left; calls = one_more input.calls; fail = input.fail; faults = input.faults }
 
 -- after a read that failed
 abbrev pub input_after_failure : Input → Input
 input_after_failure input =
-    record {
-      left = input.left;
-      calls = one_more input.calls;
-      fail = input.fail;
-      faults = one_more input.faults;
-    }
+    record { left = input.left; calls = one_more input.calls; fail = input.fail; faults = one_more input.faults }
 
 -- `calls`: the writes made, which is the number of the next one. `room`: how many bytes more it
 -- takes without asking for memory.

@@ -25,14 +25,7 @@ impl Model for MemorySink {
 
     ghost Value = { Output };
 
-    ghost view = { λ s.
-        record {
-          written = s.written.items;
-          calls = s.calls;
-          fail = s.fail.items;
-          faults = s.faults;
-          room = vec_capacity s.written - vec_len s.written;
-        } };
+    ghost view = { λ s. record { written = s.written.items; calls = s.calls; fail = s.fail.items; faults = s.faults; room = vec_capacity s.written - vec_len s.written } };
 }
 
 impl MemorySink {
@@ -69,18 +62,15 @@ impl Sink for MemorySink {
     fn write(&mut self, bytes: &[u8]) -> Result<usize, Failed>
         ensures bound { IfOk result (λ count. count ≤ length bytes.now) }
         ensures some { IfOk result (λ count. 0 < length bytes.now → 0 < count) }
-        ensures done { IfOk result (λ n.
-            Moves (Gains (take n bytes.now)) (Some self.old.written) (Some self.new.written)) }
+        ensures done { IfOk result (λ n. Moves (Gains (take n bytes.now)) (Some self.old.written) (Some self.new.written)) }
         ensures failed { OnErr result (Some self.new.written ≡ Some self.old.written) }
         ensures cause { HasCause self.old.faults self.new.faults result }
 
         ensures listed { Contains self.old.fail self.old.calls → IsErr result }
-        ensures unlisted { OnErr result
-            (¬ Contains self.old.fail self.old.calls → self.old.room < length bytes.now) }
+        ensures unlisted { OnErr result (¬ Contains self.old.fail self.old.calls → self.old.room < length bytes.now) }
         ensures whole { OnOk result (self.new.written ≡ self.old.written ++ bytes.now) }
         ensures calls { self.new.calls ≡ one_more self.old.calls }
-        ensures faults { self.new.faults
-            ≡ (if is_ok result then self.old.faults else one_more self.old.faults) }
+        ensures faults { self.new.faults ≡ (if is_ok result then self.old.faults else one_more self.old.faults) }
         ensures fail { self.new.fail ≡ self.old.fail }
     {
         let fails = self.fail.contains(&self.calls);

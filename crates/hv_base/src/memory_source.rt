@@ -25,13 +25,7 @@ impl Model for MemorySource {
 
     ghost Value = { Input };
 
-    ghost view = { λ s.
-        record {
-          left = drop s.at s.bytes.items;
-          calls = s.calls;
-          fail = s.fail.items;
-          faults = s.faults;
-        } };
+    ghost view = { λ s. record { left = drop s.at s.bytes.items; calls = s.calls; fail = s.fail.items; faults = s.faults } };
 
     ghost invariant = { λ s. s.at ≤ vec_len s.bytes };
 }
@@ -61,8 +55,7 @@ impl Source for MemorySource {
     /// Gives as many bytes as are left and fit.
     fn read(&mut self, out: &mut [u8]) -> Result<usize, Failed>
         ensures bound { IfOk result (λ count. count ≤ length out.new) }
-        ensures done { IfOk result (λ count.
-            Moves (GivesNext count out.new) (Some self.old.left) (Some self.new.left)) }
+        ensures done { IfOk result (λ count. Moves (GivesNext count out.new) (Some self.old.left) (Some self.new.left)) }
         ensures failed { OnErr result (Some self.new.left ≡ Some self.old.left) }
         ensures cause { HasCause self.old.faults self.new.faults result }
         ensures counted { self.new.calls ≡ one_more self.old.calls }

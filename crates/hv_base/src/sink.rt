@@ -16,8 +16,7 @@ pub trait Sink {
     fn write(&mut self, bytes: &[u8]) -> Result<usize, Failed>
         ensures bound { IfOk result (λ count. count ≤ length bytes.now) }
         ensures some { IfOk result (λ count. 0 < length bytes.now → 0 < count) }
-        ensures done { IfOk result (λ n.
-            Moves (Gains (take n bytes.now)) (written self.old) (written self.new)) }
+        ensures done { IfOk result (λ n. Moves (Gains (take n bytes.now)) (written self.old) (written self.new)) }
         ensures failed { OnErr result (written self.new ≡ written self.old) }
         ensures cause { HasCause (faults self.old) (faults self.new) result };
 }
@@ -25,8 +24,7 @@ pub trait Sink {
 /// Writes all of `bytes`. After a failure a front of them was written, and not all.
 pub fn write_all<K: Sink>(sink: &mut K, bytes: &[u8]) -> Result<(), Failed>
     ensures done { OnOk result (Moves (Gains bytes.now) (K.written sink.old) (K.written sink.new)) }
-    ensures failed { OnErr result
-        (Moves (GainsPart bytes.now) (K.written sink.old) (K.written sink.new)) }
+    ensures failed { OnErr result (Moves (GainsPart bytes.now) (K.written sink.old) (K.written sink.new)) }
     ensures cause { HasCause (K.faults sink.old) (K.faults sink.new) result }
 {
     let mut done = 0;

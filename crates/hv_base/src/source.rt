@@ -24,8 +24,7 @@ pub trait Source {
     /// counts the reads, up to 2^64 - 1.
     fn read(&mut self, out: &mut [u8]) -> Result<usize, Failed>
         ensures bound { IfOk result (λ count. count ≤ length out.new) }
-        ensures done { IfOk result (λ count.
-            Moves (GivesNext count out.new) (left self.old) (left self.new)) }
+        ensures done { IfOk result (λ count. Moves (GivesNext count out.new) (left self.old) (left self.new)) }
         ensures failed { OnErr result (left self.new ≡ left self.old) }
         ensures cause { HasCause (faults self.old) (faults self.new) result }
         ensures counted { reads self.new ≡ one_more (reads self.old) };
@@ -73,14 +72,11 @@ pub fn read_all<S: Source>(
     limit: usize,
 ) -> Result<Vec<u8>, ReadFault>
     ensures within { IfOk result (λ bytes. vec_len bytes ≤ limit) }
-    ensures done { IfOk result (λ bytes.
-        Moves (GivesAll bytes.items) (S.left source.old) (S.left source.new)) }
-    ensures too_long { IsErrOf result ReadFault.TooLong →
-        Moves (PassesLimit limit) (S.left source.old) (S.left source.new) }
+    ensures done { IfOk result (λ bytes. Moves (GivesAll bytes.items) (S.left source.old) (S.left source.new)) }
+    ensures too_long { IsErrOf result ReadFault.TooLong → Moves (PassesLimit limit) (S.left source.old) (S.left source.new) }
     ensures taken { Moves LosesFront (S.left source.old) (S.left source.new) }
     ensures later { S.faults source.old ≤ S.faults source.new }
-    ensures failed { IsErrOf result ReadFault.Failed →
-        Rose (S.faults source.old) (S.faults source.new) }
+    ensures failed { IsErrOf result ReadFault.Failed → Rose (S.faults source.old) (S.faults source.new) }
     ensures reads { S.reads source.new ≤ S.reads source.old + limit + 1 }
 {
     let mut memory = vec![in alloc; 0u8; CHUNK]?;
