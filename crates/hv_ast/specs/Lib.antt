@@ -1,3 +1,4 @@
 pub mod Built
+pub mod Layout
 pub mod Tokens
 pub mod Words

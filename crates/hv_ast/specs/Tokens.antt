@@ -193,7 +193,8 @@ from_front at (gap n) rest = rest n
 from_front at (token what n) rest = after_token (record { what = what; at = at }) (rest n)
 from_front at (fault e) rest = Err e
 
--- The tokens of a text that stands at `at`, behind the `left` bytes that are left of what began before.
+-- The tokens of a text that stands at `at`, behind the `left` bytes that are left of what began
+-- before.
 abbrev pub tokens_from : ℕ → ℕ → Text → Tokens
 tokens_from left at [] = Ok []
 tokens_from (suc left) at (b ∷ rest) = tokens_from left (at + 1) rest
@@ -201,5 +202,5 @@ tokens_from zero at (b ∷ rest) =
     from_front at (front at (b ∷ rest)) (λ n. tokens_from (n - 1) (at + 1) rest)
 
 -- the tokens of a text, or its first fault
-abbrev pub tokens_of : Text → Tokens
+unfoldable pub tokens_of : Text → Tokens
 tokens_of text = tokens_from 0 0 text

@@ -1,3 +1,5 @@
+//! Expressions. The parameter `E` stands for an operand, so that `Expr` alone holds itself.
+
 use crate::types::TypeName;
 use hv_base::{Boxed, List, Text};
 

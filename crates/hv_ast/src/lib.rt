@@ -5,6 +5,7 @@ mod built;
 mod change;
 mod copy;
 mod expr;
+mod laws;
 mod query;
 mod statement;
 mod table;
@@ -17,6 +18,7 @@ pub use change::{
     Update,
 };
 pub use expr::{Arithmetic, Binary, Expr, Literal, Operation, Unary, When};
+pub use laws::{nothing_between, places_rise, tokens_or_fault};
 pub use query::{
     Explode, From, Item, Join, JoinKind, Key, Lateral, Query, Select, Source, Union, Window,
     WindowFunction,

@@ -1,3 +1,6 @@
+//! Queries. The parameter `S` stands for a source, so that `Source` alone holds itself and a
+//! definition may put something else, as a source's rows, in its place.
+
 use crate::expr::Expr;
 use hv_base::{Boxed, List, Text};
 

@@ -33,7 +33,8 @@ abbrev pub IsUnescaped : Result Text Fault → Result (Vec ℕ Global) LexFault 
 IsUnescaped text (Ok content) = text ≡ Ok content.items
 IsUnescaped text (Err e) = Tells e text
 
--- One character was read behind `old`, whatever follows it: the answer says whether it takes the next.
+-- One character was read behind `old`, whatever follows it: the answer says whether it takes the
+-- next.
 abbrev pub StepsOver : Text → Text → Bool → ℕ → ℕ → Result Bool LexFault → Type 0
 StepsOver old new taken at c (Ok takes) =
     (rest : Text)

@@ -23,7 +23,7 @@ fn digits_length(text: &[u8]) -> usize
 /// The number that the digits write, None exactly where it is above `i64::MAX`.
 fn value_of(digits: &[u8]) -> Option<i64>
     requires { AllDigits 10 digits.now }
-    ensures { SomeIff result (digits_value 10 digits.now < 2 ^ 63) (pos (digits_value 10 digits.now)) }
+    ensures { let value = digits_value 10 digits.now in SomeIff result (value < 2 ^ 63) (pos value) }
 {
     let mut value: u64 = 0;
     for digit in digits {

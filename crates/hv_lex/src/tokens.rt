@@ -22,6 +22,7 @@ fn keep(tokens: &mut Vec<Token>, at: usize, what: Option<Lexeme>) -> Result<(), 
 }
 
 /// The tokens of a text, in its order. The error is the text's first fault by place.
+#[tactic(auto, unfolding(hv_ast::specs::Tokens::tokens_of))]
 pub fn lex(alloc: Global, text: &Text) -> Result<Vec<Token>, LexFault>
     ensures tokens { IfOk result (λ tokens. tokens_of text.now ≡ Ok tokens.items) }
     ensures fault { IfErr result (λ e. Tells e (tokens_of text.now)) }
