@@ -1,4 +1,6 @@
 pub mod Built
 pub mod Layout
+pub mod Reading
 pub mod Tokens
 pub mod Words
+pub mod Worked
