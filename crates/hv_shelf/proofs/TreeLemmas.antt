@@ -1,5 +1,5 @@
 use Rattle.std.proofs.Common.{◌≡◌, ℕ, Bool, true, false, cond, ◌&&◌, List, [], ◌∷◌, ◌++◌, append-nil, get_or, map, filter, Some, None, T, refl, sym, ◌∙◌, ap, subst}
-use Rattle.std.specs.declared.cmp.Ordering.TheVariants.{Less, Equal}
+use Rattle.std.specs.declared.cmp.Ordering.TheVariants.{Less}
 use Rattle.std.specs.Ordering.{eq_by_cmp, is_eq, is_lt}
 use Rattle.std.specs.BTreeMap.{is_at}
 use Rattle.std.specs.Map.{lookup, keys_of}
@@ -13,14 +13,12 @@ use Rattle.std.proofs.lemmas.List.Elements.{filter_passes}
 use Rattle.std.proofs.lemmas.List.Kept.{IsStrictlySortedBy-filter}
 use Rattle.hv_base.specs.declared.ids.TableId.{TableId}
 use Rattle.hv_shelf.specs.declared.place.Place.{Place}
-use Rattle.hv_shelf.specs.Disk.{Tree, places_of, IsListing}
-use Rattle.hv_shelf.specs.Places.{place_cmp, place_total, place_antisymmetric, is_of}
+use Rattle.hv_shelf.specs.Disk.{places_of, IsListing}
+use Rattle.hv_shelf.specs.Laws.{same_tree, alike}
+use Rattle.hv_shelf.specs.Places.{place_cmp, place_total, is_of}
 
 abbrev pub Files : Type 0
 Files = List (Place × List ℕ)
-
-pub same_tree : (m n : Tree) → ((place : Place) → tree.get m place ≡ tree.get n place) → m ≡ n
-same_tree = tree.same_map place_total place_antisymmetric
 
 find-lookup : (place : Place) (es : Files) → tree.find place_cmp place es ≡ lookup (is_at (place_cmp place)) es
 find-lookup place [] = refl
@@ -63,10 +61,6 @@ insert-files es es' place bytes updates =
     ∙ ap (λ b. cond b (Some bytes) (lookup (is_at (place_cmp other)) es)) ((eq_by_cmp_equiv place_total).symm place other)
     ∙ ap (cond (eq_by_cmp place_cmp other place) (Some bytes)) (sym (get-files es other))
     ∙ sym (tree.get-insert place_total (tree.from_entries es) place bytes other))
-
--- a test of places answers alike at places that the order doesn't tell apart
-alike : (keeps : Place → Bool) (place other : Place) → place_cmp place other ≡ Equal → keeps other ≡ keeps place
-alike keeps place other tied = sym (ap keeps (place_antisymmetric place other tied))
 
 -- the files whose places pass the test
 pub retain-files : (keeps : Place → Bool) (es es' : Files) → es' ≡ filter (λ e. keeps e.0) es →

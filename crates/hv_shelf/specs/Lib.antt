@@ -1,4 +1,5 @@
 pub mod Causes
 pub mod Disk
+pub mod Laws
 pub mod Places
 pub mod Plan

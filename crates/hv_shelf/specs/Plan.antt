@@ -1,6 +1,6 @@
 -- Which calls of a store in memory fail, and what its counts are. Source: this project's profile.
 
-use Rattle.std.specs.Prelude.{◌≡◌, ◌↔◌, ℕ, List, [], ◌∷◌, Contains, slice_index, slice_index_or, slice_set, replicate, refl}
+use Rattle.std.specs.Prelude.{◌≡◌, ◌↔◌, ◌≤◌, ◌+◌, ℕ, List, [], ◌∷◌, Contains, slice_index, slice_index_or, slice_set, replicate, refl}
 use Rattle.std.specs.Coded.{Coded, code_by, coded×, coded_ℕ, coded_list}
 use Rattle.hv_base.specs.Faults.{one_more}
 use Rattle.hv_shelf.specs.declared.plan.Op.{Op}
@@ -43,14 +43,16 @@ new_plan fail = record { fail = fail; calls = replicate 9 0; faults = 0; hard = 
 abbrev pub IsDue : Op → Plan → Type 0
 IsDue op plan = Contains plan.fail (record { op = op; nth = calls_of op plan })
 
--- This operation was called: it failed exactly where that call was to fail, and elsewhere no count
--- of faults rose.
+-- This operation was called: it failed exactly where that call was to fail. Then one fault was
+-- counted, and elsewhere none.
 pub record IsCall (op : Op) (Fails : Type 0) (before now : Plan) : Type 0 where
   pub due : Fails ↔ IsDue op before
   pub fail_is : now.fail ≡ before.fail
   pub calls_is : now.calls ≡ calls_after op before
-  pub faults_is : ¬ Fails → now.faults ≡ before.faults
-  pub hard_is : ¬ Fails → now.hard ≡ before.hard
+  pub fault_is : Fails → now.faults ≡ one_more before.faults
+  pub hard_most : now.hard ≤ before.hard + 1
+  pub faults_stay : ¬ Fails → now.faults ≡ before.faults
+  pub hard_stays : ¬ Fails → now.hard ≡ before.hard
 
 -- A store in memory: what it holds, and its plan of failures.
 pub record Memory : Type 0 where

@@ -51,41 +51,37 @@ fn call(
     Ok(())
 }
 
-#[test]
-fn fails_where_listed(rt: HostRuntime) -> Result<(), Failure> {
-    let alloc = rt.alloc();
+/// Of four calls of `op` the one with this number fails, and is counted.
+fn fails_at(rt: &impl Abort, alloc: Global, op: Op, nth: u64, hard: u64) -> Result<(), ShelfFault> {
     let dir = dir(alloc, "a")?;
     let at = place(alloc, "a", 0)?;
-    let cases = [
-        (Op::JournalLen, 1),
-        (Op::JournalRead, 1),
-        (Op::JournalWrite, 1),
-        (Op::JournalSync, 1),
-        (Op::List, 0),
-        (Op::Get, 0),
-        (Op::Put, 0),
-        (Op::Rename, 1),
-        (Op::Remove, 0),
+    let fail = [Fail { op, nth }].to_vec(alloc)?;
+    let mut shelf = MemoryShelf::new(alloc, fail)?;
+    for turn in 0..4 {
+        let failed = call(alloc, &mut shelf, op, &dir, &at).is_err();
+        assert_eq!(rt; failed, turn == nth, "{op:?}");
+    }
+    assert_eq!(rt; shelf.fault_count(), 1, "{op:?}");
+    assert_eq!(rt; shelf.hard_count(), hard, "{op:?}");
+    Ok(())
+}
+
+#[test]
+fn fails_where_listed(rt: HostRuntime) -> Result<(), Failure> {
+    let hard = [
+        Op::JournalLen,
+        Op::JournalRead,
+        Op::JournalWrite,
+        Op::JournalSync,
+        Op::Rename,
     ];
-    for (op, hard) in cases {
-        for nth in [0, 2] {
-            let fail = [Fail { op, nth }].to_vec(alloc)?;
-            let mut shelf = MemoryShelf::new(alloc, fail)?;
-            for turn in 0..4 {
-                let want = if turn == nth {
-                    Err(ShelfFault::Failed)
-                } else {
-                    Ok(())
-                };
-                assert_eq!(rt;
-                    call(alloc, &mut shelf, op, &dir, &at),
-                    want,
-                    "{op:?} {turn}"
-                );
-            }
-            assert_eq!(rt; shelf.fault_count(), 1, "{op:?}");
-            assert_eq!(rt; shelf.hard_count(), hard, "{op:?}");
-        }
+    for op in hard {
+        fails_at(&rt, rt.alloc(), op, 0, 1)?;
+        fails_at(&rt, rt.alloc(), op, 2, 1)?;
+    }
+    for op in [Op::List, Op::Get, Op::Put, Op::Remove] {
+        fails_at(&rt, rt.alloc(), op, 0, 0)?;
+        fails_at(&rt, rt.alloc(), op, 2, 0)?;
     }
     Ok(())
 }
@@ -108,35 +104,34 @@ fn shows(
     Ok(())
 }
 
+fn stored(alloc: Global) -> Result<MemoryShelf, ShelfFault> {
+    let mut shelf = MemoryShelf::new(alloc, Vec::new(alloc))?;
+    shelf.put(&place(alloc, "b", 1)?, b"one")?;
+    shelf.put(&place(alloc, "b", 0)?, b"old")?;
+    shelf.put(&place(alloc, "a", 7)?, b"")?;
+    shelf.put(&place(alloc, "b", 0)?, b"new")?;
+    Ok(shelf)
+}
+
 #[test]
 fn keeps_files(rt: HostRuntime) -> Result<(), Failure> {
     let alloc = rt.alloc();
-    let mut shelf = MemoryShelf::new(alloc, Vec::new(alloc))?;
-    for (dir, bucket, bytes) in [
-        ("b", 1, "one"),
-        ("b", 0, "old"),
-        ("a", 7, ""),
-        ("b", 0, "new"),
-    ] {
-        shelf.put(&place(alloc, dir, bucket)?, bytes.as_bytes())?;
-    }
-    shows(
-        &rt,
-        alloc,
-        &mut shelf,
-        &[("a", 7, ""), ("b", 0, "new"), ("b", 1, "one")],
-    )?;
+    let mut shelf = stored(alloc)?;
+    let want = [("a", 7, ""), ("b", 0, "new"), ("b", 1, "one")];
+    shows(&rt, alloc, &mut shelf, &want)?;
     assert_eq!(rt; shelf.files().len(), 3);
     assert_eq!(rt; shelf.list(alloc, TableId(2))?.len(), 0);
     assert!(rt; shelf.get(alloc, &place(alloc, "b", 2)?)?.is_none());
+    Ok(())
+}
 
+#[test]
+fn renames_and_removes(rt: HostRuntime) -> Result<(), Failure> {
+    let alloc = rt.alloc();
+    let mut shelf = stored(alloc)?;
     shelf.rename(&dir(alloc, "b")?, &Text::of(alloc, "c")?)?;
-    shows(
-        &rt,
-        alloc,
-        &mut shelf,
-        &[("a", 7, ""), ("c", 0, "new"), ("c", 1, "one")],
-    )?;
+    let want = [("a", 7, ""), ("c", 0, "new"), ("c", 1, "one")];
+    shows(&rt, alloc, &mut shelf, &want)?;
     shelf.remove(&dir(alloc, "c")?)?;
     shelf.remove(&dir(alloc, "c")?)?;
     shows(&rt, alloc, &mut shelf, &[("a", 7, "")])?;
