@@ -32,3 +32,6 @@ pub use table::{
 };
 pub use token::{Lexeme, Token};
 pub use types::{ScalarName, TypeName};
+
+#[cfg(test)]
+mod tests;
