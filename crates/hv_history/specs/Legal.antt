@@ -11,13 +11,16 @@ use Rattle.std.specs.List.{list_any, AllByRecursion}
 use Rattle.hv_base.specs.declared.ids.Touch.{Touch}
 use Rattle.hv_ast.specs.declared.query.From.{From}
 use Rattle.hv_ast.specs.declared.query.Source.{Source}
-use Rattle.hv_ast.specs.declared.query.Source.TheVariants as source
+use Rattle.hv_ast.specs.declared.query.Source.TheVariants.{Table as TableSource}
 use Rattle.hv_ast.specs.declared.statement.Stmt.{Stmt}
 use Rattle.hv_ast.specs.declared.statement.Stmt.TheVariants as stmt
 use Rattle.hv_ast.specs.Reading.{tree_of}
 use Rattle.hv_logic.specs.declared.catalog.TableInfo.{TableInfo}
 use Rattle.hv_logic.specs.declared.effect.Effect.{Effect}
-use Rattle.hv_logic.specs.Meaning.{Meaning, Refused, Rows, Change, Make, Plain, Unbuilt, Seen, named}
+use Rattle.hv_logic.specs.declared.meaning.Meaning.{Meaning}
+use Rattle.hv_logic.specs.declared.seen.Seen.{Seen}
+use Rattle.hv_logic.specs.declared.meaning.Meaning.TheVariants.{Refused, Listing, Change, Make, Plain, RowLimit, Unbuilt}
+use Rattle.hv_logic.specs.Meaning.{named}
 use Rattle.hv_history.specs.declared.entry.Entry.{Entry}
 use Rattle.hv_history.specs.declared.entry.Entry.TheVariants as entry
 use Rattle.hv_history.specs.declared.entry.Cause.{Cause}
@@ -52,10 +55,10 @@ pub record Lock : Type 0 where
   pub exclusive : Bool
 
 abbrev pub source_locks : Source → List Lock
-source_locks (source.Table name alias) = record { name = name; exclusive = false } ∷ []
-source_locks (source.Query query alias) = []
+source_locks (TableSource name alias) = record { name = name; exclusive = false } ∷ []
+source_locks _ = []
 
-abbrev pub from_locks : Option From → List Lock
+abbrev pub from_locks : Option (From Source) → List Lock
 from_locks None = []
 from_locks (Some from) = source_locks from.source
 
@@ -199,7 +202,7 @@ touches_of info effect =
 
 -- these touches are what the statement means
 abbrev pub TouchesAreMeant : List Touch → Meaning → Type 0
-TouchesAreMeant wrote (Rows names rows) = wrote ≡ []
+TouchesAreMeant wrote (Listing names rows) = wrote ≡ []
 TouchesAreMeant wrote (Change info effect) = wrote ≡ touches_of info effect
 TouchesAreMeant wrote Plain = wrote ≡ []
 TouchesAreMeant wrote _ = ⊥
@@ -217,7 +220,7 @@ abbrev pub CauseIsTrue : Cause → Transaction → Type 0
 CauseIsTrue (cause.Refused number) transaction = meaning transaction ≡ Refused number
 CauseIsTrue cause.Full transaction = IsFalse (is_started transaction) ⊎ NeedsId transaction.given (meaning transaction)
 CauseIsTrue (cause.Twice partition row) transaction = ⊥
-CauseIsTrue cause.RowLimit transaction = ⊥
+CauseIsTrue cause.RowLimit transaction = meaning transaction ≡ RowLimit
 CauseIsTrue cause.PartitionLimit transaction = ⊥
 CauseIsTrue _ transaction = Unit {0}
 

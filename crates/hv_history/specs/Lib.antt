@@ -3,3 +3,5 @@ pub mod Journal
 pub mod State
 pub mod Answers
 pub mod Legal
+pub mod Book
+pub mod Replay

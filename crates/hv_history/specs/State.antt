@@ -1,11 +1,11 @@
 -- What a book means: one fold over its entries, from the left. An entry changes the state by what it says and
 -- by the state before it, and by nothing else.
 -- Source: Hive Transactions; Camacho-Rodríguez and others, SIGMOD 2019, section 3.2.
-use Rattle.std.specs.Prelude.{◌≡◌, ℕ, zero, suc, ◌+◌, ◌==◌, Bool, true, false, if◌then◌else◌, not, Option, Some, None, List, [], ◌∷◌, ◌++◌, map, filter, fold, length, slice_get}
+use Rattle.std.specs.Prelude.{◌≡◌, ◌≢◌, ℕ, zero, suc, ◌+◌, ◌==◌, Bool, true, false, if◌then◌else◌, not, Option, Some, None, List, [], ◌∷◌, ◌++◌, map, filter, fold, length, slice_get}
 use Rattle.std.specs.declared.cmp.Ordering.{Ordering}
 use Rattle.std.specs.Ordering.{nat_cmp, on, then_cmp, is_eq}
 use Rattle.std.specs.Cmp.Lexicographic.{slice_cmp}
-use Rattle.std.specs.List.{flat_map, list_any}
+use Rattle.std.specs.List.{flat_map, list_any, AllByRecursion}
 use Rattle.std.specs.Option.{option_map, option_to_list}
 use Rattle.hv_base.specs.Identifiers.{row_id_cmp}
 use Rattle.hv_base.specs.declared.ids.Touch.{Touch}
@@ -17,50 +17,23 @@ use Rattle.hv_logic.specs.declared.catalog.TableInfo.{TableInfo}
 use Rattle.hv_logic.specs.declared.catalog.Column.{Column}
 use Rattle.hv_logic.specs.declared.effect.Effect.{Effect}
 use Rattle.hv_logic.specs.declared.effect.Found.{Found}
-use Rattle.hv_logic.specs.Meaning.{Meaning, Refused, Rows, Change, Make, Plain, Unbuilt, Seen, meaning_of}
+use Rattle.hv_logic.specs.declared.meaning.Meaning.{Meaning}
+use Rattle.hv_logic.specs.declared.seen.Seen.{Seen}
+use Rattle.hv_logic.specs.declared.meaning.Meaning.TheVariants.{Refused, Listing, Change, Make, Plain, Unbuilt}
+use Rattle.hv_logic.specs.Meaning.{meaning_of}
 use Rattle.hv_logic.specs.Sorting.{sorted_by}
-use Rattle.hv_logic.specs.Rows.{sorted}
+use Rattle.hv_logic.specs.Rows.{sorted, found_cmp}
 use Rattle.hv_history.specs.declared.entry.Entry.{Entry}
 use Rattle.hv_history.specs.declared.entry.Entry.TheVariants as entry
 use Rattle.hv_history.specs.declared.entry.Cause.{Cause}
 use Rattle.hv_history.specs.declared.entry.JobKind.{JobKind}
 use Rattle.hv_history.specs.declared.entry.JobCause.{JobCause}
-
--- what one committed statement wrote under a write id of a table
-pub record Written : Type 0 where
-  pub write : ℕ
-  pub inserts : List Found
-  pub deletes : List Found
-
--- A table since its Create. The write id w is that of the transaction at place w - 1 of owners. Its writes are
--- in the order of their commits.
-pub record Table : Type 0 where
-  pub info : TableInfo
-  pub is_live : Bool
-  pub owners : List ℕ
-  pub writes : List Written
-  pub forgotten : List ℕ
-
--- what a transaction sees: the tables as they stood at this place of the book
-pub record Snapshot : Type 0 where
-  pub place : ℕ
-  pub tables : List Table
-
--- how a transaction ended, and at which place of the book
-pub data Ending : Type 0 where
-  Committed : ℕ → List Touch → Ending
-  Aborted : ℕ → Cause → Ending
-  Made : ℕ → ℕ → Ending
-  Dropped : ℕ → ℕ → Ending
-
--- A transaction, which keeps its record when it has ended. given has its write ids, each with its table.
-pub record Transaction : Type 0 where
-  pub session : List ℕ
-  pub number : ℕ
-  pub text : List ℕ
-  pub snapshot : Option Snapshot
-  pub given : List (ℕ × ℕ)
-  pub ending : Option Ending
+pub use Rattle.hv_history.specs.declared.state.Written.{Written}
+pub use Rattle.hv_history.specs.declared.state.Table.{Table}
+pub use Rattle.hv_history.specs.declared.state.Snapshot.{Snapshot}
+pub use Rattle.hv_history.specs.declared.state.Ending.{Ending}
+pub use Rattle.hv_history.specs.declared.state.Ending.TheVariants.{Committed, Aborted, Made, Dropped}
+pub use Rattle.hv_history.specs.declared.state.Transaction.{Transaction}
 
 -- a compaction job, with what it was asked, and each step that it made
 pub record Job : Type 0 where
@@ -104,9 +77,6 @@ changed f xs (suc n) = changed_at f xs n
 
 -- ---- the rows that stand in a table: what its writes inserted, without what its writes deleted, by partition
 -- and identifier
-
-abbrev pub found_cmp : Found → Found → Ordering
-found_cmp = then_cmp (on (λ (found : Found). found.partition) (slice_cmp nat_cmp)) (on (λ (found : Found). found.id) row_id_cmp)
 
 abbrev pub is_deleted : List Written → Found → Bool
 is_deleted writes found = list_any (λ (other : Found). is_eq (found_cmp other found)) (flat_map (λ (written : Written). written.deletes) writes)
@@ -154,7 +124,7 @@ commits_to _ given = None
 
 -- ---- one entry
 
--- each of these happens to a transaction once: what comes later changes nothing
+-- this happens once: what comes later changes nothing
 abbrev pub first_of : {A : Type 0} → Option A → A → Option A
 first_of None now = Some now
 first_of (Some before) now = Some before
@@ -171,7 +141,15 @@ abbrev pub given_id : ℕ → ℕ → Transaction → Transaction
 given_id table write transaction = record transaction { given = transaction.given ++ (table, write) ∷ [] }
 
 abbrev pub ended : Ending → Transaction → Transaction
-ended ending transaction = record transaction { ending = first_of transaction.ending ending }
+ended ending transaction = record transaction { ending = Some ending }
+
+-- a transaction that has ended changes no more
+abbrev pub unless_ended : Option Ending → Transaction → Transaction → Transaction
+unless_ended None transaction next = next
+unless_ended (Some ending) transaction next = transaction
+
+abbrev pub while_open : (Transaction → Transaction) → Transaction → Transaction
+while_open f transaction = unless_ended transaction.ending transaction (f transaction)
 
 abbrev pub owned : ℕ → Table → Table
 owned txn table = record table { owners = table.owners ++ txn ∷ [] }
@@ -214,7 +192,7 @@ asked table partition kind by = record {
 }
 
 abbrev pub with_transaction : (Transaction → Transaction) → State → ℕ → State
-with_transaction f state txn = record state { transactions = changed f state.transactions txn }
+with_transaction f state txn = record state { transactions = changed (while_open f) state.transactions txn }
 
 abbrev pub with_job : (Job → Job) → State → ℕ → State
 with_job f state job = record state { jobs = changed f state.jobs job }
@@ -252,3 +230,27 @@ after state event = record (acted state event) { entries = state.entries + 1 }
 -- the state that a book leaves
 abbrev pub state_of : List Entry → State
 state_of book = fold after nothing_yet book
+
+-- ---- the rows of a table
+
+abbrev pub content_in : Option Table → List Found
+content_in None = []
+content_in (Some table) = content_of table.writes
+
+-- the rows that stand in the table of that number
+abbrev pub content : State → ℕ → List Found
+content state table = content_in (numbered state.tables table)
+
+abbrev pub IsNoCommit : Entry → Type 0
+IsNoCommit (entry.Commit txn wrote) = ⊥
+IsNoCommit _ = Unit {0}
+
+-- ---- identifiers
+
+abbrev pub Carry : ℕ → List Found → Type 0
+Carry write rows = AllByRecursion (λ (found : Found). found.id.write.0 ≡ write) rows
+
+-- no two of these rows have one identifier
+abbrev pub Differ : List Found → Type 0
+Differ [] = Unit {0}
+Differ (found ∷ rows) = AllByRecursion (λ (other : Found). found.id ≢ other.id) rows × Differ rows

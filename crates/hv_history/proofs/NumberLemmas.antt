@@ -1,0 +1,117 @@
+-- Lemmas on what is numbered: rows under a write id, and what stands at a number.
+use Rattle.std.proofs.Common.{◌≡◌, ℕ, zero, suc, ◌+◌, ◌-◌, ◌<◌, ◌≤◌, Option, Some, None, List, [], ◌∷◌, ◌++◌, length, get_or, set, take, refl, sym, ap, ◌∙◌, arith}
+use Rattle.std.specs.Prelude.{slice_get, Bool, true, false, is_none}
+use Rattle.std.proofs.lemmas.List.{take_more, length-take-le, set-get_or, get_or_default}
+use Rattle.hv_base.specs.declared.ids.RowId.{RowId}
+use Rattle.hv_value.specs.declared.row.Row.{Row}
+use Rattle.hv_logic.specs.declared.effect.Found.{Found}
+use Rattle.hv_history.specs.State.{Transaction, Ending, numbered, changed, changed_at, numbered_from, while_open, unless_ended}
+use Rattle.hv_history.specs.Replay.{IsPlaceOf, IsOpenPlaceOf}
+
+-- ---- rows under a write id
+
+abbrev found_at : ℕ → ℕ → Row → Found
+found_at write number row =
+    record { partition = []; id = record { write = record { 0 = write }; statement = 0; bucket = 0; row = number }; row = row }
+
+number_snoc : (write number : ℕ) (rows : List Row) (row : Row)
+    → numbered_from write number (rows ++ row ∷ []) ≡ numbered_from write number rows ++ found_at write (number + length rows) row ∷ []
+number_snoc write number [] row = let here : number ≡ number + 0 = omega arith in ap (λ n. found_at write n row ∷ []) here
+number_snoc write number (first ∷ rows) row =
+    let later : number + 1 + length rows ≡ number + suc (length rows) = omega arith in
+    ap (λ xs. found_at write number first ∷ xs) (number_snoc write (number + 1) rows row ∙ ap (λ n. numbered_from write (number + 1) rows ++ found_at write n row ∷ []) later)
+
+pub number_more : (write : ℕ) (rows : List Row) (i : ℕ) (row : Row) → i < length rows → row ≡ get_or rows i row
+    → numbered_from write 0 (take (i + 1) rows) ≡ numbered_from write 0 (take i rows) ++ found_at write i row ∷ []
+number_more write rows i row p e =
+    let count : 0 + length (take i rows) ≡ i = omega (arith, length_taken) in
+    ap (numbered_from write 0) (take_more rows i row p ∙ ap (λ x. take i rows ++ x ∷ []) (sym e))
+    ∙ number_snoc write 0 (take i rows) row ∙ ap (λ n. numbered_from write 0 (take i rows) ++ found_at write n row ∷ []) count
+  where
+    length_taken : length (take i rows) ≡ i
+    length_taken = length-take-le i rows (omega arith)
+
+-- ---- what stands at a number
+
+module _ {A : Type 0} where
+  changed_at-none : (f : A → A) (xs : List A) (n : ℕ) → length xs ≤ n → changed_at f xs n ≡ xs
+  changed_at-none f [] n p = refl
+  changed_at-none f (x ∷ xs) zero p = absurd (omega arith)
+  changed_at-none f (x ∷ xs) (suc n) p = ap (λ ys. x ∷ ys) (changed_at-none f xs n (omega arith))
+
+  changed_at-set : (f : A → A) (xs : List A) (n : ℕ) (d : A) → changed_at f xs n ≡ set xs n (f (get_or xs n d))
+  changed_at-set f [] n d = refl
+  changed_at-set f (x ∷ xs) zero d = refl
+  changed_at-set f (x ∷ xs) (suc n) d = ap (λ ys. x ∷ ys) (changed_at-set f xs n d)
+
+  pub place-zero : (xs : List A) (number : ℕ) → number ≡ 0 → IsPlaceOf xs number None
+  place-zero xs zero p = λ f. refl
+  place-zero xs (suc n) p = cc
+
+  pub place-none : (xs : List A) (number place : ℕ) → number ≡ place + 1 → length xs ≤ place → IsPlaceOf xs number None
+  place-none xs zero place e p = absurd (omega arith)
+  place-none xs (suc n) place e p = λ f. changed_at-none f xs n (omega arith)
+
+  pub place-some : (xs : List A) (number place : ℕ) → number ≡ place + 1 → place < length xs → IsPlaceOf xs number (Some place)
+  place-some xs zero place e p = absurd (omega arith)
+  place-some xs (suc n) place e p =
+      let at : n ≡ place = omega arith in
+      (p, λ f d. changed_at-set f xs n d ∙ ap (λ k. set xs k (f (get_or xs k d))) at)
+
+  slice_get-none : (xs : List A) (n : ℕ) → length xs ≤ n → slice_get xs n ≡ None
+  slice_get-none [] n p = refl
+  slice_get-none (x ∷ xs) zero p = absurd (omega arith)
+  slice_get-none (x ∷ xs) (suc n) p = slice_get-none xs n (omega arith)
+
+  slice_get-some : (xs : List A) (n : ℕ) (d : A) → n < length xs → slice_get xs n ≡ Some (get_or xs n d)
+  slice_get-some [] n d p = absurd (omega arith)
+  slice_get-some (x ∷ xs) zero d p = refl
+  slice_get-some (x ∷ xs) (suc n) d p = slice_get-some xs n d (omega arith)
+
+  pub numbered-zero : (xs : List A) (number : ℕ) → number ≡ 0 → numbered xs number ≡ None
+  numbered-zero xs zero p = refl
+  numbered-zero xs (suc n) p = cc
+
+  pub numbered-none : (xs : List A) (number place : ℕ) → number ≡ place + 1 → length xs ≤ place → numbered xs number ≡ None
+  numbered-none xs zero place e p = refl
+  numbered-none xs (suc n) place e p = slice_get-none xs n (omega arith)
+
+  pub numbered-some : (xs : List A) (number place : ℕ) (x : A) → number ≡ place + 1 → place < length xs → x ≡ get_or xs place x → numbered xs number ≡ Some x
+  numbered-some xs zero place x e p is = absurd (omega arith)
+  numbered-some xs (suc n) place x e p is =
+      let at : n ≡ place = omega arith in
+      slice_get-some xs n x (omega arith) ∙ ap Some (ap (λ k. get_or xs k x) at ∙ sym is)
+
+-- ---- a transaction that has not ended
+
+while_open-open : (f : Transaction → Transaction) (transaction : Transaction) → is_none transaction.ending ≡ true → while_open f transaction ≡ f transaction
+while_open-open f transaction e = by transaction.ending e
+  where
+    by : (ending : Option Ending) → is_none ending ≡ true → unless_ended ending transaction (f transaction) ≡ f transaction
+    by None e = refl
+    by (Some ending) e = cc
+
+while_open-ended : (f : Transaction → Transaction) (transaction : Transaction) → is_none transaction.ending ≡ false → while_open f transaction ≡ transaction
+while_open-ended f transaction e = by transaction.ending e
+  where
+    by : (ending : Option Ending) → is_none ending ≡ false → unless_ended ending transaction (f transaction) ≡ transaction
+    by None e = cc
+    by (Some ending) e = refl
+
+pub open-none : (xs : List Transaction) (number : ℕ) → IsPlaceOf xs number None → IsOpenPlaceOf xs number None
+open-none xs number at = λ f. at (while_open f)
+
+pub open-ended : (xs : List Transaction) (number place : ℕ) (x : Transaction) → IsPlaceOf xs number (Some place)
+    → x ≡ get_or xs place x → is_none x.ending ≡ false → IsOpenPlaceOf xs number None
+open-ended xs number place x at is e = λ f.
+    at.1 (while_open f) x
+    ∙ ap (λ (y : Transaction). set xs place (while_open f y)) (sym is)
+    ∙ ap (set xs place) (while_open-ended f x e ∙ is)
+    ∙ set-get_or xs place x
+
+pub open-some : (xs : List Transaction) (number place : ℕ) (x : Transaction) → IsPlaceOf xs number (Some place)
+    → x ≡ get_or xs place x → is_none x.ending ≡ true → IsOpenPlaceOf xs number (Some place)
+open-some xs number place x at is e = (at.0, λ f d.
+    at.1 (while_open f) x
+    ∙ ap (λ (y : Transaction). set xs place (while_open f y)) (sym is)
+    ∙ ap (set xs place) (while_open-open f x e ∙ ap f (is ∙ get_or_default xs place x d at.0)))

@@ -1,0 +1,78 @@
+use crate::entry::Cause;
+use hv_base::{Duplicate, List, NoMemory, Text, Touch};
+use hv_logic::{Found, TableInfo};
+use std::alloc::Global;
+
+/// What one committed statement wrote under a write id of a table.
+#[derive(Debug, Drop)]
+pub struct Written {
+    pub write: u64,
+    pub inserts: List<Found>,
+    pub deletes: List<Found>,
+}
+
+/// A table since its Create. The write id w is that of the transaction at place w - 1 of `owners`.
+/// Its writes are in the order of their commits.
+#[derive(Debug, Drop)]
+pub struct Table {
+    pub info: TableInfo,
+    pub is_live: bool,
+    pub owners: List<u64>,
+    pub writes: List<Written>,
+    /// The write ids of which no directory stands any more.
+    pub forgotten: List<u64>,
+}
+
+/// What a transaction sees: the tables as they stood at this place of the book.
+#[derive(Debug, Drop)]
+pub struct Snapshot {
+    pub place: u64,
+    pub tables: List<Table>,
+}
+
+/// How a transaction ended, and at which place of the book.
+#[derive(Debug, Drop)]
+pub enum Ending {
+    Committed(u64, List<Touch>),
+    Aborted(u64, Cause),
+    /// A table of this number was made.
+    Made(u64, u64),
+    /// The table of this number was dropped.
+    Dropped(u64, u64),
+}
+
+/// A transaction, which keeps its record when it has ended. `given` has its write ids, each behind
+/// the number of its table.
+#[derive(Debug, Drop)]
+pub struct Transaction {
+    pub session: Text,
+    pub number: u64,
+    pub text: Text,
+    pub snapshot: Option<Snapshot>,
+    pub given: List<(u64, u64)>,
+    pub ending: Option<Ending>,
+}
+
+impl Duplicate for Written {
+    fn duplicate(&self, alloc: Global) -> Result<Written, NoMemory> {
+        Ok(Written {
+            write: self.write,
+            inserts: self.inserts.duplicate(alloc)?,
+            deletes: self.deletes.duplicate(alloc)?,
+        })
+    }
+}
+
+impl Duplicate for Table {
+    fn duplicate(&self, alloc: Global) -> Result<Table, NoMemory> {
+        let owners = Vec::from_slice(alloc, self.owners.as_slice())?;
+        let forgotten = Vec::from_slice(alloc, self.forgotten.as_slice())?;
+        Ok(Table {
+            info: self.info.duplicate(alloc)?,
+            is_live: self.is_live,
+            owners: List::from_vec(owners),
+            writes: self.writes.duplicate(alloc)?,
+            forgotten: List::from_vec(forgotten),
+        })
+    }
+}

@@ -1,0 +1,4 @@
+pub mod Sorting
+pub mod Rows
+pub mod Sizes
+pub mod Meaning

@@ -1,0 +1,69 @@
+ghost use Rattle.std.specs.Prelude.{◌≡◌, IfOk, map};
+ghost use Rattle.hv_logic.specs.Meaning.{column_names};
+
+use hv_base::{Duplicate, List, NoMemory, TableId, Text};
+use hv_value::SqlType;
+use std::alloc::Global;
+
+/// A column of a table: its name, folded to lower case, and the type of its values.
+#[derive(Debug, Drop)]
+pub struct Column {
+    pub name: Text,
+    pub kind: SqlType,
+}
+
+/// A table as its creating statement describes it. A row's values are those of `columns` and then
+/// those of the partition columns `parts`.
+#[derive(Debug, Drop)]
+pub struct TableInfo {
+    pub table: TableId,
+    pub name: Text,
+    pub columns: List<Column>,
+    pub parts: List<Column>,
+    /// The places of the bucket columns among `columns`, from 0.
+    pub bucketed: List<u32>,
+    /// The number of buckets, 0 without CLUSTERED BY.
+    pub buckets: u32,
+}
+
+/// The live tables at a place of the book, by id.
+#[derive(Debug, Drop)]
+pub struct Catalog {
+    pub tables: List<TableInfo>,
+}
+
+impl Duplicate for Column {
+    fn duplicate(&self, alloc: Global) -> Result<Column, NoMemory> {
+        Ok(Column {
+            name: self.name.duplicate(alloc)?,
+            kind: self.kind,
+        })
+    }
+}
+
+impl Duplicate for TableInfo {
+    fn duplicate(&self, alloc: Global) -> Result<TableInfo, NoMemory> {
+        let bucketed = Vec::from_slice(alloc, self.bucketed.as_slice())?;
+        Ok(TableInfo {
+            table: self.table,
+            name: self.name.duplicate(alloc)?,
+            columns: self.columns.duplicate(alloc)?,
+            parts: self.parts.duplicate(alloc)?,
+            bucketed: List::from_vec(bucketed),
+            buckets: self.buckets,
+        })
+    }
+}
+
+impl TableInfo {
+    /// The names of its columns, in their order.
+    pub fn column_names(&self, alloc: Global) -> Result<List<Text>, NoMemory>
+        ensures { IfOk result (λ names. names ≡ column_names self.now) }
+    {
+        let mut names = Vec::new(alloc);
+        for column in self.columns.as_slice() {
+            names.push(column.name.duplicate(alloc)?)?;
+        }
+        Ok(List::from_vec(names))
+    }
+}
