@@ -19,7 +19,8 @@ pub fn one_spelling()
 pub fn one_book()
     ensures once { (book other : List Entry) (bytes : List ℕ) → Reads book bytes → Reads other bytes
         → book ≡ other }
-    ensures written { (book : List Entry) → AllByRecursion HasRecord book → Reads book (journal_of book) }
+    ensures written { (book : List Entry) → AllByRecursion HasRecord book
+        → Reads book (journal_of book) }
     ensures place { (book : List Entry) (bytes rest : List ℕ) → Leads book bytes rest
         → length bytes ≡ place_of book + length rest }
 {}

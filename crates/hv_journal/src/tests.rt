@@ -1,16 +1,15 @@
 use super::*;
-use hv_base::{JobId, List, RowId, TableId, Text, Touch, TxnId, WriteId};
-use hv_history::{Cause, Entry, FilePlace, JobCause, JobKind};
 use hv_shelf::{Fail as Planned, MemoryShelf, Op};
 use std::alloc::Global;
 use std::process::Abort;
 use std::test::Fail;
 
-/// The bytes are read to the entry, and the entry is written to the bytes behind their length.
-fn both_ways(rt: &impl Abort, alloc: Global, expected: &Entry, body: &[u8]) -> Result<(), Fail> {
+/// The bytes are read to the entry shown, and it is written to the same bytes behind their length.
+fn both_ways(rt: &impl Abort, alloc: Global, body: &[u8], shown: &str) -> Result<(), Fail> {
     assert!(rt; body.len() < 256);
     let entry = decode_entry(alloc, body)?;
-    assert!(rt; entry == *expected, "{entry:?}");
+    let text = format!(in alloc; "{entry:?}")?;
+    assert_eq!(rt; text.as_str(), shown);
     let mut record = Vec::with_capacity(alloc, record_length(&entry))?;
     encode_entry(&mut record, &entry);
     let mut wanted = vec![in alloc; 0, 0, 0, body.len() as u8]?;
@@ -20,213 +19,154 @@ fn both_ways(rt: &impl Abort, alloc: Global, expected: &Entry, body: &[u8]) -> R
 }
 
 #[test]
-fn entries_of_transactions(rt: HostRuntime) -> Result<(), Fail> {
-    let alloc = rt.alloc();
-    let boot = Entry::Boot { run: 258 };
-    both_ways(&rt, alloc, &boot, b"\x01\0\0\0\0\0\0\x01\x02")?;
-    let opened = Entry::Opened {
-        txn: TxnId(1),
-        session: Text::of(alloc, "main")?,
-        number: 2,
-        text: Text::of(alloc, "SHOW TABLES")?,
-    };
-    let bytes = b"\x02\0\0\0\0\0\0\0\x01\0\0\0\x04main\0\0\0\0\0\0\0\x02\0\0\0\x0bSHOW TABLES";
-    both_ways(&rt, alloc, &opened, bytes)?;
-    let start = Entry::Start {
-        txn: TxnId(3),
-        statement: 4,
-    };
-    both_ways(&rt, alloc, &start, b"\x03\0\0\0\0\0\0\0\x03\0\0\0\x04")?;
-    let given = Entry::Given {
-        txn: TxnId(1),
-        table: TableId(2),
-        write: WriteId(3),
-    };
-    let bytes = b"\x04\0\0\0\0\0\0\0\x01\0\0\0\0\0\0\0\x02\0\0\0\0\0\0\0\x03";
-    both_ways(&rt, alloc, &given, bytes)?;
-    let touch = Touch {
-        table: TableId(2),
-        partition: Text::of(alloc, "d=1")?,
-        inserted: 7,
-        deleted: 0,
-    };
-    let commit = Entry::Commit {
-        txn: TxnId(9),
-        wrote: List::from_vec(vec![in alloc; touch]?),
-    };
-    let bytes =
-        b"\x05\0\0\0\0\0\0\0\x09\0\0\0\x01\0\0\0\0\0\0\0\x02\0\0\0\x03d=1\0\0\0\0\0\0\0\x07\0\0\0\0\0\0\0\0";
-    both_ways(&rt, alloc, &commit, bytes)?;
-    let create = Entry::Create {
-        txn: TxnId(1),
-        table: TableId(2),
-    };
-    both_ways(
-        &rt,
-        alloc,
-        &create,
-        b"\x07\0\0\0\0\0\0\0\x01\0\0\0\0\0\0\0\x02",
-    )?;
-    let dropped = Entry::Drop {
-        txn: TxnId(1),
-        table: TableId(2),
-    };
-    both_ways(
-        &rt,
-        alloc,
-        &dropped,
-        b"\x08\0\0\0\0\0\0\0\x01\0\0\0\0\0\0\0\x02",
-    )
+fn each_entry_both_ways(rt: HostRuntime) -> Result<(), Fail> {
+    let entries = [
+        (b"\x01\0\0\0\0\0\0\x01\x02".as_slice(), "Boot { run: 258 }"),
+        (
+            b"\x02\0\0\0\0\0\0\0\x01\0\0\0\x04main\0\0\0\0\0\0\0\x02\0\0\0\x0bSHOW TABLES".as_slice(),
+            "Opened { txn: TxnId(1), session: \"main\", number: 2, text: \"SHOW TABLES\" }",
+        ),
+        (
+            b"\x03\0\0\0\0\0\0\0\x03\0\0\0\x04".as_slice(),
+            "Start { txn: TxnId(3), statement: 4 }",
+        ),
+        (
+            b"\x04\0\0\0\0\0\0\0\x01\0\0\0\0\0\0\0\x02\0\0\0\0\0\0\0\x03".as_slice(),
+            "Given { txn: TxnId(1), table: TableId(2), write: WriteId(3) }",
+        ),
+        (
+            b"\x05\0\0\0\0\0\0\0\x09\0\0\0\x01\0\0\0\0\0\0\0\x02\0\0\0\x03d=1\0\0\0\0\0\0\0\x07\0\0\0\0\0\0\0\0".as_slice(),
+            "Commit { txn: TxnId(9), wrote: List { items: [Touch { table: TableId(2), partition: \"d=1\", inserted: 7, deleted: 0 }] } }",
+        ),
+        (
+            b"\x06\0\0\0\0\0\0\0\x01\x0d".as_slice(),
+            "Abort { txn: TxnId(1), cause: Lost }",
+        ),
+        (
+            b"\x07\0\0\0\0\0\0\0\x01\0\0\0\0\0\0\0\x02".as_slice(),
+            "Create { txn: TxnId(1), table: TableId(2) }",
+        ),
+        (
+            b"\x08\0\0\0\0\0\0\0\x01\0\0\0\0\0\0\0\x02".as_slice(),
+            "Drop { txn: TxnId(1), table: TableId(2) }",
+        ),
+        (
+            b"\x09\0\0\0\0\0\0\0\x01\0\0\0\0\0\0\0\x02\0\0\0\x01p\x01\0\0\0\0\0\0\0\x03".as_slice(),
+            "Asked { job: JobId(1), table: TableId(2), partition: \"p\", kind: Minor, by: 3 }",
+        ),
+        (
+            b"\x09\0\0\0\0\0\0\0\x01\0\0\0\0\0\0\0\x02\0\0\0\0\x02\0\0\0\0\0\0\0\0".as_slice(),
+            "Asked { job: JobId(1), table: TableId(2), partition: \"\", kind: Major, by: 0 }",
+        ),
+        (
+            b"\x0a\0\0\0\0\0\0\0\x01\0\0\0\0\0\0\0\x02".as_slice(),
+            "Picked { job: JobId(1), watermark: WriteId(2) }",
+        ),
+        (
+            b"\x0b\0\0\0\0\0\0\0\x01\0\0\0\0\0\0\0\x02\0\0\0\0\0\0\0\x03\0\0\0\0\0\0\0\x04".as_slice(),
+            "Published { job: JobId(1), low: WriteId(2), high: WriteId(3), mark: TxnId(4) }",
+        ),
+        (
+            b"\x0c\0\0\0\0\0\0\0\x01".as_slice(),
+            "Empty { job: JobId(1) }",
+        ),
+        (
+            b"\x0d\0\0\0\0\0\0\0\x01".as_slice(),
+            "Cleaned { job: JobId(1) }",
+        ),
+        (
+            b"\x0e\0\0\0\0\0\0\0\x01\x0e".as_slice(),
+            "Failed { job: JobId(1), cause: Gone }",
+        ),
+        (
+            b"\x0f\0\0\0\0\0\0\0\x01\0\0\0\0\0\0\0\x02".as_slice(),
+            "Forgot { table: TableId(1), write: WriteId(2) }",
+        ),
+    ];
+    for (body, shown) in entries {
+        both_ways(&rt, rt.alloc(), body, shown)?;
+    }
+    Ok(())
 }
 
 #[test]
-fn entries_of_jobs(rt: HostRuntime) -> Result<(), Fail> {
+fn each_cause_both_ways(rt: HostRuntime) -> Result<(), Fail> {
     let alloc = rt.alloc();
-    let asked = Entry::Asked {
-        job: JobId(1),
-        table: TableId(2),
-        partition: Text::of(alloc, "p")?,
-        kind: JobKind::Major,
-        by: 3,
-    };
-    let bytes = b"\x09\0\0\0\0\0\0\0\x01\0\0\0\0\0\0\0\x02\0\0\0\x01p\x02\0\0\0\0\0\0\0\x03";
-    both_ways(&rt, alloc, &asked, bytes)?;
-    let picked = Entry::Picked {
-        job: JobId(1),
-        watermark: WriteId(2),
-    };
-    both_ways(
-        &rt,
-        alloc,
-        &picked,
-        b"\x0a\0\0\0\0\0\0\0\x01\0\0\0\0\0\0\0\x02",
-    )?;
-    let published = Entry::Published {
-        job: JobId(1),
-        low: WriteId(2),
-        high: WriteId(3),
-        mark: TxnId(4),
-    };
-    let bytes = b"\x0b\0\0\0\0\0\0\0\x01\0\0\0\0\0\0\0\x02\0\0\0\0\0\0\0\x03\0\0\0\0\0\0\0\x04";
-    both_ways(&rt, alloc, &published, bytes)?;
-    let empty = Entry::Empty { job: JobId(1) };
-    both_ways(&rt, alloc, &empty, b"\x0c\0\0\0\0\0\0\0\x01")?;
-    let cleaned = Entry::Cleaned { job: JobId(1) };
-    both_ways(&rt, alloc, &cleaned, b"\x0d\0\0\0\0\0\0\0\x01")?;
-    let forgot = Entry::Forgot {
-        table: TableId(1),
-        write: WriteId(2),
-    };
-    both_ways(
-        &rt,
-        alloc,
-        &forgot,
-        b"\x0f\0\0\0\0\0\0\0\x01\0\0\0\0\0\0\0\x02",
-    )
-}
-
-/// A cause in an Abort of transaction 1.
-fn abort_both_ways(
-    rt: &impl Abort,
-    alloc: Global,
-    cause: Cause,
-    fields: &[u8],
-) -> Result<(), Fail> {
-    let abort = Entry::Abort {
-        txn: TxnId(1),
-        cause,
-    };
-    let mut body = b"\x06\0\0\0\0\0\0\0\x01".to_vec(alloc)?;
-    body.extend_from_slice(fields)?;
-    both_ways(rt, alloc, &abort, &body)
-}
-
-#[test]
-fn causes(rt: HostRuntime) -> Result<(), Fail> {
-    let alloc = rt.alloc();
-    let refused = Cause::Refused { number: 13 };
-    abort_both_ways(&rt, alloc, refused, b"\x01\0\0\0\x0d")?;
-    let conflict = Cause::Conflict {
-        with: TxnId(2),
-        table: TableId(3),
-        partition: Text::of(alloc, "p")?,
-    };
-    let bytes = b"\x02\0\0\0\0\0\0\0\x02\0\0\0\0\0\0\0\x03\0\0\0\x01p";
-    abort_both_ways(&rt, alloc, conflict, bytes)?;
-    abort_both_ways(
-        &rt,
-        alloc,
-        Cause::Request { by: TxnId(2) },
-        b"\x03\0\0\0\0\0\0\0\x02",
-    )?;
-    abort_both_ways(&rt, alloc, Cause::Full, b"\x04")?;
-    let twice = Cause::Twice {
-        partition: Text::of(alloc, "")?,
-        row: RowId {
-            write: WriteId(1),
-            statement: 2,
-            bucket: 3,
-            row: 4,
-        },
-    };
-    let bytes = b"\x05\0\0\0\0\0\0\0\0\0\0\0\x01\0\0\0\x02\0\0\0\x03\0\0\0\0\0\0\0\x04";
-    abort_both_ways(&rt, alloc, twice, bytes)?;
-    let blocked = Cause::Blocked { holder: TxnId(2) };
-    abort_both_ways(&rt, alloc, blocked, b"\x06\0\0\0\0\0\0\0\x02")?;
-    let read_fault = Cause::ReadFault { count: 2 };
-    abort_both_ways(&rt, alloc, read_fault, b"\x07\0\0\0\0\0\0\0\x02")?;
-    let write_fault = Cause::WriteFault { count: 2 };
-    abort_both_ways(&rt, alloc, write_fault, b"\x08\0\0\0\0\0\0\0\x02")?;
-    let place = FilePlace {
-        table: TableId(1),
-        partition: Text::of(alloc, "p")?,
-        dir: Text::of(alloc, "")?,
-        bucket: 2,
-        at: 3,
-    };
-    let bytes = b"\x09\0\0\0\0\0\0\0\x01\0\0\0\x01p\0\0\0\0\0\0\0\x02\0\0\0\0\0\0\0\x03";
-    abort_both_ways(&rt, alloc, Cause::Damaged { place }, bytes)?;
-    abort_both_ways(&rt, alloc, Cause::RowLimit, b"\x0a")?;
-    abort_both_ways(&rt, alloc, Cause::PartitionLimit, b"\x0b")?;
-    abort_both_ways(&rt, alloc, Cause::Memory, b"\x0c")?;
-    abort_both_ways(&rt, alloc, Cause::Lost, b"\x0d")
-}
-
-/// A cause in a Failed of job 1.
-fn failed_both_ways(
-    rt: &impl Abort,
-    alloc: Global,
-    cause: JobCause,
-    fields: &[u8],
-) -> Result<(), Fail> {
-    let failed = Entry::Failed {
-        job: JobId(1),
-        cause,
-    };
-    let mut body = b"\x0e\0\0\0\0\0\0\0\x01".to_vec(alloc)?;
-    body.extend_from_slice(fields)?;
-    both_ways(rt, alloc, &failed, &body)
-}
-
-#[test]
-fn causes_of_jobs(rt: HostRuntime) -> Result<(), Fail> {
-    let alloc = rt.alloc();
-    let place = FilePlace {
-        table: TableId(1),
-        partition: Text::of(alloc, "")?,
-        dir: Text::of(alloc, "base")?,
-        bucket: 2,
-        at: 3,
-    };
-    let bytes = b"\x09\0\0\0\0\0\0\0\x01\0\0\0\0\0\0\0\x04base\0\0\0\x02\0\0\0\0\0\0\0\x03";
-    failed_both_ways(&rt, alloc, JobCause::Damaged { place }, bytes)?;
-    let read_fault = JobCause::ReadFault { count: 2 };
-    failed_both_ways(&rt, alloc, read_fault, b"\x07\0\0\0\0\0\0\0\x02")?;
-    let write_fault = JobCause::WriteFault { count: 2 };
-    failed_both_ways(&rt, alloc, write_fault, b"\x08\0\0\0\0\0\0\0\x02")?;
-    failed_both_ways(&rt, alloc, JobCause::Memory, b"\x0c")?;
-    failed_both_ways(&rt, alloc, JobCause::Lost, b"\x0d")?;
-    failed_both_ways(&rt, alloc, JobCause::Gone, b"\x0e")
+    let place =
+        "Damaged { place: FilePlace { table: TableId(1), partition: \"p\", dir: \"\", bucket: 2, at: 3 } }";
+    // The tag of the entry, the bytes of the cause, and the cause.
+    let causes = [
+        (6, b"\x01\0\0\0\x0d".as_slice(), "Refused { number: 13 }"),
+        (
+            6,
+            b"\x02\0\0\0\0\0\0\0\x02\0\0\0\0\0\0\0\x03\0\0\0\x01p".as_slice(),
+            "Conflict { with: TxnId(2), table: TableId(3), partition: \"p\" }",
+        ),
+        (
+            6,
+            b"\x03\0\0\0\0\0\0\0\x02".as_slice(),
+            "Request { by: TxnId(2) }",
+        ),
+        (6, b"\x04".as_slice(), "Full"),
+        (
+            6,
+            b"\x05\0\0\0\0\0\0\0\0\0\0\0\x01\0\0\0\x02\0\0\0\x03\0\0\0\0\0\0\0\x04".as_slice(),
+            "Twice { partition: \"\", row: RowId { write: WriteId(1), statement: 2, bucket: 3, row: 4 } }",
+        ),
+        (
+            6,
+            b"\x06\0\0\0\0\0\0\0\x02".as_slice(),
+            "Blocked { holder: TxnId(2) }",
+        ),
+        (
+            6,
+            b"\x07\0\0\0\0\0\0\0\x02".as_slice(),
+            "ReadFault { count: 2 }",
+        ),
+        (
+            6,
+            b"\x08\0\0\0\0\0\0\0\x02".as_slice(),
+            "WriteFault { count: 2 }",
+        ),
+        (
+            6,
+            b"\x09\0\0\0\0\0\0\0\x01\0\0\0\x01p\0\0\0\0\0\0\0\x02\0\0\0\0\0\0\0\x03".as_slice(),
+            place,
+        ),
+        (6, b"\x0a".as_slice(), "RowLimit"),
+        (6, b"\x0b".as_slice(), "PartitionLimit"),
+        (6, b"\x0c".as_slice(), "Memory"),
+        (6, b"\x0d".as_slice(), "Lost"),
+        (
+            14,
+            b"\x07\0\0\0\0\0\0\0\x02".as_slice(),
+            "ReadFault { count: 2 }",
+        ),
+        (
+            14,
+            b"\x08\0\0\0\0\0\0\0\x02".as_slice(),
+            "WriteFault { count: 2 }",
+        ),
+        (
+            14,
+            b"\x09\0\0\0\0\0\0\0\x01\0\0\0\x01p\0\0\0\0\0\0\0\x02\0\0\0\0\0\0\0\x03".as_slice(),
+            place,
+        ),
+        (14, b"\x0c".as_slice(), "Memory"),
+        (14, b"\x0d".as_slice(), "Lost"),
+        (14, b"\x0e".as_slice(), "Gone"),
+    ];
+    for (tag, fields, shown) in causes {
+        let mut body = vec![in alloc; tag, 0, 0, 0, 0, 0, 0, 0, 1]?;
+        body.extend_from_slice(fields)?;
+        let whole = if tag == 6 {
+            format!(in alloc; "Abort {{ txn: TxnId(1), cause: {shown} }}")?
+        } else {
+            format!(in alloc; "Failed {{ job: JobId(1), cause: {shown} }}")?
+        };
+        both_ways(&rt, alloc, &body, whole.as_str())?;
+    }
+    Ok(())
 }
 
 fn is_damaged(alloc: Global, body: &[u8]) -> bool {
@@ -268,7 +208,10 @@ fn journals(rt: HostRuntime) -> Result<(), Fail> {
     let journal = b"\x01\0\0\0\x09\x01\0\0\0\0\0\0\0\0\0\x05\x05";
     for end in [15, 17] {
         let (book, place) = read_records(alloc, &journal[..end])?;
-        assert_eq!(rt; book.as_slice(), [Entry::Boot { run: 0 }].as_slice());
+        assert_eq!(rt;
+            format!(in alloc; "{book:?}")?.as_str(),
+            "[Boot { run: 0 }]"
+        );
         assert_eq!(rt; place, 14);
     }
     for empty in [

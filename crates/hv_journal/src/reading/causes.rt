@@ -11,7 +11,8 @@ use std::alloc::Global;
 #[tactic(auto, unfolding(crate::specs::Reading::refused_at))]
 fn refused_of(bytes: &[u8]) -> Result<(Cause, &[u8]), RecordFault>
     ensures exact { Gives (λ x. (x.0, x.1.now)) result (refused_at bytes.now) }
-    ensures found { IfOk result (λ x. CauseHasSpelling x.0 × (1 ∷ bytes.now ≡ cause_spelling x.0 ++ x.1.now)) }
+    ensures found { IfOk result
+        (λ x. CauseHasSpelling x.0 × (1 ∷ bytes.now ≡ cause_spelling x.0 ++ x.1.now)) }
 {
     let (number, rest) = half_of(bytes)?;
     Ok((Cause::Refused { number }, rest))
@@ -20,7 +21,8 @@ fn refused_of(bytes: &[u8]) -> Result<(Cause, &[u8]), RecordFault>
 #[tactic(auto, unfolding(crate::specs::Reading::conflict_at))]
 fn conflict_of(alloc: Global, bytes: &[u8]) -> Result<(Cause, &[u8]), RecordFault>
     ensures exact { Gives (λ x. (x.0, x.1.now)) result (conflict_at bytes.now) }
-    ensures found { IfOk result (λ x. CauseHasSpelling x.0 × (2 ∷ bytes.now ≡ cause_spelling x.0 ++ x.1.now)) }
+    ensures found { IfOk result
+        (λ x. CauseHasSpelling x.0 × (2 ∷ bytes.now ≡ cause_spelling x.0 ++ x.1.now)) }
 {
     let (with, rest) = word_of(bytes)?;
     let (table, rest) = word_of(rest)?;
@@ -38,7 +40,8 @@ fn conflict_of(alloc: Global, bytes: &[u8]) -> Result<(Cause, &[u8]), RecordFaul
 #[tactic(auto, unfolding(crate::specs::Reading::request_at))]
 fn request_of(bytes: &[u8]) -> Result<(Cause, &[u8]), RecordFault>
     ensures exact { Gives (λ x. (x.0, x.1.now)) result (request_at bytes.now) }
-    ensures found { IfOk result (λ x. CauseHasSpelling x.0 × (3 ∷ bytes.now ≡ cause_spelling x.0 ++ x.1.now)) }
+    ensures found { IfOk result
+        (λ x. CauseHasSpelling x.0 × (3 ∷ bytes.now ≡ cause_spelling x.0 ++ x.1.now)) }
 {
     let (by, rest) = word_of(bytes)?;
     Ok((Cause::Request { by: TxnId(by) }, rest))
@@ -47,7 +50,8 @@ fn request_of(bytes: &[u8]) -> Result<(Cause, &[u8]), RecordFault>
 #[tactic(auto, unfolding(crate::specs::Reading::twice_at))]
 fn twice_of(alloc: Global, bytes: &[u8]) -> Result<(Cause, &[u8]), RecordFault>
     ensures exact { Gives (λ x. (x.0, x.1.now)) result (twice_at bytes.now) }
-    ensures found { IfOk result (λ x. CauseHasSpelling x.0 × (5 ∷ bytes.now ≡ cause_spelling x.0 ++ x.1.now)) }
+    ensures found { IfOk result
+        (λ x. CauseHasSpelling x.0 × (5 ∷ bytes.now ≡ cause_spelling x.0 ++ x.1.now)) }
 {
     let (partition, rest) = text_of(alloc, bytes)?;
     let (row, rest) = row_of(rest)?;
@@ -57,7 +61,8 @@ fn twice_of(alloc: Global, bytes: &[u8]) -> Result<(Cause, &[u8]), RecordFault>
 #[tactic(auto, unfolding(crate::specs::Reading::blocked_at))]
 fn blocked_of(bytes: &[u8]) -> Result<(Cause, &[u8]), RecordFault>
     ensures exact { Gives (λ x. (x.0, x.1.now)) result (blocked_at bytes.now) }
-    ensures found { IfOk result (λ x. CauseHasSpelling x.0 × (6 ∷ bytes.now ≡ cause_spelling x.0 ++ x.1.now)) }
+    ensures found { IfOk result
+        (λ x. CauseHasSpelling x.0 × (6 ∷ bytes.now ≡ cause_spelling x.0 ++ x.1.now)) }
 {
     let (holder, rest) = word_of(bytes)?;
     Ok((
@@ -71,7 +76,8 @@ fn blocked_of(bytes: &[u8]) -> Result<(Cause, &[u8]), RecordFault>
 #[tactic(auto, unfolding(crate::specs::Reading::read_fault_at))]
 fn read_fault_of(bytes: &[u8]) -> Result<(Cause, &[u8]), RecordFault>
     ensures exact { Gives (λ x. (x.0, x.1.now)) result (read_fault_at bytes.now) }
-    ensures found { IfOk result (λ x. CauseHasSpelling x.0 × (7 ∷ bytes.now ≡ cause_spelling x.0 ++ x.1.now)) }
+    ensures found { IfOk result
+        (λ x. CauseHasSpelling x.0 × (7 ∷ bytes.now ≡ cause_spelling x.0 ++ x.1.now)) }
 {
     let (count, rest) = word_of(bytes)?;
     Ok((Cause::ReadFault { count }, rest))
@@ -80,7 +86,8 @@ fn read_fault_of(bytes: &[u8]) -> Result<(Cause, &[u8]), RecordFault>
 #[tactic(auto, unfolding(crate::specs::Reading::write_fault_at))]
 fn write_fault_of(bytes: &[u8]) -> Result<(Cause, &[u8]), RecordFault>
     ensures exact { Gives (λ x. (x.0, x.1.now)) result (write_fault_at bytes.now) }
-    ensures found { IfOk result (λ x. CauseHasSpelling x.0 × (8 ∷ bytes.now ≡ cause_spelling x.0 ++ x.1.now)) }
+    ensures found { IfOk result
+        (λ x. CauseHasSpelling x.0 × (8 ∷ bytes.now ≡ cause_spelling x.0 ++ x.1.now)) }
 {
     let (count, rest) = word_of(bytes)?;
     Ok((Cause::WriteFault { count }, rest))
@@ -89,7 +96,8 @@ fn write_fault_of(bytes: &[u8]) -> Result<(Cause, &[u8]), RecordFault>
 #[tactic(auto, unfolding(crate::specs::Reading::damaged_at))]
 fn damaged_of(alloc: Global, bytes: &[u8]) -> Result<(Cause, &[u8]), RecordFault>
     ensures exact { Gives (λ x. (x.0, x.1.now)) result (damaged_at bytes.now) }
-    ensures found { IfOk result (λ x. CauseHasSpelling x.0 × (9 ∷ bytes.now ≡ cause_spelling x.0 ++ x.1.now)) }
+    ensures found { IfOk result
+        (λ x. CauseHasSpelling x.0 × (9 ∷ bytes.now ≡ cause_spelling x.0 ++ x.1.now)) }
 {
     let (place, rest) = place_of(alloc, bytes)?;
     Ok((Cause::Damaged { place }, rest))
@@ -134,7 +142,8 @@ pub fn cause_of(alloc: Global, bytes: &[u8]) -> Result<(Cause, &[u8]), RecordFau
 #[tactic(auto, unfolding(crate::specs::Reading::job_read_fault_at))]
 fn job_read_fault_of(bytes: &[u8]) -> Result<(JobCause, &[u8]), RecordFault>
     ensures exact { Gives (λ x. (x.0, x.1.now)) result (job_read_fault_at bytes.now) }
-    ensures found { IfOk result (λ x. JobCauseHasSpelling x.0 × (7 ∷ bytes.now ≡ job_cause_spelling x.0 ++ x.1.now)) }
+    ensures found { IfOk result
+        (λ x. JobCauseHasSpelling x.0 × (7 ∷ bytes.now ≡ job_cause_spelling x.0 ++ x.1.now)) }
 {
     let (count, rest) = word_of(bytes)?;
     Ok((JobCause::ReadFault { count }, rest))
@@ -143,7 +152,8 @@ fn job_read_fault_of(bytes: &[u8]) -> Result<(JobCause, &[u8]), RecordFault>
 #[tactic(auto, unfolding(crate::specs::Reading::job_write_fault_at))]
 fn job_write_fault_of(bytes: &[u8]) -> Result<(JobCause, &[u8]), RecordFault>
     ensures exact { Gives (λ x. (x.0, x.1.now)) result (job_write_fault_at bytes.now) }
-    ensures found { IfOk result (λ x. JobCauseHasSpelling x.0 × (8 ∷ bytes.now ≡ job_cause_spelling x.0 ++ x.1.now)) }
+    ensures found { IfOk result
+        (λ x. JobCauseHasSpelling x.0 × (8 ∷ bytes.now ≡ job_cause_spelling x.0 ++ x.1.now)) }
 {
     let (count, rest) = word_of(bytes)?;
     Ok((JobCause::WriteFault { count }, rest))
@@ -152,7 +162,8 @@ fn job_write_fault_of(bytes: &[u8]) -> Result<(JobCause, &[u8]), RecordFault>
 #[tactic(auto, unfolding(crate::specs::Reading::job_damaged_at))]
 fn job_damaged_of(alloc: Global, bytes: &[u8]) -> Result<(JobCause, &[u8]), RecordFault>
     ensures exact { Gives (λ x. (x.0, x.1.now)) result (job_damaged_at bytes.now) }
-    ensures found { IfOk result (λ x. JobCauseHasSpelling x.0 × (9 ∷ bytes.now ≡ job_cause_spelling x.0 ++ x.1.now)) }
+    ensures found { IfOk result
+        (λ x. JobCauseHasSpelling x.0 × (9 ∷ bytes.now ≡ job_cause_spelling x.0 ++ x.1.now)) }
 {
     let (place, rest) = place_of(alloc, bytes)?;
     Ok((JobCause::Damaged { place }, rest))

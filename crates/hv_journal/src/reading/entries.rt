@@ -12,7 +12,8 @@ use std::alloc::Global;
 #[tactic(auto, unfolding(crate::specs::Reading::boot_at))]
 fn boot_of(bytes: &[u8]) -> Result<(Entry, &[u8]), RecordFault>
     ensures exact { Gives (λ x. (x.0, x.1.now)) result (boot_at bytes.now) }
-    ensures found { IfOk result (λ x. HasSpelling x.0 × (1 ∷ bytes.now ≡ entry_spelling x.0 ++ x.1.now)) }
+    ensures found { IfOk result
+        (λ x. HasSpelling x.0 × (1 ∷ bytes.now ≡ entry_spelling x.0 ++ x.1.now)) }
 {
     let (run, rest) = word_of(bytes)?;
     Ok((Entry::Boot { run }, rest))
@@ -21,7 +22,8 @@ fn boot_of(bytes: &[u8]) -> Result<(Entry, &[u8]), RecordFault>
 #[tactic(auto, unfolding(crate::specs::Reading::opened_at))]
 fn opened_of(alloc: Global, bytes: &[u8]) -> Result<(Entry, &[u8]), RecordFault>
     ensures exact { Gives (λ x. (x.0, x.1.now)) result (opened_at bytes.now) }
-    ensures found { IfOk result (λ x. HasSpelling x.0 × (2 ∷ bytes.now ≡ entry_spelling x.0 ++ x.1.now)) }
+    ensures found { IfOk result
+        (λ x. HasSpelling x.0 × (2 ∷ bytes.now ≡ entry_spelling x.0 ++ x.1.now)) }
 {
     let (txn, rest) = word_of(bytes)?;
     let (session, rest) = text_of(alloc, rest)?;
@@ -41,7 +43,8 @@ fn opened_of(alloc: Global, bytes: &[u8]) -> Result<(Entry, &[u8]), RecordFault>
 #[tactic(auto, unfolding(crate::specs::Reading::start_at))]
 fn start_of(bytes: &[u8]) -> Result<(Entry, &[u8]), RecordFault>
     ensures exact { Gives (λ x. (x.0, x.1.now)) result (start_at bytes.now) }
-    ensures found { IfOk result (λ x. HasSpelling x.0 × (3 ∷ bytes.now ≡ entry_spelling x.0 ++ x.1.now)) }
+    ensures found { IfOk result
+        (λ x. HasSpelling x.0 × (3 ∷ bytes.now ≡ entry_spelling x.0 ++ x.1.now)) }
 {
     let (txn, rest) = word_of(bytes)?;
     let (statement, rest) = half_of(rest)?;
@@ -57,7 +60,8 @@ fn start_of(bytes: &[u8]) -> Result<(Entry, &[u8]), RecordFault>
 #[tactic(auto, unfolding(crate::specs::Reading::given_at))]
 fn given_of(bytes: &[u8]) -> Result<(Entry, &[u8]), RecordFault>
     ensures exact { Gives (λ x. (x.0, x.1.now)) result (given_at bytes.now) }
-    ensures found { IfOk result (λ x. HasSpelling x.0 × (4 ∷ bytes.now ≡ entry_spelling x.0 ++ x.1.now)) }
+    ensures found { IfOk result
+        (λ x. HasSpelling x.0 × (4 ∷ bytes.now ≡ entry_spelling x.0 ++ x.1.now)) }
 {
     let (txn, rest) = word_of(bytes)?;
     let (table, rest) = word_of(rest)?;
@@ -75,7 +79,8 @@ fn given_of(bytes: &[u8]) -> Result<(Entry, &[u8]), RecordFault>
 #[tactic(auto, unfolding(crate::specs::Reading::commit_at))]
 fn commit_of(alloc: Global, bytes: &[u8]) -> Result<(Entry, &[u8]), RecordFault>
     ensures exact { Gives (λ x. (x.0, x.1.now)) result (commit_at bytes.now) }
-    ensures found { IfOk result (λ x. HasSpelling x.0 × (5 ∷ bytes.now ≡ entry_spelling x.0 ++ x.1.now)) }
+    ensures found { IfOk result
+        (λ x. HasSpelling x.0 × (5 ∷ bytes.now ≡ entry_spelling x.0 ++ x.1.now)) }
 {
     let (txn, rest) = word_of(bytes)?;
     let (wrote, rest) = touches_of(alloc, rest)?;
@@ -91,7 +96,8 @@ fn commit_of(alloc: Global, bytes: &[u8]) -> Result<(Entry, &[u8]), RecordFault>
 #[tactic(auto, unfolding(crate::specs::Reading::abort_at))]
 fn abort_of(alloc: Global, bytes: &[u8]) -> Result<(Entry, &[u8]), RecordFault>
     ensures exact { Gives (λ x. (x.0, x.1.now)) result (abort_at bytes.now) }
-    ensures found { IfOk result (λ x. HasSpelling x.0 × (6 ∷ bytes.now ≡ entry_spelling x.0 ++ x.1.now)) }
+    ensures found { IfOk result
+        (λ x. HasSpelling x.0 × (6 ∷ bytes.now ≡ entry_spelling x.0 ++ x.1.now)) }
 {
     let (txn, rest) = word_of(bytes)?;
     let (cause, rest) = cause_of(alloc, rest)?;
@@ -107,7 +113,8 @@ fn abort_of(alloc: Global, bytes: &[u8]) -> Result<(Entry, &[u8]), RecordFault>
 #[tactic(auto, unfolding(crate::specs::Reading::create_at))]
 fn create_of(bytes: &[u8]) -> Result<(Entry, &[u8]), RecordFault>
     ensures exact { Gives (λ x. (x.0, x.1.now)) result (create_at bytes.now) }
-    ensures found { IfOk result (λ x. HasSpelling x.0 × (7 ∷ bytes.now ≡ entry_spelling x.0 ++ x.1.now)) }
+    ensures found { IfOk result
+        (λ x. HasSpelling x.0 × (7 ∷ bytes.now ≡ entry_spelling x.0 ++ x.1.now)) }
 {
     let (txn, rest) = word_of(bytes)?;
     let (table, rest) = word_of(rest)?;
@@ -123,7 +130,8 @@ fn create_of(bytes: &[u8]) -> Result<(Entry, &[u8]), RecordFault>
 #[tactic(auto, unfolding(crate::specs::Reading::drop_at))]
 fn drop_of(bytes: &[u8]) -> Result<(Entry, &[u8]), RecordFault>
     ensures exact { Gives (λ x. (x.0, x.1.now)) result (drop_at bytes.now) }
-    ensures found { IfOk result (λ x. HasSpelling x.0 × (8 ∷ bytes.now ≡ entry_spelling x.0 ++ x.1.now)) }
+    ensures found { IfOk result
+        (λ x. HasSpelling x.0 × (8 ∷ bytes.now ≡ entry_spelling x.0 ++ x.1.now)) }
 {
     let (txn, rest) = word_of(bytes)?;
     let (table, rest) = word_of(rest)?;
@@ -139,7 +147,8 @@ fn drop_of(bytes: &[u8]) -> Result<(Entry, &[u8]), RecordFault>
 #[tactic(auto, unfolding(crate::specs::Reading::asked_at))]
 fn asked_of(alloc: Global, bytes: &[u8]) -> Result<(Entry, &[u8]), RecordFault>
     ensures exact { Gives (λ x. (x.0, x.1.now)) result (asked_at bytes.now) }
-    ensures found { IfOk result (λ x. HasSpelling x.0 × (9 ∷ bytes.now ≡ entry_spelling x.0 ++ x.1.now)) }
+    ensures found { IfOk result
+        (λ x. HasSpelling x.0 × (9 ∷ bytes.now ≡ entry_spelling x.0 ++ x.1.now)) }
 {
     let (job, rest) = word_of(bytes)?;
     let (table, rest) = word_of(rest)?;
@@ -161,7 +170,8 @@ fn asked_of(alloc: Global, bytes: &[u8]) -> Result<(Entry, &[u8]), RecordFault>
 #[tactic(auto, unfolding(crate::specs::Reading::picked_at))]
 fn picked_of(bytes: &[u8]) -> Result<(Entry, &[u8]), RecordFault>
     ensures exact { Gives (λ x. (x.0, x.1.now)) result (picked_at bytes.now) }
-    ensures found { IfOk result (λ x. HasSpelling x.0 × (10 ∷ bytes.now ≡ entry_spelling x.0 ++ x.1.now)) }
+    ensures found { IfOk result
+        (λ x. HasSpelling x.0 × (10 ∷ bytes.now ≡ entry_spelling x.0 ++ x.1.now)) }
 {
     let (job, rest) = word_of(bytes)?;
     let (watermark, rest) = word_of(rest)?;
@@ -177,7 +187,8 @@ fn picked_of(bytes: &[u8]) -> Result<(Entry, &[u8]), RecordFault>
 #[tactic(auto, unfolding(crate::specs::Reading::published_at))]
 fn published_of(bytes: &[u8]) -> Result<(Entry, &[u8]), RecordFault>
     ensures exact { Gives (λ x. (x.0, x.1.now)) result (published_at bytes.now) }
-    ensures found { IfOk result (λ x. HasSpelling x.0 × (11 ∷ bytes.now ≡ entry_spelling x.0 ++ x.1.now)) }
+    ensures found { IfOk result
+        (λ x. HasSpelling x.0 × (11 ∷ bytes.now ≡ entry_spelling x.0 ++ x.1.now)) }
 {
     let (job, rest) = word_of(bytes)?;
     let (low, rest) = word_of(rest)?;
@@ -197,7 +208,8 @@ fn published_of(bytes: &[u8]) -> Result<(Entry, &[u8]), RecordFault>
 #[tactic(auto, unfolding(crate::specs::Reading::empty_at))]
 fn empty_of(bytes: &[u8]) -> Result<(Entry, &[u8]), RecordFault>
     ensures exact { Gives (λ x. (x.0, x.1.now)) result (empty_at bytes.now) }
-    ensures found { IfOk result (λ x. HasSpelling x.0 × (12 ∷ bytes.now ≡ entry_spelling x.0 ++ x.1.now)) }
+    ensures found { IfOk result
+        (λ x. HasSpelling x.0 × (12 ∷ bytes.now ≡ entry_spelling x.0 ++ x.1.now)) }
 {
     let (job, rest) = word_of(bytes)?;
     Ok((Entry::Empty { job: JobId(job) }, rest))
@@ -206,7 +218,8 @@ fn empty_of(bytes: &[u8]) -> Result<(Entry, &[u8]), RecordFault>
 #[tactic(auto, unfolding(crate::specs::Reading::cleaned_at))]
 fn cleaned_of(bytes: &[u8]) -> Result<(Entry, &[u8]), RecordFault>
     ensures exact { Gives (λ x. (x.0, x.1.now)) result (cleaned_at bytes.now) }
-    ensures found { IfOk result (λ x. HasSpelling x.0 × (13 ∷ bytes.now ≡ entry_spelling x.0 ++ x.1.now)) }
+    ensures found { IfOk result
+        (λ x. HasSpelling x.0 × (13 ∷ bytes.now ≡ entry_spelling x.0 ++ x.1.now)) }
 {
     let (job, rest) = word_of(bytes)?;
     Ok((Entry::Cleaned { job: JobId(job) }, rest))
@@ -215,7 +228,8 @@ fn cleaned_of(bytes: &[u8]) -> Result<(Entry, &[u8]), RecordFault>
 #[tactic(auto, unfolding(crate::specs::Reading::failed_at))]
 fn failed_of(alloc: Global, bytes: &[u8]) -> Result<(Entry, &[u8]), RecordFault>
     ensures exact { Gives (λ x. (x.0, x.1.now)) result (failed_at bytes.now) }
-    ensures found { IfOk result (λ x. HasSpelling x.0 × (14 ∷ bytes.now ≡ entry_spelling x.0 ++ x.1.now)) }
+    ensures found { IfOk result
+        (λ x. HasSpelling x.0 × (14 ∷ bytes.now ≡ entry_spelling x.0 ++ x.1.now)) }
 {
     let (job, rest) = word_of(bytes)?;
     let (cause, rest) = job_cause_of(alloc, rest)?;
@@ -231,7 +245,8 @@ fn failed_of(alloc: Global, bytes: &[u8]) -> Result<(Entry, &[u8]), RecordFault>
 #[tactic(auto, unfolding(crate::specs::Reading::forgot_at))]
 fn forgot_of(bytes: &[u8]) -> Result<(Entry, &[u8]), RecordFault>
     ensures exact { Gives (λ x. (x.0, x.1.now)) result (forgot_at bytes.now) }
-    ensures found { IfOk result (λ x. HasSpelling x.0 × (15 ∷ bytes.now ≡ entry_spelling x.0 ++ x.1.now)) }
+    ensures found { IfOk result
+        (λ x. HasSpelling x.0 × (15 ∷ bytes.now ≡ entry_spelling x.0 ++ x.1.now)) }
 {
     let (table, rest) = word_of(bytes)?;
     let (write, rest) = word_of(rest)?;

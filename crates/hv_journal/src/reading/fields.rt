@@ -57,7 +57,8 @@ pub fn text_of(alloc: Global, bytes: &[u8]) -> Result<(Text, &[u8]), RecordFault
 #[tactic(auto, unfolding(crate::specs::Reading::touch_at, hv_history::specs::Spelling::touch_spelling))]
 pub fn touch_of(alloc: Global, bytes: &[u8]) -> Result<(Touch, &[u8]), RecordFault>
     ensures exact { Gives (λ x. (x.0, x.1.now)) result (touch_at bytes.now) }
-    ensures found { IfOk result (λ x. TouchHasSpelling x.0 × (bytes.now ≡ touch_spelling x.0 ++ x.1.now)) }
+    ensures found { IfOk result
+        (λ x. TouchHasSpelling x.0 × (bytes.now ≡ touch_spelling x.0 ++ x.1.now)) }
 {
     let (table, rest) = word_of(bytes)?;
     let (partition, rest) = text_of(alloc, rest)?;
