@@ -1,0 +1,9 @@
+pub mod Numbers
+pub mod Lengths
+pub mod Texts
+pub mod Values
+pub mod Counted
+pub mod Items
+pub mod Again
+pub mod Only
+pub mod Books

@@ -1,0 +1,4 @@
+pub mod Layout
+pub mod Reading
+pub mod Faults
+pub mod Writing
