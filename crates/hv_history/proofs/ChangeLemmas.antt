@@ -1,5 +1,5 @@
 -- A write at the place of a number is the change of what has that number.
-use Rattle.std.proofs.Common.{◌≡◌, ℕ, Bool, true, false, Option, Some, None, List, sym, ap, ◌∙◌, refl}
+use Rattle.std.proofs.Common.{◌≡◌, ℕ, true, false, Option, Some, None, List, sym, ap, ◌∙◌, refl}
 use Rattle.std.specs.Prelude.{is_none, slice_set, slice_index_or}
 use Rattle.hv_history.specs.State.{State, Snapshot, Transaction, changed, first_of, started}
 

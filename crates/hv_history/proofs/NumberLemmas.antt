@@ -1,11 +1,10 @@
 -- Lemmas on what is numbered: rows under a write id, and what stands at a number.
-use Rattle.std.proofs.Common.{◌≡◌, ℕ, zero, suc, ◌+◌, ◌-◌, ◌<◌, ◌≤◌, Option, Some, None, List, [], ◌∷◌, ◌++◌, length, get_or, set, take, refl, sym, ap, ◌∙◌, arith}
-use Rattle.std.specs.Prelude.{slice_get, Bool, true, false, is_none}
+use Rattle.std.proofs.Common.{◌≡◌, ℕ, zero, suc, ◌+◌, ◌<◌, ◌≤◌, Option, Some, None, List, [], ◌∷◌, ◌++◌, length, get_or, set, take, refl, sym, ap, ◌∙◌, arith}
+use Rattle.std.specs.Prelude.{slice_get, true, false, is_none}
 use Rattle.std.proofs.lemmas.List.{take_more, length-take-le, set-get_or, get_or_default}
-use Rattle.hv_base.specs.declared.ids.RowId.{RowId}
 use Rattle.hv_value.specs.declared.row.Row.{Row}
 use Rattle.hv_logic.specs.declared.effect.Found.{Found}
-use Rattle.hv_history.specs.State.{Transaction, Ending, numbered, changed, changed_at, numbered_from, while_open, unless_ended}
+use Rattle.hv_history.specs.State.{Transaction, Ending, numbered, changed_at, numbered_from, while_open, unless_ended}
 use Rattle.hv_history.specs.Replay.{IsPlaceOf, IsOpenPlaceOf}
 
 -- ---- rows under a write id
@@ -111,7 +110,10 @@ open-ended xs number place x at is e = λ f.
 
 pub open-some : (xs : List Transaction) (number place : ℕ) (x : Transaction) → IsPlaceOf xs number (Some place)
     → x ≡ get_or xs place x → is_none x.ending ≡ true → IsOpenPlaceOf xs number (Some place)
-open-some xs number place x at is e = (at.0, λ f d.
-    at.1 (while_open f) x
-    ∙ ap (λ (y : Transaction). set xs place (while_open f y)) (sym is)
-    ∙ ap (set xs place) (while_open-open f x e ∙ ap f (is ∙ get_or_default xs place x d at.0)))
+open-some xs number place x at is e = (
+  at.0,
+  λ f d.
+      at.1 (while_open f) x
+      ∙ ap (λ (y : Transaction). set xs place (while_open f y)) (sym is)
+      ∙ ap (set xs place) (while_open-open f x e ∙ ap f (is ∙ get_or_default xs place x d at.0)),
+)

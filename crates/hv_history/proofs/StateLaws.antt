@@ -1,5 +1,5 @@
 -- Laws of the fold: how it goes on, what stays, and what changes a table's rows.
-use Rattle.std.proofs.Common.{◌≡◌, ℕ, zero, suc, ◌+◌, ◌<◌, Option, Some, None, List, [], ◌∷◌, ◌++◌, fold, length, refl, sym, ap, ◌∙◌, arith}
+use Rattle.std.proofs.Common.{◌≡◌, ℕ, zero, suc, ◌+◌, ◌<◌, Option, Some, None, List, [], ◌∷◌, ◌++◌, fold, refl, sym, ap, ◌∙◌, arith}
 use Rattle.std.specs.List.{slice_get, AllByRecursion}
 use Rattle.std.proofs.Common.{◌≢◌}
 use Rattle.std.specs.Option.{option_map, option_to_list}
@@ -12,7 +12,7 @@ use Rattle.hv_logic.specs.Rows.{sorted}
 use Rattle.hv_history.specs.Answers.{answer, answer_in, ending_text}
 use Rattle.hv_history.specs.declared.entry.Entry.{Entry}
 use Rattle.hv_history.specs.declared.entry.Entry.TheVariants as entry
-use Rattle.hv_history.specs.State.{State, Transaction, Table, Ending, Written, numbered, changed, changed_at, while_open, unless_ended, acted, after, state_of, nothing_yet, content, content_in, content_of, with_transaction, makes, new_table, owned, dropped, forgot, made_info, meaning, numbered_from, written_by, IsNoCommit, Carry, Differ}
+use Rattle.hv_history.specs.State.{State, Transaction, Table, Ending, numbered, changed, changed_at, while_open, unless_ended, acted, after, state_of, nothing_yet, content, content_in, content_of, makes, new_table, owned, dropped, forgot, made_info, meaning, numbered_from, written_by, IsNoCommit, Carry, Differ}
 
 -- ---- the fold goes on by one entry
 
@@ -102,7 +102,7 @@ answer-stays book more txn text e =
     let found = answered (numbered (state_of book).transactions txn) text e in
     let stays = ended-stays-all more (state_of book) txn found.0 found.1 found.2 found.3 in
     let there : numbered (state_of (book ++ more)).transactions txn ≡ Some found.0 =
-        ap (λ (s : State). numbered s.transactions txn) (fold-append after nothing_yet book more) ∙ stays in
+    ap (λ (s : State). numbered s.transactions txn) (fold-append after nothing_yet book more) ∙ stays in
     ap answer_in (there ∙ sym found.2) ∙ e
 
 -- ---- a table's rows change at a Commit alone
@@ -175,9 +175,10 @@ numbered-carry write number (row ∷ rows) = (refl, numbered-carry write (number
 numbered-apart : (write number later : ℕ) (rows : List Row) (id : RowId) → id.row ≡ number → number < later
     → AllByRecursion (λ (other : Found). id ≢ other.id) (numbered_from write later rows)
 numbered-apart write number later [] id e h = tt
-numbered-apart write number later (row ∷ rows) id e h =
-    (λ same. let there : id.row ≡ later = ap (λ (i : RowId). i.row) same in absurd (omega arith),
-    numbered-apart write number (later + 1) rows id e (omega arith))
+numbered-apart write number later (row ∷ rows) id e h = (
+  λ same. let there : id.row ≡ later = ap (λ (i : RowId). i.row) same in absurd (omega arith),
+  numbered-apart write number (later + 1) rows id e (omega arith),
+)
 
 numbered-differ : (write number : ℕ) (rows : List Row) → Differ (numbered_from write number rows)
 numbered-differ write number [] = tt

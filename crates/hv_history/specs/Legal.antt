@@ -1,7 +1,7 @@
 -- Which entries fit a book, which are true, and which books are legal. Opening a store tests what fits; what is
 -- true of a store that somebody else wrote is a premise.
 -- Source: Hive Transactions (a transaction's states, locks, first committer wins); the journal is this project's.
-use Rattle.std.specs.Prelude.{◌≡◌, ℕ, ◌+◌, ◌<◌, ◌==◌, ◌&&◌, ◌||◌, Bool, true, false, if◌then◌else◌, not, nat_lt, IsTrue, IsFalse, ◌⊎◌, is_some, is_none, Option, Some, None, IsSome, IsNone, IsSomeAnd, List, [], ◌∷◌, length, filter, map}
+use Rattle.std.specs.Prelude.{◌≡◌, ℕ, ◌+◌, ◌<◌, ◌==◌, ◌&&◌, ◌||◌, Bool, true, false, if◌then◌else◌, nat_lt, IsTrue, IsFalse, ◌⊎◌, is_some, is_none, Option, Some, None, IsSome, IsNone, IsSomeAnd, List, [], ◌∷◌, length}
 use Rattle.std.specs.declared.cmp.Ordering.{Ordering}
 use Rattle.std.specs.declared.cmp.Ordering.TheVariants.{Less}
 use Rattle.std.specs.Ordering.{nat_cmp, on, then_cmp}
@@ -18,14 +18,13 @@ use Rattle.hv_ast.specs.Reading.{tree_of}
 use Rattle.hv_logic.specs.declared.catalog.TableInfo.{TableInfo}
 use Rattle.hv_logic.specs.declared.effect.Effect.{Effect}
 use Rattle.hv_logic.specs.declared.meaning.Meaning.{Meaning}
-use Rattle.hv_logic.specs.declared.seen.Seen.{Seen}
-use Rattle.hv_logic.specs.declared.meaning.Meaning.TheVariants.{Refused, Listing, Change, Make, Plain, RowLimit, Unbuilt}
+use Rattle.hv_logic.specs.declared.meaning.Meaning.TheVariants.{Refused, Listing, Change, Make, Plain, RowLimit}
 use Rattle.hv_logic.specs.Meaning.{named}
 use Rattle.hv_history.specs.declared.entry.Entry.{Entry}
 use Rattle.hv_history.specs.declared.entry.Entry.TheVariants as entry
 use Rattle.hv_history.specs.declared.entry.Cause.{Cause}
 use Rattle.hv_history.specs.declared.entry.Cause.TheVariants as cause
-use Rattle.hv_history.specs.State.{State, Table, Snapshot, Transaction, Ending, Committed, Aborted, Made, Dropped, numbered, meaning, seen_tables, given_in, nothing_yet, after}
+use Rattle.hv_history.specs.State.{State, Snapshot, Transaction, Ending, Committed, numbered, meaning, seen_tables, given_in, nothing_yet, after}
 
 -- ---- a transaction's state
 

@@ -5,3 +5,4 @@ pub mod Answers
 pub mod Legal
 pub mod Book
 pub mod Replay
+pub mod Following

@@ -1,31 +1,24 @@
 -- What a book means: one fold over its entries, from the left. An entry changes the state by what it says and
 -- by the state before it, and by nothing else.
 -- Source: Hive Transactions; Camacho-Rodríguez and others, SIGMOD 2019, section 3.2.
-use Rattle.std.specs.Prelude.{◌≡◌, ◌≢◌, ℕ, zero, suc, ◌+◌, ◌==◌, Bool, true, false, if◌then◌else◌, not, Option, Some, None, List, [], ◌∷◌, ◌++◌, map, filter, fold, length, slice_get}
-use Rattle.std.specs.declared.cmp.Ordering.{Ordering}
-use Rattle.std.specs.Ordering.{nat_cmp, on, then_cmp, is_eq}
-use Rattle.std.specs.Cmp.Lexicographic.{slice_cmp}
+use Rattle.std.specs.Prelude.{◌≡◌, ◌≢◌, ℕ, zero, suc, ◌+◌, ◌==◌, Bool, true, false, if◌then◌else◌, not, Option, Some, None, List, [], ◌∷◌, ◌++◌, map, filter, fold, slice_get}
+use Rattle.std.specs.Ordering.{is_eq}
 use Rattle.std.specs.List.{flat_map, list_any, AllByRecursion}
 use Rattle.std.specs.Option.{option_map, option_to_list}
-use Rattle.hv_base.specs.Identifiers.{row_id_cmp}
-use Rattle.hv_base.specs.declared.ids.Touch.{Touch}
-use Rattle.hv_base.specs.declared.ids.RowId.{RowId}
 use Rattle.hv_ast.specs.declared.statement.Stmt.{Stmt}
 use Rattle.hv_ast.specs.Reading.{tree_of}
 use Rattle.hv_value.specs.declared.row.Row.{Row}
 use Rattle.hv_logic.specs.declared.catalog.TableInfo.{TableInfo}
-use Rattle.hv_logic.specs.declared.catalog.Column.{Column}
 use Rattle.hv_logic.specs.declared.effect.Effect.{Effect}
 use Rattle.hv_logic.specs.declared.effect.Found.{Found}
 use Rattle.hv_logic.specs.declared.meaning.Meaning.{Meaning}
 use Rattle.hv_logic.specs.declared.seen.Seen.{Seen}
-use Rattle.hv_logic.specs.declared.meaning.Meaning.TheVariants.{Refused, Listing, Change, Make, Plain, Unbuilt}
+use Rattle.hv_logic.specs.declared.meaning.Meaning.TheVariants.{Change, Make, Unbuilt}
 use Rattle.hv_logic.specs.Meaning.{meaning_of}
 use Rattle.hv_logic.specs.Sorting.{sorted_by}
 use Rattle.hv_logic.specs.Rows.{sorted, found_cmp}
 use Rattle.hv_history.specs.declared.entry.Entry.{Entry}
 use Rattle.hv_history.specs.declared.entry.Entry.TheVariants as entry
-use Rattle.hv_history.specs.declared.entry.Cause.{Cause}
 use Rattle.hv_history.specs.declared.entry.JobKind.{JobKind}
 use Rattle.hv_history.specs.declared.entry.JobCause.{JobCause}
 pub use Rattle.hv_history.specs.declared.state.Written.{Written}
@@ -187,8 +180,15 @@ forgot write table = record table { forgotten = table.forgotten ++ write ∷ [] 
 
 abbrev pub asked : ℕ → List ℕ → JobKind → ℕ → Job
 asked table partition kind by = record {
-  table = table; partition = partition; kind = kind; by = by; watermark = None; published = None;
-  is_empty = false; is_cleaned = false; failure = None;
+  table = table;
+  partition = partition;
+  kind = kind;
+  by = by;
+  watermark = None;
+  published = None;
+  is_empty = false;
+  is_cleaned = false;
+  failure = None;
 }
 
 abbrev pub with_transaction : (Transaction → Transaction) → State → ℕ → State
@@ -207,11 +207,13 @@ acted state (entry.Given txn table write) =
     record (with_transaction (given_id table.0 write.0) state txn.0) { tables = changed (owned txn.0) state.tables table.0 }
 acted state (entry.Commit txn wrote) =
     record (with_transaction (ended (Committed state.entries wrote)) state txn.0) {
-      tables = tables_behind (commits (numbered state.transactions txn.0)) state.tables }
+      tables = tables_behind (commits (numbered state.transactions txn.0)) state.tables;
+    }
 acted state (entry.Abort txn cause) = with_transaction (ended (Aborted state.entries cause)) state txn.0
 acted state (entry.Create txn table) =
     record (with_transaction (ended (Made state.entries table.0)) state txn.0) {
-      tables = state.tables ++ makes table.0 (numbered state.transactions txn.0) }
+      tables = state.tables ++ makes table.0 (numbered state.transactions txn.0);
+    }
 acted state (entry.Drop txn table) =
     record (with_transaction (ended (Dropped state.entries table.0)) state txn.0) { tables = changed dropped state.tables table.0 }
 acted state (entry.Asked job table partition kind by) =

@@ -16,10 +16,8 @@ pub fn open(
     number: u64,
     text: &Text,
 ) -> Result<(), NoMemory>
-    ensures {
-        OnOk result (transactions.new.items
-            ≡ transactions.old.items ++ opened session.now number text.now ∷ [])
-    }
+    ensures { OnOk result (transactions.new.items
+        ≡ transactions.old.items ++ opened session.now number text.now ∷ []) }
 {
     transactions.push(Transaction {
         session: session.duplicate(alloc)?,
@@ -50,10 +48,8 @@ pub fn start(
     tables: &[Table],
     txn: u64,
 ) -> Result<(), NoMemory>
-    ensures {
-        OnOk result (transactions.new.items ≡ changed (while_open (started
-            (state_at place transactions.old.items tables.now))) transactions.old.items txn)
-    }
+    ensures { OnOk result (transactions.new.items ≡ changed (while_open (started
+        (state_at place transactions.old.items tables.now))) transactions.old.items txn) }
 {
     let Some(at) = open_place_of(transactions, txn) else {
         return Ok(());
@@ -74,10 +70,8 @@ pub fn give(
     table: u64,
     write: u64,
 ) -> Result<(), NoMemory>
-    ensures {
-        OnOk result (transactions.new.items
-            ≡ changed (while_open (given_id table write)) transactions.old.items txn)
-    }
+    ensures { OnOk result (transactions.new.items
+        ≡ changed (while_open (given_id table write)) transactions.old.items txn) }
 {
     let Some(at) = open_place_of(transactions, txn) else {
         return Ok(());
@@ -91,9 +85,7 @@ pub fn give(
 
 /// Ends a transaction.
 pub fn end(transactions: &mut Vec<Transaction>, txn: u64, ending: Ending)
-    ensures {
-        transactions.new.items ≡ changed (while_open (ended ending)) transactions.old.items txn
-    }
+    ensures { transactions.new.items ≡ changed (while_open (ended ending)) transactions.old.items txn }
 {
     if let Some(at) = open_place_of(transactions, txn) {
         let transaction = &mut transactions[at];

@@ -42,10 +42,16 @@ pub fn meaning(
 
 // A row of an unpartitioned, unbucketed table, with its identifier.
 fn found_row(alloc: Global, write: u64, number: u64, row: &Row) -> Result<Found, NoMemory>
-    ensures {
-        IfOk result (λ found. found ≡ record { partition = []; id = record {
-            write = record { 0 = write }; statement = 0; bucket = 0; row = number }; row = row.now })
-    }
+    ensures { IfOk result (λ found. found ≡ record {
+      partition = [];
+      id = record {
+        write = record { 0 = write };
+        statement = 0;
+        bucket = 0;
+        row = number;
+      };
+      row = row.now;
+    }) }
 {
     Ok(Found {
         partition: Text::of(alloc, "")?,

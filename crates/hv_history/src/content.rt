@@ -12,12 +12,9 @@ use std::alloc::Global;
 
 // Whether one of the rows has the partition and the identifier of this one.
 fn is_among(rows: &[Found], found: &Found) -> bool
-    ensures {
-        result ≡ list_any (λ (other : Found). is_eq (found_cmp other found.now)) rows.now
-    }
+    ensures { result ≡ list_any (λ (other : Found). is_eq (found_cmp other found.now)) rows.now }
 {
-    rows.iter()
-        .any(|other| compare_found(other, found).is_eq())
+    rows.iter().any(|other| compare_found(other, found).is_eq())
 }
 
 fn is_deleted(writes: &[Written], found: &Found) -> bool
@@ -38,10 +35,8 @@ fn put_standing(
     rows: &[Found],
     standing: &mut Vec<Found>,
 ) -> Result<(), NoMemory>
-    ensures {
-        OnOk result (standing.new.items
-            ≡ standing.old.items ++ filter (λ found. not (is_deleted writes.now found)) rows.now)
-    }
+    ensures { OnOk result (standing.new.items
+        ≡ standing.old.items ++ filter (λ found. not (is_deleted writes.now found)) rows.now) }
 {
     for found in rows {
         if !is_deleted(writes, found) {

@@ -2,7 +2,7 @@
 use Rattle.std.proofs.Common.{◌≡◌, ℕ, zero, suc, ◌+◌, ◌^◌, ◌<◌, ◌≤◌, ◌==◌, Bool, true, false, List, [], ◌∷◌, ◌++◌, length, Option, Some, None, ℤ, refl, sym, ap, ◌∙◌, subst, append_assoc, arith, ltb, to_z-of_z}
 use Rattle.std.specs.Prelude.{FitsSigned, IsTrue}
 use Rattle.std.specs.List.{flat_map, AllByRecursion}
-use Rattle.std.specs.Int.{w16, w32, w64, from_be_bytes, cast_signed, cast_unsigned}
+use Rattle.std.specs.Int.{w16, w32, w64, from_be_bytes, cast_unsigned}
 use Rattle.std.specs.Ordering.{is_lt}
 use Rattle.std.proofs.lemmas.Bool.{le-ltb}
 use Rattle.std.proofs.lemmas.List.{take_at, drop_at, length-append, append-nil}
@@ -10,16 +10,15 @@ use Rattle.std.proofs.lemmas.Nat.{from_be_bytes-to_be_bytes_2, from_be_bytes-to_
 use Rattle.std.proofs.Math.Facts.{Fits-of_z}
 use lib.Dec.{eqb-suc-zero}
 use Rattle.hv_base.specs.declared.ids.RowId.{RowId}
-use Rattle.hv_base.specs.Identifiers.{row_id_cmp}
 use Rattle.hv_value.specs.declared.row.Row.{Row}
 use Rattle.hv_value.specs.declared.value.Value.{Value}
 use Rattle.hv_value.specs.declared.value.Value.TheOpen.{Value-F}
-use Rattle.hv_value.specs.declared.value.Value.TheVariants.{Null, Bool as Bool', Int, Big, Str, Day, Array, rolls-Null, rolls-Bool, rolls-Int, rolls-Big, rolls-Str, rolls-Day, rolls-Array}
+use Rattle.hv_value.specs.declared.value.Value.TheVariants.{Array, rolls-Null, rolls-Bool, rolls-Int, rolls-Big, rolls-Str, rolls-Day, rolls-Array}
 use Rattle.hv_value.specs.declared.value.Value.TheViews.{out-Value, roll-Value, roll-out-Value}
 use Rattle.hv_rowfile.specs.declared.record.Rec.{Rec}
 use Rattle.hv_rowfile.specs.declared.record.Rec.TheVariants as rec
-use Rattle.hv_rowfile.specs.Layout.{two_bytes, four_bytes, eight_bytes, int_spelling, big_spelling, text_spelling, truth_byte, is_day, flat_spelling, element_spelling, layer_spelling, value_spelling, row_spelling, key_spelling, rec_spelling, FlatIsTaken, ElementIsTaken, LayerIsTaken, ValueIsTaken, RowIsTaken, KeyIsTaken, RecIsTaken, id_of, Follows, IsText, FlatFits, ElementFits, LayerFits, ValueFits, KeyFits, RecFits, IsNext}
-use Rattle.hv_rowfile.specs.Reading.{two_at, four_at, eight_at, int_at, big_at, text_at, truth_at, bool_value_at, int_value_at, big_value_at, text_value_at, day_value_at, element_at, counted_at, elements_at, array_value_at, value_at, values_at, row_of, key_at, row_at, insert_at, delete_at, rec_at, follows, next_at}
+use Rattle.hv_rowfile.specs.Layout.{two_bytes, four_bytes, eight_bytes, int_spelling, big_spelling, text_spelling, truth_byte, is_day, flat_spelling, element_spelling, layer_spelling, value_spelling, row_spelling, key_spelling, rec_spelling, FlatIsTaken, ElementIsTaken, LayerIsTaken, ValueIsTaken, RowIsTaken, KeyIsTaken, RecIsTaken, Follows, IsText, FlatFits, ElementFits, LayerFits, ValueFits, KeyFits, RecFits, IsNext}
+use Rattle.hv_rowfile.specs.Reading.{two_at, four_at, eight_at, int_at, big_at, text_at, truth_at, bool_value_at, int_value_at, big_value_at, text_value_at, day_value_at, element_at, elements_at, array_value_at, value_at, values_at, row_of, key_at, row_at, insert_at, delete_at, rec_at, follows, next_at}
 use Rattle.hv_rowfile.proofs.Lengths.{length-two, length-four, length-eight}
 use Rattle.hv_rowfile.proofs.Texts.{text_some}
 use Rattle.hv_rowfile.proofs.Counted.{counted_again}

@@ -1,5 +1,5 @@
 -- Records one behind the other, and the head before them.
-use Rattle.std.proofs.Common.{◌≡◌, ◌≢◌, ℕ, ◌+◌, ◌-◌, ◌<◌, ◌≤◌, ◌^◌, Bool, List, [], ◌∷◌, ◌++◌, length, drop, Option, Some, None, Result, Ok, Err, refl, sym, ap, subst, ◌∙◌, append_assoc, arith, ◌⊎◌, inl, inr}
+use Rattle.std.proofs.Common.{◌≡◌, ◌≢◌, ℕ, ◌+◌, ◌-◌, ◌<◌, ◌^◌, Bool, List, [], ◌∷◌, ◌++◌, length, drop, Option, Some, None, Result, Ok, Err, refl, sym, ap, subst, ◌∙◌, append_assoc, arith, ◌⊎◌, inl, inr}
 use Rattle.std.specs.Prelude.{MatchResult, IfOk, IfErr, codes}
 use Rattle.std.specs.Global.{Vec}
 use Rattle.std.specs.List.{flat_map, AllByRecursion}
@@ -141,9 +141,10 @@ pub file_found : (bytes : List ℕ) (deletes : Bool) (bucket count : ℕ) (body 
     → IsFile deletes bucket recs × (bytes ≡ file_spelling deletes bucket recs)
 unfolding file_spelling
 file_found bytes deletes bucket count body recs small short parts len led =
-    let each = leads_each deletes bucket None recs body [] led in
-    (record { can_write = record { each = each.taken; rising = each.rising }; fits = each.fits; bucket_fits = small; count_fits = omega arith },
-    parts ∙ ap (λ (k : ℕ). head_spelling deletes bucket k ++ body) (sym len) ∙ ap (λ (x : List ℕ). head_spelling deletes bucket (length recs) ++ x) (each.parts ∙ append-nil (flat_map rec_spelling recs)))
+    let each = leads_each deletes bucket None recs body [] led in (
+      record { can_write = record { each = each.taken; rising = each.rising }; fits = each.fits; bucket_fits = small; count_fits = omega arith },
+      parts ∙ ap (λ (k : ℕ). head_spelling deletes bucket k ++ body) (sym len) ∙ ap (λ (x : List ℕ). head_spelling deletes bucket (length recs) ++ x) (each.parts ∙ append-nil (flat_map rec_spelling recs)),
+    )
 
 pub head_fault : (bytes : List ℕ) (e : FileFault) → IsHeadFault bytes e → IsFaultIn bytes e
 head_fault bytes fault.NoMemory bad = absurd bad
@@ -207,6 +208,8 @@ pub next_fault : (deletes : Bool) (bucket count i : ℕ) (body : List ℕ) (recs
     → IsNextFault deletes bucket before rest (17 + (length body - length rest)) e → IsBodyFault deletes bucket count body e
 next_fault deletes bucket count i body recs rest before fault.NoMemory led len lt last bad = tt
 next_fault deletes bucket count i body recs rest before (fault.Damaged at) led len lt last bad =
-    let at_is = bad.0 in
-    (recs, omega (arith, leads_len deletes bucket None recs body rest led),
-    record { rest = rest; leads = led; within = omega arith; wrong = inl (omega arith, subst (λ (q : Option RowId). HasNoNext deletes bucket q rest) last bad.1) })
+    let at_is = bad.0 in (
+      recs,
+      omega (arith, leads_len deletes bucket None recs body rest led),
+      record { rest = rest; leads = led; within = omega arith; wrong = inl (omega arith, subst (λ (q : Option RowId). HasNoNext deletes bucket q rest) last bad.1) },
+    )

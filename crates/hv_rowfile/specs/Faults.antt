@@ -33,7 +33,7 @@ pub record IsBadBody (deletes : Bool) (bucket count : ℕ) (body : List ℕ) (re
   pub leads : Leads deletes bucket None recs body rest
   pub within : length recs ≤ count
   pub wrong : ((length recs < count) × HasNoNext deletes bucket (last_id None recs) rest)
-    ⊎ ((length recs ≡ count) × (rest ≢ []))
+      ⊎ ((length recs ≡ count) × (rest ≢ []))
 
 abbrev pub IsBodyFault : Bool → ℕ → ℕ → List ℕ → FileFault → Type 0
 IsBodyFault deletes bucket count body (fault.Damaged at) =

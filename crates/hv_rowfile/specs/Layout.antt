@@ -1,6 +1,6 @@
 -- How a row file is laid out in bytes (this project's profile). Numbers are big-endian, and signed ones in
 -- two's complement.
-use Rattle.std.specs.Prelude.{◌≡◌, ◌≢◌, ℕ, ◌+◌, ◌<◌, ◌≤◌, ◌^◌, ◌&&◌, ◌⊎◌, not, Bool, true, false, IsTrue, List, [], ◌∷◌, ◌++◌, length, Option, None, Some, IfSome, ℤ, pos, negsuc, int_lt, codes, FitsSigned}
+use Rattle.std.specs.Prelude.{◌≡◌, ◌≢◌, ℕ, ◌+◌, ◌<◌, ◌≤◌, ◌^◌, ◌&&◌, ◌⊎◌, not, Bool, true, false, IsTrue, List, [], ◌∷◌, ◌++◌, length, Option, None, Some, ℤ, pos, negsuc, int_lt, codes, FitsSigned}
 use Rattle.std.specs.Int.{to_be_bytes, cast_unsigned, w16, w32, w64}
 use Rattle.std.specs.List.{flat_map, AllByRecursion}
 use Rattle.std.specs.Str.{IsUtf8}
@@ -255,7 +255,7 @@ pub record IsBadBehind (bytes : List ℕ) (recs : List Rec) : Type 0 where
   pub leads : Leads deletes bucket None recs body rest
   pub within : length recs ≤ count
   pub wrong : ((length recs < count) × HasNoNext deletes bucket (last_id None recs) rest)
-    ⊎ ((length recs ≡ count) × (rest ≢ []))
+      ⊎ ((length recs ≡ count) × (rest ≢ []))
 
 -- the offset of the first part of the head, or record, that is wrong, or of what follows the last record
 abbrev pub IsDamagedAt : List ℕ → ℕ → Type 0

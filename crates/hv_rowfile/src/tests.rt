@@ -100,7 +100,7 @@ fn each_kind(rt: HostRuntime) -> Result<(), Fail> {
         Value::Big(i64::MIN),
         Value::Str(Text::of(alloc, "é")?),
         Value::Day(-719_162),
-        Value::Array(List::from_vec(items))
+        Value::Array(List::from_vec(items)),
     ]?;
     let values = List::from_vec(values);
     let [rec] = recs.as_slice() else {

@@ -101,7 +101,7 @@ pub fn decode(alloc: Global, bytes: &[u8]) -> Result<(bool, u32, Vec<Rec>), File
     ensures only { (deletes : Bool) (bucket : ℕ) (recs : List Rec) → IsFile deletes bucket recs
         → bytes.now ≡ file_spelling deletes bucket recs
         → MatchResult result (λ x. (x.0 ≡ deletes) × (x.1 ≡ bucket) × (x.2.items ≡ recs))
-            (λ fault. fault ≡ FileFault.NoMemory) }
+        (λ fault. fault ≡ FileFault.NoMemory) }
     // Damage is told at the first place that is wrong.
     ensures bad { IfErr result (IsFaultIn bytes.now) }
 {

@@ -150,7 +150,11 @@ fn value_of(alloc: Global, bytes: &[u8]) -> Result<(Value, &[u8]), RecordFault>
 }
 
 /// This many values.
-pub fn values_of(alloc: Global, count: u16, bytes: &[u8]) -> Result<(Vec<Value>, &[u8]), RecordFault>
+pub fn values_of(
+    alloc: Global,
+    count: u16,
+    bytes: &[u8],
+) -> Result<(Vec<Value>, &[u8]), RecordFault>
     ensures exact { Gives (λ x. (x.0.items, x.1.now)) result (values_at count bytes.now) }
     ensures found { IfOk result (λ x. (length x.0.items ≡ count)
         × AllByRecursion ValueIsTaken x.0.items × AllByRecursion ValueFits x.0.items

@@ -23,12 +23,7 @@ fn put_head(out: &mut Vec<u8>, deletes: bool, bucket: u32, count: u64) -> Result
 
 /// The one spelling of these records as a file of this kind and bucket.
 #[tactic(auto, unfolding(crate::specs::Layout::file_spelling))]
-pub fn encode(
-    alloc: Global,
-    deletes: bool,
-    bucket: u32,
-    recs: &[Rec],
-) -> Result<Vec<u8>, NoMemory>
+pub fn encode(alloc: Global, deletes: bool, bucket: u32, recs: &[Rec]) -> Result<Vec<u8>, NoMemory>
     requires { CanWrite deletes bucket recs.now }
     ensures spelled { IfOk result (λ bytes. bytes.items ≡ file_spelling deletes bucket recs.now) }
     // So `decode` reads it again.

@@ -68,8 +68,13 @@ fn put_delete(out: &mut Vec<u8>, id: RowId, by: WriteId) -> Result<(), NoMemory>
     put_eight(out, by.0)
 }
 
-fn put_rec(out: &mut Vec<u8>, alloc: Global, deletes: bool, bucket: u32, rec: &Rec)
-    -> Result<(), NoMemory>
+fn put_rec(
+    out: &mut Vec<u8>,
+    alloc: Global,
+    deletes: bool,
+    bucket: u32,
+    rec: &Rec,
+) -> Result<(), NoMemory>
     requires { RecIsTaken deletes bucket rec.now }
     ensures appended { Appends (rec_spelling rec.now) out.old.items result out.new.items }
     ensures fits { OnOk result (RecFits rec.now) }
@@ -80,8 +85,13 @@ fn put_rec(out: &mut Vec<u8>, alloc: Global, deletes: bool, bucket: u32, rec: &R
     }
 }
 
-pub fn put_recs(out: &mut Vec<u8>, alloc: Global, deletes: bool, bucket: u32, recs: &[Rec])
-    -> Result<(), NoMemory>
+pub fn put_recs(
+    out: &mut Vec<u8>,
+    alloc: Global,
+    deletes: bool,
+    bucket: u32,
+    recs: &[Rec],
+) -> Result<(), NoMemory>
     requires { AllByRecursion (RecIsTaken deletes bucket) recs.now }
     ensures appended { Appends (flat_map rec_spelling recs.now) out.old.items result out.new.items }
     ensures fits { OnOk result (AllByRecursion RecFits recs.now) }

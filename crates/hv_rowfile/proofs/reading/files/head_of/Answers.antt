@@ -1,5 +1,4 @@
-use Rattle.std.proofs.Common.{◌≡◌, ◌++◌, List, ℕ, rules}
-use Rattle.std.specs.Prelude.{codes}
+use Rattle.std.proofs.Common.{rules}
 use Rattle.hv_rowfile.proofs.Books.{head_parts}
 use Rattle.hv_rowfile.proofs.reading.files.head_of.Goals as goal
 

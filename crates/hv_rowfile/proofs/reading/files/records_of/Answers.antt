@@ -1,4 +1,4 @@
-use Rattle.std.proofs.Common.{None, Some, sym, ap, ◌∙◌, subst, arith, length}
+use Rattle.std.proofs.Common.{None, Some, sym, ap, ◌∙◌, subst, arith}
 use Rattle.std.proofs.lemmas.Result.{err_from_is_err_and}
 use Rattle.std.proofs.lemmas.Grind.{common_steps}
 use Rattle.hv_rowfile.specs.Layout.{IsNext}

@@ -1,4 +1,4 @@
-use Rattle.std.proofs.Common.{◌≡◌, [], rules}
+use Rattle.std.proofs.Common.{◌≡◌, []}
 use Rattle.hv_rowfile.proofs.Only.{row_whole, empty_of}
 use Rattle.hv_rowfile.proofs.reading.records.whole_row.Goals as goal
 

@@ -26,7 +26,6 @@ returns-clause-exact c = is_done element_at c.loop.items.items c.args.count c.lo
 pub returns-clause-found : goal.returns-clause-found
 returns-clause-found c = (omega arith, c.loop.invariant.takes.taken, c.loop.invariant.takes.fits, c.loop.invariant.takes.parts)
 
-
 pub loop-init : goal.loop-init
 unfolding elements_at
 loop-init c = rw c.new-items.ensures.items (record { exact = starts element_at c.args.count c.args.bytes.now; count = refl; takes = record { taken = tt; fits = tt; parts = refl } })

@@ -26,7 +26,6 @@ returns-clause-exact c = is_done value_at c.loop.values.items c.args.count c.loo
 pub returns-clause-found : goal.returns-clause-found
 returns-clause-found c = (omega arith, c.loop.invariant.takes.taken, c.loop.invariant.takes.fits, c.loop.invariant.takes.parts)
 
-
 pub loop-init : goal.loop-init
 unfolding values_at
 loop-init c = rw c.new-values.ensures.items (record { exact = starts value_at c.args.count c.args.bytes.now; count = refl; takes = record { taken = tt; fits = tt; parts = refl } })

@@ -1,4 +1,4 @@
-use Rattle.std.proofs.Common.{◌≡◌, sym, ap, ◌∙◌, subst, arith, length, rules}
+use Rattle.std.proofs.Common.{sym, ap, ◌∙◌, subst, arith, length, rules}
 use Rattle.hv_rowfile.specs.Layout.{element_spelling, ElementFits}
 use Rattle.hv_rowfile.proofs.Lengths.{length-text}
 use Rattle.hv_rowfile.proofs.Values.{spelled-Null, spelled-Bool, spelled-Int, spelled-Big, spelled-Str, spelled-Day, spelled-no-Array, fits-Null, fits-Bool, fits-Int, fits-Big, fits-Str, fits-Day, fits-no-Array}
