@@ -1,6 +1,6 @@
 -- What a book means: one fold over its entries, from the left. An entry changes the state by what it says and
 -- by the state before it, and by nothing else.
--- Source: Hive Transactions; Camacho-Rodríguez and others, SIGMOD 2019, section 3.2.
+-- Source: the Hive manual, Hive Transactions, and Hive Transactions: Basic Design.
 use Rattle.std.specs.Prelude.{◌≡◌, ◌≢◌, ℕ, zero, suc, ◌+◌, ◌==◌, Bool, true, false, if◌then◌else◌, not, Option, Some, None, List, [], ◌∷◌, ◌++◌, map, filter, fold, slice_get}
 use Rattle.std.specs.Ordering.{is_eq}
 use Rattle.std.specs.List.{flat_map, list_any, AllByRecursion}
