@@ -1,0 +1,9 @@
+//! Worked examples: texts, a book of what became of them, and what is printed.
+#![tactic(auto)]
+
+mod taking;
+
+pub use taking::take;
+
+#[cfg(test)]
+mod tests;
