@@ -1,0 +1,8 @@
+ghost use Rattle.std.specs.Prelude.{◌≡◌, ◌<◌, ℕ};
+ghost use Rattle.hv_dirs.specs.Names.{own_name, write_end};
+
+/// Two write ids have different own deltas.
+pub fn own_names_differ()
+    ensures law { (write other statement last : ℕ) → write < write_end → other < write_end
+        → own_name write statement ≡ own_name other last → write ≡ other }
+{}

@@ -1,0 +1,12 @@
+pub mod Forms
+pub mod Written
+pub mod Endings
+pub mod Meanings
+pub mod Queries
+pub mod Refusals
+pub mod Creates
+pub mod Inserts
+pub mod Soundness
+pub mod Tables
+pub mod StandingFiles
+pub mod ReadRows

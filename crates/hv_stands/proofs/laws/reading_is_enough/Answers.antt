@@ -1,0 +1,5 @@
+use Rattle.hv_stands.proofs.ReadRows.{reading-enough}
+use Rattle.hv_stands.proofs.laws.reading_is_enough.Goals as goal
+
+pub returns : goal.returns
+returns c = record { law = reading-enough }

@@ -1,0 +1,5 @@
+pub mod Files
+pub mod Sound
+pub mod Endings
+pub mod Reading
+pub mod Laws

@@ -1,0 +1,78 @@
+-- What a statement sees when it reads the files of its table.
+use Rattle.std.specs.Prelude.{ℕ, ◌+◌, zero, suc, ◌==◌, Bool, true, false, if◌then◌else◌, nat_eq, Option, Some, None, List, [], ◌∷◌, ◌++◌}
+use Rattle.std.specs.Cmp.Lexicographic.{pointwise}
+use Rattle.std.specs.List.{flat_map}
+use Rattle.hv_ast.specs.declared.query.From.{From}
+use Rattle.hv_ast.specs.declared.query.Source.{Source}
+use Rattle.hv_ast.specs.declared.query.Source.TheVariants.{Table as TableSource}
+use Rattle.hv_ast.specs.declared.statement.Stmt.{Stmt}
+use Rattle.hv_ast.specs.declared.statement.Stmt.TheVariants as stmt
+use Rattle.hv_logic.specs.declared.effect.Found.{Found}
+use Rattle.hv_logic.specs.declared.seen.Seen.{Seen}
+use Rattle.hv_history.specs.declared.state.Written.{Written}
+use Rattle.hv_history.specs.declared.state.Table.{Table}
+
+-- the table that a statement names, where its form is built
+abbrev pub source_name : Source → Option (List ℕ)
+source_name (TableSource name alias) = Some name
+source_name _ = None
+
+abbrev pub from_name : Option (From Source) → Option (List ℕ)
+from_name None = None
+from_name (Some from) = source_name from.source
+
+abbrev pub table_named : Stmt → Option (List ℕ)
+table_named (stmt.Query query) = from_name query.select.from
+table_named (stmt.Insert insert) = Some insert.table
+table_named (stmt.CreateTable create) = Some create.table
+table_named _ = None
+
+-- whether the rows of that table matter
+abbrev pub reads_rows : Stmt → Bool
+reads_rows (stmt.Query query) = true
+reads_rows _ = false
+
+-- the first table of that name
+abbrev pub table_of_name : List ℕ → List Table → Option Table
+table_of_name name [] = None
+table_of_name name (table ∷ tables) =
+    if pointwise nat_eq table.info.name name then Some table else table_of_name name tables
+
+-- all rows that a table's commits inserted, in their order
+abbrev pub inserted_rows : List Written → List Found
+inserted_rows writes = flat_map (λ (written : Written). written.inserts) writes
+
+abbrev pub rows_read : Stmt → Table → List Found
+rows_read tree table = if reads_rows tree then inserted_rows table.writes else []
+
+abbrev pub seen_of : Stmt → Option Table → List Seen
+seen_of tree None = []
+seen_of tree (Some table) = record { info = table.info; rows = rows_read tree table } ∷ []
+
+abbrev pub seen_by_name : Stmt → Option (List ℕ) → List Table → List Seen
+seen_by_name tree None tables = []
+seen_by_name tree (Some name) tables = seen_of tree (table_of_name name tables)
+
+-- the one table that a statement sees, with the rows that were read from its files
+abbrev pub seen_read : Stmt → List Table → List Seen
+seen_read tree tables = seen_by_name tree (table_named tree) tables
+
+-- ---- a table's files, write id by write id
+
+-- the first commit of that write id
+abbrev pub written_with : ℕ → List Written → Option Written
+written_with write [] = None
+written_with write (written ∷ writes) = if written.write == write then Some written else written_with write writes
+
+abbrev pub inserts_in : Option Written → List Found
+inserts_in None = []
+inserts_in (Some written) = written.inserts
+
+-- the rows that were inserted under a write id
+abbrev pub rows_at : List Written → ℕ → List Found
+rows_at writes write = inserts_in (written_with write writes)
+
+-- the rows of so many write ids from above `low` on
+abbrev pub rows_from : List Written → ℕ → ℕ → List Found
+rows_from writes low zero = []
+rows_from writes low (suc n) = rows_at writes (low + 1) ++ rows_from writes (low + 1) n

@@ -1,0 +1,10 @@
+//! What statements leave, one after another: the entries of each, and the files that stand.
+#![tactic(auto)]
+
+mod laws;
+
+pub use laws::{
+    changed_tables_stand, files_stand, forms_are_built, inserts_can_be_written,
+    nothing_is_inserted, queries_end, reading_is_enough, refusals_end, rows_are_inserted,
+    soundness_goes_on, tables_are_made,
+};
