@@ -1,0 +1,5 @@
+pub mod Lengths
+pub mod Journals
+pub mod Gives
+pub mod FileRows
+pub mod Stays

@@ -1,0 +1,13 @@
+use Rattle.std.proofs.Common.{◌≡◌, false, subst, ◌∙◌}
+use Rattle.std.specs.FinMap as files
+use Rattle.std.specs.Option.{option_map}
+use Rattle.hv_base.specs.Told.{Tells}
+use Rattle.hv_house.proofs.FileRows.{adds-rows}
+use Rattle.hv_house.proofs.house.House.read_file.Goals as goal
+
+pub returns-in-Ok-clause-rows : goal.returns-in-Ok-clause-rows
+returns-in-Ok-clause-rows g c =
+    adds-rows (g.D.Shelf.told c.args.self.now.shelf) c.args.place.now c.in-Some.bytes.items c.in-Ok.recs.items c.args.rows.now.items c.put_rows.new.rows.items
+    (subst (λ f. Tells (g.D.Shelf.told c.args.self.now.shelf) (λ s. option_map (λ v. v.items) f ≡ files.get s.tree c.args.place.now)) c.in-Some.is c.in_ok-bytes.ensures.done)
+    (λ rs file spelled. (c.in-Ok.ensures.only false 0 rs file (c.deref.ensures.value ∙ spelled)).2)
+    c.in_ok-put_rows-in-Ok.ensures

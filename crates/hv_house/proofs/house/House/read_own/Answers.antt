@@ -1,0 +1,12 @@
+use Rattle.std.proofs.Common.{refl}
+use Rattle.hv_stands.specs.Files.{own_place}
+use Rattle.hv_house.proofs.FileRows.{not-listed, short-own}
+use Rattle.hv_house.proofs.house.House.read_own.Goals as goal
+
+pub read_file-requires : goal.read_file-requires
+read_file-requires g c = record { short = short-own c.in_ok-place.place c.args.table.0 c.args.write c.in_ok-place.ensures }
+
+pub returns-clause-rows : goal.returns-clause-rows
+returns-clause-rows g c =
+    not-listed (g.D.Shelf.told c.args.self.now.shelf) c.args.places.now c.in_ok-place.place (own_place c.args.table.0 c.args.write) c.args.table c.args.rows.now.items
+    c.contains.result c.if-contains.false c.contains.ensures.value c.in_ok-place.ensures refl

@@ -1,0 +1,112 @@
+-- What a house holds of a store's history, for one thread of statements.
+use Rattle.std.specs.Prelude.{◌≡◌, ℕ, ◌+◌, ◌*◌, ◌<◌, ◌≤◌, Option, Some, None, List, [], ◌∷◌, ◌++◌, length, map, if◌then◌else◌, nat_eq}
+use Rattle.std.specs.Cmp.Lexicographic.{pointwise}
+use Rattle.hv_base.specs.Told.{Tells, Moves}
+use Rattle.hv_shelf.specs.Disk.{Store}
+use Rattle.hv_history.specs.declared.entry.Entry.{Entry}
+use Rattle.hv_history.specs.declared.state.Table.{Table}
+use Rattle.hv_history.specs.State.{State, state_of}
+use Rattle.hv_history.specs.Journal.{place_of}
+use Rattle.hv_history.specs.Legal.{IsLegal}
+use Rattle.hv_journal.specs.Appending.{Holds, KeepsTree}
+use Rattle.hv_dirs.specs.Names.{write_end}
+use Rattle.hv_stands.specs.Files.{Stands}
+use Rattle.hv_stands.specs.Sound.{IsSound}
+use Rattle.hv_stands.specs.Endings.{statement_entries}
+use Rattle.hv_house.specs.declared.known.Known.{Known}
+use Rattle.hv_house.specs.declared.house.House.{House}
+
+-- the most bytes of an entry, and of its record with its gate
+abbrev pub entry_limit : ℕ
+entry_limit = 65536
+
+abbrev pub record_limit : ℕ
+record_limit = 65541
+
+-- the most entries of a journal
+abbrev pub book_limit : ℕ
+book_limit = 131072
+
+-- what is kept of a table
+abbrev pub known_of : Table → Known
+known_of table = record { info = table.info; given = length table.owners }
+
+-- the write id that is given next, and the table then
+abbrev pub next_write : Known → ℕ
+next_write known = known.given + 1
+
+abbrev pub with_next : Known → Known
+with_next known = record known { given = known.given + 1 }
+
+-- the write ids of a table have names, and so has the next one
+abbrev pub HasNumbers : Known → Type 0
+HasNumbers known = known.given + 1 < write_end
+
+abbrev pub known_of_name : List ℕ → List Known → Option Known
+known_of_name name [] = None
+known_of_name name (known ∷ tables) =
+    if pointwise nat_eq known.info.name name then Some known else known_of_name name tables
+
+abbrev pub entries_of : {D : Type 0} → House D → List Entry
+entries_of house = house.book.entries
+
+-- the journal is the book's, and its closed gate stands where the house has it
+pub record IsKept {D : Type 0} (told : D → Option Store) (house : House D) : Type 0 where
+  pub place : house.place ≡ place_of (entries_of house)
+  pub near : house.place ≤ length (entries_of house) * record_limit
+  pub few : length (entries_of house) ≤ book_limit
+  pub opened : house.opened ≤ length (entries_of house)
+  pub reads : Holds (told house.shelf) (entries_of house)
+
+-- what the house keeps of this state
+pub record Knows {D : Type 0} (state : State) (house : House D) : Type 0 where
+  pub opened : house.opened ≡ length state.transactions
+  pub tables : house.tables.items ≡ map known_of state.tables
+
+-- between two statements: the history is sound
+pub record IsReady {D : Type 0} (told : D → Option Store) (house : House D) : Type 0 where
+  pub kept : IsKept told house
+  pub knows : Knows (state_of (entries_of house)) house
+  pub sound : IsSound (state_of (entries_of house))
+
+-- behind the Opened and the Start of a statement over this book
+pub record IsBegun {D : Type 0} (told : D → Option Store) (book : List Entry) (number : ℕ) (text : List ℕ) (house : House D) : Type 0 where
+  pub kept : IsKept told house
+  pub entries : entries_of house ≡ book ++ statement_entries book number text []
+  pub opened : house.opened ≡ length (state_of book).transactions + 1
+  pub tables : house.tables.items ≡ map known_of (state_of book).tables
+  pub sound : IsSound (state_of book)
+
+-- a legal book whose files stand in the store
+pub record IsFaithful (book : List Entry) (store : Store) : Type 0 where
+  pub stands : Stands (state_of book) store.tree
+  pub legal : IsLegal book
+
+-- the store, where it tells, has the files of this book
+abbrev pub Shows : {D : Type 0} → (D → Option Store) → House D → List Entry → Type 0
+Shows told house book = Tells (told house.shelf) (IsFaithful book)
+
+-- it is told afterwards where it was before, and nowhere else
+abbrev pub StaysTold : {A : Type 0} → Option A → Option A → Type 0
+StaysTold before now = Moves (λ _ _. Unit {0}) before now
+
+-- an entry was noted: in the journal and behind the book
+pub record IsNoted {D : Type 0} (told : D → Option Store) (event : Entry) (before now : House D) : Type 0 where
+  pub kept : IsKept told now
+  pub entries : entries_of now ≡ entries_of before ++ event ∷ []
+  pub tree : Moves KeepsTree (told before.shelf) (told now.shelf)
+
+-- the house was only asked
+pub record IsAsked {D : Type 0} (told : D → Option Store) (before now : House D) : Type 0 where
+  pub store : told now.shelf ≡ told before.shelf
+  pub place : now.place ≡ before.place
+  pub book : now.book ≡ before.book
+  pub opened : now.opened ≡ before.opened
+  pub tables : now.tables ≡ before.tables
+
+-- only the store changed
+pub record IsBeside {D : Type 0} (before now : House D) : Type 0 where
+  pub place : now.place ≡ before.place
+  pub book : now.book ≡ before.book
+  pub opened : now.opened ≡ before.opened
+  pub tables : now.tables ≡ before.tables

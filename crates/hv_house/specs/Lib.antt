@@ -1,0 +1,5 @@
+pub mod Faults
+pub mod House
+pub mod Rows
+pub mod Booting
+pub mod Meaning

@@ -1,0 +1,222 @@
+ghost use Rattle.std.specs.Prelude.{◌≡◌, ◌<◌, ◌≤◌, ◌+◌, ◌++◌, ◌∷◌, [], length, None, Some, IfOk, OnOk, IsErrOf, option_map};
+ghost use Rattle.std.specs.List.{AllByRecursion};
+ghost use Rattle.hv_history.specs.State.{numbered, changed};
+ghost use Rattle.hv_base.specs.Told.{Moves};
+ghost use Rattle.hv_history.specs.declared.entry.Entry.TheVariants as entries;
+ghost use Rattle.hv_history.specs.Spelling.{entry_spelling};
+ghost use Rattle.hv_history.specs.Journal.{record_of};
+ghost use Rattle.hv_history.specs.Book.{tree_of_entry};
+ghost use Rattle.hv_ast.specs.Reading.{tree_of};
+ghost use Rattle.hv_journal.specs.Appending.{Holds, KeepsTree};
+ghost use Rattle.hv_house.specs.declared.fault.HouseFault.TheVariants.{Store};
+ghost use Rattle.hv_house.specs.Faults.{StoreCause};
+ghost use Rattle.hv_house.specs.House.{entries_of, entry_limit, book_limit, HasNumbers, next_write, with_next, StaysTold, IsKept, IsNoted};
+
+use crate::fault::HouseFault;
+use crate::known::Known;
+use hv_ast::Stmt;
+use hv_base::{List, TableId, Text, Touch, TxnId, WriteId};
+use hv_history::{Book, Cause, Entry};
+use hv_journal::{append, record_length};
+use hv_logic::TableInfo;
+use hv_shelf::Shelf;
+
+/// The warehouse over a store: the store, the place of its journal's closed gate, the journal's
+/// entries, and what is known of the tables without asking them.
+#[derive(Drop)]
+pub struct House<D> {
+    pub shelf: D,
+    /// The place of the journal's closed gate.
+    pub place: u64,
+    /// Where records are spelled.
+    pub buffer: Vec<u8>,
+    pub book: Book,
+    /// How many transactions were opened.
+    pub opened: u64,
+    /// The tables, by number.
+    pub tables: Vec<Known>,
+}
+
+fn discard<T: Drop>(_value: T) {}
+
+impl<D: Shelf> House<D> {
+    /// Makes room for an entry and writes it into the journal.
+    #[tactic(auto, using(crate::proofs::Journals::reached, crate::proofs::Journals::record_short))]
+    fn write(&mut self, entry: &Entry) -> Result<(), HouseFault>
+        requires kept { IsKept D.told self.old }
+        requires short { length (entry_spelling entry.now) ≤ entry_limit }
+        requires room { length (entries_of self.old) < book_limit }
+        ensures journal { OnOk result
+            (Holds (D.told self.new.shelf) (entries_of self.old ++ entry.now ∷ [])) }
+        ensures place { OnOk result
+            (self.new.place ≡ self.old.place + length (record_of entry.now) + 1) }
+        ensures entries { entries_of self.new ≡ entries_of self.old }
+        ensures spare { OnOk result (0 < self.new.book.spare) }
+        ensures opened { self.new.opened ≡ self.old.opened }
+        ensures tables { self.new.tables ≡ self.old.tables }
+        ensures tree { Moves KeepsTree (D.told self.old.shelf) (D.told self.new.shelf) }
+        ensures cause { StoreCause (D.faults self.old.shelf) (D.faults self.new.shelf)
+            (IsErrOf result Store) }
+    {
+        self.buffer.clear();
+        self.buffer.reserve(record_length(entry) + 1)?;
+        self.book.reserve(1)?;
+        append(&mut self.shelf, &mut self.place, entry, &mut self.buffer)?;
+        Ok(())
+    }
+
+    /// Notes what happened: in the journal, and behind the book. `tree` is that of the entry's text.
+    #[tactic(auto, using(crate::proofs::Stays::stays_of))]
+    pub fn note(&mut self, entry: Entry, tree: Option<Stmt>) -> Result<(), HouseFault>
+        requires kept { IsKept D.told self.old }
+        requires tree { tree ≡ tree_of_entry entry }
+        requires short { length (entry_spelling entry) ≤ entry_limit }
+        requires room { length (entries_of self.old) < book_limit }
+        ensures noted { OnOk result (IsNoted D.told entry self.old self.new) }
+        ensures opened { self.new.opened ≡ self.old.opened }
+        ensures tables { self.new.tables ≡ self.old.tables }
+        ensures tells { StaysTold (D.told self.old.shelf) (D.told self.new.shelf) }
+        ensures cause { StoreCause (D.faults self.old.shelf) (D.faults self.new.shelf)
+            (IsErrOf result Store) }
+    {
+        match self.write(&entry) {
+            Ok(()) => {
+                self.book.push(entry, tree)?;
+                Ok(())
+            }
+            Err(fault) => {
+                discard(entry);
+                discard(tree);
+                Err(fault)
+            }
+        }
+    }
+
+    /// Takes up a statement as the next transaction. `tree` is that of its text.
+    #[tactic(auto, using(crate::proofs::Lengths::short_opened))]
+    pub fn open(
+        &mut self,
+        session: Text,
+        number: u64,
+        text: Text,
+        tree: Stmt,
+    ) -> Result<TxnId, HouseFault>
+        requires kept { IsKept D.told self.old }
+        requires tree { tree_of text ≡ Some tree }
+        requires short { length text ≤ 32768 }
+        requires named { length session ≤ 32 }
+        requires room { length (entries_of self.old) < book_limit }
+        ensures number { IfOk result (λ txn. txn.0 ≡ self.old.opened + 1) }
+        ensures noted { OnOk result (IsNoted D.told
+            (entries.Opened (record { 0 = self.old.opened + 1 }) session number text) self.old self.new) }
+        ensures opened { OnOk result (self.new.opened ≡ self.old.opened + 1) }
+        ensures tables { self.new.tables ≡ self.old.tables }
+        ensures tells { StaysTold (D.told self.old.shelf) (D.told self.new.shelf) }
+        ensures cause { StoreCause (D.faults self.old.shelf) (D.faults self.new.shelf)
+            (IsErrOf result Store) }
+    {
+        let txn = TxnId(self.opened + 1);
+        let entry = Entry::Opened {
+            txn,
+            session,
+            number,
+            text,
+        };
+        self.note(entry, Some(tree))?;
+        self.opened += 1;
+        Ok(txn)
+    }
+
+    /// Gives a transaction its snapshot.
+    #[tactic(auto, using(crate::proofs::Lengths::short_start))]
+    pub fn start(&mut self, txn: TxnId) -> Result<(), HouseFault>
+        requires kept { IsKept D.told self.old }
+        requires room { length (entries_of self.old) < book_limit }
+        ensures noted { OnOk result (IsNoted D.told (entries.Start txn 0) self.old self.new) }
+        ensures opened { self.new.opened ≡ self.old.opened }
+        ensures tables { self.new.tables ≡ self.old.tables }
+        ensures tells { StaysTold (D.told self.old.shelf) (D.told self.new.shelf) }
+        ensures cause { StoreCause (D.faults self.old.shelf) (D.faults self.new.shelf)
+            (IsErrOf result Store) }
+    {
+        self.note(Entry::Start { txn, statement: 0 }, None)
+    }
+
+    /// Gives a transaction the next write id of a table.
+    #[tactic(auto, using(crate::proofs::Lengths::short_given))]
+    pub fn give(&mut self, txn: TxnId, table: TableId) -> Result<WriteId, HouseFault>
+        requires kept { IsKept D.told self.old }
+        requires room { length (entries_of self.old) < book_limit }
+        requires first { 1 ≤ table.0 }
+        requires last { table.0 ≤ length self.old.tables.items }
+        requires numbers { AllByRecursion HasNumbers self.old.tables.items }
+        ensures next { IfOk result (λ write. option_map next_write
+            (numbered self.old.tables.items table.0) ≡ Some write.0) }
+        ensures noted { IfOk result (λ write.
+            IsNoted D.told (entries.Given txn table write) self.old self.new) }
+        ensures opened { self.new.opened ≡ self.old.opened }
+        ensures tables { OnOk result
+            (self.new.tables.items ≡ changed with_next self.old.tables.items table.0) }
+        ensures tells { StaysTold (D.told self.old.shelf) (D.told self.new.shelf) }
+        ensures cause { StoreCause (D.faults self.old.shelf) (D.faults self.new.shelf)
+            (IsErrOf result Store) }
+    {
+        let at = (table.0 - 1) as usize;
+        let write = WriteId(self.tables[at].given + 1);
+        self.note(Entry::Given { txn, table, write }, None)?;
+        let known = &mut self.tables[at];
+        known.given = write.0;
+        Ok(write)
+    }
+
+    /// Commits a transaction that wrote these rows, in one partition at most.
+    pub fn commit(&mut self, txn: TxnId, wrote: List<Touch>) -> Result<(), HouseFault>
+        requires kept { IsKept D.told self.old }
+        requires room { length (entries_of self.old) < book_limit }
+        requires short { length (entry_spelling (entries.Commit txn wrote)) ≤ entry_limit }
+        ensures noted { OnOk result (IsNoted D.told (entries.Commit txn wrote) self.old self.new) }
+        ensures opened { self.new.opened ≡ self.old.opened }
+        ensures tables { self.new.tables ≡ self.old.tables }
+        ensures tells { StaysTold (D.told self.old.shelf) (D.told self.new.shelf) }
+        ensures cause { StoreCause (D.faults self.old.shelf) (D.faults self.new.shelf)
+            (IsErrOf result Store) }
+    {
+        self.note(Entry::Commit { txn, wrote }, None)
+    }
+
+    /// Ends a transaction without its writes.
+    pub fn abort(&mut self, txn: TxnId, cause: Cause) -> Result<(), HouseFault>
+        requires kept { IsKept D.told self.old }
+        requires room { length (entries_of self.old) < book_limit }
+        requires short { length (entry_spelling (entries.Abort txn cause)) ≤ entry_limit }
+        ensures noted { OnOk result (IsNoted D.told (entries.Abort txn cause) self.old self.new) }
+        ensures opened { self.new.opened ≡ self.old.opened }
+        ensures tables { self.new.tables ≡ self.old.tables }
+        ensures tells { StaysTold (D.told self.old.shelf) (D.told self.new.shelf) }
+        ensures cause { StoreCause (D.faults self.old.shelf) (D.faults self.new.shelf)
+            (IsErrOf result Store) }
+    {
+        self.note(Entry::Abort { txn, cause }, None)
+    }
+
+    /// Makes the table that this describes.
+    #[tactic(auto, using(crate::proofs::Lengths::short_create, crate::proofs::Stays::stays_same))]
+    pub fn create(&mut self, txn: TxnId, info: TableInfo) -> Result<(), HouseFault>
+        requires kept { IsKept D.told self.old }
+        requires room { length (entries_of self.old) < book_limit }
+        ensures noted { OnOk result
+            (IsNoted D.told (entries.Create txn info.table) self.old self.new) }
+        ensures opened { self.new.opened ≡ self.old.opened }
+        ensures tables { OnOk result (self.new.tables.items
+            ≡ self.old.tables.items ++ record { info = info; given = 0 } ∷ []) }
+        ensures tells { StaysTold (D.told self.old.shelf) (D.told self.new.shelf) }
+        ensures cause { StoreCause (D.faults self.old.shelf) (D.faults self.new.shelf)
+            (IsErrOf result Store) }
+    {
+        let table = info.table;
+        self.tables.reserve(1)?;
+        self.note(Entry::Create { txn, table }, None)?;
+        self.tables.push(Known { info, given: 0 }).unwrap();
+        Ok(())
+    }
+}

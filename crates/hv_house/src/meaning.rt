@@ -1,0 +1,125 @@
+ghost use Rattle.std.specs.Prelude.{◌≡◌, ◌<◌, false, [], List, IfOk, IfErr, option_map};
+ghost use Rattle.std.specs.Option.{option_copied};
+ghost use Rattle.std.specs.List.{AllByRecursion};
+ghost use Rattle.hv_base.specs.Told.{Tells};
+ghost use Rattle.hv_logic.specs.Meaning.{meaning_of};
+ghost use Rattle.hv_logic.specs.declared.seen.Seen.{Seen};
+ghost use Rattle.hv_dirs.specs.Names.{write_end};
+ghost use Rattle.hv_stands.specs.Reading.{from_name, table_named, reads_rows};
+ghost use Rattle.hv_house.specs.Faults.{StoreCause, StoreFails, IsShortDamage};
+ghost use Rattle.hv_house.specs.House.{HasNumbers, IsAsked};
+ghost use Rattle.hv_house.specs.Meaning.{known_by_name, pair_of, AreRead, IsSeen};
+
+use crate::fault::RowFault;
+use crate::house::House;
+use crate::known::{Known, find};
+use hv_ast::{From, Source, Stmt};
+use hv_base::{Duplicate, List, NoMemory, TableId, Text};
+use hv_logic::{Found, Meaning, Seen, TableInfo, meaning_of};
+use hv_shelf::Shelf;
+use std::alloc::Global;
+
+fn table_in(from: &Option<From>) -> Option<&Text>
+    ensures { option_copied result ≡ from_name from.now }
+{
+    match from {
+        Some(from) => match &from.source {
+            Source::Table(name, _) => Some(name),
+            Source::Query(_, _) => None,
+        },
+        None => None,
+    }
+}
+
+/// The table that a statement names.
+fn table_named(tree: &Stmt) -> Option<&Text>
+    ensures { option_copied result ≡ table_named tree.now }
+{
+    match tree {
+        Stmt::Query(query) => table_in(&query.select.from),
+        Stmt::Insert(insert) => Some(&insert.table),
+        Stmt::CreateTable(create) => Some(&create.table),
+        _ => None,
+    }
+}
+
+/// Whether the rows of that table matter.
+fn reads_rows(tree: &Stmt) -> bool
+    ensures { result ≡ reads_rows tree.now }
+{
+    matches!(tree, Stmt::Query(_))
+}
+
+/// What is known of the table that a statement names.
+fn known_in(
+    alloc: Global,
+    tree: &Stmt,
+    tables: &[Known],
+) -> Result<Option<(TableInfo, u64)>, NoMemory>
+    ensures { IfOk result (λ known. known ≡ option_map pair_of (known_by_name (table_named tree.now) tables.now)) }
+{
+    let Some(name) = table_named(tree) else {
+        return Ok(None);
+    };
+    match find(name, tables) {
+        Some(known) => Ok(Some((known.info.duplicate(alloc)?, known.given))),
+        None => Ok(None),
+    }
+}
+
+impl<D: Shelf> House<D> {
+    /// The rows of a table, where a statement reads them.
+    fn rows_for(
+        &mut self,
+        alloc: Global,
+        tree: &Stmt,
+        table: TableId,
+        given: u64,
+    ) -> Result<List<Found>, RowFault>
+        requires { given < write_end }
+        ensures asked { IsAsked D.told self.old self.new }
+        ensures short { IfErr result IsShortDamage }
+        ensures rows { IfOk result (λ rows. Tells (D.told self.old.shelf)
+            (AreRead tree.now table.0 given rows)) }
+        ensures none { IfOk result (λ rows. reads_rows tree.now ≡ false → rows ≡ []) }
+        ensures cause { StoreCause (D.faults self.old.shelf) (D.faults self.new.shelf)
+            (StoreFails result) }
+    {
+        if reads_rows(tree) {
+            Ok(List::from_vec(self.read_rows(alloc, table, given)?))
+        } else {
+            Ok(List::empty(alloc))
+        }
+    }
+
+    /// The table that a statement names, with its rows where they matter.
+    fn seen(&mut self, alloc: Global, tree: &Stmt) -> Result<Vec<Seen>, RowFault>
+        requires numbers { AllByRecursion HasNumbers self.old.tables.items }
+        ensures asked { IsAsked D.told self.old self.new }
+        ensures short { IfErr result IsShortDamage }
+        ensures seen { IfOk result (λ seen. IsSeen D.told self.old tree.now seen.items) }
+        ensures cause { StoreCause (D.faults self.old.shelf) (D.faults self.new.shelf)
+            (StoreFails result) }
+    {
+        let mut seen = Vec::new(alloc);
+        if let Some((info, given)) = known_in(alloc, tree, &self.tables)? {
+            let rows = self.rows_for(alloc, tree, info.table, given)?;
+            seen.push(Seen { info, rows })?;
+        }
+        Ok(seen)
+    }
+
+    /// What a statement comes to over the rows in the store.
+    pub fn meaning(&mut self, alloc: Global, tree: &Stmt) -> Result<Meaning, RowFault>
+        requires numbers { AllByRecursion HasNumbers self.old.tables.items }
+        ensures asked { IsAsked D.told self.old self.new }
+        ensures short { IfErr result IsShortDamage }
+        ensures meant { IfOk result (λ meaning. (seen : List Seen) × IsSeen D.told self.old tree.now seen
+            × (meaning ≡ meaning_of seen tree.now)) }
+        ensures cause { StoreCause (D.faults self.old.shelf) (D.faults self.new.shelf)
+            (StoreFails result) }
+    {
+        let seen = self.seen(alloc, tree)?;
+        Ok(meaning_of(alloc, &seen, tree)?)
+    }
+}
