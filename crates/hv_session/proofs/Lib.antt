@@ -1,0 +1,9 @@
+pub mod Shorts
+pub mod Books
+pub mod Stores
+pub mod Seeing
+pub mod Built
+pub mod Idle
+pub mod Running
+pub mod Finishing
+pub mod Joining

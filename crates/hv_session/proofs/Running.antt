@@ -1,0 +1,449 @@
+-- A statement from its Start to its end: what the house is then, and that the reply is its answer.
+use Rattle.std.proofs.Common.{◌≡◌, ℕ, ◌+◌, ◌<◌, ◌≤◌, Bool, true, false, Option, Some, None, List, [], ◌∷◌, ◌++◌, length, map, refl, sym, ap, ◌∙◌, subst, arith, append_assoc, ◌⊎◌, inl, inr}
+use Rattle.std.specs.FinMap as files
+use Rattle.std.specs.List.{AllByRecursion}
+use Rattle.std.specs.Option.{option_map}
+use Rattle.std.proofs.lemmas.List.{length-append}
+use Rattle.hv_base.specs.declared.ids.TxnId.{TxnId}
+use Rattle.hv_base.specs.declared.ids.TableId.{TableId}
+use Rattle.hv_base.specs.declared.ids.Touch.{Touch}
+use Rattle.hv_base.specs.Told.{Moves}
+use Rattle.hv_shelf.specs.Disk.{Store}
+use Rattle.hv_ast.specs.declared.statement.Stmt.{Stmt}
+use Rattle.hv_ast.specs.Reading.{tree_of}
+use Rattle.hv_journal.specs.Appending.{KeepsTree}
+use Rattle.hv_value.specs.declared.row.Row.{Row}
+use Rattle.hv_rowfile.specs.Layout.{IsFile}
+use Rattle.hv_logic.specs.declared.catalog.Column.{Column}
+use Rattle.hv_logic.specs.declared.catalog.TableInfo.{TableInfo}
+use Rattle.hv_logic.specs.declared.effect.Effect.{Effect}
+use Rattle.hv_logic.specs.declared.seen.Seen.{Seen}
+use Rattle.hv_logic.specs.declared.meaning.Meaning.{Meaning}
+use Rattle.hv_logic.specs.declared.meaning.Meaning.TheVariants.{Refused, Listing, Change, Make, Plain, RowLimit, Unbuilt}
+use Rattle.hv_logic.specs.Meaning.{meaning_of}
+use Rattle.hv_history.specs.declared.entry.Entry.{Entry}
+use Rattle.hv_history.specs.declared.entry.Entry.TheVariants as entry
+use Rattle.hv_history.specs.declared.entry.Cause.{Cause}
+use Rattle.hv_history.specs.declared.entry.Cause.TheVariants as cause
+use Rattle.hv_history.specs.declared.state.Table.{Table}
+use Rattle.hv_history.specs.declared.state.Written.{Written}
+use Rattle.hv_history.specs.declared.entry.FilePlace.{FilePlace}
+use Rattle.hv_history.specs.State.{state_of, numbered, changed, seen_tables}
+use Rattle.hv_history.specs.Answers.{listing, counts_line, ok_line, cause_text}
+use Rattle.hv_dirs.specs.Names.{write_end}
+use Rattle.hv_stands.specs.Files.{Stands, own_place, file_of, records_of}
+use Rattle.hv_stands.specs.Sound.{IsSound, AreSound, AreInserts}
+use Rattle.hv_stands.specs.Endings.{next_number, statement_entries, Goes}
+use Rattle.hv_stands.specs.Laws.{meant, committing, IsCauseOf, made_table, next_table, inserting, tables_inserted}
+use Rattle.hv_stands.proofs.Forms.{forms-are-built, made-columns-plain}
+use Rattle.hv_stands.proofs.Written.{inserts-written}
+use Rattle.hv_stands.proofs.Queries.{queries-end}
+use Rattle.hv_stands.proofs.Refusals.{refusals-end}
+use Rattle.hv_stands.proofs.Creates.{tables-made}
+use Rattle.hv_stands.proofs.Inserts.{nothing-inserted, rows-inserted}
+use Rattle.hv_stands.proofs.Tables.{changed-table}
+use Rattle.hv_stands.proofs.Soundness.{soundness-later, tables-made-sound, tables-inserted-sound}
+use Rattle.hv_stands.proofs.StandingFiles.{made-files-stand, inserted-files-stand}
+use Rattle.hv_house.specs.declared.house.House.{House}
+use Rattle.hv_house.specs.declared.known.Known.{Known}
+use Rattle.hv_house.specs.House.{entries_of, known_of, with_next, HasNumbers, book_limit, IsKept, Knows, IsReady, IsFaithful, IsNoted, IsAsked}
+use Rattle.hv_house.specs.Meaning.{IsSeen}
+use Rattle.hv_session.specs.Started.{IsStarted}
+use Rattle.hv_session.specs.Ends.{IsDone, Commits, Refuses, PutsFile, Inserts, KnownOf, next_written, ChangesRows, next_id, Makes, EndsAs, CanEnd}
+use Rattle.hv_session.specs.Answered.{WentThrough, AddsAtMost, HasRun}
+use Rattle.hv_session.proofs.Books.{entries-counted, legal-goes-on, map-append, length-map, numbered-map, known-inserted, numbers-known}
+use Rattle.hv_session.proofs.Seeing.{Lists, meant-or-listing, meant-told}
+use Rattle.hv_session.proofs.Built.{MeansSomething, built-means}
+use Rattle.hv_session.proofs.Idle.{Leaves, idle-leaves}
+use Rattle.hv_session.proofs.Stores.{became, untold, tells-none, tells-some, told-some, still-stands, keeps-keeps, keeps-puts, Any, any-of}
+
+leaves : (book added : List Entry) (number : ℕ) (text reply : List ℕ) (refused : Bool) (tables : List Table)
+    → Goes book added number text reply refused tables → Leaves book added tables
+leaves book added number text reply refused tables goes = record { tables_are = goes.tables_are; count = goes.count; ended = goes.ended }
+
+module _ {D : Type 0} (told : D → Option Store) (h0 h3 h4 h5 : House D) (number : ℕ) (text : List ℕ) (tree : Stmt) (txn : TxnId) where
+  abbrev book : List Entry
+  book = entries_of h0
+
+  -- what is known when the statement ends
+  pub record Given : Type 0 where
+    pub ready : IsReady told h0
+    pub is : tree_of text ≡ Some tree
+    pub few : length (entries_of h0) + 4 ≤ book_limit
+    pub started : IsStarted told h0 h3 number text txn
+    pub asked : IsAsked told h3 h4
+
+  module _ (given : Given) where
+    txn-is : txn ≡ record { 0 = next_number book }
+    txn-is = λ i. record { 0 = given.started.txn_is i }
+
+    tables-known : h4.tables.items ≡ map known_of (state_of book).tables
+    tables-known = ap (λ ts. ts.items) (given.asked.tables ∙ given.started.tables) ∙ given.ready.knows.tables
+
+    opened-one : h4.opened ≡ h0.opened + 1
+    opened-one = given.asked.opened ∙ given.started.opened
+
+    entries-four : entries_of h4 ≡ book ++ statement_entries book number text []
+    entries-four = ap (λ b. b.entries) given.asked.book ∙ given.started.entries
+
+    -- with what ends it behind
+    entries-five : (ends : List Entry) → entries_of h5 ≡ entries_of h4 ++ ends → entries_of h5 ≡ book ++ statement_entries book number text ends
+    entries-five ends e =
+        e ∙ ap (λ (b : List Entry). b ++ ends) entries-four ∙ append_assoc book (statement_entries book number text []) ends
+
+    small : (state_of book).entries + 1 < write_end
+    small = omega (arith, entries-counted book, given.few)
+
+    pub numbers : AllByRecursion HasNumbers h4.tables.items
+    numbers = subst (AllByRecursion HasNumbers) (sym tables-known) (numbers-known (state_of book).entries (state_of book).tables small given.ready.sound.tables.few)
+
+    -- ---- the house behind the statement
+
+    ready-behind : (ends : List Entry) (tables : List Table) → IsKept told h5 → entries_of h5 ≡ entries_of h4 ++ ends
+        → Leaves book (statement_entries book number text ends) tables → AreSound ((state_of book).entries + 1) tables
+        → h5.opened ≡ h4.opened → h5.tables.items ≡ map known_of tables → IsReady told h5
+    ready-behind ends tables kept noted left sound opened known =
+        let added = statement_entries book number text ends in
+        let is : entries_of h5 ≡ book ++ added = entries-five ends noted in
+        let more : (state_of book).entries + 1 < (state_of (book ++ added)).entries =
+        omega (arith, entries-counted book, entries-counted (book ++ added), length-append book added) in
+        let knows : Knows (state_of (book ++ added)) h5 = record {
+          opened = opened ∙ opened-one ∙ ap (λ (n : ℕ). n + 1) given.ready.knows.opened ∙ sym left.count;
+          tables = known ∙ ap (map known_of) (sym left.tables_are);
+        } in
+        let whole : IsSound (state_of (book ++ added)) = record {
+          ended = left.ended given.ready.sound.ended;
+          tables = subst (AreSound (state_of (book ++ added)).entries) (sym left.tables_are)
+              (soundness-later ((state_of book).entries + 1) (state_of (book ++ added)).entries tables sound more);
+        } in
+        record {
+          kept = kept;
+          knows = subst (λ (b : List Entry). Knows (state_of b) h5) (sym is) knows;
+          sound = subst (λ (b : List Entry). IsSound (state_of b)) (sym is) whole;
+        }
+
+    -- the tables that were sound stay so
+    same-sound : AreSound ((state_of book).entries + 1) (state_of book).tables
+    same-sound = soundness-later (state_of book).entries ((state_of book).entries + 1) (state_of book).tables given.ready.sound.tables (omega arith)
+
+    -- ---- what the store shows behind it
+
+    record Shown (ends : List Entry) (reply : List ℕ) (refused : Bool) (s : Store) : Type 0 where
+      now : Store
+      tells : told h5.shelf ≡ Some now
+      faithful : IsFaithful (entries_of h5) now
+      went : WentThrough book (entries_of h5) number text reply refused
+
+    shown : (ends : List Entry) (reply : List ℕ) (refused : Bool) (tables : List Table) (s now : Store) → told h5.shelf ≡ Some now
+        → entries_of h5 ≡ entries_of h4 ++ ends → IsFaithful book s
+        → Goes book (statement_entries book number text ends) number text reply refused tables
+        → Stands (state_of (book ++ statement_entries book number text ends)) now.tree
+        → Shown ends reply refused s
+    shown ends reply refused tables s now tells noted faithful goes stands =
+        let added = statement_entries book number text ends in
+        let is : entries_of h5 ≡ book ++ added = entries-five ends noted in
+        let whole : IsFaithful (book ++ added) now = record { stands = stands; legal = legal-goes-on book added faithful.legal goes.legal } in
+        record {
+          now = now;
+          tells = tells;
+          faithful = subst (λ (b : List Entry). IsFaithful b now) (sym is) whole;
+          went = record { added = added; book = is; tables = tables; goes = goes };
+        }
+
+    record Ran (ends : List Entry) (reply : List ℕ) (refused : Bool) : Type 0 where
+      ready : IsReady told h5
+      noted : entries_of h5 ≡ entries_of h4 ++ ends
+      short : length ends ≤ 2
+      through : Moves Any (told h0.shelf) (told h5.shelf)
+      shows : (s : Store) → told h0.shelf ≡ Some s → IsFaithful book s → Shown ends reply refused s
+
+    has-run : (ends : List Entry) (reply : List ℕ) (refused : Bool) → Ran ends reply refused → HasRun told h0 h5 number text reply refused
+    has-run ends reply refused ran = by (told h0.shelf) refl
+      where
+        few : AddsAtMost 4 book (entries_of h5)
+        few = omega (arith, ap length (entries-five ends ran.noted), length-append book (statement_entries book number text ends), ran.short)
+
+        by : (o : Option Store) → told h0.shelf ≡ o → HasRun told h0 h5 number text reply refused
+        by None e = record {
+          ready = ran.ready;
+          few = few;
+          shows = λ h. tells-none (IsFaithful (entries_of h5)) (told h5.shelf) (untold Any (told h0.shelf) (told h5.shelf) ran.through e);
+          answered = λ h. tells-none (λ s. WentThrough book (entries_of h5) number text reply refused) (told h0.shelf) e;
+        }
+        by (Some s) e = record {
+          ready = ran.ready;
+          few = few;
+          shows = λ h. let now = ran.shows s e (told-some (IsFaithful book) (told h0.shelf) s e h) in tells-some (IsFaithful (entries_of h5)) (told h5.shelf) now.now now.tells now.faithful;
+          answered = λ h. let now = ran.shows s e (told-some (IsFaithful book) (told h0.shelf) s e h) in tells-some (λ x. WentThrough book (entries_of h5) number text reply refused) (told h0.shelf) s e now.went;
+        }
+
+    -- ---- one entry ends it
+
+    keeps-five : Moves KeepsTree (told h4.shelf) (told h5.shelf) → Moves KeepsTree (told h0.shelf) (told h5.shelf)
+    keeps-five tree =
+        keeps-keeps (told h0.shelf) (told h4.shelf) (told h5.shelf)
+        (subst (λ (o : Option Store). Moves KeepsTree (told h0.shelf) o) (sym given.asked.store) given.started.tree) tree
+
+    noted-ran : (event : Entry) (reply : List ℕ) (refused : Bool) (tables : List Table)
+        → IsNoted told event h4 h5 → h5.opened ≡ h4.opened → h5.tables.items ≡ map known_of tables
+        → Leaves book (statement_entries book number text (event ∷ [])) tables → AreSound ((state_of book).entries + 1) tables
+        → ((s : Store) → told h0.shelf ≡ Some s → IsFaithful book s
+        → Goes book (statement_entries book number text (event ∷ [])) number text reply refused tables
+        × Stands (state_of (book ++ statement_entries book number text (event ∷ []))) s.tree)
+        → Ran (event ∷ []) reply refused
+    noted-ran event reply refused tables noted opened known left sound goes =
+        let through = keeps-five noted.tree in
+        record {
+          ready = ready-behind (event ∷ []) tables noted.kept noted.entries left sound opened known;
+          noted = noted.entries;
+          short = omega arith;
+          through = any-of KeepsTree (told h0.shelf) (told h5.shelf) through;
+          shows = λ s e faithful.
+              let now = became KeepsTree (told h0.shelf) (told h5.shelf) s through e in
+              let went = goes s e faithful in
+              shown (event ∷ []) reply refused tables s now.now now.tells noted.entries faithful went.0
+              (still-stands (state_of (book ++ statement_entries book number text (event ∷ []))) (state_of (book ++ statement_entries book number text (event ∷ [])))
+              s.tree now.now.tree refl now.made went.1);
+        }
+
+    -- the tables are as before
+    same-tables : (event : Entry) (reply : List ℕ) (refused : Bool) (s : Store) → IsFaithful book s
+        → Goes book (statement_entries book number text (event ∷ [])) number text reply refused (state_of book).tables
+        → Goes book (statement_entries book number text (event ∷ [])) number text reply refused (state_of book).tables
+        × Stands (state_of (book ++ statement_entries book number text (event ∷ []))) s.tree
+    same-tables event reply refused s faithful goes =
+        (goes, still-stands (state_of book) (state_of (book ++ statement_entries book number text (event ∷ []))) s.tree s.tree goes.tables_are refl faithful.stands)
+
+    -- ---- what was seen means what the statement means, where the store shows the book's files
+
+    means-told : (seen : List Seen) → IsSeen told h3 tree seen → (s : Store) → told h0.shelf ≡ Some s → IsFaithful book s
+        → meaning_of seen tree ≡ meant book tree
+    means-told seen sees s e faithful =
+        let then = became KeepsTree (told h0.shelf) (told h3.shelf) s given.started.tree e in
+        let stands = still-stands (state_of book) (state_of book) s.tree then.now.tree refl then.made faithful.stands in
+        let known : h3.tables.items ≡ map known_of (state_of book).tables = ap (λ ts. ts.items) given.started.tables ∙ given.ready.knows.tables in
+        meant-told told h3 book tree given.ready.sound then.now then.tells stands (omega (arith, small)) seen known sees
+
+    means : (seen : List Seen) → IsSeen told h3 tree seen → (meaning_of seen tree ≡ meant book tree) ⊎ Lists (meaning_of seen tree)
+    means seen sees =
+        let known : h3.tables.items ≡ map known_of (state_of book).tables = ap (λ ts. ts.items) given.started.tables ∙ given.ready.knows.tables in
+        meant-or-listing told h3 book tree given.ready.sound seen known sees
+
+    -- ---- the ways that it ends
+
+    same-known : (now : House D) → now.tables ≡ h4.tables → now.tables.items ≡ map known_of (state_of book).tables
+    same-known now e = ap (λ ts. ts.items) e ∙ tables-known
+
+    -- it commits without rows
+    idle : (reply text_now : List ℕ) (refused : Bool) → Commits told h4 h5 txn [] → IsDone reply text_now refused
+        → ((s : Store) → told h0.shelf ≡ Some s → IsFaithful book s
+        → Goes book (statement_entries book number text (committing book [] ∷ [])) number text reply false (state_of book).tables)
+        → Ran (committing book [] ∷ []) text_now refused
+    idle reply text_now refused notes done goes =
+        let noted : IsNoted told (committing book []) h4 h5 = subst (λ (t : TxnId). IsNoted told (entry.Commit t []) h4 h5) txn-is notes.noted in
+        let ran : Ran (committing book [] ∷ []) reply false =
+        noted-ran (committing book []) reply false (state_of book).tables noted notes.opened (same-known h5 notes.tables)
+        (idle-leaves book number text) same-sound
+        (λ s e faithful. same-tables (committing book []) reply false s faithful (goes s e faithful)) in
+        subst (λ (b : Bool). Ran (committing book [] ∷ []) text_now b) (sym done.accepted)
+        (subst (λ (r : List ℕ). Ran (committing book [] ∷ []) r false) (sym done.text_is) ran)
+
+    -- it is aborted
+    refuses : (why : Cause) (text_now : List ℕ) (refused : Bool) → Refuses told h4 h5 txn why text_now refused → IsCauseOf (meant book tree) why
+        → Ran (entry.Abort (record { 0 = next_number book }) why ∷ []) text_now refused
+    refuses why text_now refused refuse true_cause =
+        let event = entry.Abort (record { 0 = next_number book }) why in
+        let noted : IsNoted told event h4 h5 = subst (λ (t : TxnId). IsNoted told (entry.Abort t why) h4 h5) txn-is refuse.noted.noted in
+        let goes = refusals-end book number text tree why given.ready.sound given.is true_cause in
+        let ran : Ran (event ∷ []) (cause_text None why) true =
+        noted-ran event (cause_text None why) true (state_of book).tables noted refuse.noted.opened (same-known h5 refuse.noted.tables)
+        (leaves book (statement_entries book number text (event ∷ [])) number text (cause_text None why) true (state_of book).tables goes) same-sound
+        (λ s e faithful. same-tables event (cause_text None why) true s faithful goes) in
+        subst (λ (b : Bool). Ran (event ∷ []) text_now b) (sym refuse.refusal)
+        (subst (λ (r : List ℕ). Ran (event ∷ []) r true) (sym refuse.text_is) ran)
+
+    -- it makes a table
+    next-id-is : next_id h4 ≡ record { 0 = next_table book }
+    next-id-is = ap (λ (n : ℕ). record { 0 = n + 1 }) (ap length tables-known ∙ length-map known_of (state_of book).tables)
+
+    makes : (name : List ℕ) (columns : List Column) (text_now : List ℕ) (refused : Bool) → Makes told h4 h5 txn name columns → IsDone ok_line text_now refused
+        → meant book tree ≡ Make name columns
+        → Ran (entry.Create (record { 0 = next_number book }) (record { 0 = next_table book }) ∷ []) text_now refused
+    makes name columns text_now refused make done is =
+        let event = entry.Create (record { 0 = next_number book }) (record { 0 = next_table book }) in
+        let tables = (state_of book).tables ++ made_table (next_table book) name columns ∷ [] in
+        let noted : IsNoted told event h4 h5 =
+        subst (λ (t : TxnId). IsNoted told (entry.Create t (record { 0 = next_table book })) h4 h5) txn-is
+        (subst (λ (i : TableId). IsNoted told (entry.Create txn i) h4 h5) next-id-is make.noted) in
+        let goes = tables-made book number text tree name columns given.ready.sound given.is is in
+        let plain = made-columns-plain book tree name columns (forms-are-built text tree given.is) is in
+        let sound = tables-made-sound ((state_of book).entries + 1) (state_of book).tables name columns same-sound plain in
+        let known : h5.tables.items ≡ map known_of tables =
+        make.tables
+        ∙ ap (λ (i : TableId). h4.tables.items ++ record { info = record { table = i; name = name; columns = columns; parts = []; bucketed = []; buckets = 0 }; given = 0 } ∷ []) next-id-is
+        ∙ ap (λ (ks : List Known). ks ++ known_of (made_table (next_table book) name columns) ∷ []) tables-known
+        ∙ sym (map-append known_of (state_of book).tables (made_table (next_table book) name columns ∷ [])) in
+        let ran : Ran (event ∷ []) ok_line false =
+        noted-ran event ok_line false tables noted make.opened known
+        (leaves book (statement_entries book number text (event ∷ [])) number text ok_line false tables goes) sound
+        (λ s e faithful.
+        (goes, made-files-stand (state_of book) (state_of (book ++ statement_entries book number text (event ∷ []))) s.tree name columns faithful.stands goes.tables_are)) in
+        subst (λ (b : Bool). Ran (event ∷ []) text_now b) (sym done.accepted)
+        (subst (λ (r : List ℕ). Ran (event ∷ []) r false) (sym done.text_is) ran)
+
+    -- it inserts rows
+    known-of : (info : TableInfo) (known : Known) (table : Table) → KnownOf h4 info known → numbered (state_of book).tables info.table.0 ≡ Some table
+        → known ≡ known_of table
+    known-of info known table found at =
+        let is : Some known ≡ Some (known_of table) =
+        sym found ∙ ap (λ (ks : List Known). numbered ks info.table.0) tables-known
+        ∙ numbered-map known_of (state_of book).tables info.table.0 ∙ ap (option_map known_of) at in
+        cc
+
+    module _ (info : TableInfo) (effect : Effect) (table : Table) (is : meant book tree ≡ Change info effect)
+        (at : numbered (state_of book).tables info.table.0 ≡ Some table) where
+      write : ℕ
+      write = length table.owners + 1
+
+      written : Written
+      written = next_written (known_of table) effect
+
+      wrote : List Touch
+      wrote = inserting info effect ∷ []
+
+      insert_ends : List Entry
+      insert_ends = entry.Given (record { 0 = next_number book }) info.table (record { 0 = length table.owners + 1 }) ∷ committing book (inserting info effect ∷ []) ∷ []
+
+      tables_then : List Table
+      tables_then = tables_inserted (state_of book).tables (next_number book) info.table.0 (next_written (known_of table) effect)
+
+      are-inserts : IsFile false 0 (records_of (next_written (known_of table) effect).inserts) → AreInserts (next_written (known_of table) effect)
+      are-inserts file =
+          let can = inserts-written book tree info effect (length table.owners + 1) given.ready.sound is (omega arith) in
+          record { deletes = can.2; whole = can.1; file = file }
+
+      insert-stands : (s now : Store) → IsFaithful book s → now.tree ≡ files.insert s.tree (own_place info.table.0 (length table.owners + 1)) (file_of (next_written (known_of table) effect))
+          → Goes book (statement_entries book number text insert_ends) number text (counts_line (inserting info effect ∷ [])) false tables_then
+          → Stands (state_of (book ++ statement_entries book number text insert_ends)) now.tree
+      unfolding insert_ends tables_then
+      insert-stands s now faithful put goes =
+          inserted-files-stand (state_of book) (state_of (book ++ statement_entries book number text insert_ends)) (record { tree = s.tree; journal = now.journal }) now
+          (next_number book) info.table.0 (state_of book).entries table (next_written (known_of table) effect)
+          given.ready.sound.tables small at refl faithful.stands (record { tree_is = put; journal_is = refl }) goes.tables_are
+
+      inserted : 0 < length effect.inserts → Inserts told h4 h5 txn info (next_written (known_of table) effect) (inserting info effect ∷ [])
+          → Ran insert_ends (counts_line (inserting info effect ∷ [])) false
+      unfolding insert_ends tables_then
+      inserted some ins =
+          let goes = rows-inserted book number text tree info effect table given.ready.sound given.is is some at in
+          let noted : entries_of h5 ≡ entries_of h4 ++ insert_ends =
+          ins.entries
+          ∙ ap (λ (t : TxnId). entries_of h4 ++ entry.Given t info.table (record { 0 = length table.owners + 1 }) ∷ entry.Commit t (inserting info effect ∷ []) ∷ []) txn-is in
+          let sound = tables-inserted-sound (state_of book).entries (next_number book) info.table.0 (state_of book).tables table (next_written (known_of table) effect)
+          given.ready.sound.tables at (are-inserts ins.file) refl in
+          let known : h5.tables.items ≡ map known_of tables_then =
+          ins.tables ∙ ap (λ (ks : List Known). changed with_next ks info.table.0) tables-known
+          ∙ sym (known-inserted (state_of book).tables (next_number book) info.table.0 (next_written (known_of table) effect)) in
+          let place = own_place info.table.0 (length table.owners + 1) in
+          let bytes = file_of (next_written (known_of table) effect) in
+          let through : Moves (PutsFile place bytes) (told h0.shelf) (told h5.shelf) =
+          keeps-puts place bytes (told h0.shelf) (told h4.shelf) (told h5.shelf)
+          (subst (λ (o : Option Store). Moves KeepsTree (told h0.shelf) o) (sym given.asked.store) given.started.tree) ins.put in
+          record {
+            ready = ready-behind insert_ends tables_then ins.kept noted
+                (leaves book (statement_entries book number text insert_ends) number text (counts_line (inserting info effect ∷ [])) false tables_then goes)
+                sound ins.opened known;
+            noted = noted;
+            short = omega arith;
+            through = any-of (PutsFile place bytes) (told h0.shelf) (told h5.shelf) through;
+            shows = λ s e faithful.
+                let now = became (PutsFile place bytes) (told h0.shelf) (told h5.shelf) s through e in
+                shown insert_ends (counts_line (inserting info effect ∷ [])) false tables_then s now.now now.tells noted faithful goes
+                (insert-stands s now.now faithful now.made goes);
+          }
+
+    changes : (info : TableInfo) (effect : Effect) (text_now : List ℕ) (refused : Bool) → meant book tree ≡ Change info effect → 0 < length effect.inserts
+        → ChangesRows told h4 h5 txn info effect text_now refused → HasRun told h0 h5 number text text_now refused
+    changes info effect text_now refused is some change =
+        let there = changed-table book tree info effect given.ready.sound is in
+        let known = known-of info change.0 there.0 change.1 there.1 in
+        let ins = subst (λ (k : Known). Inserts told h4 h5 txn info (next_written k effect) (inserting info effect ∷ [])) known change.2 in
+        let ran = has-run (insert_ends info effect there.0 is there.1) (counts_line (inserting info effect ∷ [])) false (inserted info effect there.0 is there.1 some ins) in
+        subst (λ (b : Bool). HasRun told h0 h5 number text text_now b) (sym change.3.accepted)
+        (subst (λ (r : List ℕ). HasRun told h0 h5 number text r false) (sym change.3.text_is) ran)
+
+    -- ---- by its meaning
+
+    abbrev NoListing : Meaning → Type 0
+    NoListing (Listing names rows) = ⊥
+    NoListing _ = Unit {0}
+
+    meant-of : (seen : List Seen) → IsSeen told h3 tree seen → (m : Meaning) → m ≡ meaning_of seen tree → NoListing m → meant book tree ≡ m
+    meant-of seen sees m is unlisted = by (means seen sees)
+      where
+        by : (meaning_of seen tree ≡ meant book tree) ⊎ Lists (meaning_of seen tree) → meant book tree ≡ m
+        by (inl e) = sym e ∙ sym is
+        by (inr l) = absurd (subst NoListing (is ∙ l.2) unlisted)
+
+    nothing : (m : Meaning) → meant book tree ≡ m → (MeansSomething m → ⊥) → ⊥
+    nothing m is empty = empty (subst MeansSomething is (built-means (seen_tables (state_of book).tables) tree (forms-are-built text tree given.is)))
+
+    no-rows : (effect : Effect) → length effect.inserts ≡ 0 → effect.inserts ≡ []
+    no-rows effect e = by effect.inserts e
+      where
+        by : (rows : List Row) → length rows ≡ 0 → rows ≡ []
+        by [] e = refl
+        by (row ∷ rows) e = absurd (omega (arith, e))
+
+    idle-run : (reply text_now : List ℕ) (refused : Bool) → Commits told h4 h5 txn [] → IsDone reply text_now refused
+        → ((s : Store) → told h0.shelf ≡ Some s → IsFaithful book s
+        → Goes book (statement_entries book number text (committing book [] ∷ [])) number text reply false (state_of book).tables)
+        → HasRun told h0 h5 number text text_now refused
+    idle-run reply text_now refused commits done goes = has-run (committing book [] ∷ []) text_now refused (idle reply text_now refused commits done goes)
+
+    refuse-run : (why : Cause) (text_now : List ℕ) (refused : Bool) → Refuses told h4 h5 txn why text_now refused → IsCauseOf (meant book tree) why
+        → HasRun told h0 h5 number text text_now refused
+    refuse-run why text_now refused refuse true_cause =
+        has-run (entry.Abort (record { 0 = next_number book }) why ∷ []) text_now refused (refuses why text_now refused refuse true_cause)
+
+    pub ended : (seen : List Seen) → IsSeen told h3 tree seen → (m : Meaning) → m ≡ meaning_of seen tree → (text_now : List ℕ) (refused : Bool)
+        → EndsAs told h4 h5 txn m text_now refused → HasRun told h0 h5 number text text_now refused
+    ended seen sees (Listing names rows) is text_now refused ends =
+        idle-run (listing names rows) text_now refused ends.0 ends.1
+        (λ s e faithful. queries-end book number text tree names rows given.ready.sound given.is (sym (means-told seen sees s e faithful) ∙ sym is))
+    ended seen sees (Change info effect) is text_now refused (inl none) =
+        idle-run (counts_line []) text_now refused none.1 none.2
+        (λ s e faithful. nothing-inserted book number text tree info effect given.ready.sound given.is (meant-of seen sees (Change info effect) is tt) (no-rows effect none.0))
+    ended seen sees (Change info effect) is text_now refused (inr some) =
+        changes info effect text_now refused (meant-of seen sees (Change info effect) is tt) some.0 some.1
+    ended seen sees (Make name columns) is text_now refused ends =
+        has-run (entry.Create (record { 0 = next_number book }) (record { 0 = next_table book }) ∷ []) text_now refused
+        (makes name columns text_now refused ends.0 ends.1 (meant-of seen sees (Make name columns) is tt))
+    ended seen sees (Refused why) is text_now refused ends = refuse-run (cause.Refused why) text_now refused ends (meant-of seen sees (Refused why) is tt)
+    ended seen sees RowLimit is text_now refused ends = refuse-run cause.RowLimit text_now refused ends (meant-of seen sees RowLimit is tt)
+    ended seen sees Plain is text_now refused ends =
+        idle-run ok_line text_now refused ends.0 ends.1 (λ s e faithful. absurd (nothing Plain (meant-of seen sees Plain is tt) (λ h. h)))
+    ended seen sees Unbuilt is text_now refused ends =
+        idle-run ok_line text_now refused ends.0 ends.1 (λ s e faithful. absurd (nothing Unbuilt (meant-of seen sees Unbuilt is tt) (λ h. h)))
+
+    -- a file is damaged
+    pub damaged : (place : FilePlace) (text_now : List ℕ) (refused : Bool) → Refuses told h4 h5 txn (cause.Damaged place) text_now refused
+        → HasRun told h0 h5 number text text_now refused
+    damaged place text_now refused refuse = refuse-run (cause.Damaged place) text_now refused refuse tt
+
+    -- what a change rests on is there
+    pub can-end : (seen : List Seen) → IsSeen told h3 tree seen → (m : Meaning) → m ≡ meaning_of seen tree → CanEnd h4 m
+    can-end seen sees (Change info effect) is =
+        let means_this = meant-of seen sees (Change info effect) is tt in
+        let there = changed-table book tree info effect given.ready.sound means_this in
+        let found : KnownOf h4 info (known_of there.0) =
+        ap (λ (ks : List Known). numbered ks info.table.0) tables-known
+        ∙ numbered-map known_of (state_of book).tables info.table.0 ∙ ap (option_map known_of) there.1 in
+        let can = inserts-written book tree info effect (length there.0.owners + 1) given.ready.sound means_this (omega arith) in
+        (known_of there.0, found, can.0)
+    can-end seen sees (Listing names rows) is = tt
+    can-end seen sees (Make name columns) is = tt
+    can-end seen sees (Refused why) is = tt
+    can-end seen sees RowLimit is = tt
+    can-end seen sees Plain is = tt
+    can-end seen sees Unbuilt is = tt

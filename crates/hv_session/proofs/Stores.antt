@@ -1,0 +1,83 @@
+-- Stores that tell, and what a step leaves of their files.
+use Rattle.std.proofs.Common.{◌≡◌, ℕ, Option, Some, None, List, refl, sym, ap, ◌∙◌, subst}
+use Rattle.std.specs.FinMap as files
+use Rattle.hv_base.specs.Told.{Tells, Moves}
+use Rattle.hv_shelf.specs.declared.place.Place.{Place}
+use Rattle.hv_shelf.specs.Disk.{Store, Tree, HasFile}
+use Rattle.hv_journal.specs.Appending.{KeepsTree}
+use Rattle.hv_history.specs.declared.state.Table.{Table}
+use Rattle.hv_history.specs.State.{State}
+use Rattle.hv_stands.specs.Files.{Stands, made_at}
+use Rattle.hv_session.specs.Ends.{PutsFile}
+
+-- what a store that told became
+pub record Became (step : Store → Store → Type 0) (b : Option Store) (s : Store) : Type 0 where
+  pub now : Store
+  pub tells : b ≡ Some now
+  pub made : step s now
+
+pub became : (step : Store → Store → Type 0) (a b : Option Store) (s : Store) → Moves step a b → a ≡ Some s → Became step b s
+became step None b s moves e = cc
+became step (Some x) None s moves e = absurd moves
+became step (Some x) (Some y) s moves e =
+    let same : x ≡ s = cc in record { now = y; tells = refl; made = subst (λ (z : Store). step z y) same moves }
+
+-- a store that doesn't tell still doesn't
+pub untold : (step : Store → Store → Type 0) (a b : Option Store) → Moves step a b → a ≡ None → b ≡ None
+untold step None None moves e = refl
+untold step None (Some y) moves e = absurd moves
+untold step (Some x) b moves e = cc
+
+pub tells-none : (P : Store → Type 0) (o : Option Store) → o ≡ None → Tells o P
+tells-none P None e = tt
+tells-none P (Some s) e = cc
+
+pub tells-some : (P : Store → Type 0) (o : Option Store) (s : Store) → o ≡ Some s → P s → Tells o P
+tells-some P o s e p = subst (λ (x : Option Store). Tells x P) (sym e) p
+
+pub told-some : (P : Store → Type 0) (o : Option Store) (s : Store) → o ≡ Some s → Tells o P → P s
+told-some P o s e p = subst (λ (x : Option Store). Tells x P) e p
+
+-- the files stand as long as the tables and the tree are the same
+pub still-stands : (before now : State) (old new : Tree) → now.tables ≡ before.tables → new ≡ old → Stands before old → Stands now new
+still-stands before now old new tables tree stands = record {
+  each = λ (place : Place). ap (λ (t : Tree). files.get t place) tree ∙ stands.each place ∙ ap (λ (ts : List Table). made_at ts place) (sym tables);
+}
+
+-- ---- one step behind another
+
+pub keeps-keeps : (a b c : Option Store) → Moves KeepsTree a b → Moves KeepsTree b c → Moves KeepsTree a c
+keeps-keeps None None c first second = second
+keeps-keeps None (Some y) c first second = absurd first
+keeps-keeps (Some x) None c first second = absurd first
+keeps-keeps (Some x) (Some y) None first second = absurd second
+keeps-keeps (Some x) (Some y) (Some z) first second = second ∙ first
+
+pub keeps-puts : (place : Place) (bytes : List ℕ) (a b c : Option Store) → Moves KeepsTree a b → Moves (PutsFile place bytes) b c → Moves (PutsFile place bytes) a c
+keeps-puts place bytes None None c first second = second
+keeps-puts place bytes None (Some y) c first second = absurd first
+keeps-puts place bytes (Some x) None c first second = absurd first
+keeps-puts place bytes (Some x) (Some y) None first second = absurd second
+keeps-puts place bytes (Some x) (Some y) (Some z) first second = second ∙ ap (λ (t : Tree). files.insert t place bytes) first
+
+abbrev pub Any : Store → Store → Type 0
+Any before now = Unit {0}
+
+pub any-of : (step : Store → Store → Type 0) (a b : Option Store) → Moves step a b → Moves Any a b
+any-of step None None moves = tt
+any-of step None (Some y) moves = absurd moves
+any-of step (Some x) None moves = absurd moves
+any-of step (Some x) (Some y) moves = tt
+
+pub puts-keeps : (place : Place) (bytes : List ℕ) (a b c : Option Store) → Moves (PutsFile place bytes) a b → Moves KeepsTree b c → Moves (PutsFile place bytes) a c
+puts-keeps place bytes None None c first second = second
+puts-keeps place bytes None (Some y) c first second = absurd first
+puts-keeps place bytes (Some x) None c first second = absurd first
+puts-keeps place bytes (Some x) (Some y) None first second = absurd second
+puts-keeps place bytes (Some x) (Some y) (Some z) first second = second ∙ first
+
+pub has-file-puts : (place : Place) (bytes : List ℕ) (a b : Option Store) → Moves (HasFile place bytes) a b → Moves (PutsFile place bytes) a b
+has-file-puts place bytes None None moves = tt
+has-file-puts place bytes None (Some y) moves = absurd moves
+has-file-puts place bytes (Some x) None moves = absurd moves
+has-file-puts place bytes (Some x) (Some y) moves = moves.tree_is

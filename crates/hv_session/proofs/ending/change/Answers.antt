@@ -1,0 +1,31 @@
+use Rattle.std.proofs.Common.{◌≡◌, ℕ, [], ◌∷◌, List, ap, subst, ◌∙◌}
+use Rattle.hv_base.specs.declared.ids.Touch.{Touch}
+use Rattle.hv_history.specs.Answers.{counts_line}
+use Rattle.hv_stands.specs.Laws.{inserting}
+use Rattle.hv_session.specs.Ends.{IsDone, Inserts, next_written}
+use Rattle.hv_session.proofs.Shorts.{short_touch}
+use Rattle.hv_session.proofs.Finishing.{inserted}
+use Rattle.hv_session.proofs.ending.change.Goals as goal
+
+pub commit-requires-clause-short : goal.commit-requires-clause-short
+commit-requires-clause-short g c = short_touch c.args.txn c.in_ok-wrote.wrote c.args.info.table c.len.result c.in_ok-wrote.ensures
+
+pub returns-clause-changed : goal.returns-clause-changed
+returns-clause-changed g c =
+    let known = c.requires.can.0 in
+    let wrote : c.in_ok-wrote.wrote ≡ inserting c.args.info c.args.effect ∷ [] =
+    c.in_ok-wrote.ensures
+    ∙ ap (λ (n : ℕ). record { table = c.args.info.table; partition = []; inserted = n; deleted = 0 } ∷ []) c.len.ensures in
+    let whole =
+    inserted g.D.Shelf.told c.args.house.now c.give.new.self c.put_written.new.self c.commit.new.self c.args.txn c.args.info c.args.effect known
+    c.in_ok-write.write c.in_ok-written.written c.in_ok-wrote.wrote c.requires.can.1
+    c.in_ok-write.ensures.next c.in_ok-write.ensures.noted c.in_ok-write.ensures.opened c.in_ok-write.ensures.tables
+    c.in_ok-written.ensures c.in_ok-put_written.ensures.beside c.in_ok-put_written.ensures.file c.in_ok-put_written.ensures.put
+    c.in_ok-commit.ensures.noted c.in_ok-commit.ensures.opened c.in_ok-commit.ensures.tables in
+    let text : c.in_ok-text.text.items ≡ counts_line (inserting c.args.info c.args.effect ∷ []) =
+    c.in_ok-text.ensures ∙ ap counts_line (c.as_slice.ensures ∙ wrote) in (
+      known,
+      c.requires.can.1,
+      subst (λ (ts : List Touch). Inserts g.D.Shelf.told c.args.house.now c.commit.new.self c.args.txn c.args.info (next_written known c.args.effect) ts) wrote whole,
+      subst (λ (t : List ℕ). IsDone t c.done.result.text c.done.result.refused) text c.done.ensures,
+    )

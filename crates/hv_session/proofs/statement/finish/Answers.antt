@@ -1,0 +1,19 @@
+use Rattle.std.proofs.Common.{subst}
+use Rattle.hv_house.specs.Faults.{IsShortDamage}
+use Rattle.hv_session.proofs.Shorts.{short_damage}
+use Rattle.hv_session.proofs.Finishing.{finished-seen, finished-damaged}
+use Rattle.hv_session.proofs.statement.finish.Goals as goal
+
+pub refuse-requires-clause-short : goal.refuse-requires-clause-short
+refuse-requires-clause-short g c =
+    short_damage c.args.txn c.in-Err-Damaged.place (subst IsShortDamage c.in-Err-Damaged.field-0-is c.in-Err-Damaged.ensures.short)
+
+pub returns-in-Ok-clause-finished : goal.returns-in-Ok-clause-finished
+returns-in-Ok-clause-finished g c =
+    finished-seen g.D.Shelf.told c.args.house.now c.meaning.new.self c.end.new.house c.args.txn c.args.tree.now c.in-Ok.meaning c.end.result
+    c.in-Ok.ensures.asked c.in-Ok.ensures.meant c.end.ensures.ended
+
+pub returns-in-Err-Damaged-clause-finished : goal.returns-in-Err-Damaged-clause-finished
+returns-in-Err-Damaged-clause-finished g c =
+    finished-damaged g.D.Shelf.told c.args.house.now c.meaning.new.self c.refuse.new.house c.args.txn c.args.tree.now c.in-Err-Damaged.place c.refuse.result
+    c.in-Err-Damaged.ensures.asked c.refuse.ensures.refused

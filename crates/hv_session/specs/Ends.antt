@@ -1,0 +1,108 @@
+-- How a started statement ends: what is noted for it, and what is printed, by what it means.
+use Rattle.std.specs.Prelude.{◌≡◌, ◌⊎◌, ℕ, ◌+◌, ◌<◌, Bool, true, false, Option, Some, None, List, [], ◌∷◌, ◌++◌, length}
+use Rattle.std.specs.FinMap as tree
+use Rattle.hv_base.specs.declared.ids.TxnId.{TxnId}
+use Rattle.hv_base.specs.declared.ids.TableId.{TableId}
+use Rattle.hv_base.specs.declared.ids.Touch.{Touch}
+use Rattle.hv_base.specs.Told.{Moves}
+use Rattle.hv_shelf.specs.declared.place.Place.{Place}
+use Rattle.hv_shelf.specs.Disk.{Store}
+use Rattle.hv_logic.specs.declared.catalog.Column.{Column}
+use Rattle.hv_logic.specs.declared.catalog.TableInfo.{TableInfo}
+use Rattle.hv_logic.specs.declared.effect.Effect.{Effect}
+use Rattle.hv_logic.specs.declared.meaning.Meaning.{Meaning}
+use Rattle.hv_logic.specs.declared.meaning.Meaning.TheVariants.{Refused, Listing, Change, Make, RowLimit}
+use Rattle.hv_rowfile.specs.Layout.{CanWrite, IsFile}
+use Rattle.hv_history.specs.declared.entry.Entry.{Entry}
+use Rattle.hv_history.specs.declared.entry.Entry.TheVariants as entry
+use Rattle.hv_history.specs.declared.entry.Cause.{Cause}
+use Rattle.hv_history.specs.declared.entry.Cause.TheVariants as cause
+use Rattle.hv_history.specs.declared.state.Written.{Written}
+use Rattle.hv_history.specs.State.{numbered, changed, written_by}
+use Rattle.hv_history.specs.Answers.{listing, counts_line, ok_line, cause_text}
+use Rattle.hv_stands.specs.Files.{records_of, file_of, own_place}
+use Rattle.hv_stands.specs.Laws.{inserting}
+use Rattle.hv_house.specs.declared.house.House.{House}
+use Rattle.hv_house.specs.declared.known.Known.{Known}
+use Rattle.hv_house.specs.House.{entries_of, with_next, IsKept, IsNoted}
+
+-- the reply, and that it is no refusal
+pub record IsDone (wanted text : List ℕ) (refused : Bool) : Type 0 where
+  pub text_is : text ≡ wanted
+  pub accepted : refused ≡ false
+
+-- one entry was noted, and the tables stay as they are known
+pub record Notes {D : Type 0} (told : D → Option Store) (event : Entry) (before now : House D) : Type 0 where
+  pub noted : IsNoted told event before now
+  pub opened : now.opened ≡ before.opened
+  pub tables : now.tables ≡ before.tables
+
+abbrev pub Commits : {D : Type 0} → (D → Option Store) → House D → House D → TxnId → List Touch → Type 0
+Commits told before now txn wrote = Notes told (entry.Commit txn wrote) before now
+
+-- it is aborted, and its reply is the cause's line
+pub record Refuses {D : Type 0} (told : D → Option Store) (before now : House D) (txn : TxnId) (cause : Cause) (text : List ℕ) (refused : Bool) : Type 0 where
+  pub noted : Notes told (entry.Abort txn cause) before now
+  pub text_is : text ≡ cause_text None cause
+  pub refusal : refused ≡ true
+
+-- a file was put, and the journal changed
+abbrev pub PutsFile : Place → List ℕ → Store → Store → Type 0
+PutsFile place bytes before now = now.tree ≡ tree.insert before.tree place bytes
+
+-- the next write id is given, its file put, and the rows committed
+pub record Inserts {D : Type 0} (told : D → Option Store) (before now : House D) (txn : TxnId) (info : TableInfo) (written : Written) (wrote : List Touch) : Type 0 where
+  pub kept : IsKept told now
+  pub entries : entries_of now ≡ entries_of before ++ entry.Given txn info.table (record { 0 = written.write }) ∷ entry.Commit txn wrote ∷ []
+  pub opened : now.opened ≡ before.opened
+  pub tables : now.tables.items ≡ changed with_next before.tables.items info.table.0
+  pub file : IsFile false 0 (records_of written.inserts)
+  pub put : Moves (PutsFile (own_place info.table.0 written.write) (file_of written)) (told before.shelf) (told now.shelf)
+
+-- the table of a change, as it is known
+abbrev pub KnownOf : {D : Type 0} → House D → TableInfo → Known → Type 0
+KnownOf house info known = numbered house.tables.items info.table.0 ≡ Some known
+
+abbrev pub next_written : Known → Effect → Written
+next_written known effect = written_by (known.given + 1) effect
+
+abbrev pub ChangesRows : {D : Type 0} → (D → Option Store) → House D → House D → TxnId → TableInfo → Effect → List ℕ → Bool → Type 0
+ChangesRows told before now txn info effect text refused =
+    (known : Known) × KnownOf before info known
+    × Inserts told before now txn info (next_written known effect) (inserting info effect ∷ [])
+    × IsDone (counts_line (inserting info effect ∷ [])) text refused
+
+-- the entries and the reply by the rows to insert: none, or some
+abbrev pub ChangesBy : {D : Type 0} → (D → Option Store) → House D → House D → TxnId → TableInfo → Effect → ℕ → List ℕ → Bool → Type 0
+ChangesBy told before now txn info effect count text refused =
+    ((count ≡ 0) × Commits told before now txn [] × IsDone (counts_line []) text refused)
+    ⊎ ((0 < count) × ChangesRows told before now txn info effect text refused)
+
+abbrev pub made_info : TableId → List ℕ → List Column → TableInfo
+made_info table name columns = record { table = table; name = name; columns = columns; parts = []; bucketed = []; buckets = 0 }
+
+abbrev pub next_id : {D : Type 0} → House D → TableId
+next_id house = record { 0 = length house.tables.items + 1 }
+
+pub record Makes {D : Type 0} (told : D → Option Store) (before now : House D) (txn : TxnId) (name : List ℕ) (columns : List Column) : Type 0 where
+  pub noted : IsNoted told (entry.Create txn (next_id before)) before now
+  pub opened : now.opened ≡ before.opened
+  pub tables : now.tables.items ≡ before.tables.items ++ record { info = made_info (next_id before) name columns; given = 0 } ∷ []
+
+-- a statement of this meaning ends so
+abbrev pub EndsAs : {D : Type 0} → (D → Option Store) → House D → House D → TxnId → Meaning → List ℕ → Bool → Type 0
+EndsAs told before now txn (Listing names rows) text refused = Commits told before now txn [] × IsDone (listing names rows) text refused
+EndsAs told before now txn (Change info effect) text refused = ChangesBy told before now txn info effect (length effect.inserts) text refused
+EndsAs told before now txn (Make name columns) text refused = Makes told before now txn name columns × IsDone ok_line text refused
+EndsAs told before now txn (Refused number) text refused = Refuses told before now txn (cause.Refused number) text refused
+EndsAs told before now txn RowLimit text refused = Refuses told before now txn cause.RowLimit text refused
+EndsAs told before now txn _ text refused = Commits told before now txn [] × IsDone ok_line text refused
+
+-- what a change of these rows can rest on: its table is known, and the rows fit a file
+abbrev pub CanChange : {D : Type 0} → House D → TableInfo → Effect → Type 0
+CanChange house info effect =
+    (known : Known) × KnownOf house info known × CanWrite false 0 (records_of (next_written known effect).inserts)
+
+abbrev pub CanEnd : {D : Type 0} → House D → Meaning → Type 0
+CanEnd house (Change info effect) = CanChange house info effect
+CanEnd house _ = Unit {0}

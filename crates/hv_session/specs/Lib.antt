@@ -1,0 +1,4 @@
+pub mod Faults
+pub mod Ends
+pub mod Started
+pub mod Answered

@@ -1,0 +1,203 @@
+ghost use Rattle.std.specs.Prelude.{◌≡◌, ◌<◌, ◌≤◌, ◌+◌, [], ◌∷◌, length, true, false, None, Some, IfOk, IsErrOf};
+ghost use Rattle.std.specs.List.{AllByRecursion};
+ghost use Rattle.hv_history.specs.declared.entry.Entry.TheVariants as entries;
+ghost use Rattle.hv_history.specs.Spelling.{entry_spelling};
+ghost use Rattle.hv_history.specs.Answers.{listing, counts_line, ok_line, cause_text};
+ghost use Rattle.hv_house.specs.declared.fault.HouseFault.TheVariants.{Store};
+ghost use Rattle.hv_house.specs.Faults.{StoreCause};
+ghost use Rattle.hv_house.specs.House.{entries_of, book_limit, entry_limit, HasNumbers, IsKept, StaysTold};
+ghost use Rattle.hv_stands.specs.Laws.{inserting};
+ghost use Rattle.hv_session.specs.Ends.{IsDone, Commits, Refuses, Makes, ChangesBy, ChangesRows, CanChange, CanEnd, EndsAs};
+
+use crate::reply::Reply;
+use hv_base::{List, NoMemory, TableId, Text, Touch, TxnId};
+use hv_history::{Cause, cause_text, counts_line, listing, ok_line, written_by};
+use hv_house::{House, HouseFault};
+use hv_logic::{Column, Effect, Meaning, TableInfo};
+use hv_shelf::Shelf;
+use hv_value::Row;
+use std::alloc::Global;
+
+fn done(text: Vec<u8>) -> Reply
+    ensures { IsDone text.items result.text result.refused }
+{
+    Reply {
+        text: List::from_vec(text),
+        refused: false,
+    }
+}
+
+/// Aborts the statement for this cause.
+pub fn refuse<D: Shelf>(
+    alloc: Global,
+    house: &mut House<D>,
+    txn: TxnId,
+    cause: Cause,
+) -> Result<Reply, HouseFault>
+    requires kept { IsKept D.told house.old }
+    requires room { length (entries_of house.old) < book_limit }
+    requires short { length (entry_spelling (entries.Abort txn cause)) ≤ entry_limit }
+    ensures refused { IfOk result (λ reply.
+        Refuses D.told house.old house.new txn cause reply.text reply.refused) }
+    ensures tells { StaysTold (D.told house.old.shelf) (D.told house.new.shelf) }
+    ensures cause { StoreCause (D.faults house.old.shelf) (D.faults house.new.shelf)
+        (IsErrOf result Store) }
+{
+    let text = cause_text(alloc, &None, &cause)?;
+    house.abort(txn, cause)?;
+    Ok(Reply {
+        text: List::from_vec(text),
+        refused: true,
+    })
+}
+
+/// Commits a statement that wrote nothing, with this text as its reply.
+#[tactic(auto, using(crate::proofs::Shorts::short_idle))]
+fn idle<D: Shelf>(
+    alloc: Global,
+    house: &mut House<D>,
+    txn: TxnId,
+    text: Vec<u8>,
+) -> Result<Reply, HouseFault>
+    requires kept { IsKept D.told house.old }
+    requires room { length (entries_of house.old) < book_limit }
+    ensures committed { IfOk result (λ reply. Commits D.told house.old house.new txn []
+        × IsDone text.items reply.text reply.refused) }
+    ensures tells { StaysTold (D.told house.old.shelf) (D.told house.new.shelf) }
+    ensures cause { StoreCause (D.faults house.old.shelf) (D.faults house.new.shelf)
+        (IsErrOf result Store) }
+{
+    house.commit(txn, List::empty(alloc))?;
+    Ok(done(text))
+}
+
+fn make<D: Shelf>(
+    alloc: Global,
+    house: &mut House<D>,
+    txn: TxnId,
+    name: Text,
+    columns: List<Column>,
+) -> Result<Reply, HouseFault>
+    requires kept { IsKept D.told house.old }
+    requires room { length (entries_of house.old) < book_limit }
+    ensures made { IfOk result (λ reply. Makes D.told house.old house.new txn name columns
+        × IsDone ok_line reply.text reply.refused) }
+    ensures tells { StaysTold (D.told house.old.shelf) (D.told house.new.shelf) }
+    ensures cause { StoreCause (D.faults house.old.shelf) (D.faults house.new.shelf)
+        (IsErrOf result Store) }
+{
+    let text = ok_line(alloc)?;
+    let info = TableInfo {
+        table: TableId(house.tables.len() as u64 + 1),
+        name,
+        columns,
+        parts: List::empty(alloc),
+        bucketed: List::empty(alloc),
+        buckets: 0,
+    };
+    house.create(txn, info)?;
+    Ok(done(text))
+}
+
+/// The touch of an insert.
+fn touches(alloc: Global, table: TableId, inserted: u64) -> Result<List<Touch>, NoMemory>
+    ensures { IfOk result (λ touches. touches ≡ record {
+      table = table;
+      partition = [];
+      inserted = inserted;
+      deleted = 0;
+    } ∷ []) }
+{
+    let touch = Touch {
+        table,
+        partition: Text::of(alloc, "")?,
+        inserted,
+        deleted: 0,
+    };
+    Ok(List::from_vec(vec![in alloc; touch]?))
+}
+
+fn change<D: Shelf>(
+    alloc: Global,
+    house: &mut House<D>,
+    txn: TxnId,
+    info: TableInfo,
+    effect: Effect,
+) -> Result<Reply, HouseFault>
+    requires kept { IsKept D.told house.old }
+    requires room { length (entries_of house.old) + 1 < book_limit }
+    requires numbers { AllByRecursion HasNumbers house.old.tables.items }
+    requires can { CanChange house.old info effect }
+    ensures changed { IfOk result (λ reply.
+        ChangesRows D.told house.old house.new txn info effect reply.text reply.refused) }
+    ensures tells { StaysTold (D.told house.old.shelf) (D.told house.new.shelf) }
+    ensures cause { StoreCause (D.faults house.old.shelf) (D.faults house.new.shelf)
+        (IsErrOf result Store) }
+{
+    let wrote = touches(alloc, info.table, effect.inserts.len() as u64)?;
+    let text = counts_line(alloc, wrote.as_slice())?;
+    let write = house.give(txn, info.table)?;
+    let written = written_by(alloc, write.0, effect)?;
+    house.put_written(alloc, info.table, &written)?;
+    house.commit(txn, wrote)?;
+    Ok(done(text))
+}
+
+fn change_by<D: Shelf>(
+    alloc: Global,
+    house: &mut House<D>,
+    txn: TxnId,
+    info: TableInfo,
+    effect: Effect,
+) -> Result<Reply, HouseFault>
+    requires kept { IsKept D.told house.old }
+    requires room { length (entries_of house.old) + 1 < book_limit }
+    requires numbers { AllByRecursion HasNumbers house.old.tables.items }
+    requires can { CanChange house.old info effect }
+    ensures changed { IfOk result (λ reply. ChangesBy D.told house.old house.new txn info effect
+        (length effect.inserts) reply.text reply.refused) }
+    ensures tells { StaysTold (D.told house.old.shelf) (D.told house.new.shelf) }
+    ensures cause { StoreCause (D.faults house.old.shelf) (D.faults house.new.shelf)
+        (IsErrOf result Store) }
+{
+    if effect.inserts.is_empty() {
+        let text = counts_line(alloc, &[])?;
+        idle(alloc, house, txn, text)
+    } else {
+        change(alloc, house, txn, info, effect)
+    }
+}
+
+/// Ends the started statement that means this.
+#[tactic(auto, using(crate::proofs::Shorts::short_refused, crate::proofs::Shorts::short_limit))]
+pub fn end<D: Shelf>(
+    alloc: Global,
+    house: &mut House<D>,
+    txn: TxnId,
+    meaning: Meaning,
+) -> Result<Reply, HouseFault>
+    requires kept { IsKept D.told house.old }
+    requires room { length (entries_of house.old) + 1 < book_limit }
+    requires numbers { AllByRecursion HasNumbers house.old.tables.items }
+    requires can { CanEnd house.old meaning }
+    ensures ended { IfOk result (λ reply.
+        EndsAs D.told house.old house.new txn meaning reply.text reply.refused) }
+    ensures tells { StaysTold (D.told house.old.shelf) (D.told house.new.shelf) }
+    ensures cause { StoreCause (D.faults house.old.shelf) (D.faults house.new.shelf)
+        (IsErrOf result Store) }
+{
+    match meaning {
+        Meaning::Listing(names, rows) => {
+            let text = listing(alloc, names.as_slice(), rows.as_slice())?;
+            idle(alloc, house, txn, text)
+        }
+        Meaning::Change(info, effect) => change_by(alloc, house, txn, info, effect),
+        Meaning::Make(name, columns) => make(alloc, house, txn, name, columns),
+        Meaning::Refused(number) => refuse(alloc, house, txn, Cause::Refused { number }),
+        Meaning::RowLimit => refuse(alloc, house, txn, Cause::RowLimit),
+        Meaning::Plain | Meaning::Unbuilt => {
+            let text = ok_line(alloc)?;
+            idle(alloc, house, txn, text)
+        }
+    }
+}
