@@ -1,0 +1,339 @@
+-- Runs that do nothing, and when they come.
+use Rattle.std.proofs.Common.{◌≡◌, ℕ, ◌+◌, ◌≤◌, ◌==◌, ◌||◌, Bool, true, false, cond, nat_lt, Result, Ok, Err, IfErr, IsTrue, IsSome, is_some, not, codes, Option, Some, None, List, [], ◌∷◌, ◌++◌, length, refl, sym, ap, ◌∙◌, subst, arith, ◌⊎◌, inl, inr}
+use Rattle.std.specs.Prelude.{count_by}
+use Rattle.std.proofs.lemmas.List.{append-nil, length-append, take-append-le}
+use Rattle.std.proofs.lemmas.Bool.{eqb-true, ltb-true, ltb-false, lt-ltb}
+use Rattle.hv_base.specs.Told.{Tells, Moves}
+use Rattle.hv_base.specs.Sink.{Gains}
+use Rattle.hv_shelf.specs.Disk.{Store}
+use Rattle.hv_script.specs.Words.{command_of}
+use Rattle.hv_script.specs.declared.words.Command.{Command}
+use Rattle.hv_script.specs.Items.{items_of}
+use Rattle.hv_script.specs.declared.script.ScriptFault.{ScriptFault}
+use Rattle.hv_script.specs.declared.script.ScriptFault.TheVariants.{Refused}
+use Rattle.hv_script.specs.Script.{IsReading, earlier, front, high_line, item_line, limit_line, line_at, refused_line}
+use Rattle.hv_program.specs.declared.stop.Stop.{Stop}
+use Rattle.hv_program.specs.declared.stop.Stop.TheVariants as stop
+use Rattle.hv_program.specs.Stops.{status_of_stop}
+use Rattle.hv_program.specs.Reading.{TakesUpTo}
+use Rattle.hv_program.specs.Headline.{Outside}
+use Rattle.hv_program.specs.Serving.{ran_status, IsSaid, IsClosed, Opens}
+use Rattle.hv_program.specs.Refused.{is_one_of, words_line, script_line, journal_line, IsBadWords, IsRefusedScript, Refuses}
+
+-- ---- serving
+
+tells-all : (P : Store → Type 0) (told : Option Store) → ((s : Store) → P s) → Tells told P
+tells-all P None all = tt
+tells-all P (Some s) all = all s
+
+tells-then : {A : Type 0} (P Q : A → Type 0) (o : Option A) → ((x : A) → P x → Q x) → Tells o P → Tells o Q
+tells-then P Q None f p = tt
+tells-then P Q (Some x) f p = f x p
+
+empty-journal : (told : Option Store) (status : ℕ) → Tells told (λ s. length s.journal ≤ 1)
+    → Tells told (λ s. 2 ≤ length s.journal → IsTrue (is_one_of (4 ∷ 5 ∷ 6 ∷ 7 ∷ []) status))
+empty-journal told status small =
+    tells-then (λ s. length s.journal ≤ 1) (λ s. 2 ≤ length s.journal → IsTrue (is_one_of (4 ∷ 5 ∷ 6 ∷ 7 ∷ []) status)) told
+    (λ s low high. absurd (omega (arith, low, high))) small
+
+pub opens-ran : (ran : Result Bool Stop) (sink sink' : Option (List ℕ)) (told told' : Option Store) → Tells told (λ s. length s.journal ≤ 1)
+    → IfErr ran (λ why. IsTrue (is_one_of (4 ∷ 5 ∷ 7 ∷ []) (status_of_stop why))) → Opens sink sink' told told' (ran_status ran)
+opens-ran (Ok false) sink sink' told told' small why = record { bad = λ e. absurd (omega (arith, e)); at_journal = empty-journal told 0 small; only = refl }
+opens-ran (Ok true) sink sink' told told' small why = record { bad = λ e. absurd (omega (arith, e)); at_journal = empty-journal told 1 small; only = refl }
+opens-ran (Err stop.Source) sink sink' told told' small why = cc
+opens-ran (Err stop.Sink) sink sink' told told' small why = record { bad = λ e. absurd (omega (arith, e)); at_journal = empty-journal told 4 small; only = refl }
+opens-ran (Err stop.Store) sink sink' told told' small why = record { bad = λ e. absurd (omega (arith, e)); at_journal = empty-journal told 5 small; only = refl }
+opens-ran (Err stop.NoMemory) sink sink' told told' small why = record { bad = λ e. absurd (omega (arith, e)); at_journal = empty-journal told 7 small; only = refl }
+
+pub opens-run : (ran : Result Bool Stop) (status : ℕ) (sink sink' : Option (List ℕ)) (told told' : Option Store) → status ≡ ran_status ran
+    → Tells told (λ s. length s.journal ≤ 1)
+    → IfErr ran (λ why. IsTrue (is_one_of (4 ∷ 5 ∷ 7 ∷ []) (status_of_stop why))) → Opens sink sink' told told' status
+opens-run ran status sink sink' told told' is small why = subst (Opens sink sink' told told') (sym is) (opens-ran ran sink sink' told told' small why)
+
+opens-five : (sink sink' : Option (List ℕ)) (told told' : Option Store) → Opens sink sink' told told' 5
+opens-five sink sink' told told' = record {
+  bad = λ e. absurd (omega (arith, e));
+  at_journal = tells-all (λ s. 2 ≤ length s.journal → IsTrue (is_one_of (4 ∷ 5 ∷ 6 ∷ 7 ∷ []) 5)) told (λ s h. refl);
+  only = refl;
+}
+
+opens-seven : (sink sink' : Option (List ℕ)) (told told' : Option Store) → Opens sink sink' told told' 7
+opens-seven sink sink' told told' = record {
+  bad = λ e. absurd (omega (arith, e));
+  at_journal = tells-all (λ s. 2 ≤ length s.journal → IsTrue (is_one_of (4 ∷ 5 ∷ 6 ∷ 7 ∷ []) 7)) told (λ s h. refl);
+  only = refl;
+}
+
+pub opens-store : (status : ℕ) (sink sink' : Option (List ℕ)) (told told' : Option Store) → status ≡ 5 → Opens sink sink' told told' status
+opens-store status sink sink' told told' is = subst (Opens sink sink' told told') (sym is) (opens-five sink sink' told told')
+
+pub opens-memory : (status : ℕ) (sink sink' : Option (List ℕ)) (told told' : Option Store) → status ≡ 7 → Opens sink sink' told told' status
+opens-memory status sink sink' told told' is = subst (Opens sink sink' told told') (sym is) (opens-seven sink sink' told told')
+
+-- ---- one of some statuses
+
+more : (b rest : Bool) → rest ≡ true → b || rest ≡ true
+more true rest h = refl
+more false rest h = h
+
+keep : (b rest wider : Bool) → (rest ≡ true → wider ≡ true) → b || rest ≡ true → b || wider ≡ true
+keep true rest wider f h = refl
+keep false rest wider f h = f h
+
+split : (b rest : Bool) → b || rest ≡ true → (b ≡ true) ⊎ (rest ≡ true)
+split true rest h = inl refl
+split false rest h = inr h
+
+-- the sink failed, or memory ran out
+four-or-seven : (n : ℕ) → IsTrue (is_one_of (4 ∷ 7 ∷ []) n) → (n ≡ 4) ⊎ (n ≡ 7)
+four-or-seven n h = by (split (4 == n) ((7 == n) || false) h)
+  where
+    last : ((7 == n) ≡ true) ⊎ (false ≡ true) → (n ≡ 4) ⊎ (n ≡ 7)
+    last (inl e) = inr (sym (eqb-true 7 n e))
+    last (inr e) = cc
+
+    by : ((4 == n) ≡ true) ⊎ ((7 == n) || false ≡ true) → (n ≡ 4) ⊎ (n ≡ 7)
+    by (inl e) = inl (sym (eqb-true 4 n e))
+    by (inr e) = last (split (7 == n) false e)
+
+four : (n : ℕ) → IsTrue (is_one_of (4 ∷ []) n) → n ≡ 4
+four n h = by (split (4 == n) false h)
+  where
+    by : ((4 == n) ≡ true) ⊎ (false ≡ true) → n ≡ 4
+    by (inl e) = sym (eqb-true 4 n e)
+    by (inr e) = cc
+
+-- ---- a journal that isn't empty
+
+opens-four : (sink sink' : Option (List ℕ)) (told told' : Option Store) → Opens sink sink' told told' 4
+opens-four sink sink' told told' = record {
+  bad = λ e. absurd (omega (arith, e));
+  at_journal = tells-all (λ s. 2 ≤ length s.journal → IsTrue (is_one_of (4 ∷ 5 ∷ 6 ∷ 7 ∷ []) 4)) told (λ s h. refl);
+  only = refl;
+}
+
+opens-six : (sink sink' : Option (List ℕ)) (told told' : Option Store) → IsClosed sink sink' told told' → Opens sink sink' told told' 6
+opens-six sink sink' told told' closed = record {
+  bad = λ e. closed;
+  at_journal = tells-all (λ s. 2 ≤ length s.journal → IsTrue (is_one_of (4 ∷ 5 ∷ 6 ∷ 7 ∷ []) 6)) told (λ s h. refl);
+  only = refl;
+}
+
+pub opens-bad : (status at : ℕ) (sink sink' : Option (List ℕ)) (told told' : Option Store) → at ≡ 0 → told' ≡ told → Tells told (λ s. 2 ≤ length s.journal)
+    → IsSaid 6 (4 ∷ 7 ∷ []) (journal_line at) sink sink' status → Opens sink sink' told told' status
+opens-bad status at sink sink' told told' first same bad (inl said) =
+    subst (Opens sink sink' told told') (sym said.0)
+    (opens-six sink sink' told told' (record {
+      journal = bad;
+      same = same;
+      wrote = subst (λ (n : ℕ). Moves (Gains (journal_line n)) sink sink') first said.1.wrote;
+    }))
+opens-bad status at sink sink' told told' first same bad (inr other) = by (four-or-seven status other)
+  where
+    by : (status ≡ 4) ⊎ (status ≡ 7) → Opens sink sink' told told' status
+    by (inl e) = subst (Opens sink sink' told told') (sym e) (opens-four sink sink' told told')
+    by (inr e) = opens-memory status sink sink' told told' e
+
+-- ---- the whole
+
+module _ (words : List (List ℕ)) (before after : Outside) where
+  some-not-none : IsSome (command_of words) → command_of words ≡ None → (Goal : Type 0) → Goal
+  some-not-none some none Goal = absurd (by (command_of words) some none)
+    where
+      by : (o : Option Command) → IsSome o → o ≡ None → ⊥
+      by None is e = cc
+      by (Some command) is e = cc
+
+  none-not-some : command_of words ≡ None → IsSome (command_of words) → (Goal : Type 0) → Goal
+  none-not-some none some Goal = some-not-none some none Goal
+
+  -- words that are no command
+  refuses-two : command_of words ≡ None → IsBadWords words before after → Refuses words before after 2
+  refuses-two none bad = record {
+    bad_words = λ e. bad;
+    bad_journal = λ e. absurd (omega (arith, e));
+    refused_script = λ e. absurd (omega (arith, e));
+    at_words = λ e. refl;
+    at_script = λ some. none-not-some none some _;
+    at_journal = λ some. none-not-some none some _;
+    only = refl;
+  }
+
+  refuses-four : command_of words ≡ None → Refuses words before after 4
+  refuses-four none = record {
+    bad_words = λ e. absurd (omega (arith, e));
+    bad_journal = λ e. absurd (omega (arith, e));
+    refused_script = λ e. absurd (omega (arith, e));
+    at_words = λ e. refl;
+    at_script = λ some. none-not-some none some _;
+    at_journal = λ some. none-not-some none some _;
+    only = refl;
+  }
+
+  pub refuses-words : (status : ℕ) → command_of words ≡ None → after.source ≡ before.source → after.store ≡ before.store
+      → IsSaid 2 (4 ∷ []) words_line before.sink after.sink status → Refuses words before after status
+  refuses-words status none source store (inl said) =
+      subst (Refuses words before after) (sym said.0)
+      (refuses-two none (record { words_are = none; source_same = source; says = record { wrote = said.1.wrote; store_same = store } }))
+  refuses-words status none source store (inr other) = subst (Refuses words before after) (sym (four status other)) (refuses-four none)
+
+  -- a device failed, or memory ran out, before the store was opened
+  all-lines : (n : ℕ) → IsTrue (is_one_of (3 ∷ 4 ∷ 7 ∷ 8 ∷ []) n) → (source : Option (List ℕ))
+      → Tells source (λ script. (line : ℕ) → refused_line script ≡ Some line → IsTrue (is_one_of (3 ∷ 4 ∷ 7 ∷ 8 ∷ []) n))
+  all-lines n h None = tt
+  all-lines n h (Some script) = λ line e. h
+
+  all-journals : (n : ℕ) → IsTrue (is_one_of (3 ∷ 4 ∷ 5 ∷ 6 ∷ 7 ∷ []) n) → (source : Option (List ℕ)) (told : Option Store)
+      → Tells source (λ script. refused_line script ≡ None → Tells told (λ s. 2 ≤ length s.journal → IsTrue (is_one_of (3 ∷ 4 ∷ 5 ∷ 6 ∷ 7 ∷ []) n)))
+  all-journals n h None told = tt
+  all-journals n h (Some script) None = λ e. tt
+  all-journals n h (Some script) (Some s) = λ e low. h
+
+  refuses-quiet : (n : ℕ) → IsSome (command_of words) → (n ≡ 2 → ⊥) → (n ≡ 6 → ⊥) → (n ≡ 8 → ⊥)
+      → IsTrue (is_one_of (3 ∷ 4 ∷ 7 ∷ 8 ∷ []) n) → IsTrue (is_one_of (3 ∷ 4 ∷ 5 ∷ 6 ∷ 7 ∷ []) n)
+      → IsTrue (is_one_of (0 ∷ 1 ∷ 2 ∷ 3 ∷ 4 ∷ 5 ∷ 6 ∷ 7 ∷ 8 ∷ []) n) → Refuses words before after n
+  refuses-quiet n some two six eight lines journals all = record {
+    bad_words = λ e. absurd (two e);
+    bad_journal = λ e. absurd (six e);
+    refused_script = λ e. absurd (eight e);
+    at_words = λ none. some-not-none some none _;
+    at_script = λ is. all-lines n lines before.source;
+    at_journal = λ is. all-journals n journals before.source before.store;
+    only = all;
+  }
+
+  refuses-three : IsSome (command_of words) → Refuses words before after 3
+  refuses-three some = refuses-quiet 3 some (λ e. omega (arith, e)) (λ e. omega (arith, e)) (λ e. omega (arith, e)) refl refl refl
+
+  refuses-sink : IsSome (command_of words) → Refuses words before after 4
+  refuses-sink some = refuses-quiet 4 some (λ e. omega (arith, e)) (λ e. omega (arith, e)) (λ e. omega (arith, e)) refl refl refl
+
+  refuses-seven : IsSome (command_of words) → Refuses words before after 7
+  refuses-seven some = refuses-quiet 7 some (λ e. omega (arith, e)) (λ e. omega (arith, e)) (λ e. omega (arith, e)) refl refl refl
+
+  pub refuses-memory : (status : ℕ) → IsSome (command_of words) → status ≡ 7 → Refuses words before after status
+  refuses-memory status some e = subst (Refuses words before after) (sym e) (refuses-seven some)
+
+  pub refuses-read : (status : ℕ) (why : Stop) → IsSome (command_of words) → status ≡ status_of_stop why
+      → IsTrue (is_one_of (3 ∷ 7 ∷ []) (status_of_stop why)) → Refuses words before after status
+  refuses-read status stop.Source some e h = subst (Refuses words before after) (sym e) (refuses-three some)
+  refuses-read status stop.Sink some e h = cc
+  refuses-read status stop.Store some e h = cc
+  refuses-read status stop.NoMemory some e h = refuses-memory status some e
+
+  -- a script that is refused
+  refuses-eight : IsRefusedScript words before after → Refuses words before after 8
+  refuses-eight refused = record {
+    bad_words = λ e. absurd (omega (arith, e));
+    bad_journal = λ e. absurd (omega (arith, e));
+    refused_script = λ e. refused;
+    at_words = λ none. some-not-none refused.words_are none _;
+    at_script = λ is. all-lines 8 refl before.source;
+    at_journal = λ is. tells-then (λ script. refused_line script ≡ Some refused.line)
+        (λ script. refused_line script ≡ None → Tells before.store (λ s. 2 ≤ length s.journal → IsTrue (is_one_of (3 ∷ 4 ∷ 5 ∷ 6 ∷ 7 ∷ []) 8)))
+        before.source (λ script line none. absurd (let no_line : Some refused.line ≡ None = sym line ∙ none in cc)) refused.refused;
+    only = refl;
+  }
+
+  pub refuses-script : (status line : ℕ) → IsSome (command_of words) → Tells before.source (λ script. refused_line script ≡ Some line)
+      → after.store ≡ before.store → IsSaid 8 (4 ∷ 7 ∷ []) (script_line line) before.sink after.sink status → Refuses words before after status
+  refuses-script status line some refused store (inl said) =
+      subst (Refuses words before after) (sym said.0)
+      (refuses-eight (record { words_are = some; line = line; refused = refused; says = record { wrote = said.1.wrote; store_same = store } }))
+  refuses-script status line some refused store (inr other) = by (four-or-seven status other)
+    where
+      by : (status ≡ 4) ⊎ (status ≡ 7) → Refuses words before after status
+      by (inl e) = subst (Refuses words before after) (sym e) (refuses-sink some)
+      by (inr e) = refuses-memory status some e
+
+  -- a script that is served
+  wider-journals : (n : ℕ) → IsTrue (is_one_of (4 ∷ 5 ∷ 6 ∷ 7 ∷ []) n) → IsTrue (is_one_of (3 ∷ 4 ∷ 5 ∷ 6 ∷ 7 ∷ []) n)
+  wider-journals n h = more (3 == n) (is_one_of (4 ∷ 5 ∷ 6 ∷ 7 ∷ []) n) h
+
+  wider : (n : ℕ) → IsTrue (is_one_of (0 ∷ 1 ∷ 4 ∷ 5 ∷ 6 ∷ 7 ∷ []) n) → IsTrue (is_one_of (0 ∷ 1 ∷ 2 ∷ 3 ∷ 4 ∷ 5 ∷ 6 ∷ 7 ∷ 8 ∷ []) n)
+  wider n h =
+      keep (0 == n) (is_one_of (1 ∷ 4 ∷ 5 ∷ 6 ∷ 7 ∷ []) n) (is_one_of (1 ∷ 2 ∷ 3 ∷ 4 ∷ 5 ∷ 6 ∷ 7 ∷ 8 ∷ []) n)
+      (keep (1 == n) (is_one_of (4 ∷ 5 ∷ 6 ∷ 7 ∷ []) n) (is_one_of (2 ∷ 3 ∷ 4 ∷ 5 ∷ 6 ∷ 7 ∷ 8 ∷ []) n)
+      (λ low.
+      more (2 == n) (is_one_of (3 ∷ 4 ∷ 5 ∷ 6 ∷ 7 ∷ 8 ∷ []) n)
+      (more (3 == n) (is_one_of (4 ∷ 5 ∷ 6 ∷ 7 ∷ 8 ∷ []) n)
+      (keep (4 == n) (is_one_of (5 ∷ 6 ∷ 7 ∷ []) n) (is_one_of (5 ∷ 6 ∷ 7 ∷ 8 ∷ []) n)
+      (keep (5 == n) (is_one_of (6 ∷ 7 ∷ []) n) (is_one_of (6 ∷ 7 ∷ 8 ∷ []) n)
+      (keep (6 == n) (is_one_of (7 ∷ []) n) (is_one_of (7 ∷ 8 ∷ []) n)
+      (keep (7 == n) false (is_one_of (8 ∷ []) n) (λ e. cc)))) low)))) h
+
+  pub refuses-served : (status : ℕ) → IsSome (command_of words) → Tells before.source (λ script. refused_line script ≡ None)
+      → Opens before.sink after.sink before.store after.store status → Refuses words before after status
+  refuses-served status some fine opens = record {
+    bad_words = λ e. absurd (let wrong : IsTrue (is_one_of (0 ∷ 1 ∷ 4 ∷ 5 ∷ 6 ∷ 7 ∷ []) 2) = subst (λ (n : ℕ). IsTrue (is_one_of (0 ∷ 1 ∷ 4 ∷ 5 ∷ 6 ∷ 7 ∷ []) n)) e opens.only in cc);
+    bad_journal = λ e. let closed = opens.bad e in record {
+      words_are = some;
+      unrefused = fine;
+      journal = closed.journal;
+      says = record { wrote = closed.wrote; store_same = closed.same };
+    };
+    refused_script = λ e. absurd (let wrong : IsTrue (is_one_of (0 ∷ 1 ∷ 4 ∷ 5 ∷ 6 ∷ 7 ∷ []) 8) = subst (λ (n : ℕ). IsTrue (is_one_of (0 ∷ 1 ∷ 4 ∷ 5 ∷ 6 ∷ 7 ∷ []) n)) e opens.only in cc);
+    at_words = λ none. some-not-none some none _;
+    at_script = λ is. tells-then (λ script. refused_line script ≡ None)
+        (λ script. (line : ℕ) → refused_line script ≡ Some line → IsTrue (is_one_of (3 ∷ 4 ∷ 7 ∷ 8 ∷ []) status))
+        before.source (λ script none line e. absurd (let no_line : None ≡ Some line = sym none ∙ e in cc)) fine;
+    at_journal = λ is. tells-then (λ script. refused_line script ≡ None)
+        (λ script. refused_line script ≡ None → Tells before.store (λ s. 2 ≤ length s.journal → IsTrue (is_one_of (3 ∷ 4 ∷ 5 ∷ 6 ∷ 7 ∷ []) status)))
+        before.source
+        (λ script none e. tells-then (λ s. 2 ≤ length s.journal → IsTrue (is_one_of (4 ∷ 5 ∷ 6 ∷ 7 ∷ []) status))
+        (λ s. 2 ≤ length s.journal → IsTrue (is_one_of (3 ∷ 4 ∷ 5 ∷ 6 ∷ 7 ∷ []) status)) before.store (λ s f low. wider-journals status (f low)) opens.at_journal) fine;
+    only = wider status opens.only;
+  }
+
+-- ---- what was read of a script tells whether it is refused
+
+limit-by : (b : Bool) (line other : ℕ) → b ≡ true → line ≡ other → cond b (Some line) None ≡ Some other
+limit-by true line other e same = ap Some same
+limit-by false line other e same = cc
+
+long-limit : (script : List ℕ) → 16777217 ≤ length script → limit_line script ≡ Some (line_at 16777216 script)
+long-limit script long = limit-by (nat_lt 16777216 (length script)) (line_at 16777216 script) (line_at 16777216 script) (lt-ltb 16777216 (length script) (omega arith)) refl
+
+refused-front : (bytes left : List ℕ) → 16777217 ≤ length bytes → refused_line (bytes ++ left) ≡ refused_line bytes
+refused-front bytes left long =
+    let same : front (bytes ++ left) ≡ front bytes = take-append-le 16777216 bytes left (omega arith) in
+    let more_long : 16777217 ≤ length (bytes ++ left) = omega (arith, length-append bytes left) in
+    let limit : limit_line (bytes ++ left) ≡ limit_line bytes =
+    long-limit (bytes ++ left) more_long
+    ∙ ap (λ (t : List ℕ). Some (1 + count_by (λ b. b == 10) t)) same ∙ sym (long-limit bytes long) in
+    ap (λ (o : Option ℕ). earlier (earlier (high_line 1 (front (bytes ++ left))) o) (item_line 0 (items_of (front (bytes ++ left))))) limit
+    ∙ ap (λ (t : List ℕ). earlier (earlier (high_line 1 t) (limit_line bytes)) (item_line 0 (items_of t))) same
+
+refused-same : (bytes script left : List ℕ) → TakesUpTo 16777217 bytes script left → refused_line script ≡ refused_line bytes
+refused-same bytes script left takes = by (nat_lt (length bytes) 16777217) refl
+  where
+    by : (b : Bool) → nat_lt (length bytes) 16777217 ≡ b → refused_line script ≡ refused_line bytes
+    by true e =
+        let at_end : left ≡ [] = takes.ended (ltb-true (length bytes) 16777217 e) in
+        ap refused_line (takes.taken ∙ ap (λ (t : List ℕ). bytes ++ t) at_end ∙ append-nil bytes)
+    by false e = ap refused_line takes.taken ∙ refused-front bytes left (ltb-false (length bytes) 16777217 e)
+
+pub tells-refused : (bytes given : List ℕ) (line : Option ℕ) (source source' : Option (List ℕ)) → given ≡ bytes
+    → Moves (TakesUpTo 16777217 bytes) source source' → refused_line given ≡ line → Tells source (λ script. refused_line script ≡ line)
+tells-refused bytes given line None source' same read e = tt
+tells-refused bytes given line (Some script) None same read e = absurd read
+tells-refused bytes given line (Some script) (Some left) same read e = refused-same bytes script left read ∙ ap refused_line (sym same) ∙ e
+
+-- ---- the words
+
+pub no-command : (result o : Option Command) (b : Bool) → result ≡ o → is_some result ≡ not b → b ≡ true → o ≡ None
+no-command None o b same e true_ = sym same
+no-command (Some command) o b same e true_ = let wrong : true ≡ false = e ∙ ap not true_ in cc
+
+pub a-command : (result o : Option Command) (b : Bool) → result ≡ o → is_some result ≡ not b → b ≡ false → IsSome o
+a-command None o b same e false_ = let wrong : false ≡ true = e ∙ ap not false_ in cc
+a-command (Some command) o b same e false_ = subst IsSome same refl
+
+pub said-words : (sink sink' : Option (List ℕ)) (status : ℕ) → IsSaid 2 (4 ∷ []) (codes "hive: bad words\n") sink sink' status
+    → IsSaid 2 (4 ∷ []) words_line sink sink' status
+unfolding words_line
+said-words sink sink' status said = said
+
+pub refused-at : (script : List ℕ) (texts : List (List ℕ)) (fault : ScriptFault) (line : ℕ) → fault ≡ Refused line
+    → IsReading (refused_line script) texts (Err fault) → refused_line script ≡ Some line
+refused-at script texts fault line is reading = subst (λ (f : ScriptFault). IsReading (refused_line script) texts (Err f)) is reading

@@ -1,0 +1,167 @@
+ghost use Rattle.std.specs.Prelude.{◌≡◌, ◌≤◌, [], ◌∷◌, length, map};
+ghost use Rattle.std.specs.String.{string_bytes};
+ghost use Rattle.hv_house.specs.House.{StaysTold};
+ghost use Rattle.hv_program.specs.Headline.{Headline};
+ghost use Rattle.hv_program.specs.Refused.{script_line, journal_line, Refuses};
+ghost use Rattle.hv_program.specs.Running.{AreShort};
+ghost use Rattle.hv_program.specs.Serving.{ran_status, Serves, IsSaid, Opens};
+
+use crate::reading::read_front;
+use crate::run::run;
+use crate::stop::Stop;
+use hv_base::{Gate, Sink, Source, write_all};
+use hv_house::{BootFault, House};
+use hv_script::{MAX_SCRIPT, Script, ScriptFault, read_script, read_words};
+use hv_shelf::Shelf;
+use std::alloc::Global;
+use std::sync::Wait;
+use std::thread::Threads;
+
+/// How a run ended: its status, and the store.
+#[derive(Drop)]
+pub struct Ended<D> {
+    pub status: u8,
+    pub shelf: D,
+}
+
+/// The status of a run that printed this line last.
+fn said<O: Sink>(sink: &mut O, line: &[u8], status: u8) -> u8
+    requires stopped { 2 ≤ status }
+    ensures stopped { 2 ≤ result }
+    ensures said { IsSaid status (4 ∷ []) line.now (O.written sink.old) (O.written sink.new) result }
+    ensures heard { StaysTold (O.written sink.old) (O.written sink.new) }
+{
+    match write_all(sink, line) {
+        Ok(()) => status,
+        Err(_) => Stop::Sink.status(),
+    }
+}
+
+#[tactic(auto, unfolding(crate::specs::Refused::script_line))]
+fn refused_script<O: Sink>(alloc: Global, sink: &mut O, line: u64) -> u8
+    ensures stopped { 2 ≤ result }
+    ensures said { IsSaid 8 (4 ∷ 7 ∷ []) (script_line line) (O.written sink.old) (O.written sink.new) result }
+    ensures heard { StaysTold (O.written sink.old) (O.written sink.new) }
+{
+    match format!(in alloc; "hive: script refused at line {line}\n") {
+        Ok(text) => said(sink, text.as_bytes(), 8),
+        Err(_) => Stop::NoMemory.status(),
+    }
+}
+
+#[tactic(auto, unfolding(crate::specs::Refused::journal_line))]
+fn bad_journal<O: Sink>(alloc: Global, sink: &mut O, at: u64) -> u8
+    ensures stopped { 2 ≤ result }
+    ensures said { IsSaid 6 (4 ∷ 7 ∷ []) (journal_line at) (O.written sink.old) (O.written sink.new) result }
+    ensures heard { StaysTold (O.written sink.old) (O.written sink.new) }
+{
+    match format!(in alloc; "hive: bad journal at byte {at}\n") {
+        Ok(text) => said(sink, text.as_bytes(), 6),
+        Err(_) => Stop::NoMemory.status(),
+    }
+}
+
+fn status_of(ran: Result<bool, Stop>) -> u8
+    ensures value { result ≡ ran_status ran }
+{
+    match ran {
+        Ok(false) => 0,
+        Ok(true) => 1,
+        Err(stop) => stop.status(),
+    }
+}
+
+/// Opens the store, does the statements, and closes it.
+fn serve<O: Sink, D: Shelf + Drop>(
+    alloc: Global,
+    sink: &mut O,
+    shelf: D,
+    script: &Script,
+) -> Ended<D>
+    requires few { length script.now.texts ≤ 10000 }
+    requires short { AreShort script.now.texts }
+    ensures served { Serves result.status script.now.texts (O.written sink.old)
+        (O.written sink.new) (D.told shelf) (D.told result.shelf) }
+    ensures opened { Opens (O.written sink.old) (O.written sink.new)
+        (D.told shelf) (D.told result.shelf) result.status }
+{
+    match House::boot(alloc, shelf) {
+        Ok(mut house) => {
+            let ran = run(alloc, &mut house, sink, script.texts.as_slice());
+            Ended {
+                status: status_of(ran),
+                shelf: house.close(),
+            }
+        }
+        Err((BootFault::BadJournal { at }, shelf)) => Ended {
+            status: bad_journal(alloc, sink, at),
+            shelf,
+        },
+        Err((BootFault::Store, shelf)) => Ended {
+            status: Stop::Store.status(),
+            shelf,
+        },
+        Err((BootFault::NoMemory, shelf)) => Ended {
+            status: Stop::NoMemory.status(),
+            shelf,
+        },
+    }
+}
+
+/// Runs a script over a store: the words are `run`, the source gives the script, and the replies go
+/// to the sink. The gate is not called yet.
+///
+/// The status is 0 where all was done and no reply is a refusal, 1 where all was done and one is, 2
+/// for words that are no command, 3, 4 and 5 where the source, the sink or the store failed, 6 for
+/// a journal that isn't empty, 7 for want of memory, and 8 for a script that is refused.
+pub fn hive<R: Threads + Wait + Sync, I: Source, O: Sink, D: Shelf + Send + Drop, G: Gate + Sync>(
+    _rt: &R,
+    alloc: Global,
+    words: &[String],
+    source: &mut I,
+    sink: &mut O,
+    shelf: D,
+    _gate: &G,
+) -> Ended<D>
+    ensures headline { Headline
+        (record { source = I.left source.old; sink = O.written sink.old; store = D.told shelf })
+        (record {
+          source = I.left source.new;
+          sink = O.written sink.new;
+          store = D.told result.shelf;
+        }) result.status }
+    ensures refused { Refuses (map string_bytes words.now)
+        (record { source = I.left source.old; sink = O.written sink.old; store = D.told shelf })
+        (record {
+          source = I.left source.new;
+          sink = O.written sink.new;
+          store = D.told result.shelf;
+        }) result.status }
+{
+    if read_words(words).is_none() {
+        return Ended {
+            status: said(sink, b"hive: bad words\n", 2),
+            shelf,
+        };
+    }
+    let bytes = match read_front(alloc, source, MAX_SCRIPT + 1) {
+        Ok(bytes) => bytes,
+        Err(stop) => {
+            return Ended {
+                status: stop.status(),
+                shelf,
+            };
+        }
+    };
+    match read_script(alloc, &bytes) {
+        Ok(script) => serve(alloc, sink, shelf, &script),
+        Err(ScriptFault::Refused { line }) => Ended {
+            status: refused_script(alloc, sink, line),
+            shelf,
+        },
+        Err(ScriptFault::NoMemory) => Ended {
+            status: Stop::NoMemory.status(),
+            shelf,
+        },
+    }
+}

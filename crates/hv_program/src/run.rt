@@ -1,0 +1,43 @@
+ghost use Rattle.std.specs.Prelude.{◌≤◌, ◌+◌, ◌*◌, [], ◌∷◌, length, IfOk, IfErr, IsTrue};
+ghost use Rattle.hv_base.specs.Told.{Tells};
+ghost use Rattle.hv_house.specs.House.{entries_of, book_limit, IsReady, Shows, StaysTold};
+ghost use Rattle.hv_program.specs.Refused.{is_one_of};
+ghost use Rattle.hv_program.specs.Running.{AreShort, Prints};
+ghost use Rattle.hv_program.specs.Stops.{status_of_stop};
+
+use crate::stop::Stop;
+use hv_base::{Sink, Text, write_all};
+use hv_house::House;
+use hv_session::take_up;
+use hv_shelf::Shelf;
+use std::alloc::Global;
+
+/// Does the statements of a script, one after another, and writes their replies. Whether one of
+/// them was refused.
+pub fn run<O: Sink, D: Shelf>(
+    alloc: Global,
+    house: &mut House<D>,
+    sink: &mut O,
+    texts: &[Text],
+) -> Result<bool, Stop>
+    requires ready { IsReady D.told house.old }
+    requires room { length (entries_of house.old) + 4 * length texts.now ≤ book_limit }
+    requires short { AreShort texts.now }
+    ensures ready { IfOk result (λ _. IsReady D.told house.new) }
+    ensures shows { Shows D.told house.old (entries_of house.old)
+        → IfOk result (λ _. Shows D.told house.new (entries_of house.new)) }
+    ensures prints { Shows D.told house.old (entries_of house.old) → IfOk result (λ refused.
+        Tells (D.told house.old.shelf) (λ _. Prints (entries_of house.old) (entries_of house.new)
+        texts.now (O.written sink.old) (O.written sink.new) refused)) }
+    ensures tells { StaysTold (D.told house.old.shelf) (D.told house.new.shelf) }
+    ensures heard { StaysTold (O.written sink.old) (O.written sink.new) }
+    ensures why { IfErr result (λ stop. IsTrue (is_one_of (4 ∷ 5 ∷ 7 ∷ []) (status_of_stop stop))) }
+{
+    let mut refused = false;
+    for i in 0..texts.len() {
+        let reply = take_up(alloc, house, i as u64 + 1, &texts[i])?;
+        write_all(sink, reply.text.as_slice())?;
+        refused |= reply.refused;
+    }
+    Ok(refused)
+}
