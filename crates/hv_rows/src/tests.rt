@@ -178,7 +178,7 @@ fn sizes<R: Threads + Wait + Sync + Abort>(
 /// A SELECT of a table that isn't there, with spaces to so many bytes.
 fn long_text(alloc: Global, length: usize) -> Result<Vec<u8>, Fail> {
     let mut text = Vec::from_slice(alloc, b"SELECT * FROM t")?;
-    while text.len() < length {
+    for _ in text.len()..length {
         text.push(b' ')?;
     }
     Ok(text)
