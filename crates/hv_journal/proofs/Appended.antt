@@ -16,7 +16,7 @@ pub record Front (book : List Entry) (bytes rest : List ℕ) : Type 0 where
   pub parts : bytes ≡ front ++ rest
   pub leads : (other : List ℕ) → Leads book (front ++ other) other
 
-front_of : (book : List Entry) (bytes rest : List ℕ) → Leads book bytes rest → Front book bytes rest
+pub front_of : (book : List Entry) (bytes rest : List ℕ) → Leads book bytes rest → Front book bytes rest
 front_of [] bytes rest led = record { front = []; len = refl; parts = led; leads = λ other. refl }
 front_of (e ∷ book) bytes rest led =
     let f = front_of book led.1 rest led.5 in
@@ -29,16 +29,16 @@ front_of (e ∷ book) bytes rest led =
     }
 
 -- a gate's byte, and where the bytes behind it begin
-gate_front : (front : List ℕ) (gate : ℕ) (after : List ℕ) (n : ℕ) → length front ≡ n → take (n + 1) (front ++ (gate ∷ after)) ≡ front ++ gate ∷ []
+pub gate_front : (front : List ℕ) (gate : ℕ) (after : List ℕ) (n : ℕ) → length front ≡ n → take (n + 1) (front ++ (gate ∷ after)) ≡ front ++ gate ∷ []
 gate_front front gate after n len =
     ap (take (n + 1)) (sym (append_assoc front (gate ∷ []) after)) ∙ take_at (front ++ gate ∷ []) after (n + 1) (length-append front (gate ∷ []) ∙ omega (arith, len))
 
-gate_behind : (front : List ℕ) (gate : ℕ) (after : List ℕ) (n : ℕ) → length front ≡ n → drop (n + 1) (front ++ (gate ∷ after)) ≡ after
+pub gate_behind : (front : List ℕ) (gate : ℕ) (after : List ℕ) (n : ℕ) → length front ≡ n → drop (n + 1) (front ++ (gate ∷ after)) ≡ after
 gate_behind front gate after n len =
     ap (drop (n + 1)) (sym (append_assoc front (gate ∷ []) after)) ∙ drop_at (front ++ gate ∷ []) after (n + 1) (length-append front (gate ∷ []) ∙ omega (arith, len))
 
 -- the record and its gate written behind the closed gate
-written_record : (front after body bytes now : List ℕ) (n : ℕ) → length front ≡ n → bytes ≡ front ++ (0 ∷ after)
+pub written_record : (front after body bytes now : List ℕ) (n : ℕ) → length front ≡ n → bytes ≡ front ++ (0 ∷ after)
     → now ≡ take (n + 1) bytes ++ (body ++ 0 ∷ []) ++ drop (n + 1 + length (body ++ 0 ∷ [])) bytes
     → now ≡ front ++ (0 ∷ (body ++ (0 ∷ drop (n + 1 + length (body ++ 0 ∷ [])) bytes)))
 written_record front after body bytes now n len parts is =

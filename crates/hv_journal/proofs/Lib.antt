@@ -8,3 +8,4 @@ pub mod Only
 pub mod Books
 pub mod Room
 pub mod Appended
+pub mod Torn

@@ -1,5 +1,5 @@
 -- What a store's journal holds, where the store tells it.
-use Rattle.std.specs.Prelude.{◌≡◌, Option, List}
+use Rattle.std.specs.Prelude.{◌≡◌, ◌⊎◌, ◌≤◌, ℕ, Option, List, [], ◌∷◌, ◌++◌, length, take}
 use Rattle.hv_base.specs.Told.{Tells}
 use Rattle.hv_shelf.specs.Disk.{Store}
 use Rattle.hv_history.specs.declared.entry.Entry.{Entry}
@@ -9,5 +9,21 @@ use Rattle.hv_history.specs.Journal.{Reads}
 abbrev pub Holds : Option Store → List Entry → Type 0
 Holds told book = Tells told (λ s. Reads book s.journal)
 
+-- the bytes read to the book, or to the book and this entry behind it
+abbrev pub ReadsOneMore : List Entry → Entry → List ℕ → Type 0
+ReadsOneMore book e bytes = Reads book bytes ⊎ Reads (book ++ e ∷ []) bytes
+
+-- the same of a store's journal: what a failure may leave where the entry was being appended
+abbrev pub HoldsOneMore : Option Store → List Entry → Entry → Type 0
+HoldsOneMore told book e = Tells told (λ s. ReadsOneMore book e s.journal)
+
 abbrev pub KeepsTree : Store → Store → Type 0
 KeepsTree before now = now.tree ≡ before.tree
+
+-- what stands in the journal before this place is as it was
+abbrev pub KeepsFront : ℕ → Store → Store → Type 0
+KeepsFront at before now = take at now.journal ≡ take at before.journal
+
+-- an empty journal, of no byte or of one, is as short as that
+abbrev pub StaysShort : Store → Store → Type 0
+StaysShort before now = length before.journal ≤ 1 → length now.journal ≤ 1

@@ -1,11 +1,11 @@
 ghost use Rattle.std.specs.Prelude.{◌≡◌, ◌<◌, ◌≤◌, ◌+◌, ◌^◌, ◌++◌, [], ◌∷◌, List, length, vec_capacity, OnOk, OnErr, IsErrOf};
 ghost use Rattle.hv_base.specs.Told.{Tells, Moves};
 ghost use Rattle.hv_shelf.specs.Causes.{HardCause};
-ghost use Rattle.hv_shelf.specs.Disk.{HasWritten};
+ghost use Rattle.hv_shelf.specs.Disk.{HasWritten, TornWrite};
 ghost use Rattle.hv_history.specs.declared.entry.Entry.{Entry};
 ghost use Rattle.hv_history.specs.Spelling.{entry_spelling};
 ghost use Rattle.hv_history.specs.Journal.{record_of, HasRecord, place_of};
-ghost use Rattle.hv_journal.specs.Appending.{Holds, KeepsTree};
+ghost use Rattle.hv_journal.specs.Appending.{Holds, HoldsOneMore, KeepsTree, StaysShort};
 
 use crate::writing::records::encode_entry;
 use hv_history::Entry;
@@ -16,6 +16,7 @@ fn write_through<D: Shelf>(shelf: &mut D, at: u64, bytes: &[u8]) -> Result<(), S
     requires { Tells (D.told shelf.old) (λ s. at ≤ length s.journal) }
     ensures done { OnOk result
         (Moves (HasWritten at bytes.now) (D.told shelf.old) (D.told shelf.new)) }
+    ensures torn { Moves (TornWrite at (length bytes.now)) (D.told shelf.old) (D.told shelf.new) }
     ensures no_memory { IsErrOf result ShelfFault.NoMemory
         → D.told shelf.new ≡ D.told shelf.old }
     ensures tree { Moves KeepsTree (D.told shelf.old) (D.told shelf.new) }
@@ -30,6 +31,7 @@ fn write_through<D: Shelf>(shelf: &mut D, at: u64, bytes: &[u8]) -> Result<(), S
 /// Makes the journal one of no entry: a closed gate at its front. For a journal of no byte or of one.
 pub fn open_empty<D: Shelf>(shelf: &mut D) -> Result<(), ShelfFault>
     ensures opened { OnOk result (Holds (D.told shelf.new) []) }
+    ensures short { Moves StaysShort (D.told shelf.old) (D.told shelf.new) }
     ensures no_memory { IsErrOf result ShelfFault.NoMemory
         → D.told shelf.new ≡ D.told shelf.old }
     ensures tree { Moves KeepsTree (D.told shelf.old) (D.told shelf.new) }
@@ -62,6 +64,10 @@ pub fn append<D: Shelf>(
         → Holds (D.told shelf.old) book → Holds (D.told shelf.new) (book ++ entry.now ∷ [])) }
     ensures no_memory { IsErrOf result ShelfFault.NoMemory → (book : List Entry)
         → place.old ≡ place_of book → Holds (D.told shelf.old) book → Holds (D.told shelf.new) book }
+    // Where the store failed it reads to the book, or to the book and the entry.
+    ensures torn { IsErrOf result ShelfFault.Failed → (book : List Entry)
+        → place.old ≡ place_of book → Holds (D.told shelf.old) book
+        → HoldsOneMore (D.told shelf.new) book entry.now }
 
     ensures tree { Moves KeepsTree (D.told shelf.old) (D.told shelf.new) }
     ensures has { HasRecord entry.now }
