@@ -39,7 +39,7 @@ found-again (found ∷ rows) whole =
     ∙ ap (λ (xs : List Found). found ∷ xs) (found-again rows whole.1)
 
 -- the bytes of a commit's file
-unfolded : (written : Written) → file_of written ≡ file_spelling false 0 (records_of written.inserts)
+pub unfolded : (written : Written) → file_of written ≡ file_spelling false 0 (records_of written.inserts)
 unfolding file_of
 unfolded written = refl
 
@@ -77,7 +77,7 @@ same-test : (place other : Place) → place_eq other place ≡ eq_by_cmp place_c
 same-test place other = place_ties other place ∙ (eq_by_cmp_equiv place_total).symm other place
 
 -- a place is listed where a file stands there
-listed : (place : Place) (tree : Tree) → list_any (λ (other : Place). place_eq other place) (places_of place.table tree) ≡ is_some (files.get tree place)
+pub listed : (place : Place) (tree : Tree) → list_any (λ (other : Place). place_eq other place) (places_of place.table tree) ≡ is_some (files.get tree place)
 listed place tree =
     any-filter_same (λ (other : Place). place_eq other place) (is_of place.table) true (of-table place) (files.keys tree)
     ∙ ap (λ (test : Place → Bool). list_any test (files.keys tree)) (λ i other. same-test place other i)

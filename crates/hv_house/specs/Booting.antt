@@ -1,8 +1,10 @@
 -- How a store is opened.
-use Rattle.std.specs.Prelude.{◌≡◌, ◌≤◌, Option, [], ◌∷◌, length, Result, Ok, Err}
+use Rattle.std.specs.Prelude.{◌≡◌, ◌⊎◌, ◌≤◌, Option, [], ◌∷◌, length, Result, Ok, Err}
 use Rattle.hv_base.specs.Told.{Tells, Moves}
 use Rattle.hv_shelf.specs.Disk.{Store}
+use Rattle.hv_history.specs.declared.entry.Entry.{Entry}
 use Rattle.hv_history.specs.declared.entry.Entry.TheVariants.{Boot}
+use Rattle.hv_history.specs.Journal.{Reads, IsJournal}
 use Rattle.hv_journal.specs.Appending.{KeepsTree}
 use Rattle.hv_house.specs.declared.fault.HouseFault.{HouseFault}
 use Rattle.hv_house.specs.declared.fault.HouseFault.TheVariants as house
@@ -43,3 +45,18 @@ pub record IsBooted {D : Type 0} (told : D → Option Store) (before now : House
 abbrev pub IsBootFault : Option Store → Option Store → BootFault → Type 0
 IsBootFault before now (fault.BadJournal at) = (at ≡ 0) × (now ≡ before) × Tells before (λ s. 2 ≤ length s.journal)
 IsBootFault before now _ = Unit {0}
+
+-- What an opening that stopped leaves of a journal that was empty: it is empty; and where the store failed, it may
+-- read to one entry.
+abbrev pub LeavesEmpty : BootFault → Option Store → Type 0
+LeavesEmpty fault.NoMemory told = Tells told (λ s. IsJournal [] s.journal)
+LeavesEmpty fault.Store told = Tells told (λ s. IsJournal [] s.journal ⊎ ((e : Entry) × Reads (e ∷ []) s.journal))
+LeavesEmpty (fault.BadJournal at) told = Unit {0}
+
+-- the journal has no entry
+abbrev pub IsUnwritten : Option Store → Type 0
+IsUnwritten told = Tells told (λ s. length s.journal ≤ 1)
+
+-- a journal that has an entry or more is left as it is
+abbrev pub SparesHistory : Option Store → Option Store → Type 0
+SparesHistory before now = Tells before (λ s. 2 ≤ length s.journal → now ≡ before)

@@ -33,3 +33,8 @@ IsShort partition dir = length partition + length dir ≤ 1000
 abbrev pub IsShortDamage : RowFault → Type 0
 IsShortDamage (row_fault.Damaged place) = IsShort place.partition place.dir
 IsShortDamage _ = Unit {0}
+
+-- the answer is that a file is damaged
+abbrev pub IsDamage : RowFault → Type 0
+IsDamage (row_fault.Damaged place) = Unit {0}
+IsDamage _ = ⊥

@@ -8,12 +8,14 @@ use Rattle.hv_history.specs.declared.state.Table.{Table}
 use Rattle.hv_history.specs.State.{State, state_of}
 use Rattle.hv_history.specs.Journal.{place_of}
 use Rattle.hv_history.specs.Legal.{IsLegal}
-use Rattle.hv_journal.specs.Appending.{Holds, KeepsTree}
+use Rattle.hv_journal.specs.Appending.{Holds, HoldsOneMore, KeepsTree}
 use Rattle.hv_dirs.specs.Names.{write_end}
 use Rattle.hv_stands.specs.Files.{Stands}
 use Rattle.hv_stands.specs.Sound.{IsSound}
 use Rattle.hv_stands.specs.Endings.{statement_entries}
 use Rattle.hv_house.specs.declared.known.Known.{Known}
+use Rattle.hv_house.specs.declared.fault.HouseFault.{HouseFault}
+use Rattle.hv_house.specs.declared.fault.HouseFault.TheVariants as fault
 use Rattle.hv_house.specs.declared.house.House.{House}
 
 -- the most bytes of an entry, and of its record with its gate
@@ -110,3 +112,18 @@ pub record IsBeside {D : Type 0} (before now : House D) : Type 0 where
   pub book : now.book ≡ before.book
   pub opened : now.opened ≡ before.opened
   pub tables : now.tables ≡ before.tables
+
+-- What a call that was refused leaves of the journal: it reads to the book; and where the store failed, to the book or
+-- to the book and one further entry.
+abbrev pub Leaves : HouseFault → Option Store → List Entry → Type 0
+Leaves fault.NoMemory told book = Holds told book
+Leaves fault.Store told book = (e : Entry) × HoldsOneMore told book e
+
+-- an entry wasn't noted: the book is as it was
+pub record IsHalted {D : Type 0} (told : D → Option Store) (why : HouseFault) (before now : House D) : Type 0 where
+  pub entries : entries_of now ≡ entries_of before
+  pub leaves : Leaves why (told now.shelf) (entries_of before)
+
+-- the journal is as it was
+abbrev pub KeepsJournal : Store → Store → Type 0
+KeepsJournal before now = now.journal ≡ before.journal

@@ -11,7 +11,7 @@ use Rattle.hv_stands.specs.Reading.{table_named, reads_rows, rows_from}
 use Rattle.hv_house.specs.declared.known.Known.{Known}
 use Rattle.hv_house.specs.declared.house.House.{House}
 use Rattle.hv_house.specs.House.{known_of_name}
-use Rattle.hv_house.specs.Rows.{HasCommits}
+use Rattle.hv_house.specs.Rows.{HasCommits, LacksCommits}
 
 abbrev pub known_by_name : Option (List ℕ) → List Known → Option Known
 known_by_name None tables = None
@@ -38,3 +38,9 @@ IsSeenOf told house tree (Some known) seen =
 -- the one table that a statement sees
 abbrev pub IsSeen : {D : Type 0} → (D → Option Store) → House D → Stmt → List Seen → Type 0
 IsSeen told house tree seen = IsSeenOf told house tree (known_by_name (table_named tree) house.tables.items) seen
+
+-- the table that a statement names is known, and the store lacks a file of its commits
+pub record IsSpoiled {D : Type 0} (told : D → Option Store) (house : House D) (tree : Stmt) : Type 0 where
+  pub known : Known
+  pub named : known_by_name (table_named tree) house.tables.items ≡ Some known
+  pub lacks : Tells (told house.shelf) (LacksCommits known.info.table.0 known.given)

@@ -45,3 +45,11 @@ pub record ReadsUpTo {D : Type 0} (told : D → Option Store) (faults : D → �
   pub listed : Tells (told first.shelf) (λ s. places ≡ places_of table s.tree)
   pub read : Tells (told first.shelf) (λ s. (writes : List Written) → HasCommits table.0 given writes s
       → rows ++ rows_from writes before (given - before) ≡ rows_from writes 0 given)
+
+-- no commit's file stands at this place
+abbrev pub LacksFile : Place → Store → Type 0
+LacksFile place store = (written : Written) → AreInserts written → tree.get store.tree place ≡ Some (file_of written) → ⊥
+
+-- the store lacks a file of these commits of a table
+abbrev pub LacksCommits : ℕ → ℕ → Store → Type 0
+LacksCommits table given store = (writes : List Written) → HasCommits table given writes store → ⊥

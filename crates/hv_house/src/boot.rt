@@ -1,11 +1,11 @@
 ghost use Rattle.std.specs.Prelude.{◌≡◌, ◌≤◌, ◌∷◌, [], length, IfOk, OnOk, IfErr, IsErrOf};
 ghost use Rattle.hv_base.specs.Told.{Tells, Moves};
 ghost use Rattle.hv_history.specs.declared.entry.Entry.TheVariants.{Boot};
-ghost use Rattle.hv_journal.specs.Appending.{KeepsTree};
+ghost use Rattle.hv_journal.specs.Appending.{KeepsTree, StaysShort};
 ghost use Rattle.hv_house.specs.Faults.{StoreCause};
 ghost use Rattle.hv_house.specs.declared.fault.HouseFault.TheVariants.{Store};
-ghost use Rattle.hv_house.specs.House.{entries_of, StaysTold, IsKept, IsReady};
-ghost use Rattle.hv_house.specs.Booting.{boot_fault, IsFresh, IsBooted, IsBootFault, IsBootStore, BootFails};
+ghost use Rattle.hv_house.specs.House.{entries_of, StaysTold, IsKept, IsReady, IsHalted};
+ghost use Rattle.hv_house.specs.Booting.{boot_fault, IsFresh, IsBooted, IsBootFault, IsBootStore, BootFails, LeavesEmpty, IsUnwritten, SparesHistory};
 
 use crate::fault::HouseFault;
 use crate::house::House;
@@ -60,6 +60,10 @@ impl<D: Shelf + Drop> House<D> {
         requires fresh { IsFresh self.old }
         ensures booted { OnOk result (IsBooted D.told self.old self.new) }
         ensures bad { IfErr result (IsBootFault (D.told self.old.shelf) (D.told self.new.shelf)) }
+        ensures stopped { IsUnwritten (D.told self.old.shelf)
+            → IfErr result (λ fault. LeavesEmpty fault (D.told self.new.shelf)) }
+        ensures kept { SparesHistory (D.told self.old.shelf) (D.told self.new.shelf) }
+        ensures tree { Moves KeepsTree (D.told self.old.shelf) (D.told self.new.shelf) }
         ensures tells { StaysTold (D.told self.old.shelf) (D.told self.new.shelf) }
         ensures cause { StoreCause (D.faults self.old.shelf) (D.faults self.new.shelf)
             (BootFails result) }
@@ -79,6 +83,7 @@ impl<D: Shelf + Drop> House<D> {
         requires fresh { IsFresh self.old }
         ensures kept { OnOk result (IsKept D.told self.new) }
         ensures fresh { IsFresh self.new }
+        ensures short { Moves StaysShort (D.told self.old.shelf) (D.told self.new.shelf) }
         ensures tree { Moves KeepsTree (D.told self.old.shelf) (D.told self.new.shelf) }
         ensures cause { StoreCause (D.faults self.old.shelf) (D.faults self.new.shelf)
             (IsErrOf result Store) }
@@ -98,6 +103,10 @@ impl<D: Shelf + Drop> House<D> {
         ensures empty { IfOk result (λ _. Tells (D.told shelf) (λ s. length s.journal ≤ 1)) }
         ensures tree { IfOk result (λ house. Moves KeepsTree (D.told shelf) (D.told house.shelf)) }
         ensures bad { IfErr result (λ x. IsBootFault (D.told shelf) (D.told x.1) x.0) }
+        ensures stopped { IsUnwritten (D.told shelf)
+            → IfErr result (λ x. LeavesEmpty x.0 (D.told x.1)) }
+        ensures kept { IfErr result (λ x. SparesHistory (D.told shelf) (D.told x.1)) }
+        ensures same_tree { IfErr result (λ x. Moves KeepsTree (D.told shelf) (D.told x.1)) }
         ensures tells { IfErr result (λ x. StaysTold (D.told shelf) (D.told x.1)) }
         ensures later { IfOk result (λ house. D.faults shelf ≤ D.faults house.shelf) }
         ensures cause { IfErr result (λ x.

@@ -8,9 +8,9 @@ ghost use Rattle.hv_history.specs.declared.state.Written.{Written};
 ghost use Rattle.hv_dirs.specs.Names.{write_end};
 ghost use Rattle.hv_stands.specs.Files.{own_place, records_of, file_of};
 ghost use Rattle.hv_stands.specs.Reading.{inserted_rows, rows_from};
-ghost use Rattle.hv_house.specs.Faults.{StoreCause, StoreFails, IsStoreFault, IsShort, IsShortDamage};
-ghost use Rattle.hv_house.specs.House.{StaysTold, IsAsked, IsBeside};
-ghost use Rattle.hv_house.specs.Rows.{found_of, found_in, AddsRows, HasCommits};
+ghost use Rattle.hv_house.specs.Faults.{StoreCause, StoreFails, IsStoreFault, IsShort, IsShortDamage, IsDamage};
+ghost use Rattle.hv_house.specs.House.{StaysTold, IsAsked, IsBeside, KeepsJournal};
+ghost use Rattle.hv_house.specs.Rows.{found_of, found_in, IsCommitFile, AddsRows, HasCommits, LacksFile, LacksCommits};
 ghost use Rattle.hv_house.specs.declared.fault.HouseFault.TheVariants.{Store};
 ghost use Rattle.hv_house.specs.declared.fault.RowFault.{RowFault};
 
@@ -116,6 +116,8 @@ impl<D: Shelf> House<D> {
         ensures short { IfErr result IsShortDamage }
         ensures rows { OnOk result
             (Tells (D.told self.old.shelf) (AddsRows place.now rows.old.items rows.new.items)) }
+        ensures damage { IfErr result (λ fault. IsDamage fault
+            → Tells (D.told self.old.shelf) (LacksFile place.now)) }
         ensures cause { StoreCause (D.faults self.old.shelf) (D.faults self.new.shelf)
             (StoreFails result) }
     {
@@ -143,6 +145,9 @@ impl<D: Shelf> House<D> {
         ensures rows { OnOk result (Tells (D.told self.old.shelf) (λ s.
             places.now ≡ places_of table s.tree
             → AddsRows (own_place table.0 write) rows.old.items rows.new.items s)) }
+        ensures damage { IfErr result (λ fault. IsDamage fault → Tells (D.told self.old.shelf) (λ s.
+            places.now ≡ places_of table s.tree → (found : Option Written)
+            → IsCommitFile found (tree.get s.tree (own_place table.0 write)) → ⊥)) }
         ensures short { IfErr result IsShortDamage }
         ensures cause { StoreCause (D.faults self.old.shelf) (D.faults self.new.shelf)
             (StoreFails result) }
@@ -167,6 +172,8 @@ impl<D: Shelf> House<D> {
         ensures rows { IfOk result (λ rows. Tells (D.told self.old.shelf) (λ s.
             (writes : List Written) → HasCommits table.0 given writes s
             → rows.items ≡ rows_from writes 0 given)) }
+        ensures damage { IfErr result (λ fault. IsDamage fault
+            → Tells (D.told self.old.shelf) (LacksCommits table.0 given)) }
         ensures short { IfErr result IsShortDamage }
         ensures cause { StoreCause (D.faults self.old.shelf) (D.faults self.new.shelf)
             (StoreFails result) }
@@ -194,6 +201,7 @@ impl<D: Shelf> House<D> {
         ensures put { OnOk result (Moves (HasFile (own_place table.0 written.now.write)
             (file_of written.now)) (D.told self.old.shelf) (D.told self.new.shelf)) }
         ensures file { OnOk result (IsFile false 0 (records_of written.now.inserts)) }
+        ensures journal { Moves KeepsJournal (D.told self.old.shelf) (D.told self.new.shelf) }
         ensures cause { StoreCause (D.faults self.old.shelf) (D.faults self.new.shelf)
             (IsErrOf result Store) }
     {

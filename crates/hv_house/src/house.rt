@@ -1,4 +1,4 @@
-ghost use Rattle.std.specs.Prelude.{◌≡◌, ◌<◌, ◌≤◌, ◌+◌, ◌++◌, ◌∷◌, [], length, None, Some, IfOk, OnOk, IsErrOf, option_map};
+ghost use Rattle.std.specs.Prelude.{◌≡◌, ◌<◌, ◌≤◌, ◌+◌, ◌++◌, ◌∷◌, [], length, None, Some, IfOk, OnOk, IfErr, IsErrOf, option_map};
 ghost use Rattle.std.specs.List.{AllByRecursion};
 ghost use Rattle.hv_history.specs.State.{numbered, changed};
 ghost use Rattle.hv_base.specs.Told.{Moves};
@@ -10,7 +10,7 @@ ghost use Rattle.hv_ast.specs.Reading.{tree_of};
 ghost use Rattle.hv_journal.specs.Appending.{Holds, KeepsTree};
 ghost use Rattle.hv_house.specs.declared.fault.HouseFault.TheVariants.{Store};
 ghost use Rattle.hv_house.specs.Faults.{StoreCause};
-ghost use Rattle.hv_house.specs.House.{entries_of, entry_limit, book_limit, HasNumbers, next_write, with_next, StaysTold, IsKept, IsNoted};
+ghost use Rattle.hv_house.specs.House.{entries_of, entry_limit, book_limit, HasNumbers, next_write, with_next, StaysTold, IsKept, IsNoted, IsHalted};
 
 use crate::fault::HouseFault;
 use crate::known::Known;
@@ -55,6 +55,7 @@ impl<D: Shelf> House<D> {
         ensures opened { self.new.opened ≡ self.old.opened }
         ensures tables { self.new.tables ≡ self.old.tables }
         ensures tree { Moves KeepsTree (D.told self.old.shelf) (D.told self.new.shelf) }
+        ensures halted { IfErr result (λ fault. IsHalted D.told fault self.old self.new) }
         ensures cause { StoreCause (D.faults self.old.shelf) (D.faults self.new.shelf)
             (IsErrOf result Store) }
     {
@@ -75,7 +76,9 @@ impl<D: Shelf> House<D> {
         ensures noted { OnOk result (IsNoted D.told entry self.old self.new) }
         ensures opened { self.new.opened ≡ self.old.opened }
         ensures tables { self.new.tables ≡ self.old.tables }
+        ensures tree { Moves KeepsTree (D.told self.old.shelf) (D.told self.new.shelf) }
         ensures tells { StaysTold (D.told self.old.shelf) (D.told self.new.shelf) }
+        ensures halted { IfErr result (λ fault. IsHalted D.told fault self.old self.new) }
         ensures cause { StoreCause (D.faults self.old.shelf) (D.faults self.new.shelf)
             (IsErrOf result Store) }
     {
@@ -112,6 +115,7 @@ impl<D: Shelf> House<D> {
         ensures opened { OnOk result (self.new.opened ≡ self.old.opened + 1) }
         ensures tables { self.new.tables ≡ self.old.tables }
         ensures tells { StaysTold (D.told self.old.shelf) (D.told self.new.shelf) }
+        ensures halted { IfErr result (λ fault. IsHalted D.told fault self.old self.new) }
         ensures cause { StoreCause (D.faults self.old.shelf) (D.faults self.new.shelf)
             (IsErrOf result Store) }
     {
@@ -136,6 +140,7 @@ impl<D: Shelf> House<D> {
         ensures opened { self.new.opened ≡ self.old.opened }
         ensures tables { self.new.tables ≡ self.old.tables }
         ensures tells { StaysTold (D.told self.old.shelf) (D.told self.new.shelf) }
+        ensures halted { IfErr result (λ fault. IsHalted D.told fault self.old self.new) }
         ensures cause { StoreCause (D.faults self.old.shelf) (D.faults self.new.shelf)
             (IsErrOf result Store) }
     {
@@ -158,6 +163,7 @@ impl<D: Shelf> House<D> {
         ensures tables { OnOk result
             (self.new.tables.items ≡ changed with_next self.old.tables.items table.0) }
         ensures tells { StaysTold (D.told self.old.shelf) (D.told self.new.shelf) }
+        ensures halted { IfErr result (λ fault. IsHalted D.told fault self.old self.new) }
         ensures cause { StoreCause (D.faults self.old.shelf) (D.faults self.new.shelf)
             (IsErrOf result Store) }
     {
@@ -178,6 +184,7 @@ impl<D: Shelf> House<D> {
         ensures opened { self.new.opened ≡ self.old.opened }
         ensures tables { self.new.tables ≡ self.old.tables }
         ensures tells { StaysTold (D.told self.old.shelf) (D.told self.new.shelf) }
+        ensures halted { IfErr result (λ fault. IsHalted D.told fault self.old self.new) }
         ensures cause { StoreCause (D.faults self.old.shelf) (D.faults self.new.shelf)
             (IsErrOf result Store) }
     {
@@ -193,6 +200,7 @@ impl<D: Shelf> House<D> {
         ensures opened { self.new.opened ≡ self.old.opened }
         ensures tables { self.new.tables ≡ self.old.tables }
         ensures tells { StaysTold (D.told self.old.shelf) (D.told self.new.shelf) }
+        ensures halted { IfErr result (λ fault. IsHalted D.told fault self.old self.new) }
         ensures cause { StoreCause (D.faults self.old.shelf) (D.faults self.new.shelf)
             (IsErrOf result Store) }
     {
@@ -210,6 +218,7 @@ impl<D: Shelf> House<D> {
         ensures tables { OnOk result (self.new.tables.items
             ≡ self.old.tables.items ++ record { info = info; given = 0 } ∷ []) }
         ensures tells { StaysTold (D.told self.old.shelf) (D.told self.new.shelf) }
+        ensures halted { IfErr result (λ fault. IsHalted D.told fault self.old self.new) }
         ensures cause { StoreCause (D.faults self.old.shelf) (D.faults self.new.shelf)
             (IsErrOf result Store) }
     {

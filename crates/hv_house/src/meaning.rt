@@ -6,9 +6,10 @@ ghost use Rattle.hv_logic.specs.Meaning.{meaning_of};
 ghost use Rattle.hv_logic.specs.declared.seen.Seen.{Seen};
 ghost use Rattle.hv_dirs.specs.Names.{write_end};
 ghost use Rattle.hv_stands.specs.Reading.{from_name, table_named, reads_rows};
-ghost use Rattle.hv_house.specs.Faults.{StoreCause, StoreFails, IsShortDamage};
+ghost use Rattle.hv_house.specs.Faults.{StoreCause, StoreFails, IsShortDamage, IsDamage};
 ghost use Rattle.hv_house.specs.House.{HasNumbers, IsAsked};
-ghost use Rattle.hv_house.specs.Meaning.{known_by_name, pair_of, AreRead, IsSeen};
+ghost use Rattle.hv_house.specs.Rows.{LacksCommits};
+ghost use Rattle.hv_house.specs.Meaning.{known_by_name, pair_of, AreRead, IsSeen, IsSpoiled};
 
 use crate::fault::RowFault;
 use crate::house::House;
@@ -82,6 +83,8 @@ impl<D: Shelf> House<D> {
         ensures rows { IfOk result (λ rows. Tells (D.told self.old.shelf)
             (AreRead tree.now table.0 given rows)) }
         ensures none { IfOk result (λ rows. reads_rows tree.now ≡ false → rows ≡ []) }
+        ensures damage { IfErr result (λ fault. IsDamage fault
+            → Tells (D.told self.old.shelf) (LacksCommits table.0 given)) }
         ensures cause { StoreCause (D.faults self.old.shelf) (D.faults self.new.shelf)
             (StoreFails result) }
     {
@@ -98,6 +101,8 @@ impl<D: Shelf> House<D> {
         ensures asked { IsAsked D.told self.old self.new }
         ensures short { IfErr result IsShortDamage }
         ensures seen { IfOk result (λ seen. IsSeen D.told self.old tree.now seen.items) }
+        ensures damage { IfErr result (λ fault. IsDamage fault
+            → IsSpoiled D.told self.old tree.now) }
         ensures cause { StoreCause (D.faults self.old.shelf) (D.faults self.new.shelf)
             (StoreFails result) }
     {
@@ -116,6 +121,8 @@ impl<D: Shelf> House<D> {
         ensures short { IfErr result IsShortDamage }
         ensures meant { IfOk result (λ meaning. (seen : List Seen) × IsSeen D.told self.old tree.now seen
             × (meaning ≡ meaning_of seen tree.now)) }
+        ensures damage { IfErr result (λ fault. IsDamage fault
+            → IsSpoiled D.told self.old tree.now) }
         ensures cause { StoreCause (D.faults self.old.shelf) (D.faults self.new.shelf)
             (StoreFails result) }
     {
