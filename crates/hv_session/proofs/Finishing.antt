@@ -24,7 +24,7 @@ use Rattle.hv_stands.specs.Files.{own_place, file_of, records_of}
 use Rattle.hv_house.specs.declared.house.House.{House}
 use Rattle.hv_house.specs.declared.known.Known.{Known}
 use Rattle.hv_house.specs.House.{entries_of, next_write, with_next, IsNoted, IsAsked, IsBeside}
-use Rattle.hv_house.specs.Meaning.{IsSeen}
+use Rattle.hv_house.specs.Meaning.{IsSeen, IsSpoiled}
 use Rattle.hv_session.specs.Ends.{Inserts, KnownOf, next_written, Refuses, EndsAs}
 use Rattle.hv_session.specs.Started.{IsFinished}
 use Rattle.hv_session.specs.declared.reply.Reply.{Reply}
@@ -48,10 +48,12 @@ finished-seen told before asked now txn tree m (Ok reply) only meant ends =
 finished-seen told before asked now txn tree m (Err fault) only meant ends = tt
 
 pub finished-damaged : {D : Type 0} (told : D → Option Store) (before asked now : House D) (txn : TxnId) (tree : Stmt) (place : FilePlace) (result : Result Reply HouseFault)
-    → IsAsked told before asked → IfOk result (λ reply. Refuses told asked now txn (Damaged place) reply.text reply.refused)
+    → IsAsked told before asked → IsSpoiled told before tree
+    → IfOk result (λ reply. Refuses told asked now txn (Damaged place) reply.text reply.refused)
     → IfOk result (λ reply. IsFinished told before now txn tree reply.text reply.refused)
-finished-damaged told before asked now txn tree place (Ok reply) only ends = inr (record { asked = asked; only_asked = only; place = place; ends = ends })
-finished-damaged told before asked now txn tree place (Err fault) only ends = tt
+finished-damaged told before asked now txn tree place (Ok reply) only spoiled ends =
+    inr (record { asked = asked; only_asked = only; spoiled = spoiled; place = place; ends = ends })
+finished-damaged told before asked now txn tree place (Err fault) only spoiled ends = tt
 
 -- ---- an insert: the id, the file, the commit
 

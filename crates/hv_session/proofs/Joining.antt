@@ -42,5 +42,5 @@ run-ran told before started now number text tree txn (Ok reply) ready is room be
     reply.text reply.refused seen.ends
 run-ran told before started now number text tree txn (Ok reply) ready is room begun (inr broken) =
     damaged told before started broken.asked now number text tree txn
-    (record { ready = ready; is = is; few = room; started = begun; asked = broken.only_asked }) broken.place reply.text reply.refused broken.ends
+    (record { ready = ready; is = is; few = room; started = begun; asked = broken.only_asked }) broken.spoiled broken.place reply.text reply.refused broken.ends
 run-ran told before started now number text tree txn (Err fault) ready is room begun finished = tt

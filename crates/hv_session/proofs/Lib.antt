@@ -4,6 +4,7 @@ pub mod Stores
 pub mod Seeing
 pub mod Built
 pub mod Idle
+pub mod Halfway
 pub mod Running
 pub mod Finishing
 pub mod Joining

@@ -47,12 +47,13 @@ use Rattle.hv_stands.proofs.StandingFiles.{made-files-stand, inserted-files-stan
 use Rattle.hv_house.specs.declared.house.House.{House}
 use Rattle.hv_house.specs.declared.known.Known.{Known}
 use Rattle.hv_house.specs.House.{entries_of, known_of, with_next, HasNumbers, book_limit, IsKept, Knows, IsReady, IsFaithful, IsNoted, IsAsked}
-use Rattle.hv_house.specs.Meaning.{IsSeen}
+use Rattle.hv_house.specs.Meaning.{IsSeen, IsSpoiled}
 use Rattle.hv_session.specs.Started.{IsStarted}
 use Rattle.hv_session.specs.Ends.{IsDone, Commits, Refuses, PutsFile, Inserts, KnownOf, next_written, ChangesRows, next_id, Makes, EndsAs, CanEnd}
+use Rattle.hv_session.specs.Halting.{IsEnding, next_txn}
 use Rattle.hv_session.specs.Answered.{WentThrough, AddsAtMost, HasRun}
 use Rattle.hv_session.proofs.Books.{entries-counted, legal-goes-on, map-append, length-map, numbered-map, known-inserted, numbers-known}
-use Rattle.hv_session.proofs.Seeing.{Lists, meant-or-listing, meant-told}
+use Rattle.hv_session.proofs.Seeing.{Lists, meant-or-listing, meant-told, unspoiled}
 use Rattle.hv_session.proofs.Built.{MeansSomething, built-means}
 use Rattle.hv_session.proofs.Idle.{Leaves, idle-leaves}
 use Rattle.hv_session.proofs.Stores.{became, untold, tells-none, tells-some, told-some, still-stands, keeps-keeps, keeps-puts, Any, any-of}
@@ -135,11 +136,11 @@ module _ {D : Type 0} (told : D → Option Store) (h0 h3 h4 h5 : House D) (numbe
       went : WentThrough book (entries_of h5) number text reply refused
 
     shown : (ends : List Entry) (reply : List ℕ) (refused : Bool) (tables : List Table) (s now : Store) → told h5.shelf ≡ Some now
-        → entries_of h5 ≡ entries_of h4 ++ ends → IsFaithful book s
+        → entries_of h5 ≡ entries_of h4 ++ ends → IsFaithful book s → IsEnding (next_txn book) ends
         → Goes book (statement_entries book number text ends) number text reply refused tables
         → Stands (state_of (book ++ statement_entries book number text ends)) now.tree
         → Shown ends reply refused s
-    shown ends reply refused tables s now tells noted faithful goes stands =
+    shown ends reply refused tables s now tells noted faithful ending goes stands =
         let added = statement_entries book number text ends in
         let is : entries_of h5 ≡ book ++ added = entries-five ends noted in
         let whole : IsFaithful (book ++ added) now = record { stands = stands; legal = legal-goes-on book added faithful.legal goes.legal } in
@@ -147,7 +148,7 @@ module _ {D : Type 0} (told : D → Option Store) (h0 h3 h4 h5 : House D) (numbe
           now = now;
           tells = tells;
           faithful = subst (λ (b : List Entry). IsFaithful b now) (sym is) whole;
-          went = record { added = added; book = is; tables = tables; goes = goes };
+          went = record { ends = ends; ending = ending; book = is; tables = tables; goes = goes };
         }
 
     record Ran (ends : List Entry) (reply : List ℕ) (refused : Bool) : Type 0 where
@@ -187,11 +188,12 @@ module _ {D : Type 0} (told : D → Option Store) (h0 h3 h4 h5 : House D) (numbe
     noted-ran : (event : Entry) (reply : List ℕ) (refused : Bool) (tables : List Table)
         → IsNoted told event h4 h5 → h5.opened ≡ h4.opened → h5.tables.items ≡ map known_of tables
         → Leaves book (statement_entries book number text (event ∷ [])) tables → AreSound ((state_of book).entries + 1) tables
+        → ((s : Store) → told h0.shelf ≡ Some s → IsFaithful book s → IsEnding (next_txn book) (event ∷ []))
         → ((s : Store) → told h0.shelf ≡ Some s → IsFaithful book s
         → Goes book (statement_entries book number text (event ∷ [])) number text reply refused tables
         × Stands (state_of (book ++ statement_entries book number text (event ∷ []))) s.tree)
         → Ran (event ∷ []) reply refused
-    noted-ran event reply refused tables noted opened known left sound goes =
+    noted-ran event reply refused tables noted opened known left sound ending goes =
         let through = keeps-five noted.tree in
         record {
           ready = ready-behind (event ∷ []) tables noted.kept noted.entries left sound opened known;
@@ -201,7 +203,7 @@ module _ {D : Type 0} (told : D → Option Store) (h0 h3 h4 h5 : House D) (numbe
           shows = λ s e faithful.
               let now = became KeepsTree (told h0.shelf) (told h5.shelf) s through e in
               let went = goes s e faithful in
-              shown (event ∷ []) reply refused tables s now.now now.tells noted.entries faithful went.0
+              shown (event ∷ []) reply refused tables s now.now now.tells noted.entries faithful (ending s e faithful) went.0
               (still-stands (state_of (book ++ statement_entries book number text (event ∷ []))) (state_of (book ++ statement_entries book number text (event ∷ [])))
               s.tree now.now.tree refl now.made went.1);
         }
@@ -243,21 +245,22 @@ module _ {D : Type 0} (told : D → Option Store) (h0 h3 h4 h5 : House D) (numbe
         let noted : IsNoted told (committing book []) h4 h5 = subst (λ (t : TxnId). IsNoted told (entry.Commit t []) h4 h5) txn-is notes.noted in
         let ran : Ran (committing book [] ∷ []) reply false =
         noted-ran (committing book []) reply false (state_of book).tables noted notes.opened (same-known h5 notes.tables)
-        (idle-leaves book number text) same-sound
+        (idle-leaves book number text) same-sound (λ s e faithful. inl ([], refl))
         (λ s e faithful. same-tables (committing book []) reply false s faithful (goes s e faithful)) in
         subst (λ (b : Bool). Ran (committing book [] ∷ []) text_now b) (sym done.accepted)
         (subst (λ (r : List ℕ). Ran (committing book [] ∷ []) r false) (sym done.text_is) ran)
 
     -- it is aborted
     refuses : (why : Cause) (text_now : List ℕ) (refused : Bool) → Refuses told h4 h5 txn why text_now refused → IsCauseOf (meant book tree) why
+        → ((s : Store) → told h0.shelf ≡ Some s → IsFaithful book s → IsEnding (next_txn book) (entry.Abort (next_txn book) why ∷ []))
         → Ran (entry.Abort (record { 0 = next_number book }) why ∷ []) text_now refused
-    refuses why text_now refused refuse true_cause =
+    refuses why text_now refused refuse true_cause ending =
         let event = entry.Abort (record { 0 = next_number book }) why in
         let noted : IsNoted told event h4 h5 = subst (λ (t : TxnId). IsNoted told (entry.Abort t why) h4 h5) txn-is refuse.noted.noted in
         let goes = refusals-end book number text tree why given.ready.sound given.is true_cause in
         let ran : Ran (event ∷ []) (cause_text None why) true =
         noted-ran event (cause_text None why) true (state_of book).tables noted refuse.noted.opened (same-known h5 refuse.noted.tables)
-        (leaves book (statement_entries book number text (event ∷ [])) number text (cause_text None why) true (state_of book).tables goes) same-sound
+        (leaves book (statement_entries book number text (event ∷ [])) number text (cause_text None why) true (state_of book).tables goes) same-sound ending
         (λ s e faithful. same-tables event (cause_text None why) true s faithful goes) in
         subst (λ (b : Bool). Ran (event ∷ []) text_now b) (sym refuse.refusal)
         (subst (λ (r : List ℕ). Ran (event ∷ []) r true) (sym refuse.text_is) ran)
@@ -285,7 +288,7 @@ module _ {D : Type 0} (told : D → Option Store) (h0 h3 h4 h5 : House D) (numbe
         ∙ sym (map-append known_of (state_of book).tables (made_table (next_table book) name columns ∷ [])) in
         let ran : Ran (event ∷ []) ok_line false =
         noted-ran event ok_line false tables noted make.opened known
-        (leaves book (statement_entries book number text (event ∷ [])) number text ok_line false tables goes) sound
+        (leaves book (statement_entries book number text (event ∷ [])) number text ok_line false tables goes) sound (λ s e faithful. inr (inr (inl (record { 0 = next_table book }, refl))))
         (λ s e faithful.
         (goes, made-files-stand (state_of book) (state_of (book ++ statement_entries book number text (event ∷ []))) s.tree name columns faithful.stands goes.tables_are)) in
         subst (λ (b : Bool). Ran (event ∷ []) text_now b) (sym done.accepted)
@@ -358,7 +361,8 @@ module _ {D : Type 0} (told : D → Option Store) (h0 h3 h4 h5 : House D) (numbe
             through = any-of (PutsFile place bytes) (told h0.shelf) (told h5.shelf) through;
             shows = λ s e faithful.
                 let now = became (PutsFile place bytes) (told h0.shelf) (told h5.shelf) s through e in
-                shown insert_ends (counts_line (inserting info effect ∷ [])) false tables_then s now.now now.tells noted faithful goes
+                shown insert_ends (counts_line (inserting info effect ∷ [])) false tables_then s now.now now.tells noted faithful
+                (inr (inl (info.table, record { 0 = length table.owners + 1 }, inserting info effect ∷ [], refl))) goes
                 (insert-stands s now.now faithful now.made goes);
           }
 
@@ -402,9 +406,10 @@ module _ {D : Type 0} (told : D → Option Store) (h0 h3 h4 h5 : House D) (numbe
     idle-run reply text_now refused commits done goes = has-run (committing book [] ∷ []) text_now refused (idle reply text_now refused commits done goes)
 
     refuse-run : (why : Cause) (text_now : List ℕ) (refused : Bool) → Refuses told h4 h5 txn why text_now refused → IsCauseOf (meant book tree) why
+        → ((s : Store) → told h0.shelf ≡ Some s → IsFaithful book s → IsEnding (next_txn book) (entry.Abort (next_txn book) why ∷ []))
         → HasRun told h0 h5 number text text_now refused
-    refuse-run why text_now refused refuse true_cause =
-        has-run (entry.Abort (record { 0 = next_number book }) why ∷ []) text_now refused (refuses why text_now refused refuse true_cause)
+    refuse-run why text_now refused refuse true_cause ending =
+        has-run (entry.Abort (record { 0 = next_number book }) why ∷ []) text_now refused (refuses why text_now refused refuse true_cause ending)
 
     pub ended : (seen : List Seen) → IsSeen told h3 tree seen → (m : Meaning) → m ≡ meaning_of seen tree → (text_now : List ℕ) (refused : Bool)
         → EndsAs told h4 h5 txn m text_now refused → HasRun told h0 h5 number text text_now refused
@@ -419,17 +424,27 @@ module _ {D : Type 0} (told : D → Option Store) (h0 h3 h4 h5 : House D) (numbe
     ended seen sees (Make name columns) is text_now refused ends =
         has-run (entry.Create (record { 0 = next_number book }) (record { 0 = next_table book }) ∷ []) text_now refused
         (makes name columns text_now refused ends.0 ends.1 (meant-of seen sees (Make name columns) is tt))
-    ended seen sees (Refused why) is text_now refused ends = refuse-run (cause.Refused why) text_now refused ends (meant-of seen sees (Refused why) is tt)
-    ended seen sees RowLimit is text_now refused ends = refuse-run cause.RowLimit text_now refused ends (meant-of seen sees RowLimit is tt)
+    ended seen sees (Refused why) is text_now refused ends =
+        refuse-run (cause.Refused why) text_now refused ends (meant-of seen sees (Refused why) is tt) (λ s e faithful. inr (inr (inr (inl (why, refl)))))
+    ended seen sees RowLimit is text_now refused ends =
+        refuse-run cause.RowLimit text_now refused ends (meant-of seen sees RowLimit is tt) (λ s e faithful. inr (inr (inr (inr refl))))
     ended seen sees Plain is text_now refused ends =
         idle-run ok_line text_now refused ends.0 ends.1 (λ s e faithful. absurd (nothing Plain (meant-of seen sees Plain is tt) (λ h. h)))
     ended seen sees Unbuilt is text_now refused ends =
         idle-run ok_line text_now refused ends.0 ends.1 (λ s e faithful. absurd (nothing Unbuilt (meant-of seen sees Unbuilt is tt) (λ h. h)))
 
-    -- a file is damaged
-    pub damaged : (place : FilePlace) (text_now : List ℕ) (refused : Bool) → Refuses told h4 h5 txn (cause.Damaged place) text_now refused
+    -- a file is damaged: the store doesn't show the book's files
+    no-damage : IsSpoiled told h3 tree → (s : Store) → told h0.shelf ≡ Some s → IsFaithful book s → ⊥
+    no-damage spoiled s e faithful =
+        let then = became KeepsTree (told h0.shelf) (told h3.shelf) s given.started.tree e in
+        let stands = still-stands (state_of book) (state_of book) s.tree then.now.tree refl then.made faithful.stands in
+        let known : h3.tables.items ≡ map known_of (state_of book).tables = ap (λ ts. ts.items) given.started.tables ∙ given.ready.knows.tables in
+        unspoiled told h3 book tree given.ready.sound then.now then.tells stands (omega (arith, small)) known spoiled
+
+    pub damaged : IsSpoiled told h3 tree → (place : FilePlace) (text_now : List ℕ) (refused : Bool) → Refuses told h4 h5 txn (cause.Damaged place) text_now refused
         → HasRun told h0 h5 number text text_now refused
-    damaged place text_now refused refuse = refuse-run (cause.Damaged place) text_now refused refuse tt
+    damaged spoiled place text_now refused refuse =
+        refuse-run (cause.Damaged place) text_now refused refuse tt (λ s e faithful. absurd (no-damage spoiled s e faithful))
 
     -- what a change rests on is there
     pub can-end : (seen : List Seen) → IsSeen told h3 tree seen → (m : Meaning) → m ≡ meaning_of seen tree → CanEnd h4 m

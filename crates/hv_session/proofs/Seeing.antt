@@ -34,8 +34,8 @@ use Rattle.hv_stands.proofs.StandingFiles.{file-at, written-with}
 use Rattle.hv_house.specs.declared.house.House.{House}
 use Rattle.hv_house.specs.declared.known.Known.{Known}
 use Rattle.hv_house.specs.House.{known_of, known_of_name}
-use Rattle.hv_house.specs.Rows.{HasCommits, IsCommitFile}
-use Rattle.hv_house.specs.Meaning.{known_by_name, AreRead, SeesRows, IsSeenOf, IsSeen}
+use Rattle.hv_house.specs.Rows.{HasCommits, LacksCommits, IsCommitFile}
+use Rattle.hv_house.specs.Meaning.{known_by_name, AreRead, SeesRows, IsSeenOf, IsSeen, IsSpoiled}
 
 -- ---- the table of a name, as it is known
 
@@ -199,3 +199,20 @@ module _ {D : Type 0} (told : D → Option Store) (house : House D) (book : List
         by : (reads_rows tree ≡ true) ⊎ (reads_rows tree ≡ false) → meaning_of seen tree ≡ meant book tree
         by (inl reads) = enough seen o refl (told-reader o seen reads refl (seen-of-known seen known is))
         by (inr reads) = enough seen o refl (blind o seen reads (seen-of-known seen known is))
+
+    -- none of them is lacking
+    lacks-none : (o : Option Table) (known : Known) → o ≡ table_by_name (table_named tree) (state_of book).tables → option_map known_of o ≡ Some known
+        → LacksCommits known.info.table.0 known.given s → ⊥
+    lacks-none None known at e lacks = cc
+    lacks-none (Some table) known at e lacks =
+        let name = found-name (table_named tree) (state_of book).tables table (sym at) in
+        let here = named-numbered name.0 (state_of book).tables table sound.tables.in_order name.2 in
+        let same : known_of table ≡ known = cc in
+        let none : LacksCommits table.info.table.0 (length table.owners) s = subst (λ (k : Known). LacksCommits k.info.table.0 k.given s) (sym same) lacks in
+        none table.writes (commits table here)
+
+    pub unspoiled : house.tables.items ≡ map known_of (state_of book).tables → IsSpoiled told house tree → ⊥
+    unspoiled known spoiled =
+        lacks-none (table_by_name (table_named tree) (state_of book).tables) spoiled.known refl
+        (sym (ap (known_by_name (table_named tree)) known ∙ known-by-name (table_named tree) (state_of book).tables) ∙ spoiled.named)
+        (subst (λ (o : Option Store). Tells o (LacksCommits spoiled.known.info.table.0 spoiled.known.given)) tells spoiled.lacks)

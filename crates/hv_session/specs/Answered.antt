@@ -4,17 +4,19 @@ use Rattle.hv_base.specs.Told.{Tells}
 use Rattle.hv_shelf.specs.Disk.{Store}
 use Rattle.hv_history.specs.declared.entry.Entry.{Entry}
 use Rattle.hv_history.specs.declared.state.Table.{Table}
-use Rattle.hv_stands.specs.Endings.{Goes}
+use Rattle.hv_stands.specs.Endings.{statement_entries, Goes}
 use Rattle.hv_house.specs.declared.house.House.{House}
 use Rattle.hv_house.specs.House.{entries_of, IsReady, Shows}
 use Rattle.hv_session.specs.Faults.{IsFaultLine}
+use Rattle.hv_session.specs.Halting.{IsEnding, next_txn}
 
 -- it went through the book as a transaction, whose answer is the reply
 pub record WentThrough (before now : List Entry) (number : ℕ) (text reply : List ℕ) (refused : Bool) : Type 0 where
-  pub added : List Entry
-  pub book : now ≡ before ++ added
+  pub ends : List Entry
+  pub ending : IsEnding (next_txn before) ends
+  pub book : now ≡ before ++ statement_entries before number text ends
   pub tables : List Table
-  pub goes : Goes before added number text reply refused tables
+  pub goes : Goes before (statement_entries before number text ends) number text reply refused tables
 
 -- it is no statement: nothing was noted, and the reply is its fault's line
 pub record IsNoStatement (before now : List Entry) (text reply : List ℕ) (refused : Bool) : Type 0 where

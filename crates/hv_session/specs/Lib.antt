@@ -1,4 +1,5 @@
 pub mod Faults
 pub mod Ends
 pub mod Started
+pub mod Halting
 pub mod Answered

@@ -12,7 +12,7 @@ use Rattle.hv_history.specs.declared.entry.FilePlace.{FilePlace}
 use Rattle.hv_history.specs.declared.entry.Cause.TheVariants.{Damaged}
 use Rattle.hv_house.specs.declared.house.House.{House}
 use Rattle.hv_house.specs.House.{entries_of, IsKept, IsAsked}
-use Rattle.hv_house.specs.Meaning.{IsSeen}
+use Rattle.hv_house.specs.Meaning.{IsSeen, IsSpoiled}
 use Rattle.hv_session.specs.Ends.{Refuses, CanEnd, EndsAs}
 
 -- its Opened and its Start were noted, and nothing else
@@ -37,12 +37,13 @@ pub record EndsSeen {D : Type 0} (told : D → Option Store) (before now : House
   pub sees : IsSeen told before tree seen
   pub ends : EndsAs told asked now txn (meaning_of seen tree) text refused
 
-pub record EndsDamaged {D : Type 0} (told : D → Option Store) (before now : House D) (txn : TxnId) (text : List ℕ) (refused : Bool) : Type 0 where
+pub record EndsDamaged {D : Type 0} (told : D → Option Store) (before now : House D) (txn : TxnId) (tree : Stmt) (text : List ℕ) (refused : Bool) : Type 0 where
   pub asked : House D
   pub only_asked : IsAsked told before asked
+  pub spoiled : IsSpoiled told before tree
   pub place : FilePlace
   pub ends : Refuses told asked now txn (Damaged place) text refused
 
 abbrev pub IsFinished : {D : Type 0} → (D → Option Store) → House D → House D → TxnId → Stmt → List ℕ → Bool → Type 0
 IsFinished told before now txn tree text refused =
-    EndsSeen told before now txn tree text refused ⊎ EndsDamaged told before now txn text refused
+    EndsSeen told before now txn tree text refused ⊎ EndsDamaged told before now txn tree text refused

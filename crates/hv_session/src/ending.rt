@@ -1,13 +1,14 @@
-ghost use Rattle.std.specs.Prelude.{◌≡◌, ◌<◌, ◌≤◌, ◌+◌, [], ◌∷◌, length, true, false, None, Some, IfOk, IsErrOf};
+ghost use Rattle.std.specs.Prelude.{◌≡◌, ◌<◌, ◌≤◌, ◌+◌, [], ◌∷◌, length, true, false, None, Some, IfOk, IfErr, IsErrOf};
 ghost use Rattle.std.specs.List.{AllByRecursion};
 ghost use Rattle.hv_history.specs.declared.entry.Entry.TheVariants as entries;
 ghost use Rattle.hv_history.specs.Spelling.{entry_spelling};
 ghost use Rattle.hv_history.specs.Answers.{listing, counts_line, ok_line, cause_text};
 ghost use Rattle.hv_house.specs.declared.fault.HouseFault.TheVariants.{Store};
 ghost use Rattle.hv_house.specs.Faults.{StoreCause};
-ghost use Rattle.hv_house.specs.House.{entries_of, book_limit, entry_limit, HasNumbers, IsKept, StaysTold};
+ghost use Rattle.hv_house.specs.House.{entries_of, book_limit, entry_limit, HasNumbers, IsKept, StaysTold, IsHalted};
 ghost use Rattle.hv_stands.specs.Laws.{inserting};
 ghost use Rattle.hv_session.specs.Ends.{IsDone, Commits, Refuses, Makes, ChangesBy, ChangesRows, CanChange, CanEnd, EndsAs};
+ghost use Rattle.hv_session.specs.Halting.{IsUnended};
 
 use crate::reply::Reply;
 use hv_base::{List, NoMemory, TableId, Text, Touch, TxnId};
@@ -40,6 +41,7 @@ pub fn refuse<D: Shelf>(
     ensures refused { IfOk result (λ reply.
         Refuses D.told house.old house.new txn cause reply.text reply.refused) }
     ensures tells { StaysTold (D.told house.old.shelf) (D.told house.new.shelf) }
+    ensures halted { IfErr result (λ fault. IsHalted D.told fault house.old house.new) }
     ensures cause { StoreCause (D.faults house.old.shelf) (D.faults house.new.shelf)
         (IsErrOf result Store) }
 {
@@ -64,6 +66,7 @@ fn idle<D: Shelf>(
     ensures committed { IfOk result (λ reply. Commits D.told house.old house.new txn []
         × IsDone text.items reply.text reply.refused) }
     ensures tells { StaysTold (D.told house.old.shelf) (D.told house.new.shelf) }
+    ensures halted { IfErr result (λ fault. IsHalted D.told fault house.old house.new) }
     ensures cause { StoreCause (D.faults house.old.shelf) (D.faults house.new.shelf)
         (IsErrOf result Store) }
 {
@@ -83,6 +86,7 @@ fn make<D: Shelf>(
     ensures made { IfOk result (λ reply. Makes D.told house.old house.new txn name columns
         × IsDone ok_line reply.text reply.refused) }
     ensures tells { StaysTold (D.told house.old.shelf) (D.told house.new.shelf) }
+    ensures halted { IfErr result (λ fault. IsHalted D.told fault house.old house.new) }
     ensures cause { StoreCause (D.faults house.old.shelf) (D.faults house.new.shelf)
         (IsErrOf result Store) }
 {
@@ -131,6 +135,7 @@ fn change<D: Shelf>(
     ensures changed { IfOk result (λ reply.
         ChangesRows D.told house.old house.new txn info effect reply.text reply.refused) }
     ensures tells { StaysTold (D.told house.old.shelf) (D.told house.new.shelf) }
+    ensures unended { IfErr result (λ fault. IsUnended D.told fault house.old house.new txn) }
     ensures cause { StoreCause (D.faults house.old.shelf) (D.faults house.new.shelf)
         (IsErrOf result Store) }
 {
@@ -157,6 +162,7 @@ fn change_by<D: Shelf>(
     ensures changed { IfOk result (λ reply. ChangesBy D.told house.old house.new txn info effect
         (length effect.inserts) reply.text reply.refused) }
     ensures tells { StaysTold (D.told house.old.shelf) (D.told house.new.shelf) }
+    ensures unended { IfErr result (λ fault. IsUnended D.told fault house.old house.new txn) }
     ensures cause { StoreCause (D.faults house.old.shelf) (D.faults house.new.shelf)
         (IsErrOf result Store) }
 {
@@ -183,6 +189,7 @@ pub fn end<D: Shelf>(
     ensures ended { IfOk result (λ reply.
         EndsAs D.told house.old house.new txn meaning reply.text reply.refused) }
     ensures tells { StaysTold (D.told house.old.shelf) (D.told house.new.shelf) }
+    ensures unended { IfErr result (λ fault. IsUnended D.told fault house.old house.new txn) }
     ensures cause { StoreCause (D.faults house.old.shelf) (D.faults house.new.shelf)
         (IsErrOf result Store) }
 {

@@ -1,4 +1,4 @@
-ghost use Rattle.std.specs.Prelude.{◌≡◌, ◌<◌, ◌≤◌, ◌+◌, ℕ, List, length, true, Some, IfOk, IsErrOf};
+ghost use Rattle.std.specs.Prelude.{◌≡◌, ◌<◌, ◌≤◌, ◌+◌, ℕ, List, length, true, Some, IfOk, IfErr, IsErrOf};
 ghost use Rattle.std.specs.List.{AllByRecursion};
 ghost use Rattle.hv_base.specs.Told.{Tells};
 ghost use Rattle.hv_ast.specs.Reading.{tree_of};
@@ -10,6 +10,7 @@ ghost use Rattle.hv_reading.specs.Faults.{IsFaultOf};
 ghost use Rattle.hv_stands.specs.Endings.{main_session};
 ghost use Rattle.hv_session.specs.Faults.{IsFaultLine};
 ghost use Rattle.hv_session.specs.Started.{IsStarted, CanFinish, IsFinished};
+ghost use Rattle.hv_session.specs.Halting.{IsUnended, HasStopped};
 
 use crate::ending::{end, refuse};
 use crate::reply::{Reply, fault_line};
@@ -44,6 +45,8 @@ fn begin<D: Shelf>(
     requires named { session ≡ main_session }
     ensures started { IfOk result (IsStarted D.told house.old house.new number text) }
     ensures tells { StaysTold (D.told house.old.shelf) (D.told house.new.shelf) }
+    ensures stopped { IfErr result (λ fault.
+        HasStopped D.told fault house.old house.new number text) }
     ensures cause { StoreCause (D.faults house.old.shelf) (D.faults house.new.shelf)
         (IsErrOf result Store) }
 {
@@ -66,6 +69,7 @@ fn finish<D: Shelf>(
     ensures finished { IfOk result (λ reply.
         IsFinished D.told house.old house.new txn tree.now reply.text reply.refused) }
     ensures tells { StaysTold (D.told house.old.shelf) (D.told house.new.shelf) }
+    ensures unended { IfErr result (λ fault. IsUnended D.told fault house.old house.new txn) }
     ensures cause { StoreCause (D.faults house.old.shelf) (D.faults house.new.shelf)
         (IsErrOf result Store) }
 {
@@ -96,6 +100,8 @@ fn run<D: Shelf>(
     ensures ran { IfOk result (λ reply. HasRun D.told house.old house.new number text
         reply.text reply.refused) }
     ensures tells { StaysTold (D.told house.old.shelf) (D.told house.new.shelf) }
+    ensures stopped { IfErr result (λ fault.
+        HasStopped D.told fault house.old house.new number text) }
     ensures cause { StoreCause (D.faults house.old.shelf) (D.faults house.new.shelf)
         (IsErrOf result Store) }
 {
@@ -118,6 +124,8 @@ fn run_copies<D: Shelf>(
     ensures ran { IfOk result (λ reply. HasRun D.told house.old house.new number text.now
         reply.text reply.refused) }
     ensures tells { StaysTold (D.told house.old.shelf) (D.told house.new.shelf) }
+    ensures stopped { IfErr result (λ fault.
+        HasStopped D.told fault house.old house.new number text.now) }
     ensures cause { StoreCause (D.faults house.old.shelf) (D.faults house.new.shelf)
         (IsErrOf result Store) }
 {
@@ -144,6 +152,8 @@ fn run_owned<D: Shelf>(
     ensures ran { IfOk result (λ reply. HasRun D.told house.old house.new number text.now
         reply.text reply.refused) }
     ensures tells { StaysTold (D.told house.old.shelf) (D.told house.new.shelf) }
+    ensures stopped { IfErr result (λ fault.
+        HasStopped D.told fault house.old house.new number text.now) }
     ensures cause { StoreCause (D.faults house.old.shelf) (D.faults house.new.shelf)
         (IsErrOf result Store) }
 {
@@ -181,6 +191,8 @@ pub fn take_up<D: Shelf>(
         → IfOk result (λ reply. Tells (D.told house.old.shelf) (λ s. IsAnswered
         (entries_of house.old) (entries_of house.new) number text.now reply.text reply.refused)) }
     ensures tells { StaysTold (D.told house.old.shelf) (D.told house.new.shelf) }
+    ensures stopped { IfErr result (λ fault.
+        HasStopped D.told fault house.old house.new number text.now) }
     ensures cause { StoreCause (D.faults house.old.shelf) (D.faults house.new.shelf)
         (IsErrOf result Store) }
 {

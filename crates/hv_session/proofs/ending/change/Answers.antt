@@ -1,9 +1,11 @@
 use Rattle.std.proofs.Common.{◌≡◌, ℕ, [], ◌∷◌, List, ap, subst, ◌∙◌}
+use Rattle.std.proofs.lemmas.Result.{err_from_is_err_and}
 use Rattle.hv_base.specs.declared.ids.Touch.{Touch}
 use Rattle.hv_history.specs.Answers.{counts_line}
 use Rattle.hv_stands.specs.Laws.{inserting}
 use Rattle.hv_session.specs.Ends.{IsDone, Inserts, next_written}
 use Rattle.hv_session.proofs.Shorts.{short_touch}
+use Rattle.hv_session.proofs.Halfway.{put-ends, commit-ends}
 use Rattle.hv_session.proofs.Finishing.{inserted}
 use Rattle.hv_session.proofs.ending.change.Goals as goal
 
@@ -29,3 +31,18 @@ returns-clause-changed g c =
       subst (λ (ts : List Touch). Inserts g.D.Shelf.told c.args.house.now c.commit.new.self c.args.txn c.args.info (next_written known c.args.effect) ts) wrote whole,
       subst (λ (t : List ℕ). IsDone t c.done.result.text c.done.result.refused) text c.done.ensures,
     )
+
+pub returns-in_err-put_written-clause-unended : goal.returns-in_err-put_written-clause-unended
+returns-in_err-put_written-clause-unended g c =
+    put-ends g.D.Shelf.told c.args.house.now c.give.new.self c.args.txn c.args.info.table c.requires.can.0 c.in_ok-write.write
+    c.requires.can.1 c.in_ok-write.ensures.next c.in_ok-write.ensures.noted
+    c.put_written.new.self c.from_residual-in_err-put_written.result c.in_err-put_written.ensures.beside c.in_err-put_written.ensures.journal
+
+pub returns-in_err-commit-clause-unended : goal.returns-in_err-commit-clause-unended
+returns-in_err-commit-clause-unended g c =
+    let left = err_from_is_err_and c.from_residual-in_err-commit.result c.from_residual-in_err-commit.ensures.1 in
+    let same : left.0 ≡ c.in_err-commit.field-0.0 = cc (left.2) in
+    commit-ends g.D.Shelf.told c.args.house.now c.give.new.self c.args.txn c.args.info.table c.requires.can.0 c.in_ok-write.write
+    c.requires.can.1 c.in_ok-write.ensures.next c.in_ok-write.ensures.noted
+    c.put_written.new.self c.commit.new.self c.in_err-commit.field-0.0 left.0 c.from_residual-in_err-commit.result left.1 same
+    c.in_ok-put_written.ensures.beside c.in_err-commit.ensures.halted

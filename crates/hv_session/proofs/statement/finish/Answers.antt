@@ -1,7 +1,8 @@
-use Rattle.std.proofs.Common.{subst}
-use Rattle.hv_house.specs.Faults.{IsShortDamage}
+use Rattle.std.proofs.Common.{subst, sym}
+use Rattle.hv_house.specs.Faults.{IsShortDamage, IsDamage}
 use Rattle.hv_session.proofs.Shorts.{short_damage}
 use Rattle.hv_session.proofs.Finishing.{finished-seen, finished-damaged}
+use Rattle.hv_session.proofs.Halfway.{asked-kept}
 use Rattle.hv_session.proofs.statement.finish.Goals as goal
 
 pub refuse-requires-clause-short : goal.refuse-requires-clause-short
@@ -16,4 +17,8 @@ returns-in-Ok-clause-finished g c =
 pub returns-in-Err-Damaged-clause-finished : goal.returns-in-Err-Damaged-clause-finished
 returns-in-Err-Damaged-clause-finished g c =
     finished-damaged g.D.Shelf.told c.args.house.now c.meaning.new.self c.refuse.new.house c.args.txn c.args.tree.now c.in-Err-Damaged.place c.refuse.result
-    c.in-Err-Damaged.ensures.asked c.refuse.ensures.refused
+    c.in-Err-Damaged.ensures.asked (c.in-Err-Damaged.ensures.damage (subst IsDamage (sym c.in-Err-Damaged.field-0-is) tt)) c.refuse.ensures.refused
+
+pub returns-in-Err-House-clause-unended : goal.returns-in-Err-House-clause-unended
+returns-in-Err-House-clause-unended g c =
+    asked-kept g.D.Shelf.told c.args.house.now c.meaning.new.self c.in-Err-House.fault c.args.txn c.requires.kept c.in-Err-House.ensures.asked

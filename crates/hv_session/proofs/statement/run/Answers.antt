@@ -1,4 +1,5 @@
 use Rattle.hv_session.proofs.Joining.{run-numbers, run-can, run-ran}
+use Rattle.hv_session.proofs.Halfway.{run-stopped}
 use Rattle.hv_session.proofs.statement.run.Goals as goal
 
 pub finish-requires-clause-numbers : goal.finish-requires-clause-numbers
@@ -15,3 +16,8 @@ pub returns-clause-ran : goal.returns-clause-ran
 returns-clause-ran g c =
     run-ran g.D.Shelf.told c.args.house.now c.begin.new.house c.finish.new.house c.args.number c.args.text c.args.tree.now c.in_ok-txn.txn c.finish.result
     c.requires.ready c.requires.tree c.requires.room c.in_ok-txn.ensures.started c.finish.ensures.finished
+
+pub returns-clause-stopped : goal.returns-clause-stopped
+returns-clause-stopped g c =
+    run-stopped g.D.Shelf.told c.args.number c.args.text c.args.house.now c.begin.new.house c.finish.new.house c.args.tree.now c.in_ok-txn.txn c.finish.result
+    c.requires.ready c.requires.tree c.in_ok-txn.ensures.started c.finish.ensures.unended
