@@ -4,3 +4,4 @@ pub mod Replies
 pub mod Turns
 pub mod Whole
 pub mod Refusing
+pub mod Blaming

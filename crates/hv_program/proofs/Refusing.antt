@@ -2,7 +2,7 @@
 use Rattle.std.proofs.Common.{◌≡◌, ℕ, ◌+◌, ◌≤◌, ◌==◌, ◌||◌, Bool, true, false, cond, nat_lt, Result, Ok, Err, IfErr, IsTrue, IsSome, is_some, not, codes, Option, Some, None, List, [], ◌∷◌, ◌++◌, length, refl, sym, ap, ◌∙◌, subst, arith, ◌⊎◌, inl, inr}
 use Rattle.std.specs.Prelude.{count_by}
 use Rattle.std.proofs.lemmas.List.{append-nil, length-append, take-append-le}
-use Rattle.std.proofs.lemmas.Bool.{eqb-true, ltb-true, ltb-false, lt-ltb}
+use Rattle.std.proofs.lemmas.Bool.{ltb-true, ltb-false, lt-ltb}
 use Rattle.hv_base.specs.Told.{Tells, Moves}
 use Rattle.hv_base.specs.Sink.{Gains}
 use Rattle.hv_shelf.specs.Disk.{Store}
@@ -17,8 +17,9 @@ use Rattle.hv_program.specs.declared.stop.Stop.TheVariants as stop
 use Rattle.hv_program.specs.Stops.{status_of_stop}
 use Rattle.hv_program.specs.Reading.{TakesUpTo}
 use Rattle.hv_program.specs.Headline.{Outside}
-use Rattle.hv_program.specs.Serving.{ran_status, IsSaid, IsClosed, Opens}
-use Rattle.hv_program.specs.Refused.{is_one_of, words_line, script_line, journal_line, IsBadWords, IsRefusedScript, Refuses}
+use Rattle.hv_program.specs.Serving.{ran_status, IsSaid, IsSaidOrNot, IsClosed, Opens}
+use Rattle.hv_program.specs.Lines.{words_line, script_line, journal_line}
+use Rattle.hv_program.specs.Refused.{is_one_of, IsBadWords, IsRefusedScript, Refuses}
 
 -- ---- serving
 
@@ -72,36 +73,17 @@ opens-memory status sink sink' told told' is = subst (Opens sink sink' told told
 
 -- ---- one of some statuses
 
-more : (b rest : Bool) → rest ≡ true → b || rest ≡ true
+pub more : (b rest : Bool) → rest ≡ true → b || rest ≡ true
 more true rest h = refl
 more false rest h = h
 
-keep : (b rest wider : Bool) → (rest ≡ true → wider ≡ true) → b || rest ≡ true → b || wider ≡ true
+pub keep : (b rest wider : Bool) → (rest ≡ true → wider ≡ true) → b || rest ≡ true → b || wider ≡ true
 keep true rest wider f h = refl
 keep false rest wider f h = f h
 
-split : (b rest : Bool) → b || rest ≡ true → (b ≡ true) ⊎ (rest ≡ true)
+pub split : (b rest : Bool) → b || rest ≡ true → (b ≡ true) ⊎ (rest ≡ true)
 split true rest h = inl refl
 split false rest h = inr h
-
--- the sink failed, or memory ran out
-four-or-seven : (n : ℕ) → IsTrue (is_one_of (4 ∷ 7 ∷ []) n) → (n ≡ 4) ⊎ (n ≡ 7)
-four-or-seven n h = by (split (4 == n) ((7 == n) || false) h)
-  where
-    last : ((7 == n) ≡ true) ⊎ (false ≡ true) → (n ≡ 4) ⊎ (n ≡ 7)
-    last (inl e) = inr (sym (eqb-true 7 n e))
-    last (inr e) = cc
-
-    by : ((4 == n) ≡ true) ⊎ ((7 == n) || false ≡ true) → (n ≡ 4) ⊎ (n ≡ 7)
-    by (inl e) = inl (sym (eqb-true 4 n e))
-    by (inr e) = last (split (7 == n) false e)
-
-four : (n : ℕ) → IsTrue (is_one_of (4 ∷ []) n) → n ≡ 4
-four n h = by (split (4 == n) false h)
-  where
-    by : ((4 == n) ≡ true) ⊎ (false ≡ true) → n ≡ 4
-    by (inl e) = sym (eqb-true 4 n e)
-    by (inr e) = cc
 
 -- ---- a journal that isn't empty
 
@@ -119,20 +101,17 @@ opens-six sink sink' told told' closed = record {
   only = refl;
 }
 
-pub opens-bad : (status at : ℕ) (sink sink' : Option (List ℕ)) (told told' : Option Store) → at ≡ 0 → told' ≡ told → Tells told (λ s. 2 ≤ length s.journal)
-    → IsSaid 6 (4 ∷ 7 ∷ []) (journal_line at) sink sink' status → Opens sink sink' told told' status
-opens-bad status at sink sink' told told' first same bad (inl said) =
+pub opens-bad : (status at : ℕ) (sink sink' : Option (List ℕ)) (faults faults' : ℕ) (told told' : Option Store) → at ≡ 0 → told' ≡ told → Tells told (λ s. 2 ≤ length s.journal)
+    → IsSaidOrNot 6 (journal_line at) sink sink' faults faults' status → Opens sink sink' told told' status
+opens-bad status at sink sink' faults faults' told told' first same bad (inl (inl said)) =
     subst (Opens sink sink' told told') (sym said.0)
     (opens-six sink sink' told told' (record {
       journal = bad;
       same = same;
       wrote = subst (λ (n : ℕ). Moves (Gains (journal_line n)) sink sink') first said.1.wrote;
     }))
-opens-bad status at sink sink' told told' first same bad (inr other) = by (four-or-seven status other)
-  where
-    by : (status ≡ 4) ⊎ (status ≡ 7) → Opens sink sink' told told' status
-    by (inl e) = subst (Opens sink sink' told told') (sym e) (opens-four sink sink' told told')
-    by (inr e) = opens-memory status sink sink' told told' e
+opens-bad status at sink sink' faults faults' told told' first same bad (inl (inr cut)) = subst (Opens sink sink' told told') (sym cut.0) (opens-four sink sink' told told')
+opens-bad status at sink sink' faults faults' told told' first same bad (inr unsaid) = opens-memory status sink sink' told told' unsaid.0
 
 -- ---- the whole
 
@@ -171,11 +150,11 @@ module _ (words : List (List ℕ)) (before after : Outside) where
   }
 
   pub refuses-words : (status : ℕ) → command_of words ≡ None → after.source ≡ before.source → after.store ≡ before.store
-      → IsSaid 2 (4 ∷ []) words_line before.sink after.sink status → Refuses words before after status
-  refuses-words status none source store (inl said) =
+      → (faults faults' : ℕ) → IsSaid 2 words_line before.sink after.sink faults faults' status → Refuses words before after status
+  refuses-words status none source store faults faults' (inl said) =
       subst (Refuses words before after) (sym said.0)
       (refuses-two none (record { words_are = none; source_same = source; says = record { wrote = said.1.wrote; store_same = store } }))
-  refuses-words status none source store (inr other) = subst (Refuses words before after) (sym (four status other)) (refuses-four none)
+  refuses-words status none source store faults faults' (inr cut) = subst (Refuses words before after) (sym cut.0) (refuses-four none)
 
   -- a device failed, or memory ran out, before the store was opened
   all-lines : (n : ℕ) → IsTrue (is_one_of (3 ∷ 4 ∷ 7 ∷ 8 ∷ []) n) → (source : Option (List ℕ))
@@ -236,15 +215,12 @@ module _ (words : List (List ℕ)) (before after : Outside) where
   }
 
   pub refuses-script : (status line : ℕ) → IsSome (command_of words) → Tells before.source (λ script. refused_line script ≡ Some line)
-      → after.store ≡ before.store → IsSaid 8 (4 ∷ 7 ∷ []) (script_line line) before.sink after.sink status → Refuses words before after status
-  refuses-script status line some refused store (inl said) =
+      → after.store ≡ before.store → (faults faults' : ℕ) → IsSaidOrNot 8 (script_line line) before.sink after.sink faults faults' status → Refuses words before after status
+  refuses-script status line some refused store faults faults' (inl (inl said)) =
       subst (Refuses words before after) (sym said.0)
       (refuses-eight (record { words_are = some; line = line; refused = refused; says = record { wrote = said.1.wrote; store_same = store } }))
-  refuses-script status line some refused store (inr other) = by (four-or-seven status other)
-    where
-      by : (status ≡ 4) ⊎ (status ≡ 7) → Refuses words before after status
-      by (inl e) = subst (Refuses words before after) (sym e) (refuses-sink some)
-      by (inr e) = refuses-memory status some e
+  refuses-script status line some refused store faults faults' (inl (inr cut)) = subst (Refuses words before after) (sym cut.0) (refuses-sink some)
+  refuses-script status line some refused store faults faults' (inr unsaid) = refuses-memory status some unsaid.0
 
   -- a script that is served
   wider-journals : (n : ℕ) → IsTrue (is_one_of (4 ∷ 5 ∷ 6 ∷ 7 ∷ []) n) → IsTrue (is_one_of (3 ∷ 4 ∷ 5 ∷ 6 ∷ 7 ∷ []) n)
@@ -329,11 +305,16 @@ pub a-command : (result o : Option Command) (b : Bool) → result ≡ o → is_s
 a-command None o b same e false_ = let wrong : false ≡ true = e ∙ ap not false_ in cc
 a-command (Some command) o b same e false_ = subst IsSome same refl
 
-pub said-words : (sink sink' : Option (List ℕ)) (status : ℕ) → IsSaid 2 (4 ∷ []) (codes "hive: bad words\n") sink sink' status
-    → IsSaid 2 (4 ∷ []) words_line sink sink' status
+pub said-words : (sink sink' : Option (List ℕ)) (faults faults' status : ℕ) → IsSaid 2 (codes "hive: bad words\n") sink sink' faults faults' status
+    → IsSaid 2 words_line sink sink' faults faults' status
 unfolding words_line
-said-words sink sink' status said = said
+said-words sink sink' faults faults' status said = said
 
 pub refused-at : (script : List ℕ) (texts : List (List ℕ)) (fault : ScriptFault) (line : ℕ) → fault ≡ Refused line
     → IsReading (refused_line script) texts (Err fault) → refused_line script ≡ Some line
 refused-at script texts fault line is reading = subst (λ (f : ScriptFault). IsReading (refused_line script) texts (Err f)) is reading
+
+pub said-line : (wanted : ℕ) (line written : List ℕ) (sink sink' : Option (List ℕ)) (faults faults' status : ℕ) → written ≡ line
+    → IsSaid wanted written sink sink' faults faults' status → IsSaidOrNot wanted line sink sink' faults faults' status
+said-line wanted line written sink sink' faults faults' status same said =
+    inl (subst (λ (bytes : List ℕ). IsSaid wanted bytes sink sink' faults faults' status) same said)

@@ -1,10 +1,11 @@
 -- What was printed stays true as the book goes on, and one more reply.
-use Rattle.std.proofs.Common.{◌≡◌, ℕ, ◌+◌, Bool, false, ◌||◌, Option, Some, None, List, [], ◌∷◌, ◌++◌, length, fold, inl, inr, refl, sym, ap, ◌∙◌, subst, arith, append_assoc}
+use Rattle.std.proofs.Common.{◌≡◌, ℕ, ◌+◌, Bool, false, ◌||◌, IsSome, Option, Some, None, List, [], ◌∷◌, ◌++◌, length, fold, inl, inr, refl, sym, ap, ◌∙◌, subst, arith, append_assoc}
 use Rattle.std.specs.List.{Contains}
 use Rattle.std.specs.Option.{option_map}
 use Rattle.std.proofs.Math.Bool.{or_assoc, or-false}
 use Rattle.std.proofs.lemmas.List.{append-nil}
 use Rattle.std.proofs.lemmas.List.Elements.{Contains-append_left, Contains-append_right}
+use Rattle.hv_ast.specs.Reading.{fault_of}
 use Rattle.hv_history.specs.declared.entry.Entry.{Entry}
 use Rattle.hv_history.specs.declared.state.Transaction.{Transaction}
 use Rattle.hv_history.specs.declared.state.Ending.{Ending}
@@ -13,7 +14,9 @@ use Rattle.hv_history.specs.Answers.{answer, answer_in, ending_text}
 use Rattle.hv_history.proofs.StateLaws.{ended-stays-all, answer-stays}
 use Rattle.hv_stands.specs.Endings.{is_refused, is_refused_transaction, next_number, opening}
 use Rattle.hv_session.specs.Answered.{WentThrough, IsAnswered}
+use Rattle.hv_stands.specs.Endings.{statement_entries}
 use Rattle.hv_program.specs.Output.{IsAnswerIn, IsReply, IsOutput}
+use Rattle.hv_program.specs.Statements.{GoesOn, GoesOneByOne}
 
 -- ---- a transaction with an answer has ended, and stays as it is
 
@@ -88,7 +91,7 @@ went : (before now : List Entry) (number : ℕ) (text reply : List ℕ) (refused
     → WentThrough before now number text reply refused → IsAnswerIn now number text reply refused
 went before now number text reply refused h =
     let opens : Contains now (opening before number text) =
-    subst (λ b. Contains b (opening before number text)) (sym (h.book ∙ ap (λ a. before ++ a) h.goes.first.1))
+    subst (λ b. Contains b (opening before number text)) (sym h.book)
     (Contains-append_right before _ _ (0, omega arith, refl)) in
     record {
       txn = record { 0 = next_number before };
@@ -104,5 +107,26 @@ IsReply-answered before now number text reply refused (inr h) = inr (record { li
 
 pub grown : (before now : List Entry) (number : ℕ) (text reply : List ℕ) (refused : Bool)
     → IsAnswered before now number text reply refused → (more : List Entry) × (now ≡ before ++ more)
-grown before now number text reply refused (inl h) = (h.added, h.book)
+grown before now number text reply refused (inl h) = (statement_entries before number text h.ends, h.book)
 grown before now number text reply refused (inr h) = ([], h.book ∙ sym (append-nil before))
+
+-- ---- the statements in the book, and one more
+
+has_some : {A : Type 0} (o : Option A) (x : A) → o ≡ Some x → IsSome o
+has_some None x e = cc
+has_some (Some y) x e = refl
+
+pub GoesOn-answered : (before now : List Entry) (number : ℕ) (text reply : List ℕ) (refused : Bool)
+    → IsAnswered before now number text reply refused → GoesOn before now number text
+GoesOn-answered before now number text reply refused (inl h) = inl (h.ends, h.ending, h.book)
+GoesOn-answered before now number text reply refused (inr h) = inr (has_some (fault_of text) h.fault.fault h.fault.found, h.book)
+
+pub GoesOneByOne-then : (a b c : List Entry) (number : ℕ) (texts : List (List ℕ)) (text : List ℕ)
+    → GoesOneByOne a b number texts → GoesOn b c (number + length texts) text → GoesOneByOne a c number (texts ++ text ∷ [])
+GoesOneByOne-then a b c number [] text h on =
+    let first : GoesOn a c number text =
+    subst (λ (x : List Entry). GoesOn x c number text) h (subst (λ (n : ℕ). GoesOn b c n text) (omega arith) on) in
+    (c, first, refl)
+GoesOneByOne-then a b c number (first ∷ texts) text h on =
+    let there : GoesOn b c (number + 1 + length texts) text = subst (λ (n : ℕ). GoesOn b c n text) (omega arith) on in
+    (h.0, h.1, GoesOneByOne-then h.0 b c (number + 1) texts text h.2 there)

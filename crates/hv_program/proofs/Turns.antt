@@ -1,16 +1,29 @@
 -- One statement more.
-use Rattle.std.proofs.Common.{◌≡◌, ℕ, zero, suc, ◌+◌, ◌<◌, Bool, false, ◌||◌, Option, Some, None, List, [], ◌∷◌, ◌++◌, length, get_or, take, refl, sym, ap, ◌∙◌, subst, arith, append_assoc}
+use Rattle.std.proofs.Common.{◌≡◌, ℕ, zero, suc, ◌+◌, ◌<◌, ◌≤◌, Bool, false, ◌||◌, Option, Some, None, Result, Ok, Err, IfErr, IsErrAnd, List, [], ◌∷◌, ◌++◌, length, get_or, take, drop, refl, sym, ap, ◌∙◌, subst, arith, append_assoc}
 use Rattle.std.proofs.lemmas.List.{append-nil, take_more, length-take-le}
 use Rattle.hv_base.specs.Told.{Tells, Moves}
-use Rattle.hv_base.specs.Sink.{Gains}
+use Rattle.hv_base.specs.Sink.{Gains, GainsPart}
 use Rattle.hv_base.proofs.ToldLemmas.{Moves-then, Moves-weaken, Moves-same}
 use Rattle.hv_shelf.specs.Disk.{Store}
+use Rattle.hv_house.specs.Booting.{SparesHistory}
 use Rattle.hv_house.specs.House.{StaysTold}
 use Rattle.hv_history.specs.declared.entry.Entry.{Entry}
 use Rattle.hv_session.specs.Answered.{IsAnswered}
 use Rattle.hv_program.specs.Output.{IsReply, IsOutput}
-use Rattle.hv_program.specs.Running.{IsShort, AreShort, Prints}
-use Rattle.hv_program.proofs.Replies.{IsOutput-more, IsOutput-then, IsReply-answered, grown}
+use Rattle.hv_house.specs.House.{IsFaithful, Leaves}
+use Rattle.hv_house.specs.declared.house.House.{House}
+use Rattle.hv_house.specs.declared.fault.HouseFault.{HouseFault}
+use Rattle.hv_house.specs.House.{entries_of}
+use Rattle.hv_session.specs.Halting.{IsHalfway, HasStopped}
+use Rattle.hv_house.specs.declared.fault.HouseFault.TheVariants as fault
+use Rattle.hv_history.specs.Journal.{Reads}
+use Rattle.hv_history.specs.Legal.{IsLegal}
+use Rattle.hv_program.specs.declared.stop.Stop.{Stop}
+use Rattle.hv_program.specs.declared.stop.Stop.TheVariants as stop
+use Rattle.hv_program.specs.Stops.{stop_of}
+use Rattle.hv_program.specs.Running.{IsShort, AreShort, Prints, EndsWithin, CutsOff, StopsIn, Halts, HasAll}
+use Rattle.hv_program.specs.Statements.{GoesOn, GoesOneByOne}
+use Rattle.hv_program.proofs.Replies.{IsOutput-more, IsOutput-then, IsReply-answered, grown, GoesOn-answered, GoesOneByOne-then}
 
 pub AreShort-at : (texts : List (List ℕ)) (i : ℕ) (d : List ℕ) → AreShort texts → i < length texts → IsShort (get_or texts i d)
 AreShort-at [] i d h below = absurd (omega arith)
@@ -28,10 +41,27 @@ StaysTold-then a b c = Moves-then (λ _ _. Unit {0}) (λ _ _. Unit {0}) (λ _ _.
 pub StaysTold-moved : {A : Type 0} (P : A → A → Type 0) (a b : Option A) → Moves P a b → StaysTold a b
 StaysTold-moved P a b = Moves-weaken P (λ _ _. Unit {0}) (λ _ _ _. tt) a b
 
+pub StaysTold-is : {A : Type 0} (a b c : Option A) → StaysTold a b → c ≡ b → StaysTold a c
+StaysTold-is a b c stays same = subst (StaysTold a) (sym same) stays
+
+-- ---- a store that has a history
+
+pub spares-same : (told : Option Store) → SparesHistory told told
+spares-same None = tt
+spares-same (Some s) = λ long. refl
+
+pub spares-empty : (told told' : Option Store) → Tells told (λ s. length s.journal ≤ 1) → SparesHistory told told'
+spares-empty None told' low = tt
+spares-empty (Some s) told' low = λ long. absurd (omega (arith, low, long))
+
+pub spares-is : (told told' closed : Option Store) → SparesHistory told told' → closed ≡ told' → SparesHistory told closed
+spares-is told told' closed spares same = subst (SparesHistory told) (sym same) spares
+
 -- ---- what is printed
 
 pub Prints-none : (book : List Entry) (texts : List (List ℕ)) (sink : Option (List ℕ)) → texts ≡ [] → Prints book book texts sink sink false
 Prints-none book texts sink e = record {
+  one_by_one = subst (λ t. GoesOneByOne book book 1 t) (sym e) refl;
   grows = ([], sym (append-nil book));
   output = [];
   written = Moves-same (Gains []) (λ x. sym (append-nil x)) sink;
@@ -47,6 +77,15 @@ Tells-both None b P Q R stays f p q = tt
 Tells-both (Some s) None P Q R stays f p q = absurd stays
 Tells-both (Some s) (Some t) P Q R stays f p q = f p q
 
+Tells-both' : (a b : Option Store) (P : Type 0) (Q : Store → Type 0) (R : Type 0) → StaysTold a b → (P → (s : Store) → Q s → R) → Tells a (λ _. P) → Tells b Q → Tells a (λ _. R)
+Tells-both' None b P Q R stays f p q = tt
+Tells-both' (Some s) None P Q R stays f p q = absurd stays
+Tells-both' (Some s) (Some t) P Q R stays f p q = f p t q
+
+Tells-and : (a : Option Store) (P Q : Store → Type 0) → Tells a P → Tells a Q → Tells a (λ s. P s × Q s)
+Tells-and None P Q p q = tt
+Tells-and (Some s) P Q p q = (p, q)
+
 more_written : (x y z some more : List ℕ) → Gains some x y → Gains more y z → Gains (some ++ more) x z
 more_written x y z some more p q = q ∙ ap (λ w. w ++ more) p ∙ append_assoc x some more
 
@@ -60,6 +99,8 @@ Prints-turn start before now texts a b c refused number text reply this at wrote
     subst (λ w. IsOutput w 1 texts h.output refused) (sym more.1) (IsOutput-more before more.0 1 texts h.output refused h.is_output) in
     let reply_is = subst (λ n. IsReply now n text reply this) at (IsReply-answered before now number text reply this said) in
     record {
+      one_by_one = GoesOneByOne-then start before now 1 texts text h.one_by_one
+          (subst (λ n. GoesOn before now n text) at (GoesOn-answered before now number text reply this said));
       grows = (h.grows.0 ++ more.0, more.1 ∙ ap (λ w. w ++ more.0) h.grows.1 ∙ append_assoc start h.grows.0 more.0);
       output = h.output ++ reply;
       written = Moves-then (Gains h.output) (Gains reply) (Gains (h.output ++ reply)) (λ x y z p q. more_written x y z h.output reply p q) a b c h.written wrote;
@@ -78,3 +119,105 @@ Prints-next told told' start before now texts i text reply refused this a b c by
     Tells-both told told' _ _ _ stays
     (λ (h : Prints start before (take i texts) a b refused) (said : IsAnswered before now (i + 1) text reply this).
     subst (λ t. Prints start now t a c (refused || this)) taken (Prints-turn start before now (take i texts) a b c refused (i + 1) text reply this number wrote h said))
+
+-- ---- where the run stops at a statement
+
+passed_up : {T E : Type 0} (r : Result T E) (e : E) (P : E → Type 0) → IsErrAnd r (λ y. y ≡ e) → P e → IfErr r P
+passed_up (Ok x) e P is p = tt
+passed_up (Err d) e P is p = subst P (sym is) p
+
+-- the texts in front of a place, the one there, and those behind it
+split_at : (texts : List (List ℕ)) (i : ℕ) (text : List ℕ) → i < length texts → text ≡ get_or texts i text
+    → texts ≡ take i texts ++ text ∷ drop (suc i) texts
+split_at [] i text below is = absurd (omega (arith, below))
+split_at (first ∷ texts) zero text below is = ap (λ t. t ∷ texts) (sym is)
+split_at (first ∷ texts) (suc i) text below is = ap (λ t. first ∷ t) (split_at texts i text (omega (arith, below)) is)
+
+within : (x y z output reply : List ℕ) → Gains output x y → GainsPart reply y z → EndsWithin output reply x z
+within x y z output reply p q = record { count = q.count; short = q.short; gained = q.gained ∙ ap (λ w. w ++ take q.count reply) p }
+
+Prints-cut : (start before now : List Entry) (texts front behind : List (List ℕ)) (a b c : Option (List ℕ)) (refused : Bool) (number : ℕ) (text reply : List ℕ) (this : Bool)
+    → number ≡ 1 + length front → texts ≡ front ++ text ∷ behind → Moves (GainsPart reply) b c
+    → Prints start before front a b refused → IsAnswered before now number text reply this
+    → CutsOff start now texts a c
+Prints-cut start before now texts front behind a b c refused number text reply this at are wrote h said =
+    let more = grown before now number text reply this said in
+    let later : length front + 1 ≡ number = omega (arith, at) in
+    record {
+      front = front;
+      text = text;
+      behind = behind;
+      texts_are = are;
+      one_by_one = GoesOneByOne-then start before now 1 front text h.one_by_one
+          (subst (λ n. GoesOn before now n text) at (GoesOn-answered before now number text reply this said));
+      grows = (h.grows.0 ++ more.0, more.1 ∙ ap (λ w. w ++ more.0) h.grows.1 ∙ append_assoc start h.grows.0 more.0);
+      output = h.output;
+      refused = refused;
+      is_output = subst (λ w. IsOutput w 1 front h.output refused) (sym more.1) (IsOutput-more before more.0 1 front h.output refused h.is_output);
+      reply = reply;
+      this = this;
+      is_reply = subst (λ n. IsReply now n text reply this) (sym later) (IsReply-answered before now number text reply this said);
+      written = Moves-then (Gains h.output) (GainsPart reply) (EndsWithin h.output reply) (λ x y z p q. within x y z h.output reply p q) a b c h.written wrote;
+    }
+
+Prints-stopped : {D : Type 0} (told : D → Option Store) (why : HouseFault) (start : List Entry) (before now : House D) (texts front behind : List (List ℕ)) (a b : Option (List ℕ)) (refused : Bool) (number : ℕ) (text : List ℕ)
+    → number ≡ 1 + length front → texts ≡ front ++ text ∷ behind → IsLegal (entries_of before)
+    → Prints start (entries_of before) front a b refused → HasStopped told why before now number text
+    → StopsIn start (entries_of now) texts a b
+Prints-stopped told why start before now texts front behind a b refused number text at are legal h stopped =
+    let later : number ≡ length front + 1 = omega (arith, at) in
+    record {
+      front = front;
+      text = text;
+      behind = behind;
+      texts_are = are;
+      done = entries_of before;
+      one_by_one = h.one_by_one;
+      grows = h.grows;
+      legal = legal;
+      halfway = subst (λ n. IsHalfway (entries_of before) (entries_of now) n text) later stopped.halfway;
+      output = h.output;
+      refused = refused;
+      is_output = subst (λ w. IsOutput w 1 front h.output refused) (sym stopped.halfway.book)
+          (IsOutput-more (entries_of before) stopped.halfway.added 1 front h.output refused h.is_output);
+      written = h.written;
+    }
+
+number_at : (texts : List (List ℕ)) (i : ℕ) → i < length texts → i + 1 ≡ 1 + length (take i texts)
+number_at texts i below = omega (arith, length-take-le i texts (omega arith))
+
+-- the sink failed in a reply
+pub Halts-cut : (result : Result Bool Stop) (told told' told_now : Option Store) (start before now : List Entry) (texts : List (List ℕ)) (i : ℕ) (text reply : List ℕ) (refused this : Bool) (a b c : Option (List ℕ)) (bytes : List ℕ)
+    → IsErrAnd result (λ e. e ≡ stop.Sink)
+    → i < length texts → text ≡ get_or texts i text → StaysTold told told' → bytes ≡ reply → Moves (GainsPart bytes) b c
+    → Tells told (λ _. Prints start before (take i texts) a b refused) → Tells told' (λ _. IsAnswered before now (i + 1) text reply this)
+    → Tells told_now (λ s. Reads now s.journal) → Tells told_now (IsFaithful now)
+    → IfErr result (λ why. Tells told (λ _. Halts why start now texts a c told_now))
+Halts-cut result told told' told_now start before now texts i text reply refused this a b c bytes err below is stays same wrote_bytes h said reads shows =
+    let wrote : Moves (GainsPart reply) b c = subst (λ w. Moves (GainsPart w) b c) same wrote_bytes in
+    let both : Tells told_now (HasAll now) = Tells-and told_now (λ s. Reads now s.journal) (IsFaithful now) reads shows in
+    passed_up result stop.Sink (λ why. Tells told (λ _. Halts why start now texts a c told_now)) err
+    (Tells-both told told' _ _ _ stays
+    (λ (p : Prints start before (take i texts) a b refused) (q : IsAnswered before now (i + 1) text reply this).
+    (Prints-cut start before now texts (take i texts) (drop (suc i) texts) a b c refused (i + 1) text reply this (number_at texts i below) (split_at texts i text below is) wrote p q, both)) h said)
+
+-- a statement wasn't done to its end
+halts : {D : Type 0} (told : D → Option Store) (why : HouseFault) (start : List Entry) (before now : House D) (texts : List (List ℕ)) (a b : Option (List ℕ))
+    → StopsIn start (entries_of now) texts a b → Leaves why (told now.shelf) (entries_of now)
+    → Halts (stop_of why) start (entries_of now) texts a b (told now.shelf)
+halts told fault.Store start before now texts a b stopped leaves = (stopped, leaves)
+halts told fault.NoMemory start before now texts a b stopped leaves = (stopped, leaves)
+
+pub Halts-stopped : {D : Type 0} (told : D → Option Store) (why : HouseFault) (result : Result Bool Stop) (first : Option Store) (start : List Entry) (before now : House D) (texts : List (List ℕ)) (i : ℕ) (text : List ℕ) (refused : Bool) (a b : Option (List ℕ))
+    → IsErrAnd result (λ e. e ≡ stop_of why)
+    → i < length texts → text ≡ get_or texts i text → StaysTold first (told before.shelf)
+    → Tells first (λ _. Prints start (entries_of before) (take i texts) a b refused) → Tells (told before.shelf) (IsFaithful (entries_of before))
+    → HasStopped told why before now (i + 1) text
+    → IfErr result (λ e. Tells first (λ _. Halts e start (entries_of now) texts a b (told now.shelf)))
+Halts-stopped told why result first start before now texts i text refused a b err below is stays h shows stopped =
+    passed_up result (stop_of why) (λ e. Tells first (λ _. Halts e start (entries_of now) texts a b (told now.shelf))) err
+    (Tells-both' first (told before.shelf) _ (IsFaithful (entries_of before)) _ stays
+    (λ (p : Prints start (entries_of before) (take i texts) a b refused) s (faithful : IsFaithful (entries_of before) s).
+    halts told why start before now texts a b
+    (Prints-stopped told why start before now texts (take i texts) (drop (suc i) texts) a b refused (i + 1) text (number_at texts i below) (split_at texts i text below is) faithful.legal p stopped)
+    stopped.leaves) h shows)

@@ -1,5 +1,5 @@
 -- What the program promises of a script, from what it promises of the statements' texts.
-use Rattle.std.proofs.Common.{◌≡◌, ℕ, zero, suc, ◌+◌, ◌<◌, ◌≤◌, Bool, true, false, ◌||◌, cond, nat_lt, nat_le, Option, Some, None, List, [], ◌∷◌, ◌++◌, length, map, refl, sym, ap, ◌∙◌, subst, arith}
+use Rattle.std.proofs.Common.{◌≡◌, ℕ, ◌+◌, ◌<◌, ◌≤◌, Bool, true, false, ◌||◌, cond, nat_lt, nat_le, IsTrue, IsSome, Option, Some, None, List, [], ◌∷◌, ◌++◌, length, map, refl, sym, ap, ◌∙◌, subst, arith, ◌⊎◌, inl, inr}
 use Rattle.std.proofs.lemmas.List.{append-nil}
 use Rattle.std.proofs.lemmas.Bool.{ltb-false, leb-false, or_parts}
 use Rattle.hv_base.specs.Told.{Moves}
@@ -8,12 +8,21 @@ use Rattle.hv_script.specs.declared.items.Item.{Item}
 use Rattle.hv_script.specs.Items.{items_of, first_of}
 use Rattle.hv_script.specs.Script.{begins_directive, earlier, front, high_line, item_line, is_refused, limit_line, refused_line, texts_of}
 use Rattle.hv_house.specs.House.{StaysTold}
-use Rattle.hv_program.specs.Output.{IsOutput}
+use Rattle.hv_base.specs.Sink.{GainsPart}
+use Rattle.hv_base.specs.Told.{Tells}
+use Rattle.hv_script.specs.Words.{command_of}
+use Rattle.hv_program.specs.declared.stop.Stop.{Stop}
+use Rattle.hv_program.specs.declared.stop.Stop.TheVariants as stop
+use Rattle.hv_program.specs.Stops.{status_of_stop}
 use Rattle.hv_program.specs.Running.{IsShort, AreShort}
 use Rattle.hv_program.specs.Reading.{TakesUpTo}
-use Rattle.hv_program.specs.Headline.{IsAllDone, BytesOf, HasItsFiles, DirectoriesOf, Headline}
-use Rattle.hv_program.specs.Serving.{IsServed, ServedOf, Serves}
+use Rattle.hv_program.specs.Lines.{words_line, script_line}
+use Rattle.hv_program.specs.Refused.{is_one_of}
+use Rattle.hv_program.specs.Results.{IsEmptyStore}
+use Rattle.hv_program.specs.Headline.{IsWhole, IsLineOf, IsCutLine, IsUnread, IsAfter, Headline}
+use Rattle.hv_program.specs.Serving.{ServedOf, Serves, IsSaid, IsSaidOrNot}
 use Rattle.hv_program.proofs.Ends.{tells-still}
+use Rattle.hv_program.proofs.Turns.{StaysTold-same}
 
 -- ---- a script that isn't refused
 
@@ -73,100 +82,196 @@ few-texts script texts e same = subst (λ (t : List (List ℕ)). length t ≤ 10
 pub short-texts : (script : List ℕ) (texts : List (List ℕ)) → refused_line script ≡ None → texts ≡ texts_of script → AreShort texts
 short-texts script texts e same = subst AreShort (sym same) (taken script e).short
 
--- ---- the statuses
+-- ---- the whole, from what each device tells
 
-BytesOf-stopped : (status : ℕ) (script left written now : List ℕ) (store : Store) → 2 ≤ status → BytesOf status script left written now store
-BytesOf-stopped zero script left written now store h = absurd (omega arith)
-BytesOf-stopped (suc zero) script left written now store h = absurd (omega arith)
-BytesOf-stopped (suc (suc n)) script left written now store h = tt
-
-DirectoriesOf-stopped : (status : ℕ) (store : Store) → 2 ≤ status → DirectoriesOf status store
-DirectoriesOf-stopped zero store h = absurd (omega arith)
-DirectoriesOf-stopped (suc zero) store h = absurd (omega arith)
-DirectoriesOf-stopped (suc (suc n)) store h = tt
-
-all_done : (script left written now : List ℕ) (store : Store) (texts : List (List ℕ)) (refused : Bool)
-    → refused_line script ≡ None → left ≡ [] → texts ≡ texts_of script → IsServed texts written now store refused
-    → IsAllDone script left written now store refused
-all_done script left written now store texts refused whole at_end same h = record {
-  whole = whole;
-  at_end = at_end;
-  book = h.book;
-  is_book = h.is_book;
-  output = h.output;
-  wrote = h.wrote;
-  is_output = subst (λ t. IsOutput h.book 1 t h.output refused) same h.is_output;
-}
-
-has_files : (texts : List (List ℕ)) (written now : List ℕ) (store : Store) (refused : Bool) → IsServed texts written now store refused → HasItsFiles store
-has_files texts written now store refused h = record { book = h.book; reads = h.is_book.reads; stands = h.stands }
-
-BytesOf-served : (status : ℕ) (script left written now : List ℕ) (store : Store) (texts : List (List ℕ))
-    → refused_line script ≡ None → left ≡ [] → texts ≡ texts_of script → ServedOf status texts written now store
-    → BytesOf status script left written now store
-BytesOf-served zero script left written now store texts whole at_end same h = all_done script left written now store texts false whole at_end same h
-BytesOf-served (suc zero) script left written now store texts whole at_end same h = all_done script left written now store texts true whole at_end same h
-BytesOf-served (suc (suc n)) script left written now store texts whole at_end same h = tt
-
-DirectoriesOf-served : (status : ℕ) (texts : List (List ℕ)) (written now : List ℕ) (store : Store)
-    → ServedOf status texts written now store → DirectoriesOf status store
-DirectoriesOf-served zero texts written now store h = has_files texts written now store false h
-DirectoriesOf-served (suc zero) texts written now store h = has_files texts written now store true h
-DirectoriesOf-served (suc (suc n)) texts written now store h = tt
-
--- ---- the whole
-
-pub Headline-stopped : (source source' sink sink' : Option (List ℕ)) (told told' : Option Store) (status : ℕ)
-    → 2 ≤ status → StaysTold source source' → StaysTold sink sink' → StaysTold told told'
-    → Headline (record { source = source; sink = sink; store = told }) (record { source = source'; sink = sink'; store = told' }) status
-Headline-stopped source source' sink sink' told told' status high read heard stays = λ script written store at_source at_sink at_store empty.
+pub Headline-by : (words : List (List ℕ)) (source source' sink sink' : Option (List ℕ)) (told told' : Option Store) (status : ℕ)
+    → StaysTold source source' → StaysTold sink sink' → StaysTold told told'
+    → ((script left written now : List ℕ) (store store' : Store) → source ≡ Some script → source' ≡ Some left
+    → sink ≡ Some written → sink' ≡ Some now → told ≡ Some store → told' ≡ Some store' → IsEmptyStore store
+    → IsAfter words status script left written now store store')
+    → Headline words (record { source = source; sink = sink; store = told }) (record { source = source'; sink = sink'; store = told' }) status
+Headline-by words source source' sink sink' told told' status read heard stays by = λ script written store at_source at_sink at_store empty.
     let left = tells-still source source' script read at_source in
     let now = tells-still sink sink' written heard at_sink in
     let after = tells-still told told' store stays at_store in
     record {
       left = left.0;
       now = now.0;
-      store = after.0;
+      store_now = after.0;
       source_tells = left.1;
       sink_tells = now.1;
       store_tells = after.1;
-      bytes = BytesOf-stopped status script left.0 written now.0 after.0 high;
-      directories = DirectoriesOf-stopped status after.0 high;
+      is_after = by script left.0 written now.0 store after.0 at_source left.1 at_sink now.1 at_store after.1 empty;
     }
 
 -- what a move made of a content that was told
-moved : {A : Type 0} (P : A → A → Type 0) (a b : Option A) (x : A) → a ≡ Some x → Moves P a b → (y : A) × (b ≡ Some y) × P x y
-moved P None b x e p = cc
-moved P (Some w) None x e p = absurd p
-moved P (Some w) (Some y) x e p = let same : w ≡ x = cc in (y, refl, subst (λ v. P v y) same p)
+between : {A : Type 0} (P : A → A → Type 0) (a b : Option A) (x y : A) → a ≡ Some x → b ≡ Some y → Moves P a b → P x y
+between P a b x y e f moves =
+    let there : Moves P (Some x) b = subst (λ o. Moves P o b) e moves in
+    subst (λ o. Moves P (Some x) o) f there
 
-pub Headline-served : (bytes : List ℕ) (texts : List (List ℕ)) (source source' sink sink' : Option (List ℕ)) (told told' : Option Store) (status : ℕ)
-    → Moves (TakesUpTo 16777217 bytes) source source' → refused_line bytes ≡ None → texts ≡ texts_of bytes
-    → Serves status texts sink sink' told told'
-    → Headline (record { source = source; sink = sink; store = told }) (record { source = source'; sink = sink'; store = told' }) status
-Headline-served bytes texts source source' sink sink' told told' status read fine same serves = λ script written store at_source at_sink at_store empty.
-    let left = moved (TakesUpTo 16777217 bytes) source source' script at_source read in
-    let served = serves written store at_sink at_store empty in
+one_content : {A : Type 0} (a : Option A) (x y : A) → a ≡ Some x → a ≡ Some y → y ≡ x
+one_content a x y e f = let same : Some y ≡ Some x = sym f ∙ e in cc
+
+still : {A : Type 0} (a b : Option A) (x y : A) → b ≡ a → a ≡ Some x → b ≡ Some y → y ≡ x
+still a b x y same e f = one_content a x y e (sym same ∙ f)
+
+-- ---- the statuses of runs that do nothing
+
+three-or-seven : (why : Stop) (status : ℕ) → IsTrue (is_one_of (3 ∷ 7 ∷ []) (status_of_stop why)) → status ≡ status_of_stop why → (status ≡ 3) ⊎ (status ≡ 7)
+three-or-seven stop.Source status h e = inl e
+three-or-seven stop.Sink status h e = cc
+three-or-seven stop.Store status h e = cc
+three-or-seven stop.NoMemory status h e = inr e
+
+module _ (words : List (List ℕ)) (script left written now : List ℕ) (before after : Store) where
+  quiet : (n : ℕ) → (n ≡ 0 → ⊥) → (n ≡ 1 → ⊥) → (n ≡ 3 → ⊥) → (n ≡ 4 → ⊥) → (n ≡ 5 → ⊥) → (n ≡ 7 → ⊥) → IsAfter words n script left written now before after
+  quiet n zero_ one three four five seven = record {
+    accepted = λ e. absurd (zero_ e);
+    refused = λ e. absurd (one e);
+    source_failed = λ e. absurd (three e);
+    sink_failed = λ e. absurd (four e);
+    store_failed = λ e. absurd (five e);
+    no_memory = λ e. absurd (seven e);
+  }
+
+  after-two : IsAfter words 2 script left written now before after
+  after-two = quiet 2 (λ e. omega (arith, e)) (λ e. omega (arith, e)) (λ e. omega (arith, e)) (λ e. omega (arith, e)) (λ e. omega (arith, e)) (λ e. omega (arith, e))
+
+  after-eight : IsAfter words 8 script left written now before after
+  after-eight = quiet 8 (λ e. omega (arith, e)) (λ e. omega (arith, e)) (λ e. omega (arith, e)) (λ e. omega (arith, e)) (λ e. omega (arith, e)) (λ e. omega (arith, e))
+
+  after-three : IsUnread written now before after → IsAfter words 3 script left written now before after
+  after-three h = record {
+    accepted = λ e. absurd (omega (arith, e));
+    refused = λ e. absurd (omega (arith, e));
+    source_failed = λ e. h;
+    sink_failed = λ e. absurd (omega (arith, e));
+    store_failed = λ e. absurd (omega (arith, e));
+    no_memory = λ e. absurd (omega (arith, e));
+  }
+
+  after-four : IsCutLine words script written now before after → IsAfter words 4 script left written now before after
+  after-four h = record {
+    accepted = λ e. absurd (omega (arith, e));
+    refused = λ e. absurd (omega (arith, e));
+    source_failed = λ e. absurd (omega (arith, e));
+    sink_failed = λ e. inr h;
+    store_failed = λ e. absurd (omega (arith, e));
+    no_memory = λ e. absurd (omega (arith, e));
+  }
+
+  after-seven : IsUnread written now before after → IsAfter words 7 script left written now before after
+  after-seven h = record {
+    accepted = λ e. absurd (omega (arith, e));
+    refused = λ e. absurd (omega (arith, e));
+    source_failed = λ e. absurd (omega (arith, e));
+    sink_failed = λ e. absurd (omega (arith, e));
+    store_failed = λ e. absurd (omega (arith, e));
+    no_memory = λ e. inr h;
+  }
+
+  after-line : (status wanted : ℕ) (line : List ℕ) (sink sink' : Option (List ℕ)) (faults faults' : ℕ) → IsLineOf words script line → IsAfter words wanted script left written now before after
+      → after ≡ before → sink ≡ Some written → sink' ≡ Some now → IsSaid wanted line sink sink' faults faults' status
+      → IsAfter words status script left written now before after
+  after-line status wanted line sink sink' faults faults' is well same at_sink at_now (inl said) =
+      subst (λ n. IsAfter words n script left written now before after) (sym said.0) well
+  after-line status wanted line sink sink' faults faults' is well same at_sink at_now (inr cut) =
+      subst (λ n. IsAfter words n script left written now before after) (sym cut.0)
+      (after-four (record { line = line; is_line = is; wrote = between (GainsPart line) sink sink' written now at_sink at_now cut.1.wrote; store_same = same }))
+
+  after-said : (status wanted : ℕ) (line : List ℕ) (sink sink' : Option (List ℕ)) (faults faults' : ℕ) → IsLineOf words script line → IsAfter words wanted script left written now before after
+      → after ≡ before → sink ≡ Some written → sink' ≡ Some now → IsSaidOrNot wanted line sink sink' faults faults' status
+      → IsAfter words status script left written now before after
+  after-said status wanted line sink sink' faults faults' is well same at_sink at_now (inl said) = after-line status wanted line sink sink' faults faults' is well same at_sink at_now said
+  after-said status wanted line sink sink' faults faults' is well same at_sink at_now (inr unsaid) =
+      subst (λ n. IsAfter words n script left written now before after) (sym unsaid.0)
+      (after-seven (record { wrote = still sink sink' written now unsaid.1 at_sink at_now; store_same = same }))
+
+  after-unread : (status : ℕ) → (status ≡ 3) ⊎ (status ≡ 7) → IsUnread written now before after → IsAfter words status script left written now before after
+  after-unread status (inl e) unread = subst (λ n. IsAfter words n script left written now before after) (sym e) (after-three unread)
+  after-unread status (inr e) unread = subst (λ n. IsAfter words n script left written now before after) (sym e) (after-seven unread)
+
+  after-memory : (status : ℕ) → status ≡ 7 → IsUnread written now before after → IsAfter words status script left written now before after
+  after-memory status e unread = subst (λ n. IsAfter words n script left written now before after) (sym e) (after-seven unread)
+
+  after-served : (status : ℕ) (texts : List (List ℕ)) → IsWhole script left → texts ≡ texts_of script → ServedOf status texts written now before after
+      → IsAfter words status script left written now before after
+  after-served status texts whole same h =
+      let served : ServedOf status (texts_of script) written now before after = subst (λ t. ServedOf status t written now before after) same h in
+      record {
+        accepted = λ e. record { whole = whole; served = served.accepted e };
+        refused = λ e. record { whole = whole; served = served.refused e };
+        source_failed = λ e. absurd (served.source e);
+        sink_failed = λ e. inl (whole, served.sink e);
+        store_failed = λ e. (whole, served.store e);
+        no_memory = λ e. inl (whole, served.memory e);
+      }
+
+-- ---- the cases of a run
+
+pub Headline-words : (words : List (List ℕ)) (source sink sink' : Option (List ℕ)) (told : Option Store) (faults faults' status : ℕ)
+    → command_of words ≡ None → StaysTold sink sink' → IsSaid 2 words_line sink sink' faults faults' status
+    → Headline words (record { source = source; sink = sink; store = told }) (record { source = source; sink = sink'; store = told }) status
+Headline-words words source sink sink' told faults faults' status none heard said =
+    Headline-by words source source sink sink' told told status (StaysTold-same source) heard (StaysTold-same told)
+    (λ script left written now store store' at_source at_left at_sink at_now at_store at_after empty.
+    after-line words script left written now store store' status 2 words_line sink sink' faults faults' (inl (none, refl))
+    (after-two words script left written now store store') (one_content told store store' at_store at_after) at_sink at_now said)
+
+pub Headline-unread : (words : List (List ℕ)) (source source' sink : Option (List ℕ)) (told : Option Store) (status : ℕ) (why : Stop)
+    → StaysTold source source' → status ≡ status_of_stop why → IsTrue (is_one_of (3 ∷ 7 ∷ []) (status_of_stop why))
+    → Headline words (record { source = source; sink = sink; store = told }) (record { source = source'; sink = sink; store = told }) status
+Headline-unread words source source' sink told status why read e h =
+    Headline-by words source source' sink sink told told status read (StaysTold-same sink) (StaysTold-same told)
+    (λ script left written now store store' at_source at_left at_sink at_now at_store at_after empty.
+    after-unread words script left written now store store' status (three-or-seven why status h e)
+    (record { wrote = one_content sink written now at_sink at_now; store_same = one_content told store store' at_store at_after }))
+
+pub Headline-memory : (words : List (List ℕ)) (source source' sink : Option (List ℕ)) (told : Option Store) (status : ℕ)
+    → StaysTold source source' → status ≡ 7
+    → Headline words (record { source = source; sink = sink; store = told }) (record { source = source'; sink = sink; store = told }) status
+Headline-memory words source source' sink told status read e =
+    Headline-by words source source' sink sink told told status read (StaysTold-same sink) (StaysTold-same told)
+    (λ script left written now store store' at_source at_left at_sink at_now at_store at_after empty.
+    after-memory words script left written now store store' status e
+    (record { wrote = one_content sink written now at_sink at_now; store_same = one_content told store store' at_store at_after }))
+
+tells-here : {A : Type 0} (P : A → Type 0) (o : Option A) (x : A) → o ≡ Some x → Tells o P → P x
+tells-here P o x e h = subst (λ w. Tells w P) e h
+
+pub Headline-refused : (words : List (List ℕ)) (source source' sink sink' : Option (List ℕ)) (told : Option Store) (faults faults' status line : ℕ)
+    → IsSome (command_of words) → Tells source (λ script. refused_line script ≡ Some line)
+    → StaysTold source source' → StaysTold sink sink' → IsSaidOrNot 8 (script_line line) sink sink' faults faults' status
+    → Headline words (record { source = source; sink = sink; store = told }) (record { source = source'; sink = sink'; store = told }) status
+Headline-refused words source source' sink sink' told faults faults' status line some refused read heard said =
+    Headline-by words source source' sink sink' told told status read heard (StaysTold-same told)
+    (λ script left written now store store' at_source at_left at_sink at_now at_store at_after empty.
+    after-said words script left written now store store' status 8 (script_line line) sink sink' faults faults'
+    (inr (some, (line, tells-here (λ s. refused_line s ≡ Some line) source script at_source refused, refl)))
+    (after-eight words script left written now store store') (one_content told store store' at_store at_after) at_sink at_now said)
+
+is-whole : (bytes script left : List ℕ) → TakesUpTo 16777217 bytes script left → refused_line bytes ≡ None → (bytes ≡ script) × IsWhole script left
+is-whole bytes script left read fine =
     let within : length bytes ≤ 16777216 = (taken bytes fine).whole in
-    let at_end : left.0 ≡ [] = left.2.ended (omega arith) in
-    let is_script : bytes ≡ script = sym (left.2.taken ∙ ap (λ t. bytes ++ t) at_end ∙ append-nil bytes) in
-    let whole : refused_line script ≡ None = subst (λ (b : List ℕ). refused_line b ≡ None) is_script fine in
-    let texts_are : texts ≡ texts_of script = subst (λ (b : List ℕ). texts ≡ texts_of b) is_script same in
-    record {
-      left = left.0;
-      now = served.now;
-      store = served.store;
-      source_tells = left.1;
-      sink_tells = served.sink_tells;
-      store_tells = served.store_tells;
-      bytes = BytesOf-served status script left.0 written served.now served.store texts whole at_end texts_are served.served;
-      directories = DirectoriesOf-served status texts written served.now served.store served.served;
-    }
+    let at_end : left ≡ [] = read.ended (omega arith) in
+    let is_script : bytes ≡ script = sym (read.taken ∙ ap (λ t. bytes ++ t) at_end ∙ append-nil bytes) in
+    (is_script, record { unrefused = subst (λ (b : List ℕ). refused_line b ≡ None) is_script fine; at_end = at_end })
 
-pub Headline-read : (bytes given : List ℕ) (texts : List (List ℕ)) (source source' sink sink' : Option (List ℕ)) (told told' : Option Store) (status : ℕ)
+pub Headline-served : (words : List (List ℕ)) (bytes given : List ℕ) (texts : List (List ℕ)) (source source' sink sink' : Option (List ℕ)) (told told' : Option Store) (status : ℕ)
     → given ≡ bytes → Moves (TakesUpTo 16777217 bytes) source source' → refused_line given ≡ None → texts ≡ texts_of given
+    → StaysTold source source' → StaysTold sink sink' → StaysTold told told'
     → Serves status texts sink sink' told told'
-    → Headline (record { source = source; sink = sink; store = told }) (record { source = source'; sink = sink'; store = told' }) status
-Headline-read bytes given texts source source' sink sink' told told' status given_is read fine same serves =
-    Headline-served given texts source source' sink sink' told told' status
-    (subst (λ b. Moves (TakesUpTo 16777217 b) source source') (sym given_is) read) fine same serves
+    → Headline words (record { source = source; sink = sink; store = told }) (record { source = source'; sink = sink'; store = told' }) status
+Headline-served words bytes given texts source source' sink sink' told told' status given_is moves fine same read heard stays serves =
+    Headline-by words source source' sink sink' told told' status read heard stays
+    (λ script left written now store store' at_source at_left at_sink at_now at_store at_after empty.
+    let takes : TakesUpTo 16777217 given script left =
+    between (TakesUpTo 16777217 given) source source' script left at_source at_left
+    (subst (λ b. Moves (TakesUpTo 16777217 b) source source') (sym given_is) moves) in
+    let whole = is-whole given script left takes fine in
+    let served = serves written store at_sink at_store empty in
+    let here : ServedOf status texts written now store store' =
+    subst (λ x. ServedOf status texts written now store x) (one_content told' store' served.store at_after served.store_tells)
+    (subst (λ x. ServedOf status texts written x store served.store) (one_content sink' now served.now at_now served.sink_tells) served.served) in
+    after-served words script left written now store store' status texts whole.1 (same ∙ ap texts_of whole.0) here)

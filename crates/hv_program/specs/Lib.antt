@@ -1,7 +1,11 @@
 pub mod Output
+pub mod Statements
+pub mod Results
+pub mod Lines
 pub mod Headline
 pub mod Reading
 pub mod Stops
 pub mod Running
 pub mod Serving
 pub mod Refused
+pub mod Causes

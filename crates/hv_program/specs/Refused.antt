@@ -1,27 +1,16 @@
 -- Runs that do nothing: for words that are no command, a script that is refused, or a journal that isn't empty. Each of
 -- these comes exactly where its cause stands, but for a device that fails or memory that runs out.
-use Rattle.std.specs.Prelude.{◌≡◌, ℕ, ◌==◌, ◌≤◌, Bool, IsTrue, IsSome, Some, None, List, [], ◌∷◌, ◌++◌, length, codes}
-use Rattle.std.specs.Fmt.{decimal}
+use Rattle.std.specs.Prelude.{◌≡◌, ℕ, ◌==◌, ◌≤◌, Bool, IsTrue, IsSome, Some, None, List, [], ◌∷◌, length}
 use Rattle.std.specs.List.{list_any}
 use Rattle.hv_base.specs.Told.{Tells, Moves}
 use Rattle.hv_base.specs.Sink.{Gains}
 use Rattle.hv_script.specs.Words.{command_of}
 use Rattle.hv_script.specs.Script.{refused_line}
+use Rattle.hv_program.specs.Lines.{words_line, script_line, journal_line}
 use Rattle.hv_program.specs.Headline.{Outside}
 
 abbrev pub is_one_of : List ℕ → ℕ → Bool
 is_one_of statuses status = list_any (λ n. n == status) statuses
-
--- ---- the lines
-
-unfoldable pub words_line : List ℕ
-words_line = codes "hive: bad words\n"
-
-unfoldable pub script_line : ℕ → List ℕ
-script_line line = codes "hive: script refused at line " ++ decimal line ++ codes "\n"
-
-unfoldable pub journal_line : ℕ → List ℕ
-journal_line at = codes "hive: bad journal at byte " ++ decimal at ++ codes "\n"
 
 -- ---- what such a run did
 

@@ -1,10 +1,19 @@
 -- What the statements of a script have done, one after another.
-use Rattle.std.specs.Prelude.{◌≡◌, ℕ, ◌≤◌, Bool, Option, List, ◌++◌, length}
+use Rattle.std.specs.Prelude.{◌≡◌, ℕ, ◌+◌, ◌≤◌, Bool, Option, List, [], ◌∷◌, ◌++◌, length}
 use Rattle.std.specs.List.{AllByRecursion}
-use Rattle.hv_base.specs.Told.{Moves}
-use Rattle.hv_base.specs.Sink.{Gains}
+use Rattle.hv_base.specs.Told.{Tells, Moves}
+use Rattle.hv_base.specs.Sink.{Gains, GainsPart}
+use Rattle.hv_shelf.specs.Disk.{Store}
 use Rattle.hv_history.specs.declared.entry.Entry.{Entry}
-use Rattle.hv_program.specs.Output.{IsOutput}
+use Rattle.hv_history.specs.Legal.{IsLegal}
+use Rattle.hv_history.specs.Journal.{Reads}
+use Rattle.hv_house.specs.declared.fault.HouseFault.TheVariants as fault
+use Rattle.hv_house.specs.House.{Leaves, IsFaithful}
+use Rattle.hv_session.specs.Halting.{IsHalfway}
+use Rattle.hv_program.specs.declared.stop.Stop.{Stop}
+use Rattle.hv_program.specs.declared.stop.Stop.TheVariants as stop
+use Rattle.hv_program.specs.Output.{IsReply, IsOutput}
+use Rattle.hv_program.specs.Statements.{GoesOneByOne}
 
 abbrev pub IsShort : List ℕ → Type 0
 IsShort text = length text ≤ 32768
@@ -13,9 +22,56 @@ IsShort text = length text ≤ 32768
 abbrev pub AreShort : List (List ℕ) → Type 0
 AreShort texts = AllByRecursion IsShort texts
 
--- entries were appended to the book, and the replies of these statements were written
+-- the book went on by these statements, and their replies were written
 pub record Prints (book book' : List Entry) (texts : List (List ℕ)) (before now : Option (List ℕ)) (refused : Bool) : Type 0 where
+  pub one_by_one : GoesOneByOne book book' 1 texts
   pub grows : (more : List Entry) × (book' ≡ book ++ more)
   pub output : List ℕ
   pub written : Moves (Gains output) before now
   pub is_output : IsOutput book' 1 texts output refused
+
+-- a front of the reply was written behind what was written before
+abbrev pub EndsWithin : List ℕ → List ℕ → List ℕ → List ℕ → Type 0
+EndsWithin output reply before now = GainsPart reply (before ++ output) now
+
+-- the sink failed in the reply of this statement
+pub record CutsOff (book book' : List Entry) (texts : List (List ℕ)) (before now : Option (List ℕ)) : Type 0 where
+  pub front : List (List ℕ)
+  pub text : List ℕ
+  pub behind : List (List ℕ)
+  pub texts_are : texts ≡ front ++ text ∷ behind
+  pub one_by_one : GoesOneByOne book book' 1 (front ++ text ∷ [])
+  pub grows : (more : List Entry) × (book' ≡ book ++ more)
+  pub output : List ℕ
+  pub refused : Bool
+  pub is_output : IsOutput book' 1 front output refused
+  pub reply : List ℕ
+  pub this : Bool
+  pub is_reply : IsReply book' (length front + 1) text reply this
+  pub written : Moves (EndsWithin output reply) before now
+
+-- the run stopped in this statement
+pub record StopsIn (book book' : List Entry) (texts : List (List ℕ)) (before now : Option (List ℕ)) : Type 0 where
+  pub front : List (List ℕ)
+  pub text : List ℕ
+  pub behind : List (List ℕ)
+  pub texts_are : texts ≡ front ++ text ∷ behind
+  pub done : List Entry
+  pub one_by_one : GoesOneByOne book done 1 front
+  pub grows : (more : List Entry) × (done ≡ book ++ more)
+  pub legal : IsLegal done
+  pub halfway : IsHalfway done book' (length front + 1) text
+  pub output : List ℕ
+  pub refused : Bool
+  pub is_output : IsOutput book' 1 front output refused
+  pub written : Moves (Gains output) before now
+
+abbrev pub HasAll : List Entry → Store → Type 0
+HasAll book store = Reads book store.journal × IsFaithful book store
+
+-- the reasons for which statements stop, and what each leaves
+abbrev pub Halts : Stop → List Entry → List Entry → List (List ℕ) → Option (List ℕ) → Option (List ℕ) → Option Store → Type 0
+Halts stop.Source book book' texts before now told = ⊥
+Halts stop.Sink book book' texts before now told = CutsOff book book' texts before now × Tells told (HasAll book')
+Halts stop.Store book book' texts before now told = StopsIn book book' texts before now × Leaves fault.Store told book'
+Halts stop.NoMemory book book' texts before now told = StopsIn book book' texts before now × Leaves fault.NoMemory told book'

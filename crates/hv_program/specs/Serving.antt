@@ -1,57 +1,64 @@
 -- What serving the statements of a script promises, by the status.
-use Rattle.std.specs.Prelude.{◌≡◌, ◌⊎◌, ℕ, zero, suc, ◌≤◌, Bool, true, false, IsTrue, Result, Ok, Err, if◌then◌else◌, Option, Some, List, [], ◌∷◌, ◌++◌, length}
+use Rattle.std.specs.Prelude.{◌≡◌, ◌⊎◌, ℕ, ◌≤◌, Bool, true, false, IsTrue, Result, Ok, Err, if◌then◌else◌, Option, Some, List, [], ◌∷◌, length}
 use Rattle.hv_base.specs.Told.{Tells, Moves}
-use Rattle.hv_base.specs.Sink.{Gains}
+use Rattle.hv_base.specs.Faults.{Rose}
+use Rattle.hv_base.specs.Sink.{Gains, GainsPart}
 use Rattle.hv_shelf.specs.Disk.{Store}
-use Rattle.hv_history.specs.declared.entry.Entry.{Entry}
-use Rattle.hv_history.specs.State.{state_of}
-use Rattle.hv_stands.specs.Files.{Stands}
 use Rattle.hv_program.specs.declared.stop.Stop.{Stop}
 use Rattle.hv_program.specs.Stops.{status_of_stop}
-use Rattle.hv_program.specs.Output.{IsOutput}
-use Rattle.hv_program.specs.Headline.{IsEmptyStore, IsBook}
-use Rattle.hv_program.specs.Refused.{is_one_of, journal_line}
+use Rattle.hv_program.specs.Lines.{journal_line}
+use Rattle.hv_program.specs.Results.{IsEmptyStore, IsServed, IsCutOff, StopsForMemory, StopsForStore}
+use Rattle.hv_program.specs.Refused.{is_one_of}
 
 -- 0 where no reply is a refusal, and 1 where one is
 abbrev pub ran_status : Result Bool Stop → ℕ
 ran_status (Ok refused) = if refused then 1 else 0
 ran_status (Err stop) = status_of_stop stop
 
--- the replies of these statements were written, by the book that the store has, and the store has its files
-pub record IsServed (texts : List (List ℕ)) (written now : List ℕ) (store : Store) (refused : Bool) : Type 0 where
-  pub book : List Entry
-  pub is_book : IsBook book store
-  pub output : List ℕ
-  pub wrote : now ≡ written ++ output
-  pub is_output : IsOutput book 1 texts output refused
-  pub stands : Stands (state_of book) store.tree
-
-abbrev pub ServedOf : ℕ → List (List ℕ) → List ℕ → List ℕ → Store → Type 0
-ServedOf zero texts written now store = IsServed texts written now store false
-ServedOf (suc zero) texts written now store = IsServed texts written now store true
-ServedOf _ texts written now store = Unit {0}
+-- what was written, what the book has, and which files stand, by the status
+pub record ServedOf (status : ℕ) (texts : List (List ℕ)) (written now : List ℕ) (before after : Store) : Type 0 where
+  pub accepted : status ≡ 0 → IsServed texts written now after false
+  pub refused : status ≡ 1 → IsServed texts written now after true
+  pub source : status ≡ 3 → ⊥
+  pub sink : status ≡ 4 → IsCutOff texts written now after
+  pub store : status ≡ 5 → StopsForStore texts written now before after
+  pub memory : status ≡ 7 → StopsForMemory texts written now before after
 
 -- what the sink and the store tell then
-pub record IsAfterServing (status : ℕ) (texts : List (List ℕ)) (written : List ℕ) (sink : Option (List ℕ)) (told : Option Store) : Type 0 where
+pub record IsAfterServing (status : ℕ) (texts : List (List ℕ)) (written : List ℕ) (before : Store) (sink : Option (List ℕ)) (told : Option Store) : Type 0 where
   pub now : List ℕ
   pub store : Store
   pub sink_tells : sink ≡ Some now
   pub store_tells : told ≡ Some store
-  pub served : ServedOf status texts written now store
+  pub served : ServedOf status texts written now before store
 
 -- over a store that is empty
 abbrev pub Serves : ℕ → List (List ℕ) → Option (List ℕ) → Option (List ℕ) → Option Store → Option Store → Type 0
 Serves status texts sink sink' told told' =
     (written : List ℕ) (store : Store) → sink ≡ Some written → told ≡ Some store → IsEmptyStore store
-    → IsAfterServing status texts written sink' told'
+    → IsAfterServing status texts written store sink' told'
 
--- the line was written and the status is this one, or it is one of the others
+-- the sink and the store are blamed only where they failed
+pub record BlamesOf (status sink sink' store store' : ℕ) : Type 0 where
+  pub sink_failed : status ≡ 4 → Rose sink sink'
+  pub store_failed : status ≡ 5 → Rose store store'
+
+-- The line was written and the status is this one; or a front of it was, and the sink failed; or memory ran out, and
+-- nothing was written.
 pub record IsWritten (line : List ℕ) (sink sink' : Option (List ℕ)) : Type 0 where
   pub wrote : Moves (Gains line) sink sink'
 
-abbrev pub IsSaid : ℕ → List ℕ → List ℕ → Option (List ℕ) → Option (List ℕ) → ℕ → Type 0
-IsSaid wanted others line sink sink' status =
-    ((status ≡ wanted) × IsWritten line sink sink') ⊎ IsTrue (is_one_of others status)
+pub record IsCut (line : List ℕ) (sink sink' : Option (List ℕ)) (faults faults' : ℕ) : Type 0 where
+  pub wrote : Moves (GainsPart line) sink sink'
+  pub cause : Rose faults faults'
+
+abbrev pub IsSaid : ℕ → List ℕ → Option (List ℕ) → Option (List ℕ) → ℕ → ℕ → ℕ → Type 0
+IsSaid wanted line sink sink' faults faults' status =
+    ((status ≡ wanted) × IsWritten line sink sink') ⊎ ((status ≡ 4) × IsCut line sink sink' faults faults')
+
+abbrev pub IsSaidOrNot : ℕ → List ℕ → Option (List ℕ) → Option (List ℕ) → ℕ → ℕ → ℕ → Type 0
+IsSaidOrNot wanted line sink sink' faults faults' status =
+    IsSaid wanted line sink sink' faults faults' status ⊎ ((status ≡ 7) × (sink' ≡ sink))
 
 -- a journal that isn't empty is refused, and the store is then as it was
 pub record IsClosed (sink sink' : Option (List ℕ)) (told told' : Option Store) : Type 0 where

@@ -1,10 +1,13 @@
 ghost use Rattle.std.specs.Prelude.{◌≡◌, ◌≤◌, [], ◌∷◌, length, map};
 ghost use Rattle.std.specs.String.{string_bytes};
 ghost use Rattle.hv_house.specs.House.{StaysTold};
+ghost use Rattle.hv_house.specs.Booting.{SparesHistory};
 ghost use Rattle.hv_program.specs.Headline.{Headline};
-ghost use Rattle.hv_program.specs.Refused.{script_line, journal_line, Refuses};
+ghost use Rattle.hv_program.specs.Lines.{script_line, journal_line};
+ghost use Rattle.hv_program.specs.Refused.{is_one_of, Refuses};
+ghost use Rattle.hv_program.specs.Causes.{HasCauses, Completes};
 ghost use Rattle.hv_program.specs.Running.{AreShort};
-ghost use Rattle.hv_program.specs.Serving.{ran_status, Serves, IsSaid, Opens};
+ghost use Rattle.hv_program.specs.Serving.{ran_status, Serves, BlamesOf, IsSaid, IsSaidOrNot, Opens};
 
 use crate::reading::read_front;
 use crate::run::run;
@@ -28,7 +31,8 @@ pub struct Ended<D> {
 fn said<O: Sink>(sink: &mut O, line: &[u8], status: u8) -> u8
     requires stopped { 2 ≤ status }
     ensures stopped { 2 ≤ result }
-    ensures said { IsSaid status (4 ∷ []) line.now (O.written sink.old) (O.written sink.new) result }
+    ensures said { IsSaid status line.now (O.written sink.old) (O.written sink.new)
+        (O.faults sink.old) (O.faults sink.new) result }
     ensures heard { StaysTold (O.written sink.old) (O.written sink.new) }
 {
     match write_all(sink, line) {
@@ -37,10 +41,11 @@ fn said<O: Sink>(sink: &mut O, line: &[u8], status: u8) -> u8
     }
 }
 
-#[tactic(auto, unfolding(crate::specs::Refused::script_line))]
+#[tactic(auto, unfolding(crate::specs::Lines::script_line))]
 fn refused_script<O: Sink>(alloc: Global, sink: &mut O, line: u64) -> u8
     ensures stopped { 2 ≤ result }
-    ensures said { IsSaid 8 (4 ∷ 7 ∷ []) (script_line line) (O.written sink.old) (O.written sink.new) result }
+    ensures said { IsSaidOrNot 8 (script_line line) (O.written sink.old) (O.written sink.new)
+        (O.faults sink.old) (O.faults sink.new) result }
     ensures heard { StaysTold (O.written sink.old) (O.written sink.new) }
 {
     match format!(in alloc; "hive: script refused at line {line}\n") {
@@ -49,10 +54,11 @@ fn refused_script<O: Sink>(alloc: Global, sink: &mut O, line: u64) -> u8
     }
 }
 
-#[tactic(auto, unfolding(crate::specs::Refused::journal_line))]
+#[tactic(auto, unfolding(crate::specs::Lines::journal_line))]
 fn bad_journal<O: Sink>(alloc: Global, sink: &mut O, at: u64) -> u8
     ensures stopped { 2 ≤ result }
-    ensures said { IsSaid 6 (4 ∷ 7 ∷ []) (journal_line at) (O.written sink.old) (O.written sink.new) result }
+    ensures said { IsSaidOrNot 6 (journal_line at) (O.written sink.old) (O.written sink.new)
+        (O.faults sink.old) (O.faults sink.new) result }
     ensures heard { StaysTold (O.written sink.old) (O.written sink.new) }
 {
     match format!(in alloc; "hive: bad journal at byte {at}\n") {
@@ -84,6 +90,11 @@ fn serve<O: Sink, D: Shelf + Drop>(
         (O.written sink.new) (D.told shelf) (D.told result.shelf) }
     ensures opened { Opens (O.written sink.old) (O.written sink.new)
         (D.told shelf) (D.told result.shelf) result.status }
+    ensures blames { BlamesOf result.status (O.faults sink.old) (O.faults sink.new)
+        (D.faults shelf) (D.faults result.shelf) }
+    ensures kept { SparesHistory (D.told shelf) (D.told result.shelf) }
+    ensures heard { StaysTold (O.written sink.old) (O.written sink.new) }
+    ensures tells { StaysTold (D.told shelf) (D.told result.shelf) }
 {
     match House::boot(alloc, shelf) {
         Ok(mut house) => {
@@ -123,7 +134,7 @@ pub fn hive<R: Threads + Wait + Sync, I: Source, O: Sink, D: Shelf + Send + Drop
     shelf: D,
     _gate: &G,
 ) -> Ended<D>
-    ensures headline { Headline
+    ensures headline { Headline (map string_bytes words.now)
         (record { source = I.left source.old; sink = O.written sink.old; store = D.told shelf })
         (record {
           source = I.left source.new;
@@ -136,6 +147,22 @@ pub fn hive<R: Threads + Wait + Sync, I: Source, O: Sink, D: Shelf + Send + Drop
           source = I.left source.new;
           sink = O.written sink.new;
           store = D.told result.shelf;
+        }) result.status }
+    ensures kept { SparesHistory (D.told shelf) (D.told result.shelf) }
+    ensures faults { HasCauses
+        (record { source = I.faults source.old; sink = O.faults sink.old; store = D.faults shelf })
+        (record {
+          source = I.faults source.new;
+          sink = O.faults sink.new;
+          store = D.faults result.shelf;
+        }) result.status }
+    ensures complete { Completes (map string_bytes words.now)
+        (record { source = I.left source.old; sink = O.written sink.old; store = D.told shelf })
+        (record { source = I.faults source.old; sink = O.faults sink.old; store = D.faults shelf })
+        (record {
+          source = I.faults source.new;
+          sink = O.faults sink.new;
+          store = D.faults result.shelf;
         }) result.status }
 {
     if read_words(words).is_none() {

@@ -1,4 +1,5 @@
-ghost use Rattle.std.specs.Prelude.{◌≤◌, [], ◌∷◌, length, IfOk, IfErr, IsTrue};
+ghost use Rattle.std.specs.Prelude.{◌≡◌, ◌≤◌, [], ◌∷◌, length, IfOk, IfErr, IsTrue};
+ghost use Rattle.hv_base.specs.Faults.{Rose};
 ghost use Rattle.hv_base.specs.Told.{Moves};
 ghost use Rattle.hv_house.specs.House.{StaysTold};
 ghost use Rattle.hv_program.specs.Reading.{TakesUpTo};
@@ -18,6 +19,8 @@ pub fn read_front<S: Source>(alloc: Global, source: &mut S, most: usize) -> Resu
     ensures taken { IfOk result (λ bytes.
         Moves (TakesUpTo most bytes.items) (S.left source.old) (S.left source.new)) }
     ensures tells { StaysTold (S.left source.old) (S.left source.new) }
+    ensures blames { IfErr result (λ stop. stop ≡ Stop.Source
+        → Rose (S.faults source.old) (S.faults source.new)) }
     ensures why { IfErr result (λ stop. IsTrue (is_one_of (3 ∷ 7 ∷ []) (status_of_stop stop))) }
 {
     let mut memory = vec![in alloc; 0u8; CHUNK]?;

@@ -2,8 +2,8 @@ ghost use Rattle.std.specs.Prelude.{◌≤◌, ◌+◌, ◌*◌, [], ◌∷◌, 
 ghost use Rattle.hv_base.specs.Told.{Tells};
 ghost use Rattle.hv_house.specs.House.{entries_of, book_limit, IsReady, Shows, StaysTold};
 ghost use Rattle.hv_program.specs.Refused.{is_one_of};
-ghost use Rattle.hv_program.specs.Running.{AreShort, Prints};
-ghost use Rattle.hv_program.specs.Stops.{status_of_stop};
+ghost use Rattle.hv_program.specs.Running.{AreShort, Prints, Halts};
+ghost use Rattle.hv_program.specs.Stops.{status_of_stop, Blames};
 
 use crate::stop::Stop;
 use hv_base::{Sink, Text, write_all};
@@ -29,8 +29,15 @@ pub fn run<O: Sink, D: Shelf>(
     ensures prints { Shows D.told house.old (entries_of house.old) → IfOk result (λ refused.
         Tells (D.told house.old.shelf) (λ _. Prints (entries_of house.old) (entries_of house.new)
         texts.now (O.written sink.old) (O.written sink.new) refused)) }
+    ensures halts { Shows D.told house.old (entries_of house.old) → IfErr result (λ stop.
+        Tells (D.told house.old.shelf) (λ _. Halts stop (entries_of house.old) (entries_of house.new)
+        texts.now (O.written sink.old) (O.written sink.new) (D.told house.new.shelf))) }
     ensures tells { StaysTold (D.told house.old.shelf) (D.told house.new.shelf) }
     ensures heard { StaysTold (O.written sink.old) (O.written sink.new) }
+    ensures later_store { D.faults house.old.shelf ≤ D.faults house.new.shelf }
+    ensures later_sink { O.faults sink.old ≤ O.faults sink.new }
+    ensures blames { IfErr result (λ stop. Blames stop (O.faults sink.old) (O.faults sink.new)
+        (D.faults house.old.shelf) (D.faults house.new.shelf)) }
     ensures why { IfErr result (λ stop. IsTrue (is_one_of (4 ∷ 5 ∷ 7 ∷ []) (status_of_stop stop))) }
 {
     let mut refused = false;

@@ -2,7 +2,7 @@
 
 use hv_base::{MemorySink, MemorySource, NoGate, TableId, Text};
 use hv_program::hive;
-use hv_shelf::{Fail as Planned, MemoryShelf, Op, Place};
+use hv_shelf::{Fail as Planned, MemoryShelf, Op, Place, Shelf};
 use std::alloc::Global;
 use std::process::Abort;
 use std::sync::Wait;
@@ -98,30 +98,114 @@ fn what_scripts_print(rt: HostRuntime) -> Result<(), Fail> {
     Ok(())
 }
 
-/// Where a call of the store fails, the run ends with 5, behind the replies before that statement.
-/// Opening syncs three times, CREATE TABLE and SELECT six times, and INSERT eight times.
+/// Each refusal at its smallest script, and between statements that go on rightly.
+#[test]
+fn refusals(rt: HostRuntime) -> Result<(), Fail> {
+    let alloc = rt.alloc();
+    let rows = [
+        ("SELECT # FROM t;", "FAILED 1 BadCharacter at 7\n"),
+        (
+            "CREATE TABLE t (a INT); SELECT * FROM # t; SELECT * FROM t;",
+            "OK\nFAILED 1 BadCharacter at 14\na\n",
+        ),
+        ("`", "FAILED 2 OpenString at 0\n"),
+        (
+            "CREATE TABLE t (a INT); INSERT INTO t VALUES ('1); SELECT * FROM t;",
+            "OK\nFAILED 2 OpenString at 22\n",
+        ),
+        ("9223372036854775808", "FAILED 3 WideNumber at 0\n"),
+        (
+            "CREATE TABLE t (a INT); INSERT INTO t VALUES (9223372036854775808); SELECT * FROM t;",
+            "OK\nFAILED 3 WideNumber at 22\na\n",
+        ),
+        (";", "FAILED 4 Syntax\n"),
+        (
+            "CREATE TABLE t (a INT); DROP TABLE t; UPDATE t SET a = 1; SELECT * FROM t;",
+            "OK\nFAILED 4 Syntax\nFAILED 4 Syntax\na\n",
+        ),
+        ("SELECT * FROM t", "FAILED 10 NoTable\n"),
+        ("INSERT INTO t VALUES (1)", "FAILED 10 NoTable\n"),
+        (
+            "SELECT * FROM t; INSERT INTO t VALUES (1,2),(3); CREATE TABLE t (a INT);\nINSERT INTO t VALUES (1); SELECT * FROM t;",
+            "FAILED 10 NoTable\nFAILED 10 NoTable\nOK\nOK inserted 1 deleted 0\na\n1\n",
+        ),
+        (
+            "CREATE TABLE t (a INT); INSERT INTO t VALUES (1,2);",
+            "OK\nFAILED 14 BadCount\n",
+        ),
+        (
+            "CREATE TABLE t (a INT, b INT); INSERT INTO t VALUES (1,2),(3); INSERT INTO t VALUES (5,6);\nINSERT INTO t VALUES (1); SELECT * FROM t;",
+            "OK\nFAILED 14 BadCount\nOK inserted 1 deleted 0\nFAILED 14 BadCount\na\tb\n5\t6\n",
+        ),
+        (
+            "CREATE TABLE t (a INT); CREATE TABLE t (a INT);",
+            "OK\nFAILED 18 TableExists\n",
+        ),
+        (
+            "CREATE TABLE t (a INT); CREATE TABLE T (b STRING); INSERT INTO t VALUES (1); SELECT * FROM T;",
+            "OK\nFAILED 18 TableExists\nOK inserted 1 deleted 0\na\n1\n",
+        ),
+    ];
+    for (script, printed) in rows {
+        runs(&rt, alloc, empty(alloc)?, script, 1, printed)?;
+    }
+    Ok(())
+}
+
+/// Runs the first script over a store where one call fails.
+fn fails<R: Threads + Wait + Sync + Abort>(
+    rt: &R,
+    alloc: Global,
+    op: Op,
+    nth: u64,
+    status: u8,
+    printed: &str,
+) -> Result<(), Fail> {
+    let shelf = MemoryShelf::new(alloc, vec![in alloc; Planned { op, nth }]?)?;
+    let shelf = runs(rt, alloc, shelf, FIRST, status, printed)?;
+    // The store was used no more behind the fault.
+    assert_eq!(rt; shelf.fault_count(), if status == 5 { 1 } else { 0 });
+    Ok(())
+}
+
+const CREATED: &str = "OK\n";
+const INSERTED: &str = "OK\nOK inserted 2 deleted 0\n";
+const ALL: &str = "OK\nOK inserted 2 deleted 0\na\ts\n1\tx\n2\ty\n";
+
+/// The journal is written and synced once for the opening, and then twice for each entry: for the
+/// opening's one, the three of CREATE TABLE, the four of INSERT, and the three of SELECT.
+#[test]
+fn a_journal_that_fails(rt: HostRuntime) -> Result<(), Fail> {
+    let alloc = rt.alloc();
+    for nth in 0..24 {
+        let (status, printed) = match nth {
+            0..=8 => (5, ""),
+            9..=16 => (5, CREATED),
+            17..=22 => (5, INSERTED),
+            _ => (0, ALL),
+        };
+        fails(&rt, alloc, Op::JournalWrite, nth, status, printed)?;
+        fails(&rt, alloc, Op::JournalSync, nth, status, printed)?;
+    }
+    Ok(())
+}
+
+/// The journal's length is asked once, INSERT puts one file, and SELECT lists and gets it.
 #[test]
 fn a_store_that_fails(rt: HostRuntime) -> Result<(), Fail> {
     let alloc = rt.alloc();
-    let (first, second) = ("OK\n", "OK\nOK inserted 2 deleted 0\n");
-    let whole = "OK\nOK inserted 2 deleted 0\na\ts\n1\tx\n2\ty\n";
     let rows = [
-        (Op::JournalLen, 0, 5, ""),
-        (Op::JournalWrite, 0, 5, ""),
-        (Op::JournalSync, 0, 5, ""),
-        (Op::JournalSync, 8, 5, ""),
-        (Op::JournalSync, 9, 5, first),
-        (Op::Put, 0, 5, first),
-        (Op::JournalSync, 16, 5, first),
-        (Op::JournalSync, 17, 5, second),
-        (Op::List, 0, 5, second),
-        (Op::Get, 0, 5, second),
-        (Op::JournalSync, 22, 5, second),
-        (Op::JournalSync, 23, 0, whole),
+        (Op::JournalLen, ""),
+        (Op::Put, CREATED),
+        (Op::List, INSERTED),
+        (Op::Get, INSERTED),
     ];
-    for (op, nth, status, printed) in rows {
-        let shelf = MemoryShelf::new(alloc, vec![in alloc; Planned { op, nth }]?)?;
-        runs(&rt, alloc, shelf, FIRST, status, printed)?;
+    for (op, printed) in rows {
+        fails(&rt, alloc, op, 0, 5, printed)?;
+        fails(&rt, alloc, op, 1, 0, ALL)?;
+    }
+    for op in [Op::JournalRead, Op::Rename, Op::Remove] {
+        fails(&rt, alloc, op, 0, 0, ALL)?;
     }
     Ok(())
 }

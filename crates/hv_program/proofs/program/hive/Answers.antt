@@ -1,23 +1,37 @@
-use Rattle.std.proofs.Common.{◌≤◌, arith}
-use Rattle.hv_program.proofs.Ends.{stopped-status}
-use Rattle.hv_program.proofs.Turns.{StaysTold-same}
-use Rattle.hv_program.proofs.Whole.{few-texts, short-texts, Headline-stopped, Headline-read}
-use Rattle.std.proofs.Common.{refl, sym, subst}
-use Rattle.hv_program.proofs.Refusing.{refuses-words, refuses-read, refuses-served, refuses-script, refuses-memory, tells-refused, no-command, a-command, said-words, refused-at}
+use Rattle.std.proofs.Common.{refl}
 use Rattle.hv_script.specs.Script.{texts_of}
+use Rattle.hv_program.proofs.Turns.{spares-same}
+use Rattle.hv_program.proofs.Whole.{few-texts, short-texts, Headline-words, Headline-unread, Headline-memory, Headline-refused, Headline-served}
+use Rattle.hv_program.proofs.Refusing.{refuses-words, refuses-read, refuses-served, refuses-script, refuses-memory, tells-refused, no-command, a-command, said-words, refused-at}
+use Rattle.hv_program.proofs.Blaming.{causes-words, causes-read, causes-script, causes-memory, causes-served, completes}
 use Rattle.hv_program.proofs.program.hive.Goals as goal
 
 pub returns-then-is_none : goal.returns-then-is_none
-returns-then-is_none g c = record {
-  headline = Headline-stopped _ _ _ _ _ _ _ c.said.ensures.stopped (StaysTold-same _) c.said.ensures.heard (StaysTold-same _);
-  refused = refuses-words _ _ _ _ (no-command c.read_words.result _ c.is_none.result c.read_words.ensures.value c.is_none.ensures c.if-is_none.true) refl refl
-      (said-words _ _ _ c.said.ensures.said);
-}
+returns-then-is_none g c =
+    let none = no-command c.read_words.result _ c.is_none.result c.read_words.ensures.value c.is_none.ensures c.if-is_none.true in
+    let line = said-words _ _ _ _ _ c.said.ensures.said in
+    let refused = refuses-words _ _ _ _ none refl refl _ _ line in
+    let causes = causes-words _ _ _ _ _ _ line in
+    record {
+      headline = Headline-words _ _ _ _ _ _ _ _ none c.said.ensures.heard line;
+      refused = refused;
+      kept = spares-same _;
+      faults = causes;
+      complete = completes _ _ _ _ _ _ _ _ refused causes;
+    }
 
 pub returns-in-Err : goal.returns-in-Err
 returns-in-Err g c =
-    let high : 2 ≤ c.status.result = subst (λ n. 2 ≤ n) (sym c.status.ensures) (stopped-status c.in-Err.stop) in
-    record { headline = Headline-stopped _ _ _ _ _ _ _ high c.in-Err.ensures.tells (StaysTold-same _) (StaysTold-same _); refused = refuses-read _ _ _ _ c.in-Err.stop (a-command c.read_words.result _ c.is_none.result c.read_words.ensures.value c.is_none.ensures c.if-is_none.false) c.status.ensures c.in-Err.ensures.why }
+    let some = a-command c.read_words.result _ c.is_none.result c.read_words.ensures.value c.is_none.ensures c.if-is_none.false in
+    let refused = refuses-read _ _ _ _ c.in-Err.stop some c.status.ensures c.in-Err.ensures.why in
+    let causes = causes-read _ _ _ c.in-Err.stop c.status.ensures c.in-Err.ensures.why c.in-Err.ensures.blames in
+    record {
+      headline = Headline-unread _ _ _ _ _ _ c.in-Err.stop c.in-Err.ensures.tells c.status.ensures c.in-Err.ensures.why;
+      refused = refused;
+      kept = spares-same _;
+      faults = causes;
+      complete = completes _ _ _ _ _ _ _ _ refused causes;
+    }
 
 pub serve-requires-clause-few : goal.serve-requires-clause-few
 serve-requires-clause-few g c = few-texts c.deref.result.now _ c.in-Ok-read_script.ensures.read.0 c.in-Ok-read_script.ensures.read.1
@@ -26,21 +40,44 @@ pub serve-requires-clause-short : goal.serve-requires-clause-short
 serve-requires-clause-short g c = short-texts c.deref.result.now _ c.in-Ok-read_script.ensures.read.0 c.in-Ok-read_script.ensures.read.1
 
 pub returns-in-Ok-read_script : goal.returns-in-Ok-read_script
-returns-in-Ok-read_script g c = record {
-  headline = Headline-read c.in-Ok.bytes.items c.deref.result.now c.in-Ok-read_script.script.texts _ _ _ _ _ _ _ c.deref.ensures.value c.in-Ok.ensures.taken
-      c.in-Ok-read_script.ensures.read.0 c.in-Ok-read_script.ensures.read.1 c.serve.ensures.served;
-  refused = refuses-served _ _ _ _ (a-command c.read_words.result _ c.is_none.result c.read_words.ensures.value c.is_none.ensures c.if-is_none.false) (tells-refused c.in-Ok.bytes.items c.deref.result.now _ _ _ c.deref.ensures.value c.in-Ok.ensures.taken c.in-Ok-read_script.ensures.read.0) c.serve.ensures.opened;
-}
+returns-in-Ok-read_script g c =
+    let some = a-command c.read_words.result _ c.is_none.result c.read_words.ensures.value c.is_none.ensures c.if-is_none.false in
+    let fine = tells-refused c.in-Ok.bytes.items c.deref.result.now _ _ _ c.deref.ensures.value c.in-Ok.ensures.taken c.in-Ok-read_script.ensures.read.0 in
+    let refused = refuses-served _ _ _ _ some fine c.serve.ensures.opened in
+    let causes = causes-served _ _ _ c.serve.ensures.opened.only c.serve.ensures.blames in
+    record {
+      headline = Headline-served _ c.in-Ok.bytes.items c.deref.result.now c.in-Ok-read_script.script.texts _ _ _ _ _ _ _ c.deref.ensures.value c.in-Ok.ensures.taken
+          c.in-Ok-read_script.ensures.read.0 c.in-Ok-read_script.ensures.read.1 c.in-Ok.ensures.tells c.serve.ensures.heard c.serve.ensures.tells c.serve.ensures.served;
+      refused = refused;
+      kept = c.serve.ensures.kept;
+      faults = causes;
+      complete = completes _ _ _ _ _ _ _ _ refused causes;
+    }
 
 pub returns-in-Err-Refused : goal.returns-in-Err-Refused
-returns-in-Err-Refused g c = record {
-  headline = Headline-stopped _ _ _ _ _ _ _ c.refused_script.ensures.stopped c.in-Ok.ensures.tells c.refused_script.ensures.heard (StaysTold-same _);
-  refused = refuses-script _ _ _ _ c.in-Err-Refused.line (a-command c.read_words.result _ c.is_none.result c.read_words.ensures.value c.is_none.ensures c.if-is_none.false)
-      (tells-refused c.in-Ok.bytes.items c.deref.result.now _ _ _ c.deref.ensures.value c.in-Ok.ensures.taken
-      (refused-at c.deref.result.now (texts_of c.deref.result.now) c.in-Err-Refused.field-0 c.in-Err-Refused.line c.in-Err-Refused.field-0-is c.in-Err-Refused.ensures.read)) refl c.refused_script.ensures.said;
-}
+returns-in-Err-Refused g c =
+    let some = a-command c.read_words.result _ c.is_none.result c.read_words.ensures.value c.is_none.ensures c.if-is_none.false in
+    let at = tells-refused c.in-Ok.bytes.items c.deref.result.now _ _ _ c.deref.ensures.value c.in-Ok.ensures.taken
+    (refused-at c.deref.result.now (texts_of c.deref.result.now) c.in-Err-Refused.field-0 c.in-Err-Refused.line c.in-Err-Refused.field-0-is c.in-Err-Refused.ensures.read) in
+    let refused = refuses-script _ _ _ _ c.in-Err-Refused.line some at refl _ _ c.refused_script.ensures.said in
+    let causes = causes-script _ _ _ _ _ _ c.refused_script.ensures.said in
+    record {
+      headline = Headline-refused _ _ _ _ _ _ _ _ _ c.in-Err-Refused.line some at c.in-Ok.ensures.tells c.refused_script.ensures.heard c.refused_script.ensures.said;
+      refused = refused;
+      kept = spares-same _;
+      faults = causes;
+      complete = completes _ _ _ _ _ _ _ _ refused causes;
+    }
 
 pub returns : goal.returns
 returns g c =
-    let high : 2 ≤ c.status-in-Err-NoMemory.result = omega (arith, c.status-in-Err-NoMemory.ensures) in
-    record { headline = Headline-stopped _ _ _ _ _ _ _ high c.in-Ok.ensures.tells (StaysTold-same _) (StaysTold-same _); refused = refuses-memory _ _ _ _ (a-command c.read_words.result _ c.is_none.result c.read_words.ensures.value c.is_none.ensures c.if-is_none.false) c.status-in-Err-NoMemory.ensures }
+    let some = a-command c.read_words.result _ c.is_none.result c.read_words.ensures.value c.is_none.ensures c.if-is_none.false in
+    let refused = refuses-memory _ _ _ _ some c.status-in-Err-NoMemory.ensures in
+    let causes = causes-memory _ _ _ c.status-in-Err-NoMemory.ensures in
+    record {
+      headline = Headline-memory _ _ _ _ _ _ c.in-Ok.ensures.tells c.status-in-Err-NoMemory.ensures;
+      refused = refused;
+      kept = spares-same _;
+      faults = causes;
+      complete = completes _ _ _ _ _ _ _ _ refused causes;
+    }

@@ -1,25 +1,40 @@
-use Rattle.std.proofs.Common.{◌≤◌, ap, arith}
 use Rattle.hv_house.specs.House.{entries_of, IsReady}
-use Rattle.hv_program.proofs.Ends.{Serves-stopped, Serves-run}
-use Rattle.hv_program.proofs.Turns.{StaysTold-same}
+use Rattle.std.proofs.Common.{ap}
+use Rattle.hv_program.proofs.Ends.{Serves-run, Serves-store, Serves-memory}
+use Rattle.hv_program.proofs.Turns.{spares-empty, StaysTold-same, StaysTold-then, StaysTold-moved, StaysTold-is}
 use Rattle.hv_program.proofs.Refusing.{opens-run, opens-store, opens-memory}
+use Rattle.hv_program.proofs.Blaming.{blames-run, blames-store, blames-memory}
 use Rattle.hv_program.proofs.program.serve.Goals as goal
 
 pub returns-in-Ok : goal.returns-in-Ok
 returns-in-Ok g c = record {
   served = Serves-run _ _ _ c.run-ran.result _ _ _ _ _ _ (entries_of c.in-Ok.house) (entries_of c.run-ran.new.house) (IsReady g.D.Shelf.told c.run-ran.new.house)
       c.status_of.ensures.value c.as_slice.ensures (ap g.D.Shelf.told c.close.ensures)
-      c.in-Ok.ensures.booted c.in-Ok.ensures.tree (λ r. r.kept.reads) c.run-ran.ensures.ready c.run-ran.ensures.shows c.run-ran.ensures.prints
+      c.in-Ok.ensures.booted c.in-Ok.ensures.tree (λ r. r.kept.reads) c.run-ran.ensures.ready c.run-ran.ensures.shows c.run-ran.ensures.prints c.run-ran.ensures.halts
       c.run-ran.ensures.tells c.run-ran.ensures.heard;
   opened = opens-run c.run-ran.result _ _ _ _ _ c.status_of.ensures.value c.in-Ok.ensures.empty c.run-ran.ensures.why;
+  blames = blames-run c.run-ran.result _ _ _ _ _ _ _ c.status_of.ensures.value c.in-Ok.ensures.later (ap g.D.Shelf.faults c.close.ensures) c.run-ran.ensures.blames;
+  kept = spares-empty _ _ c.in-Ok.ensures.empty;
+  heard = c.run-ran.ensures.heard;
+  tells = StaysTold-is _ _ _ (StaysTold-then _ _ _ (StaysTold-moved _ _ _ c.in-Ok.ensures.tree) c.run-ran.ensures.tells) (ap g.D.Shelf.told c.close.ensures);
 }
 
 pub returns-in-Err-Store-default : goal.returns-in-Err-Store-default
-returns-in-Err-Store-default g c =
-    let high : 2 ≤ c.status.result = omega (arith, c.status.ensures) in
-    record { served = Serves-stopped _ _ _ _ _ _ high (StaysTold-same _) c.in-Err-Store-default.ensures.tells; opened = opens-store _ _ _ _ _ c.status.ensures }
+returns-in-Err-Store-default g c = record {
+  served = Serves-store _ _ _ _ _ _ c.status.ensures c.in-Err-Store-default.field-0-0-is c.in-Err-Store-default.ensures.same_tree c.in-Err-Store-default.ensures.stopped;
+  opened = opens-store _ _ _ _ _ c.status.ensures;
+  blames = blames-store _ _ _ _ _ c.status.ensures c.in-Err-Store-default.field-0-0-is c.in-Err-Store-default.ensures.cause.failed;
+  kept = c.in-Err-Store-default.ensures.kept;
+  heard = StaysTold-same _;
+  tells = c.in-Err-Store-default.ensures.tells;
+}
 
 pub returns-in-Err-NoMemory-default : goal.returns-in-Err-NoMemory-default
-returns-in-Err-NoMemory-default g c =
-    let high : 2 ≤ c.status-in-Err-NoMemory-default.result = omega (arith, c.status-in-Err-NoMemory-default.ensures) in
-    record { served = Serves-stopped _ _ _ _ _ _ high (StaysTold-same _) c.in-Err-NoMemory-default.ensures.tells; opened = opens-memory _ _ _ _ _ c.status-in-Err-NoMemory-default.ensures }
+returns-in-Err-NoMemory-default g c = record {
+  served = Serves-memory _ _ _ _ _ _ c.status-in-Err-NoMemory-default.ensures c.in-Err-NoMemory-default.field-0-0-is c.in-Err-NoMemory-default.ensures.same_tree c.in-Err-NoMemory-default.ensures.stopped;
+  opened = opens-memory _ _ _ _ _ c.status-in-Err-NoMemory-default.ensures;
+  blames = blames-memory _ _ _ _ c.status-in-Err-NoMemory-default.ensures;
+  kept = c.in-Err-NoMemory-default.ensures.kept;
+  heard = StaysTold-same _;
+  tells = c.in-Err-NoMemory-default.ensures.tells;
+}

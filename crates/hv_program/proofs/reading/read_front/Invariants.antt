@@ -7,6 +7,7 @@ abbrev pub invariant-loop-chunk : goal.invariant-loop-chunk
 invariant-loop-chunk g l = record {
   chunk : length l.chunk ≡ 65536;
   within : vec_len l.bytes ≤ l.most;
+  later : g.S.Source.faults l.initial.source ≤ g.S.Source.faults l.source;
   given : Moves (GivesFront l.bytes.items) (g.S.Source.left l.initial.source) (g.S.Source.left l.source);
 }
 

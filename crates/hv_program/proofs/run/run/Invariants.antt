@@ -13,4 +13,6 @@ invariant-loop-i g l = record {
       (λ _. Prints (entries_of l.initial.house) (entries_of l.house) (take l.i l.texts) (g.O.Sink.written l.initial.sink) (g.O.Sink.written l.sink) l.refused);
   tells : StaysTold (g.D.Shelf.told l.initial.house.shelf) (g.D.Shelf.told l.house.shelf);
   heard : StaysTold (g.O.Sink.written l.initial.sink) (g.O.Sink.written l.sink);
+  later_store : g.D.Shelf.faults l.initial.house.shelf ≤ g.D.Shelf.faults l.house.shelf;
+  later_sink : g.O.Sink.faults l.initial.sink ≤ g.O.Sink.faults l.sink;
 }

@@ -1,0 +1,167 @@
+-- Why a run ends with a fault, and that it ends well where there is none.
+use Rattle.std.proofs.Common.{◌≡◌, ◌⊎◌, ℕ, ◌≤◌, ◌==◌, ◌||◌, Bool, false, true, IsTrue, IsSome, Result, Ok, Err, IfErr, IsErrAnd, Option, Some, None, List, [], ◌∷◌, length, refl, sym, ◌∙◌, subst, arith, inl, inr}
+use Rattle.std.proofs.lemmas.Bool.{eqb-true}
+use Rattle.hv_base.specs.Faults.{Rose}
+use Rattle.hv_shelf.specs.Disk.{Store}
+use Rattle.hv_script.specs.Words.{command_of}
+use Rattle.hv_script.specs.Script.{refused_line}
+use Rattle.hv_script.specs.declared.words.Command.{Command}
+use Rattle.hv_house.specs.Booting.{IsBootStore}
+use Rattle.hv_house.specs.declared.boot.BootFault.{BootFault}
+use Rattle.hv_house.specs.declared.boot.BootFault.TheVariants as boot
+use Rattle.hv_program.specs.declared.stop.Stop.{Stop}
+use Rattle.hv_program.specs.declared.stop.Stop.TheVariants as stop
+use Rattle.hv_house.specs.declared.fault.HouseFault.{HouseFault}
+use Rattle.hv_house.specs.declared.fault.HouseFault.TheVariants as fault
+use Rattle.hv_program.specs.Stops.{stop_of, status_of_stop, Blames}
+use Rattle.hv_program.specs.Headline.{Outside}
+use Rattle.hv_program.specs.Refused.{is_one_of, Refuses}
+use Rattle.hv_program.specs.Serving.{ran_status, BlamesOf, IsSaid, IsSaidOrNot}
+use Rattle.hv_program.specs.Causes.{Counts, HasCauses, IsFaultless, Completes}
+use Rattle.hv_program.proofs.Refusing.{keep, split}
+
+-- ---- a count that rose
+
+pub Rose-later : (a b c : ℕ) → a ≤ b → Rose b c → Rose a c
+Rose-later a b c le rose = omega (arith, le, rose)
+
+pub Rose-stays : (a b c : ℕ) → Rose a b → b ≤ c → Rose a c
+Rose-stays a b c rose le = omega (arith, le, rose)
+
+-- ---- the statements of a script
+
+passed_up : {T E : Type 0} (r : Result T E) (e : E) (P : E → Type 0) → IsErrAnd r (λ y. y ≡ e) → P e → IfErr r P
+passed_up (Ok x) e P is p = tt
+passed_up (Err d) e P is p = subst P (sym is) p
+
+blamed : (why : HouseFault) (sink sink' store store' : ℕ) → (why ≡ fault.Store → Rose store store') → Blames (stop_of why) sink sink' store store'
+blamed fault.Store sink sink' store store' rose = rose refl
+blamed fault.NoMemory sink sink' store store' rose = tt
+
+pub Blames-stopped : (result : Result Bool Stop) (why : HouseFault) (sink sink' first store store' : ℕ) → IsErrAnd result (λ e. e ≡ stop_of why)
+    → first ≤ store → (why ≡ fault.Store → Rose store store') → IfErr result (λ e. Blames e sink sink' first store')
+Blames-stopped result why sink sink' first store store' err le rose =
+    passed_up result (stop_of why) (λ e. Blames e sink sink' first store') err (blamed why sink sink' first store' (λ e. Rose-later first store store' le (rose e)))
+
+pub Blames-cut : (result : Result Bool Stop) (first sink sink' store store' : ℕ) → IsErrAnd result (λ e. e ≡ stop.Sink)
+    → first ≤ sink → Rose sink sink' → IfErr result (λ e. Blames e first sink' store store')
+Blames-cut result first sink sink' store store' err le rose =
+    passed_up result stop.Sink (λ e. Blames e first sink' store store') err (Rose-later first sink sink' le rose)
+
+-- ---- serving
+
+blames-none : (n sink sink' store store' : ℕ) → (n ≡ 4 → ⊥) → (n ≡ 5 → ⊥) → BlamesOf n sink sink' store store'
+blames-none n sink sink' store store' four five = record { sink_failed = λ e. absurd (four e); store_failed = λ e. absurd (five e) }
+
+blames-ran : (ran : Result Bool Stop) (sink sink' store store' : ℕ) → IfErr ran (λ why. Blames why sink sink' store store')
+    → BlamesOf (ran_status ran) sink sink' store store'
+blames-ran (Ok false) sink sink' store store' h = blames-none 0 sink sink' store store' (λ e. omega (arith, e)) (λ e. omega (arith, e))
+blames-ran (Ok true) sink sink' store store' h = blames-none 1 sink sink' store store' (λ e. omega (arith, e)) (λ e. omega (arith, e))
+blames-ran (Err stop.Source) sink sink' store store' h = absurd h
+blames-ran (Err stop.Sink) sink sink' store store' h = record { sink_failed = λ e. h; store_failed = λ e. absurd (omega (arith, e)) }
+blames-ran (Err stop.Store) sink sink' store store' h = record { sink_failed = λ e. absurd (omega (arith, e)); store_failed = λ e. h }
+blames-ran (Err stop.NoMemory) sink sink' store store' h = blames-none 7 sink sink' store store' (λ e. omega (arith, e)) (λ e. omega (arith, e))
+
+pub blames-run : (ran : Result Bool Stop) (status sink sink' first store store' closed : ℕ) → status ≡ ran_status ran → first ≤ store → closed ≡ store'
+    → IfErr ran (λ why. Blames why sink sink' store store') → BlamesOf status sink sink' first closed
+blames-run ran status sink sink' first store store' closed is le same h =
+    let there : BlamesOf status sink sink' store store' = subst (λ n. BlamesOf n sink sink' store store') (sym is) (blames-ran ran sink sink' store store' h) in
+    record { sink_failed = there.sink_failed; store_failed = λ e. subst (Rose first) (sym same) (Rose-later first store store' le (there.store_failed e)) }
+
+pub blames-store : (status sink store store' : ℕ) (why : BootFault) → status ≡ 5 → why ≡ boot.Store → (IsBootStore why → Rose store store') → BlamesOf status sink sink store store'
+blames-store status sink store store' why is same rose = record { sink_failed = λ e. absurd (omega (arith, is, e)); store_failed = λ e. rose (subst IsBootStore (sym same) tt) }
+
+pub blames-memory : (status sink store store' : ℕ) → status ≡ 7 → BlamesOf status sink sink store store'
+blames-memory status sink store store' is = blames-none status sink sink store store' (λ e. omega (arith, is, e)) (λ e. omega (arith, is, e))
+
+pub blames-said : (status wanted : ℕ) (line : List ℕ) (a b : Option (List ℕ)) (sink sink' store store' : ℕ) → wanted ≡ 6 → IsSaidOrNot wanted line a b sink sink' status
+    → BlamesOf status sink sink' store store'
+blames-said status wanted line a b sink sink' store store' is (inl (inl said)) =
+    blames-none status sink sink' store store' (λ e. omega (arith, said.0, is, e)) (λ e. omega (arith, said.0, is, e))
+blames-said status wanted line a b sink sink' store store' is (inl (inr cut)) = record { sink_failed = λ e. cut.1.cause; store_failed = λ e. absurd (omega (arith, cut.0, e)) }
+blames-said status wanted line a b sink sink' store store' is (inr unsaid) =
+    blames-none status sink sink' store store' (λ e. omega (arith, unsaid.0, e)) (λ e. omega (arith, unsaid.0, e))
+
+-- ---- the whole
+
+causes-none : (before now : Counts) (n : ℕ) → (n ≡ 3 → ⊥) → (n ≡ 4 → ⊥) → (n ≡ 5 → ⊥) → HasCauses before now n
+causes-none before now n three four five = record { source = λ e. absurd (three e); sink = λ e. absurd (four e); store = λ e. absurd (five e) }
+
+causes-cut : (before now : Counts) (n : ℕ) → n ≡ 4 → Rose before.sink now.sink → HasCauses before now n
+causes-cut before now n is rose = record { source = λ e. absurd (omega (arith, is, e)); sink = λ e. rose; store = λ e. absurd (omega (arith, is, e)) }
+
+pub causes-said : (before now : Counts) (status wanted : ℕ) (line : List ℕ) (a b : Option (List ℕ)) → (wanted ≡ 3 → ⊥) → (wanted ≡ 4 → ⊥) → (wanted ≡ 5 → ⊥)
+    → IsSaid wanted line a b before.sink now.sink status → HasCauses before now status
+causes-said before now status wanted line a b three four five (inl said) =
+    causes-none before now status (λ e. three (sym said.0 ∙ e)) (λ e. four (sym said.0 ∙ e)) (λ e. five (sym said.0 ∙ e))
+causes-said before now status wanted line a b three four five (inr cut) = causes-cut before now status cut.0 cut.1.cause
+
+pub causes-memory : (before now : Counts) (status : ℕ) → status ≡ 7 → HasCauses before now status
+causes-memory before now status is = causes-none before now status (λ e. omega (arith, is, e)) (λ e. omega (arith, is, e)) (λ e. omega (arith, is, e))
+
+pub causes-words : (before now : Counts) (status : ℕ) (line : List ℕ) (a b : Option (List ℕ)) → IsSaid 2 line a b before.sink now.sink status → HasCauses before now status
+causes-words before now status line a b said = causes-said before now status 2 line a b (λ e. omega (arith, e)) (λ e. omega (arith, e)) (λ e. omega (arith, e)) said
+
+pub causes-script : (before now : Counts) (status : ℕ) (line : List ℕ) (a b : Option (List ℕ)) → IsSaidOrNot 8 line a b before.sink now.sink status → HasCauses before now status
+causes-script before now status line a b (inl said) = causes-said before now status 8 line a b (λ e. omega (arith, e)) (λ e. omega (arith, e)) (λ e. omega (arith, e)) said
+causes-script before now status line a b (inr unsaid) = causes-memory before now status unsaid.0
+
+pub causes-read : (before now : Counts) (status : ℕ) (why : Stop) → status ≡ status_of_stop why → IsTrue (is_one_of (3 ∷ 7 ∷ []) (status_of_stop why))
+    → (why ≡ stop.Source → Rose before.source now.source) → HasCauses before now status
+causes-read before now status stop.Source is h rose = record { source = λ e. rose refl; sink = λ e. absurd (omega (arith, is, e)); store = λ e. absurd (omega (arith, is, e)) }
+causes-read before now status stop.Sink is h rose = cc
+causes-read before now status stop.Store is h rose = cc
+causes-read before now status stop.NoMemory is h rose = causes-memory before now status is
+
+pub causes-served : (before now : Counts) (status : ℕ) → IsTrue (is_one_of (0 ∷ 1 ∷ 4 ∷ 5 ∷ 6 ∷ 7 ∷ []) status) → BlamesOf status before.sink now.sink before.store now.store
+    → HasCauses before now status
+causes-served before now status only h = record {
+  source = λ e. absurd (let wrong : IsTrue (is_one_of (0 ∷ 1 ∷ 4 ∷ 5 ∷ 6 ∷ 7 ∷ []) 3) = subst (λ n. IsTrue (is_one_of (0 ∷ 1 ∷ 4 ∷ 5 ∷ 6 ∷ 7 ∷ []) n)) e only in cc);
+  sink = h.sink_failed;
+  store = h.store_failed;
+}
+
+-- ---- where no device failed
+
+other : (k n : ℕ) (rest : Bool) → (n ≡ k → ⊥) → (k == n) || rest ≡ true → rest ≡ true
+other k n rest not_this h = by (split (k == n) rest h)
+  where
+    by : ((k == n) ≡ true) ⊎ (rest ≡ true) → rest ≡ true
+    by (inl e) = absurd (not_this (sym (eqb-true k n e)))
+    by (inr e) = e
+
+the-rest : (n : ℕ) → (n ≡ 2 → ⊥) → (n ≡ 3 → ⊥) → (n ≡ 4 → ⊥) → (n ≡ 5 → ⊥) → (n ≡ 6 → ⊥) → (n ≡ 8 → ⊥)
+    → IsTrue (is_one_of (0 ∷ 1 ∷ 2 ∷ 3 ∷ 4 ∷ 5 ∷ 6 ∷ 7 ∷ 8 ∷ []) n) → IsTrue (is_one_of (0 ∷ 1 ∷ 7 ∷ []) n)
+the-rest n two three four five six eight h =
+    keep (0 == n) (is_one_of (1 ∷ 2 ∷ 3 ∷ 4 ∷ 5 ∷ 6 ∷ 7 ∷ 8 ∷ []) n) (is_one_of (1 ∷ 7 ∷ []) n)
+    (keep (1 == n) (is_one_of (2 ∷ 3 ∷ 4 ∷ 5 ∷ 6 ∷ 7 ∷ 8 ∷ []) n) (is_one_of (7 ∷ []) n)
+    (λ h2.
+    let h3 = other 2 n (is_one_of (3 ∷ 4 ∷ 5 ∷ 6 ∷ 7 ∷ 8 ∷ []) n) two h2 in
+    let h4 = other 3 n (is_one_of (4 ∷ 5 ∷ 6 ∷ 7 ∷ 8 ∷ []) n) three h3 in
+    let h5 = other 4 n (is_one_of (5 ∷ 6 ∷ 7 ∷ 8 ∷ []) n) four h4 in
+    let h6 = other 5 n (is_one_of (6 ∷ 7 ∷ 8 ∷ []) n) five h5 in
+    let h7 = other 6 n (is_one_of (7 ∷ 8 ∷ []) n) six h6 in
+    keep (7 == n) (is_one_of (8 ∷ []) n) false (λ h8. other 8 n false eight h8) h7)) h
+
+some-none : (o : Option Command) → IsSome o → o ≡ None → ⊥
+some-none None is e = cc
+some-none (Some command) is e = cc
+
+not-both : (o : Option ℕ) (line : ℕ) → o ≡ None → o ≡ Some line → ⊥
+not-both o line none some = let wrong : None ≡ Some line = sym none ∙ some in cc
+
+completes-told : (words : List (List ℕ)) (script : List ℕ) (sink : Option (List ℕ)) (s : Store) (after : Outside) (counts counts' : Counts) (status : ℕ)
+    → Refuses words (record { source = Some script; sink = sink; store = Some s }) after status → HasCauses counts counts' status
+    → IsSome (command_of words) → IsFaultless counts counts' → refused_line script ≡ None → length s.journal ≤ 1
+    → IsTrue (is_one_of (0 ∷ 1 ∷ 7 ∷ []) status)
+completes-told words script sink s after counts counts' status h causes some ok fine small =
+    the-rest status (λ e. some-none (command_of words) some (h.bad_words e).words_are) (λ e. ok.source (causes.source e)) (λ e. ok.sink (causes.sink e)) (λ e. ok.store (causes.store e))
+    (λ e. omega (arith, (h.bad_journal e).journal, small)) (λ e. not-both (refused_line script) (h.refused_script e).line fine (h.refused_script e).refused) h.only
+
+pub completes : (words : List (List ℕ)) (source sink : Option (List ℕ)) (told : Option Store) (after : Outside) (counts counts' : Counts) (status : ℕ)
+    → Refuses words (record { source = source; sink = sink; store = told }) after status → HasCauses counts counts' status
+    → Completes words (record { source = source; sink = sink; store = told }) counts counts' status
+completes words None sink told after counts counts' status h causes = λ some ok. tt
+completes words (Some script) sink None after counts counts' status h causes = λ some ok fine. tt
+completes words (Some script) sink (Some s) after counts counts' status h causes = λ some ok fine small.
+    completes-told words script sink s after counts counts' status h causes some ok fine small

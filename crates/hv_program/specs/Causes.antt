@@ -1,0 +1,34 @@
+-- Why a run ends with a fault, and that it ends well where there is none.
+use Rattle.std.specs.Prelude.{◌≡◌, ℕ, ◌≤◌, IsTrue, IsSome, None, List, [], ◌∷◌, length}
+use Rattle.hv_base.specs.Faults.{Rose}
+use Rattle.hv_base.specs.Told.{Tells}
+use Rattle.hv_script.specs.Words.{command_of}
+use Rattle.hv_script.specs.Script.{refused_line}
+use Rattle.hv_program.specs.Headline.{Outside}
+use Rattle.hv_program.specs.Refused.{is_one_of}
+
+-- how many calls of the source, the sink and the store failed so far
+pub record Counts : Type 0 where
+  pub source : ℕ
+  pub sink : ℕ
+  pub store : ℕ
+
+-- a device is blamed only where it failed in this run
+pub record HasCauses (before now : Counts) (status : ℕ) : Type 0 where
+  pub source : status ≡ 3 → Rose before.source now.source
+  pub sink : status ≡ 4 → Rose before.sink now.sink
+  pub store : status ≡ 5 → Rose before.store now.store
+
+-- no device failed in this run
+pub record IsFaultless (before now : Counts) : Type 0 where
+  pub source : Rose before.source now.source → ⊥
+  pub sink : Rose before.sink now.sink → ⊥
+  pub store : Rose before.store now.store → ⊥
+
+-- A script that isn't refused, over a store whose journal is empty, is done to its end where no device fails and
+-- memory doesn't run out.
+abbrev pub Completes : List (List ℕ) → Outside → Counts → Counts → ℕ → Type 0
+Completes words before counts counts' status =
+    IsSome (command_of words) → IsFaultless counts counts'
+    → Tells before.source (λ script. refused_line script ≡ None
+    → Tells before.store (λ s. length s.journal ≤ 1 → IsTrue (is_one_of (0 ∷ 1 ∷ 7 ∷ []) status)))
