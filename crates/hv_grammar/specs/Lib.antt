@@ -1,0 +1,5 @@
+pub mod Kinds
+pub mod Nesting
+pub mod Readers
+pub mod Reading
+pub mod Worked

@@ -1,0 +1,21 @@
+//! Expressions and types by their tokens.
+#![tactic(auto)]
+
+mod fault;
+mod grammar;
+mod levels;
+mod names;
+mod nesting;
+mod operators;
+mod parse;
+mod primary;
+mod tokens;
+mod types;
+
+pub use fault::{ParseFault, ReadFault};
+pub use grammar::{Grammar, expr};
+pub use names::name;
+pub use nesting::too_deep;
+pub use parse::parse_expr;
+pub use tokens::Tokens;
+pub use types::type_name;

@@ -1,0 +1,41 @@
+//! The expression at a place.
+
+ghost use Rattle.hv_grammar.specs.Nesting.{most_levels};
+ghost use Rattle.hv_grammar.specs.Reading as reading;
+ghost use Rattle.hv_parse_expr.specs.Reads.{Reads, Tells};
+
+use crate::fault::{ParseFault, ReadFault};
+use crate::grammar::expr;
+use crate::nesting::{MOST_LEVELS, too_deep};
+use crate::operators::binds;
+use crate::tokens::Tokens;
+use hv_ast::{Expr, Token};
+use std::alloc::Global;
+
+/// An expression whose next token can't continue one.
+#[tactic(auto, unfolding(hv_grammar::specs::Reading::whole))]
+fn whole(alloc: Global, tokens: &mut Tokens<'_>) -> Result<Expr, ReadFault>
+    ensures { Reads (reading.whole tokens.old) result tokens.new }
+{
+    let found = expr(alloc, tokens, MOST_LEVELS + 1)?;
+    if binds(tokens.peek()) == 0 {
+        Ok(found)
+    } else {
+        Err(ReadFault::Syntax)
+    }
+}
+
+/// The expression that begins at `from` and whose next token can't continue one, and the place of
+/// that token.
+#[tactic(auto, unfolding(hv_grammar::specs::Reading::expression_at))]
+pub fn parse_expr(tokens: &[Token], from: usize, alloc: Global) -> Result<(Expr, usize), ParseFault>
+    ensures read { Tells (reading.expression_at tokens.now from) result }
+{
+    let rest = tokens.get(from..).unwrap_or_default();
+    if let Some(at) = too_deep(rest) {
+        return Err(ParseFault::Nesting { at });
+    }
+    let mut left = Tokens::new(rest);
+    let found = whole(alloc, &mut left)?;
+    Ok((found, tokens.len().saturating_sub(left.left())))
+}
