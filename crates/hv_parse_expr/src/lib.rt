@@ -19,3 +19,6 @@ pub use nesting::too_deep;
 pub use parse::parse_expr;
 pub use tokens::Tokens;
 pub use types::type_name;
+
+#[cfg(test)]
+mod tests;
