@@ -36,6 +36,12 @@ is_name k.Count = true
 is_name k.String = true
 is_name _ = false
 
+-- a keyword that names a function
+abbrev pub is_function_word : Kind → Bool
+is_function_word k.If = true
+is_function_word k.Array = true
+is_function_word _ = false
+
 abbrev pub word_in : Lexeme → Option Text
 word_in (lexeme.Word text) = Some text
 word_in (lexeme.Quoted text) = Some text
