@@ -23,7 +23,7 @@ use Rattle.hv_grammar.specs.declared.kind.Kind.TheVariants as k
 use Rattle.hv_grammar.specs.Kinds.{kind_of}
 use Rattle.hv_grammar.specs.Reading.{is_name, is_function_word, word_in, string_in, literal_in, scalar_at, comparison, additive, multiplicative, sign, binds}
 use Rattle.hv_grammar.specs.Nesting.{too_deep, most_levels}
-use Rattle.hv_grammar.specs.Rules.{Rule, ◌>>=◌, ◌>>◌, ◌<|>◌, give, held, word, one_of, many, separated}
+use Rattle.hv_grammar.specs.Rules.{Rule, ◌>>=◌, ◌>>◌, ◌<|>◌, give, held, word, flag, one_of, many, separated}
 
 -- ---- names and types
 
@@ -69,11 +69,14 @@ date = do
   text ← held (λ token. string_in token.what)
   give (e.Literal (l.Date text))
 
+-- behind the first name: [. ident]
+unfoldable pub qualified : Text → Rule Expr
+qualified first =
+    (do word k.Dot; second ← name; give (e.Column (Some first) second)) <|> give (e.Column None first)
+
 -- ident [. ident]
 unfoldable pub column : Rule Expr
-column = do
-  first ← name
-  (do word k.Dot; second ← name; give (e.Column (Some first) second)) <|> give (e.Column None first)
+column = name >>= qualified
 
 -- COUNT ( * )
 unfoldable pub count_rows : Rule Expr
@@ -83,6 +86,23 @@ count_rows = do
   word k.Star
   word k.Close
   give e.CountRows
+
+-- a chain of no operations is its operand
+abbrev pub chain : Expr → List (Operation Expr) → Expr
+chain first [] = first
+chain first (operation ∷ operations) = e.Chain first (operation ∷ operations)
+
+-- operator operand
+abbrev pub operation : (Kind → Option Arithmetic) → Rule Expr → Rule (Operation Expr)
+operation level r = do
+  operator ← one_of level
+  operand ← r
+  give (record { operator = operator; operand = operand })
+
+-- a chain of one operand is that operand
+abbrev pub joined : (List Expr → Expr) → List Expr → Expr
+joined node (only ∷ []) = only
+joined node operands = node operands
 
 -- Over the expressions that stand between brackets, or between CASE and END.
 module _ (expr : Rule Expr) where
@@ -94,14 +114,19 @@ module _ (expr : Rule Expr) where
   unfoldable pub arguments : Rule (List Expr)
   arguments = (word k.Close >> give []) <|> (do found ← list; word k.Close; give found)
 
+  -- behind `fname (`: [DISTINCT] [expr {, expr}] )
+  unfoldable pub passed_to : Text → Rule Expr
+  passed_to function = do
+    distinct ← flag k.Distinct
+    found ← arguments
+    give (e.Call function distinct found)
+
   -- fname ( [DISTINCT] [expr {, expr}] )
   unfoldable pub call : Rule Expr
   call = do
     function ← function_name
     word k.Open
-    distinct ← (word k.Distinct >> give true) <|> give false
-    found ← arguments
-    give (e.Call function distinct found)
+    passed_to function
 
   -- expr THEN expr
   unfoldable pub when : Rule (When Expr)
@@ -170,21 +195,10 @@ module _ (expr : Rule Expr) where
     value ← signed
     (do
       word k.Is
-      operator ← (word k.Not >> give unary.IsNotNull) <|> give unary.IsNull
+      negated ← flag k.Not
       word k.Null
-      give (e.Unary operator value))
+      give (e.Unary (if negated then unary.IsNotNull else unary.IsNull) value))
         <|> give value
-
-  abbrev pub chain : Expr → List (Operation Expr) → Expr
-  chain first [] = first
-  chain first (operation ∷ operations) = e.Chain first (operation ∷ operations)
-
-  -- operator operand
-  abbrev pub operation : (Kind → Option Arithmetic) → Rule Expr → Rule (Operation Expr)
-  operation level r = do
-    operator ← one_of level
-    operand ← r
-    give (record { operator = operator; operand = operand })
 
   -- term = suffix {(* | DIV | %) suffix}
   unfoldable pub term : Rule Expr
@@ -222,11 +236,6 @@ module _ (expr : Rule Expr) where
   -- not = [NOT] test
   unfoldable pub negation : Rule Expr
   negation = (do word k.Not; value ← predicate; give (e.Unary unary.Not value)) <|> predicate
-
-  -- a chain of one operand is that operand
-  abbrev pub joined : (List Expr → Expr) → List Expr → Expr
-  joined node (only ∷ []) = only
-  joined node operands = node operands
 
   -- and = not {AND not}
   unfoldable pub conjunction : Rule Expr

@@ -423,8 +423,8 @@ binds k.Star = 5
 binds k.Div = 5
 binds k.Percent = 5
 binds k.Is = 6
-binds k.Open = 7
-binds k.Dot = 7
+binds k.Open = 8
+binds k.Dot = 8
 binds k.OpenIndex = 7
 binds _ = 0
 

@@ -1,6 +1,6 @@
 -- The grammar's combinators. A rule says which value is written from a place to a place: the tokens
 -- from the first on, and those from the second on.
-use Rattle.std.specs.Prelude.{◌≡◌, ◌⊎◌, List, [], ◌∷◌, Option, Some, None}
+use Rattle.std.specs.Prelude.{◌≡◌, ◌⊎◌, Bool, true, false, List, [], ◌∷◌, Option, Some, None}
 use Rattle.hv_ast.specs.declared.token.Token.{Token}
 use Rattle.hv_grammar.specs.declared.kind.Kind.{Kind}
 use Rattle.hv_grammar.specs.Kinds.{kind_of}
@@ -37,6 +37,10 @@ word kind = λ _ from to. (token : Token) × (kind_of token.what ≡ kind) × (f
 -- a token of a kind that stands for such a value
 abbrev pub one_of : {A : Type 0} → (Kind → Option A) → Rule A
 one_of value = held (λ token. value (kind_of token.what))
+
+-- [word], as whether it stands there
+abbrev pub flag : Kind → Rule Bool
+flag kind = (word kind >> give true) <|> give false
 
 -- {r}
 abbrev pub many : {A : Type 0} → Rule A → Rule (List A)

@@ -10,11 +10,11 @@ pub deeper : {X : Type 0} (f : ℕ → X) (n : ℕ) → 0 < n → f n ≡ f (suc
 deeper f n some = let e : n ≡ suc (n - 1) = omega arith in ap f e
 
 -- whether there is a separator, and what comes behind it
-abbrev turn : {A : Type 0} → Kind → Reader A → ℕ → List A → Bool → List Token → Outcome (List A)
+abbrev pub turn : {A : Type 0} → Kind → Reader A → ℕ → List A → Bool → List Token → Outcome (List A)
 turn mark item turns items true tokens = and_then (item tokens) (λ one. more mark item turns (items ++ one ∷ []))
 turn mark item turns items false tokens = Some (items, tokens)
 
-more_suc : {A : Type 0} (mark : Kind) (item : Reader A) (turns : ℕ) (items : List A) (tokens : List Token)
+pub more_suc : {A : Type 0} (mark : Kind) (item : Reader A) (turns : ℕ) (items : List A) (tokens : List Token)
     → more mark item (suc turns) items tokens ≡ turn mark item turns items (sees mark tokens) (after mark tokens)
 unfolding more
 more_suc mark item turns items tokens = by_sees (sees mark tokens)
@@ -56,12 +56,12 @@ runs_out mark item whole last at items tokens done so_far =
     so_far ∙ ap (λ (n : ℕ). more mark item n items tokens) left
 
 -- what comes behind an operand, by the operator that was seen
-abbrev operation : {A : Type 0} → (Kind → Option Arithmetic) → Reader A → ℕ → List (Operation A) → Option Arithmetic → Reader (List (Operation A))
+abbrev pub operation : {A : Type 0} → (Kind → Option Arithmetic) → Reader A → ℕ → List (Operation A) → Option Arithmetic → Reader (List (Operation A))
 operation level operand turns found None tokens = Some (found, tokens)
 operation level operand turns found (Some operator) tokens =
     and_then (operand (next tokens)) (λ one. more_operations level operand turns (found ++ record { operator = operator; operand = one } ∷ []))
 
-operations_suc : {A : Type 0} (level : Kind → Option Arithmetic) (operand : Reader A) (turns : ℕ) (found : List (Operation A)) (tokens : List Token) (seen : Option Arithmetic)
+pub operations_suc : {A : Type 0} (level : Kind → Option Arithmetic) (operand : Reader A) (turns : ℕ) (found : List (Operation A)) (tokens : List Token) (seen : Option Arithmetic)
     → level (kind_at tokens) ≡ seen
     → more_operations level operand (suc turns) found tokens ≡ operation level operand turns found seen tokens
 unfolding more_operations

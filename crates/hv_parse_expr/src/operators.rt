@@ -71,7 +71,8 @@ pub fn binds(kind: Kind) -> u8
         Kind::Plus | Kind::Minus => 4,
         Kind::Star | Kind::Div | Kind::Percent => 5,
         Kind::Is => 6,
-        Kind::Open | Kind::Dot | Kind::OpenIndex => 7,
+        Kind::OpenIndex => 7,
+        Kind::Open | Kind::Dot => 8,
         _ => 0,
     }
 }
