@@ -1,7 +1,7 @@
 -- The grammar of expressions and types. Sources: Hive Language Manual, Operators and User-Defined
 -- Functions, Data Types. Which words are reserved, and that comparisons make no chains, is this
 -- project's profile.
-use Rattle.std.specs.Prelude.{ℕ, zero, suc, Bool, true, false, if◌then◌else◌, List, [], ◌∷◌, Option, Some, None}
+use Rattle.std.specs.Prelude.{◌≡◌, ◌≤◌, ℕ, zero, suc, length, drop, Bool, true, false, if◌then◌else◌, List, [], ◌∷◌, Option, Some, None}
 use Rattle.hv_ast.specs.declared.token.Token.{Token}
 use Rattle.hv_ast.specs.declared.types.TypeName.{TypeName}
 use Rattle.hv_ast.specs.declared.types.TypeName.TheVariants as type
@@ -23,6 +23,7 @@ use Rattle.hv_grammar.specs.declared.kind.Kind.TheVariants as k
 use Rattle.hv_grammar.specs.Kinds.{kind_of}
 use Rattle.hv_grammar.specs.Reading.{is_name, is_function_word, word_in, string_in, literal_in, scalar_at, comparison, additive, multiplicative, sign, binds}
 use Rattle.hv_grammar.specs.Nesting.{too_deep, most_levels}
+use Rattle.hv_grammar.specs.Readers.{kind_at}
 use Rattle.hv_grammar.specs.Rules.{Rule, ◌>>=◌, ◌>>◌, ◌<|>◌, give, held, word, flag, one_of, many, separated}
 
 -- ---- names and types
@@ -253,3 +254,12 @@ module _ (expr : Rule Expr) where
 unfoldable pub expr : ℕ → Rule Expr
 expr zero = λ tree from to. ⊥
 expr (suc depth) = disjunction (expr depth)
+
+-- The expression that stands between two places of a list of tokens: those from the first place on
+-- nest no more than 64 levels, and the token at the second can't continue an expression.
+pub record IsExpression (tokens : List Token) (from to : ℕ) (tree : Expr) : Type 0 where
+  pub nests : too_deep most_levels (drop from tokens) ≡ None
+  pub depth : ℕ
+  pub spelled : expr depth tree (drop from tokens) (drop to tokens)
+  pub ends : binds (kind_at (drop to tokens)) ≡ 0
+  pub within : to ≤ length tokens

@@ -3,6 +3,7 @@
 
 mod fault;
 mod grammar;
+mod laws;
 mod levels;
 mod names;
 mod nesting;
@@ -14,6 +15,7 @@ mod types;
 
 pub use fault::{ParseFault, ReadFault};
 pub use grammar::{Grammar, expr};
+pub use laws::{one_tree, read_is_spelled, spelled_is_read, types_are_exact};
 pub use names::name;
 pub use nesting::too_deep;
 pub use parse::parse_expr;

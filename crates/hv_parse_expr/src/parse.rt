@@ -1,7 +1,11 @@
 //! The expression at a place.
 
-ghost use Rattle.hv_grammar.specs.Nesting.{most_levels};
+ghost use Rattle.std.specs.Prelude.{ℕ, IfOk, drop};
+ghost use Rattle.hv_ast.specs.declared.expr.Expr.{Expr};
+ghost use Rattle.hv_grammar.specs.Grammar.{IsExpression};
+ghost use Rattle.hv_grammar.specs.Nesting.{too_deep, most_levels};
 ghost use Rattle.hv_grammar.specs.Reading as reading;
+ghost use Rattle.hv_parse_expr.specs.Exact.{Finds, TellsNesting};
 ghost use Rattle.hv_parse_expr.specs.Reads.{Reads, Tells};
 
 use crate::fault::{ParseFault, ReadFault};
@@ -25,11 +29,9 @@ fn whole(alloc: Global, tokens: &mut Tokens<'_>) -> Result<Expr, ReadFault>
     }
 }
 
-/// The expression that begins at `from` and whose next token can't continue one, and the place of
-/// that token.
 #[tactic(auto, unfolding(hv_grammar::specs::Reading::expression_at))]
-pub fn parse_expr(tokens: &[Token], from: usize, alloc: Global) -> Result<(Expr, usize), ParseFault>
-    ensures read { Tells (reading.expression_at tokens.now from) result }
+fn read_expr(tokens: &[Token], from: usize, alloc: Global) -> Result<(Expr, usize), ParseFault>
+    ensures { Tells (reading.expression_at tokens.now from) result }
 {
     let rest = tokens.get(from..).unwrap_or_default();
     if let Some(at) = too_deep(rest) {
@@ -38,4 +40,17 @@ pub fn parse_expr(tokens: &[Token], from: usize, alloc: Global) -> Result<(Expr,
     let mut left = Tokens::new(rest);
     let found = whole(alloc, &mut left)?;
     Ok((found, tokens.len().saturating_sub(left.left())))
+}
+
+/// The expression that begins at `from` and whose next token can't continue an expression, with
+/// the place of that token. `Nesting` comes where the tokens from `from` on open more than 64
+/// levels, at the one that does; `Syntax` where they don't and there is no such expression.
+pub fn parse_expr(tokens: &[Token], from: usize, alloc: Global) -> Result<(Expr, usize), ParseFault>
+    ensures read { Tells (reading.expression_at tokens.now from) result }
+    ensures found { IfOk result (λ p. IsExpression tokens.now from p.1 p.0) }
+    ensures only { (to : ℕ) (tree : Expr)
+        → IsExpression tokens.now from to tree → Finds result to tree }
+    ensures nesting { TellsNesting (too_deep most_levels (drop from tokens.now)) result }
+{
+    read_expr(tokens, from, alloc)
 }
