@@ -6,11 +6,8 @@ use Rattle.hv_ast.specs.declared.token.Token.{Token}
 use Rattle.hv_ast.specs.declared.types.TypeName.{TypeName}
 use Rattle.hv_ast.specs.declared.types.TypeName.TheVariants as type
 use Rattle.hv_ast.specs.declared.types.ScalarName.{ScalarName}
-use Rattle.hv_ast.specs.declared.expr.Literal.{Literal}
 use Rattle.hv_ast.specs.declared.expr.Literal.TheVariants as l
-use Rattle.hv_ast.specs.declared.expr.Unary.{Unary}
 use Rattle.hv_ast.specs.declared.expr.Unary.TheVariants as unary
-use Rattle.hv_ast.specs.declared.expr.Binary.{Binary}
 use Rattle.hv_ast.specs.declared.expr.Binary.TheVariants as binary
 use Rattle.hv_ast.specs.declared.expr.Arithmetic.{Arithmetic}
 use Rattle.hv_ast.specs.declared.expr.Operation.{Operation}

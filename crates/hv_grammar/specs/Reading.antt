@@ -1,6 +1,6 @@
 -- Expressions and types as they are read from the left. Grammar has the rules that these readers
 -- follow, and the laws of hv_parse_expr say that both give the same trees.
-use Rattle.std.specs.Prelude.{ℕ, zero, suc, ◌-◌, Bool, true, false, ◌&&◌, ◌||◌, if◌then◌else◌, List, [], ◌∷◌, length, drop, Option, Some, None, codes}
+use Rattle.std.specs.Prelude.{ℕ, zero, suc, ◌-◌, Bool, true, false, if◌then◌else◌, List, [], ◌∷◌, length, drop, Option, Some, None}
 use Rattle.hv_ast.specs.declared.token.Token.{Token}
 use Rattle.hv_ast.specs.declared.token.Lexeme.{Lexeme}
 use Rattle.hv_ast.specs.declared.token.Lexeme.TheVariants as lexeme
@@ -23,9 +23,9 @@ use Rattle.hv_ast.specs.declared.expr.Expr.TheVariants as e
 use Rattle.hv_ast.specs.Tokens.{Text}
 use Rattle.hv_grammar.specs.declared.kind.Kind.{Kind}
 use Rattle.hv_grammar.specs.declared.kind.Kind.TheVariants as k
-use Rattle.hv_grammar.specs.Kinds.{kind_of, same_kind}
+use Rattle.hv_grammar.specs.Kinds.{same_kind}
 use Rattle.hv_grammar.specs.Nesting.{too_deep, most_levels}
-use Rattle.hv_grammar.specs.Readers.{Outcome, Reader, ◌>>=◌, ◌>>◌, ◌<$>◌, give, refuse, kind_at, peek, pass, look, eat, expect, held, behind, separated, operations, by_option}
+use Rattle.hv_grammar.specs.Readers.{Outcome, Reader, ◌>>=◌, ◌>>◌, ◌<$>◌, give, refuse, peek, pass, look, eat, expect, held, behind, separated, operations, by_option}
 
 -- ---- what single tokens stand for
 

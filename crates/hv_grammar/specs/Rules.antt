@@ -1,6 +1,6 @@
 -- The grammar's combinators. A rule says which value is written from a place to a place: the tokens
 -- from the first on, and those from the second on.
-use Rattle.std.specs.Prelude.{◌≡◌, ◌⊎◌, Bool, true, false, List, [], ◌∷◌, Option, Some, None}
+use Rattle.std.specs.Prelude.{◌≡◌, ◌⊎◌, Bool, true, false, List, [], ◌∷◌, Option, Some}
 use Rattle.hv_ast.specs.declared.token.Token.{Token}
 use Rattle.hv_grammar.specs.declared.kind.Kind.{Kind}
 use Rattle.hv_grammar.specs.Kinds.{kind_of}

@@ -1,11 +1,9 @@
 -- Texts with their trees, worked out by hand from the grammar.
-use Rattle.std.specs.Prelude.{◌≡◌, ℕ, Bool, true, false, List, [], ◌∷◌, map, Option, Some, None, Ok, Err, codes, pos}
+use Rattle.std.specs.Prelude.{◌≡◌, ℕ, true, false, List, [], ◌∷◌, map, Some, None, Ok, Err, codes, pos}
 use Rattle.hv_ast.specs.declared.types.ScalarName.TheVariants as s
 use Rattle.hv_ast.specs.declared.types.TypeName.TheVariants.{Scalar, Array}
 use Rattle.hv_ast.specs.declared.expr.Literal.TheVariants as l
-use Rattle.hv_ast.specs.declared.expr.Unary.{Unary}
 use Rattle.hv_ast.specs.declared.expr.Unary.TheVariants as unary
-use Rattle.hv_ast.specs.declared.expr.Binary.{Binary}
 use Rattle.hv_ast.specs.declared.expr.Binary.TheVariants as binary
 use Rattle.hv_ast.specs.declared.expr.Arithmetic.{Arithmetic}
 use Rattle.hv_ast.specs.declared.expr.Arithmetic.TheVariants as arithmetic
@@ -14,7 +12,7 @@ use Rattle.hv_ast.specs.declared.expr.When.{When}
 use Rattle.hv_ast.specs.declared.expr.Expr.{Expr}
 use Rattle.hv_ast.specs.declared.expr.Expr.TheVariants as e
 use Rattle.hv_ast.specs.Tokens.{Text, Tokens, tokens_of}
-use Rattle.hv_grammar.specs.Reading.{Answer, found, nesting, syntax, expression_at}
+use Rattle.hv_grammar.specs.Reading.{Answer, found, syntax, expression_at}
 
 -- ---- trees, in short
 

@@ -1,14 +1,14 @@
 -- What the first token of a rule may be, and what may stand behind a rule.
-use Rattle.std.proofs.Common.{◌≡◌, ◌⊎◌, inl, inr, ℕ, ◌+◌, ◌-◌, Bool, true, false, cond, Option, Some, None, List, [], ◌∷◌, ◌++◌, length, drop, nat_lt, nat_le, refl, sym, ap, subst, rules, arith, ◌∙◌}
+use Rattle.std.proofs.Common.{◌≡◌, ◌⊎◌, inl, inr, ℕ, Bool, true, false, Option, Some, None, List, nat_lt, nat_le, sym, ap, rules, arith, ◌∙◌}
 use denote.Enum.Bare.{true_same, false_same}
 use Rattle.hv_ast.specs.declared.token.Token.{Token}
 use Rattle.hv_grammar.specs.contracts.kind.Kind.{the_type}
 use Rattle.hv_grammar.specs.declared.kind.Kind.{Kind}
 use Rattle.hv_grammar.specs.declared.kind.Kind.TheVariants as k
-use Rattle.hv_grammar.specs.Kinds.{kind_of, same_kind}
+use Rattle.hv_grammar.specs.Kinds.{same_kind}
 use Rattle.hv_grammar.specs.Rules as rule
 use Rattle.hv_grammar.specs.Rules.{Rule, word, many, flag, one_of}
-use Rattle.hv_grammar.specs.Readers.{kind_at, next, sees, after}
+use Rattle.hv_grammar.specs.Readers.{kind_at, next, sees}
 use Rattle.hv_grammar.specs.Reading.{binds}
 
 -- ---- kinds that are seen or not

@@ -1,5 +1,5 @@
 -- How deep each production nests.
-use Rattle.std.proofs.Common.{◌≡◌, ◌⊎◌, inl, inr, ℕ, zero, suc, Bool, true, false, cond, Option, Some, None, List, [], ◌∷◌, refl, sym, ap, subst, ◌∙◌}
+use Rattle.std.proofs.Common.{◌≡◌, ℕ, zero, suc, Bool, true, false, cond, Option, Some, None, List, [], refl, sym, subst}
 use Rattle.hv_ast.specs.declared.token.Token.{Token}
 use Rattle.hv_ast.specs.declared.token.Lexeme.{Lexeme}
 use Rattle.hv_ast.specs.declared.token.Lexeme.TheVariants as lexeme
@@ -19,7 +19,7 @@ use Rattle.hv_ast.specs.Tokens.{Text}
 use Rattle.hv_grammar.specs.declared.kind.Kind.{Kind}
 use Rattle.hv_grammar.specs.declared.kind.Kind.TheVariants as k
 use Rattle.hv_grammar.specs.Kinds.{kind_of}
-use Rattle.hv_grammar.specs.Nesting.{stays, closes, turn_of, too_deep}
+use Rattle.hv_grammar.specs.Nesting.{stays, closes, turn_of}
 use Rattle.hv_grammar.specs.Rules.{Rule}
 use Rattle.hv_grammar.specs.Rules as rule
 use Rattle.hv_grammar.specs.Grammar as g

@@ -1,5 +1,5 @@
 -- What is spelled is read, production by production, where what stands behind can't continue it.
-use Rattle.std.proofs.Common.{◌≡◌, ◌⊎◌, inl, inr, ℕ, zero, suc, Bool, true, false, ◌&&◌, cond, Option, Some, None, List, [], ◌∷◌, nat_lt, nat_le, refl, sym, ap, subst, rules, arith, ◌∙◌}
+use Rattle.std.proofs.Common.{◌≡◌, ◌⊎◌, inl, inr, ℕ, zero, suc, Bool, true, false, ◌&&◌, cond, Option, Some, None, List, [], ◌∷◌, nat_lt, nat_le, refl, sym, ap, arith, ◌∙◌}
 use denote.Enum.Bare.{true_same}
 use Rattle.std.specs.List.{list_all}
 use Rattle.std.specs.Str.{bytes_eq}
@@ -29,8 +29,8 @@ use Rattle.hv_grammar.specs.Grammar as g
 use Rattle.hv_grammar.specs.Reading as r
 use Rattle.hv_grammar.specs.Reading.{binds}
 use Rattle.hv_parse_expr.proofs.Joins.{Sound}
-use Rattle.hv_parse_expr.proofs.Begins.{Stop, End, Begins, Avoids, Follows, starts, begins_bind, begins_or, begins_word, avoids_begins, avoids_give, avoids_word, avoids_bind, avoids_or, avoids_one_of, avoids_flag, follows_word, follows_give, follows_or, follows_end, stop_at, not_at, end_at, weaker, word_kind, word_next, is_seen, is_not_seen}
-use Rattle.hv_parse_expr.proofs.Wholes.{Whole, Lacks, chosen_kind, chosen_next, whole_give, whole_bind, whole_then, whole_word, whole_pass, whole_eat, whole_flag, whole_held, whole_choice, whole_one_of}
+use Rattle.hv_parse_expr.proofs.Begins.{Stop, End, Begins, Avoids, starts, begins_bind, begins_or, begins_word, avoids_begins, avoids_give, avoids_word, avoids_bind, avoids_or, avoids_one_of, avoids_flag, follows_word, follows_give, follows_or, follows_end, stop_at, not_at, end_at, weaker, word_kind, word_next, is_seen, is_not_seen}
+use Rattle.hv_parse_expr.proofs.Wholes.{Whole, chosen_kind, chosen_next, whole_give, whole_bind, whole_then, whole_word, whole_pass, whole_eat, whole_flag, whole_held, whole_choice, whole_one_of}
 use Rattle.hv_parse_expr.proofs.Rows.{whole_separated, whole_joined, whole_chain}
 use Rattle.hv_parse_expr.proofs.Spelled as sound
 

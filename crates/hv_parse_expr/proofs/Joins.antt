@@ -1,5 +1,5 @@
 -- What joins a rule of the grammar and its reader, for each way in which rules are put together.
-use Rattle.std.proofs.Common.{◌≡◌, ◌⊎◌, inl, inr, ℕ, zero, suc, ◌+◌, ◌-◌, Bool, true, false, cond, Option, Some, None, List, [], ◌∷◌, ◌++◌, length, drop, nat_lt, refl, sym, ap, subst, rules, ◌∙◌, append_assoc}
+use Rattle.std.proofs.Common.{◌≡◌, ◌⊎◌, inl, inr, ℕ, zero, suc, Bool, true, false, cond, Option, Some, None, List, [], ◌∷◌, ◌++◌, length, refl, sym, ap, subst, rules, ◌∙◌, append_assoc}
 use Rattle.std.proofs.lemmas.List.{append-nil}
 use denote.Enum.Bare.{same_true}
 use Rattle.hv_ast.specs.declared.token.Token.{Token}
@@ -16,7 +16,6 @@ use Rattle.hv_ast.specs.declared.expr.Expr.{Expr}
 use Rattle.hv_ast.specs.declared.expr.Expr.TheVariants as e
 use Rattle.hv_grammar.specs.Grammar.{joined, chain, operation}
 use Rattle.hv_parse_expr.proofs.Turns.{turn, more_suc, operations_suc}
-use Rattle.hv_parse_expr.proofs.Turns as turns
 use Rattle.hv_grammar.specs.Readers as reader
 
 -- the second place is behind the first

@@ -1,8 +1,7 @@
 -- A text that nests no deeper than there is room for is spelled by a grammar of that depth.
-use Rattle.std.proofs.Common.{◌≡◌, ◌⊎◌, inl, inr, ℕ, zero, suc, ◌-◌, Bool, true, false, cond, Option, Some, None, List, [], ◌∷◌, refl, sym, ap, subst, arith, ◌∙◌}
+use Rattle.std.proofs.Common.{◌≡◌, ◌⊎◌, inl, inr, ℕ, zero, suc, true, false, Option, Some, None, List, [], ◌∷◌, refl, sym, ap, ◌∙◌}
 use Rattle.hv_ast.specs.declared.token.Token.{Token}
 use Rattle.hv_grammar.specs.declared.kind.Kind.{Kind}
-use Rattle.hv_grammar.specs.declared.kind.Kind.TheVariants as k
 use Rattle.hv_grammar.specs.Kinds.{kind_of}
 use Rattle.hv_grammar.specs.Nesting.{Turn, opens, closes, stays, turn_of, turned, too_deep}
 use Rattle.hv_grammar.specs.Rules as rule

@@ -1,5 +1,5 @@
 -- Rows of things with marks or operators between them are read whole.
-use Rattle.std.proofs.Common.{◌≡◌, ◌⊎◌, inl, inr, ℕ, zero, suc, ◌+◌, ◌-◌, ◌≤◌, ◌<◌, Bool, true, false, cond, Option, Some, None, List, [], ◌∷◌, ◌++◌, length, refl, sym, ap, subst, arith, ◌∙◌, append_assoc, length-append}
+use Rattle.std.proofs.Common.{◌≡◌, ℕ, zero, suc, ◌≤◌, cond, Option, Some, None, List, [], ◌∷◌, ◌++◌, length, sym, ap, subst, arith, ◌∙◌, append_assoc, length-append}
 use Rattle.std.proofs.lemmas.List.{append-nil}
 use Rattle.hv_ast.specs.declared.token.Token.{Token}
 use Rattle.hv_ast.specs.declared.expr.Arithmetic.{Arithmetic}
@@ -7,14 +7,12 @@ use Rattle.hv_ast.specs.declared.expr.Operation.{Operation}
 use Rattle.hv_ast.specs.declared.expr.Expr.{Expr}
 use Rattle.hv_ast.specs.declared.expr.Expr.TheVariants as e
 use Rattle.hv_grammar.specs.declared.kind.Kind.{Kind}
-use Rattle.hv_grammar.specs.declared.kind.Kind.TheVariants as k
 use Rattle.hv_grammar.specs.Rules as rule
 use Rattle.hv_grammar.specs.Rules.{Rule, word, many, one_of}
 use Rattle.hv_grammar.specs.Readers.{Outcome, Reader, and_then, kind_at, next, sees, after, by_option, more, behind, more_operations}
 use Rattle.hv_grammar.specs.Readers as reader
 use Rattle.hv_grammar.specs.Grammar.{joined, chain, operation}
 use Rattle.hv_parse_expr.proofs.Turns.{turn, more_suc, operations_suc}
-use Rattle.hv_parse_expr.proofs.Turns as turns
 use Rattle.hv_parse_expr.proofs.Joins.{Sound, Suffix}
 use Rattle.hv_parse_expr.proofs.Begins.{word_kind, word_next, is_seen, is_not_seen}
 use Rattle.hv_parse_expr.proofs.Wholes.{Whole, chosen_kind, chosen_next}

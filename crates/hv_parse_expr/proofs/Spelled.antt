@@ -1,5 +1,5 @@
 -- What is read is spelled, production by production.
-use Rattle.std.proofs.Common.{◌≡◌, ℕ, zero, suc, Bool, true, false, Option, Some, None, List, [], ◌∷◌, cond, ap, sym, ◌∙◌, rules, inl, inr, ◌⊎◌, refl}
+use Rattle.std.proofs.Common.{◌≡◌, ℕ, zero, suc, Bool, true, false, Some, None, List, [], cond, ap, sym, ◌∙◌, rules, inl, inr, ◌⊎◌, refl}
 use Rattle.hv_ast.specs.declared.types.TypeName.TheVariants as type
 use Rattle.hv_ast.specs.declared.expr.Expr.{Expr}
 use Rattle.hv_ast.specs.declared.expr.Expr.TheVariants as e

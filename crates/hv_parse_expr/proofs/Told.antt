@@ -1,10 +1,9 @@
 -- What stands at a place, by its reading and by the grammar.
-use Rattle.std.proofs.Common.{◌≡◌, ◌↔◌, ℕ, zero, suc, ◌+◌, ◌-◌, ◌≤◌, Option, Some, None, Result, Ok, Err, IfOk, List, [], ◌∷◌, ◌++◌, length, take, drop, nat_lt, refl, sym, ap, subst, arith, ◌∙◌, append_assoc, length-append, length-drop}
+use Rattle.std.proofs.Common.{◌≡◌, ℕ, zero, suc, ◌+◌, ◌-◌, ◌≤◌, Option, Some, None, Result, Ok, Err, IfOk, List, ◌++◌, length, take, drop, nat_lt, refl, sym, ap, subst, arith, ◌∙◌, append_assoc, length-append, length-drop}
 use Rattle.std.proofs.lemmas.List.{take-append-drop}
 use Rattle.std.proofs.Math.Seq.{drop-append_seam}
 use Rattle.hv_ast.specs.declared.token.Token.{Token}
 use Rattle.hv_ast.specs.declared.expr.Expr.{Expr}
-use Rattle.hv_ast.specs.declared.types.TypeName.{TypeName}
 use Rattle.hv_grammar.specs.Nesting.{too_deep, most_levels}
 use Rattle.hv_grammar.specs.Readers.{Outcome, and_then, kind_at}
 use Rattle.hv_grammar.specs.Grammar as g

@@ -1,23 +1,13 @@
 -- What is spelled is read, for each way in which rules are put together, where what stands behind
 -- can't continue it.
-use Rattle.std.proofs.Common.{◌≡◌, ◌⊎◌, inl, inr, ℕ, zero, suc, ◌+◌, ◌-◌, ◌≤◌, ◌<◌, Bool, true, false, cond, Option, Some, None, List, [], ◌∷◌, ◌++◌, length, drop, nat_lt, nat_le, refl, sym, ap, subst, rules, arith, ◌∙◌, append_assoc}
-use Rattle.std.proofs.lemmas.List.{append-nil}
+use Rattle.std.proofs.Common.{◌≡◌, ◌⊎◌, inl, inr, Bool, true, false, cond, Option, Some, None, List, sym, ap, subst, ◌∙◌}
 use Rattle.hv_ast.specs.declared.token.Token.{Token}
-use Rattle.hv_ast.specs.declared.expr.Arithmetic.{Arithmetic}
-use Rattle.hv_ast.specs.declared.expr.Operation.{Operation}
-use Rattle.hv_ast.specs.declared.expr.Expr.{Expr}
-use Rattle.hv_ast.specs.declared.expr.Expr.TheVariants as e
 use Rattle.hv_grammar.specs.declared.kind.Kind.{Kind}
-use Rattle.hv_grammar.specs.declared.kind.Kind.TheVariants as k
-use Rattle.hv_grammar.specs.Kinds.{kind_of, same_kind}
 use Rattle.hv_grammar.specs.Rules as rule
 use Rattle.hv_grammar.specs.Rules.{Rule, word, many, flag, one_of}
 use Rattle.hv_grammar.specs.Readers.{Outcome, Reader, and_then, kind_at, next, sees, after, eat, expect, by_option, more, behind, more_operations}
 use Rattle.hv_grammar.specs.Readers as reader
-use Rattle.hv_grammar.specs.Reading.{binds}
-use Rattle.hv_grammar.specs.Grammar.{joined, chain, operation}
-use Rattle.hv_parse_expr.proofs.Turns.{turn, more_suc, operations_suc}
-use Rattle.hv_parse_expr.proofs.Begins.{Stop, Begins, Avoids, Follows, word_kind, word_next, is_seen, is_not_seen}
+use Rattle.hv_parse_expr.proofs.Begins.{Avoids, Follows, word_kind, word_next, is_seen, is_not_seen}
 
 pub record Whole {A : Type 0} (S : List Token → Type 0) (p : Rule A) (r : Reader A) : Type 0 where
   pub read : (a : A) (from to : List Token) → p a from to → S to → r from ≡ Some (a, to)

@@ -18,7 +18,8 @@ impl<F: Fn(Global, &mut Tokens<'_>, usize) -> Result<Expr, ReadFault>> Grammar<F
     #[tactic(auto, unfolding(hv_grammar::specs::Reading::element))]
     fn element(&self, tokens: &mut Tokens<'_>, array: Expr) -> Result<Expr, ReadFault>
         requires { Nests self.now.depth (F.pre self.now.expr) (F.post self.now.expr) }
-        ensures { Reads (reading.element (reading.expr self.now.depth) array tokens.old) result tokens.new }
+        ensures { Reads (reading.element (reading.expr self.now.depth) array tokens.old)
+            result tokens.new }
     {
         let index = self.expr(tokens)?;
         tokens.expect(Kind::CloseIndex)?;
@@ -29,7 +30,8 @@ impl<F: Fn(Global, &mut Tokens<'_>, usize) -> Result<Expr, ReadFault>> Grammar<F
     #[tactic(auto, unfolding(hv_grammar::specs::Reading::indexed))]
     fn indexed(&self, tokens: &mut Tokens<'_>) -> Result<Expr, ReadFault>
         requires { Nests self.now.depth (F.pre self.now.expr) (F.post self.now.expr) }
-        ensures { Reads (reading.indexed (reading.expr self.now.depth) tokens.old) result tokens.new }
+        ensures { Reads (reading.indexed (reading.expr self.now.depth) tokens.old)
+            result tokens.new }
     {
         let first = self.primary(tokens)?;
         if tokens.eat(Kind::OpenIndex) {
@@ -43,7 +45,8 @@ impl<F: Fn(Global, &mut Tokens<'_>, usize) -> Result<Expr, ReadFault>> Grammar<F
     #[tactic(auto, unfolding(hv_grammar::specs::Reading::signed))]
     fn signed(&self, tokens: &mut Tokens<'_>) -> Result<Expr, ReadFault>
         requires { Nests self.now.depth (F.pre self.now.expr) (F.post self.now.expr) }
-        ensures { Reads (reading.signed (reading.expr self.now.depth) tokens.old) result tokens.new }
+        ensures { Reads (reading.signed (reading.expr self.now.depth) tokens.old)
+            result tokens.new }
     {
         let Some(operator) = sign(tokens.peek()) else {
             return self.indexed(tokens);
@@ -71,7 +74,8 @@ impl<F: Fn(Global, &mut Tokens<'_>, usize) -> Result<Expr, ReadFault>> Grammar<F
     #[tactic(auto, unfolding(hv_grammar::specs::Reading::suffixed))]
     fn suffixed(&self, tokens: &mut Tokens<'_>) -> Result<Expr, ReadFault>
         requires { Nests self.now.depth (F.pre self.now.expr) (F.post self.now.expr) }
-        ensures { Reads (reading.suffixed (reading.expr self.now.depth) tokens.old) result tokens.new }
+        ensures { Reads (reading.suffixed (reading.expr self.now.depth) tokens.old)
+            result tokens.new }
     {
         let value = self.signed(tokens)?;
         if tokens.eat(Kind::Is) {
@@ -85,7 +89,8 @@ impl<F: Fn(Global, &mut Tokens<'_>, usize) -> Result<Expr, ReadFault>> Grammar<F
     #[tactic(auto, unfolding(hv_grammar::specs::Reading::factors))]
     fn factors(&self, tokens: &mut Tokens<'_>) -> Result<List<Operation>, ReadFault>
         requires { Nests self.now.depth (F.pre self.now.expr) (F.post self.now.expr) }
-        ensures { Reads (reading.factors (reading.expr self.now.depth) tokens.old) result tokens.new }
+        ensures { Reads (reading.factors (reading.expr self.now.depth) tokens.old)
+            result tokens.new }
     {
         let mut found = Vec::new(self.alloc);
         for _turn in 0..tokens.left() {
@@ -117,7 +122,8 @@ impl<F: Fn(Global, &mut Tokens<'_>, usize) -> Result<Expr, ReadFault>> Grammar<F
     #[tactic(auto, unfolding(hv_grammar::specs::Reading::summands))]
     fn summands(&self, tokens: &mut Tokens<'_>) -> Result<List<Operation>, ReadFault>
         requires { Nests self.now.depth (F.pre self.now.expr) (F.post self.now.expr) }
-        ensures { Reads (reading.summands (reading.expr self.now.depth) tokens.old) result tokens.new }
+        ensures { Reads (reading.summands (reading.expr self.now.depth) tokens.old)
+            result tokens.new }
     {
         let mut found = Vec::new(self.alloc);
         for _turn in 0..tokens.left() {
@@ -149,7 +155,8 @@ impl<F: Fn(Global, &mut Tokens<'_>, usize) -> Result<Expr, ReadFault>> Grammar<F
     #[tactic(auto, unfolding(hv_grammar::specs::Reading::like))]
     fn like(&self, tokens: &mut Tokens<'_>, value: Expr, negated: bool) -> Result<Expr, ReadFault>
         requires { Nests self.now.depth (F.pre self.now.expr) (F.post self.now.expr) }
-        ensures { Reads (reading.like (reading.expr self.now.depth) value negated tokens.old) result tokens.new }
+        ensures { Reads (reading.like (reading.expr self.now.depth) value negated tokens.old)
+            result tokens.new }
     {
         let operator = if negated {
             Binary::NotLike
@@ -169,7 +176,8 @@ impl<F: Fn(Global, &mut Tokens<'_>, usize) -> Result<Expr, ReadFault>> Grammar<F
         negated: bool,
     ) -> Result<Expr, ReadFault>
         requires { Nests self.now.depth (F.pre self.now.expr) (F.post self.now.expr) }
-        ensures { Reads (reading.between (reading.expr self.now.depth) value negated tokens.old) result tokens.new }
+        ensures { Reads (reading.between (reading.expr self.now.depth) value negated tokens.old)
+            result tokens.new }
     {
         let low = self.sum(tokens)?;
         tokens.expect(Kind::And)?;
@@ -181,7 +189,8 @@ impl<F: Fn(Global, &mut Tokens<'_>, usize) -> Result<Expr, ReadFault>> Grammar<F
     #[tactic(auto, unfolding(hv_grammar::specs::Reading::among))]
     fn among(&self, tokens: &mut Tokens<'_>, value: Expr, negated: bool) -> Result<Expr, ReadFault>
         requires { Nests self.now.depth (F.pre self.now.expr) (F.post self.now.expr) }
-        ensures { Reads (reading.among (reading.expr self.now.depth) value negated tokens.old) result tokens.new }
+        ensures { Reads (reading.among (reading.expr self.now.depth) value negated tokens.old)
+            result tokens.new }
     {
         tokens.expect(Kind::Open)?;
         let among = self.list(tokens)?;
@@ -202,7 +211,8 @@ impl<F: Fn(Global, &mut Tokens<'_>, usize) -> Result<Expr, ReadFault>> Grammar<F
         negated: bool,
     ) -> Result<Expr, ReadFault>
         requires { Nests self.now.depth (F.pre self.now.expr) (F.post self.now.expr) }
-        ensures { Reads (reading.matched (reading.expr self.now.depth) value negated tokens.old) result tokens.new }
+        ensures { Reads (reading.matched (reading.expr self.now.depth) value negated tokens.old)
+            result tokens.new }
     {
         match tokens.peek() {
             Kind::Like => {
@@ -230,7 +240,8 @@ impl<F: Fn(Global, &mut Tokens<'_>, usize) -> Result<Expr, ReadFault>> Grammar<F
         operator: Binary,
     ) -> Result<Expr, ReadFault>
         requires { Nests self.now.depth (F.pre self.now.expr) (F.post self.now.expr) }
-        ensures { Reads (reading.compared (reading.expr self.now.depth) value operator tokens.old) result tokens.new }
+        ensures { Reads (reading.compared (reading.expr self.now.depth) value operator tokens.old)
+            result tokens.new }
     {
         let right = self.sum(tokens)?;
         Ok(binary(self.alloc, operator, value, right)?)
@@ -240,7 +251,8 @@ impl<F: Fn(Global, &mut Tokens<'_>, usize) -> Result<Expr, ReadFault>> Grammar<F
     #[tactic(auto, unfolding(hv_grammar::specs::Reading::tested))]
     fn tested(&self, tokens: &mut Tokens<'_>, value: Expr) -> Result<Expr, ReadFault>
         requires { Nests self.now.depth (F.pre self.now.expr) (F.post self.now.expr) }
-        ensures { Reads (reading.tested (reading.expr self.now.depth) value tokens.old) result tokens.new }
+        ensures { Reads (reading.tested (reading.expr self.now.depth) value tokens.old)
+            result tokens.new }
     {
         let kind = tokens.peek();
         match kind {
@@ -263,7 +275,8 @@ impl<F: Fn(Global, &mut Tokens<'_>, usize) -> Result<Expr, ReadFault>> Grammar<F
     #[tactic(auto, unfolding(hv_grammar::specs::Reading::predicate))]
     fn predicate(&self, tokens: &mut Tokens<'_>) -> Result<Expr, ReadFault>
         requires { Nests self.now.depth (F.pre self.now.expr) (F.post self.now.expr) }
-        ensures { Reads (reading.predicate (reading.expr self.now.depth) tokens.old) result tokens.new }
+        ensures { Reads (reading.predicate (reading.expr self.now.depth) tokens.old)
+            result tokens.new }
     {
         let value = self.sum(tokens)?;
         self.tested(tokens, value)
@@ -273,7 +286,8 @@ impl<F: Fn(Global, &mut Tokens<'_>, usize) -> Result<Expr, ReadFault>> Grammar<F
     #[tactic(auto, unfolding(hv_grammar::specs::Reading::negation))]
     fn negation(&self, tokens: &mut Tokens<'_>) -> Result<Expr, ReadFault>
         requires { Nests self.now.depth (F.pre self.now.expr) (F.post self.now.expr) }
-        ensures { Reads (reading.negation (reading.expr self.now.depth) tokens.old) result tokens.new }
+        ensures { Reads (reading.negation (reading.expr self.now.depth) tokens.old)
+            result tokens.new }
     {
         if tokens.eat(Kind::Not) {
             Ok(unary(self.alloc, Unary::Not, self.predicate(tokens)?)?)
@@ -286,7 +300,8 @@ impl<F: Fn(Global, &mut Tokens<'_>, usize) -> Result<Expr, ReadFault>> Grammar<F
     #[tactic(auto, unfolding(hv_grammar::specs::Reading::conjuncts))]
     fn conjuncts(&self, tokens: &mut Tokens<'_>, first: Expr) -> Result<List<Expr>, ReadFault>
         requires { Nests self.now.depth (F.pre self.now.expr) (F.post self.now.expr) }
-        ensures { Reads (reading.conjuncts (reading.expr self.now.depth) first tokens.old) result tokens.new }
+        ensures { Reads (reading.conjuncts (reading.expr self.now.depth) first tokens.old)
+            result tokens.new }
     {
         let mut found = Vec::new(self.alloc);
         found.push(first)?;
@@ -303,7 +318,8 @@ impl<F: Fn(Global, &mut Tokens<'_>, usize) -> Result<Expr, ReadFault>> Grammar<F
     #[tactic(auto, unfolding(hv_grammar::specs::Reading::conjunction))]
     fn conjunction(&self, tokens: &mut Tokens<'_>) -> Result<Expr, ReadFault>
         requires { Nests self.now.depth (F.pre self.now.expr) (F.post self.now.expr) }
-        ensures { Reads (reading.conjunction (reading.expr self.now.depth) tokens.old) result tokens.new }
+        ensures { Reads (reading.conjunction (reading.expr self.now.depth) tokens.old)
+            result tokens.new }
     {
         let first = self.negation(tokens)?;
         if tokens.sees(Kind::And) {
@@ -317,7 +333,8 @@ impl<F: Fn(Global, &mut Tokens<'_>, usize) -> Result<Expr, ReadFault>> Grammar<F
     #[tactic(auto, unfolding(hv_grammar::specs::Reading::disjuncts))]
     fn disjuncts(&self, tokens: &mut Tokens<'_>, first: Expr) -> Result<List<Expr>, ReadFault>
         requires { Nests self.now.depth (F.pre self.now.expr) (F.post self.now.expr) }
-        ensures { Reads (reading.disjuncts (reading.expr self.now.depth) first tokens.old) result tokens.new }
+        ensures { Reads (reading.disjuncts (reading.expr self.now.depth) first tokens.old)
+            result tokens.new }
     {
         let mut found = Vec::new(self.alloc);
         found.push(first)?;
@@ -334,7 +351,8 @@ impl<F: Fn(Global, &mut Tokens<'_>, usize) -> Result<Expr, ReadFault>> Grammar<F
     #[tactic(auto, unfolding(hv_grammar::specs::Reading::disjunction))]
     pub fn disjunction(&self, tokens: &mut Tokens<'_>) -> Result<Expr, ReadFault>
         requires { Nests self.now.depth (F.pre self.now.expr) (F.post self.now.expr) }
-        ensures { Reads (reading.disjunction (reading.expr self.now.depth) tokens.old) result tokens.new }
+        ensures { Reads (reading.disjunction (reading.expr self.now.depth) tokens.old)
+            result tokens.new }
     {
         let first = self.conjunction(tokens)?;
         if tokens.sees(Kind::Or) {

@@ -36,7 +36,8 @@ impl<F: Fn(Global, &mut Tokens<'_>, usize) -> Result<Expr, ReadFault>> Grammar<F
     #[tactic(auto, unfolding(hv_grammar::specs::Reading::bracketed))]
     fn bracketed(&self, tokens: &mut Tokens<'_>) -> Result<Expr, ReadFault>
         requires { Nests self.now.depth (F.pre self.now.expr) (F.post self.now.expr) }
-        ensures { Reads (reading.bracketed (reading.expr self.now.depth) tokens.old) result tokens.new }
+        ensures { Reads (reading.bracketed (reading.expr self.now.depth) tokens.old)
+            result tokens.new }
     {
         let inner = self.expr(tokens)?;
         tokens.expect(Kind::Close)?;
@@ -47,7 +48,8 @@ impl<F: Fn(Global, &mut Tokens<'_>, usize) -> Result<Expr, ReadFault>> Grammar<F
     #[tactic(auto, unfolding(hv_grammar::specs::Reading::arguments))]
     fn arguments(&self, tokens: &mut Tokens<'_>) -> Result<List<Expr>, ReadFault>
         requires { Nests self.now.depth (F.pre self.now.expr) (F.post self.now.expr) }
-        ensures { Reads (reading.arguments (reading.expr self.now.depth) tokens.old) result tokens.new }
+        ensures { Reads (reading.arguments (reading.expr self.now.depth) tokens.old)
+            result tokens.new }
     {
         if tokens.eat(Kind::Close) {
             return Ok(List::empty(self.alloc));
@@ -61,7 +63,8 @@ impl<F: Fn(Global, &mut Tokens<'_>, usize) -> Result<Expr, ReadFault>> Grammar<F
     #[tactic(auto, unfolding(hv_grammar::specs::Reading::call))]
     fn call(&self, tokens: &mut Tokens<'_>, function: Text) -> Result<Expr, ReadFault>
         requires { Nests self.now.depth (F.pre self.now.expr) (F.post self.now.expr) }
-        ensures { Reads (reading.call (reading.expr self.now.depth) function tokens.old) result tokens.new }
+        ensures { Reads (reading.call (reading.expr self.now.depth) function tokens.old)
+            result tokens.new }
     {
         let distinct = tokens.eat(Kind::Distinct);
         let arguments = self.arguments(tokens)?;
@@ -76,7 +79,8 @@ impl<F: Fn(Global, &mut Tokens<'_>, usize) -> Result<Expr, ReadFault>> Grammar<F
     #[tactic(auto, unfolding(hv_grammar::specs::Reading::count))]
     fn count(&self, tokens: &mut Tokens<'_>, function: Text) -> Result<Expr, ReadFault>
         requires { Nests self.now.depth (F.pre self.now.expr) (F.post self.now.expr) }
-        ensures { Reads (reading.count (reading.expr self.now.depth) function tokens.old) result tokens.new }
+        ensures { Reads (reading.count (reading.expr self.now.depth) function tokens.old)
+            result tokens.new }
     {
         if !tokens.eat(Kind::Star) {
             return self.call(tokens, function);
@@ -107,7 +111,8 @@ impl<F: Fn(Global, &mut Tokens<'_>, usize) -> Result<Expr, ReadFault>> Grammar<F
     #[tactic(auto, unfolding(hv_grammar::specs::Reading::keyword_call))]
     fn keyword_call(&self, tokens: &mut Tokens<'_>) -> Result<Expr, ReadFault>
         requires { Nests self.now.depth (F.pre self.now.expr) (F.post self.now.expr) }
-        ensures { Reads (reading.keyword_call (reading.expr self.now.depth) tokens.old) result tokens.new }
+        ensures { Reads (reading.keyword_call (reading.expr self.now.depth) tokens.old)
+            result tokens.new }
     {
         let function = tokens.word(self.alloc)?;
         tokens.expect(Kind::Open)?;
@@ -147,7 +152,8 @@ impl<F: Fn(Global, &mut Tokens<'_>, usize) -> Result<Expr, ReadFault>> Grammar<F
     #[tactic(auto, unfolding(hv_grammar::specs::Reading::operand))]
     fn operand(&self, tokens: &mut Tokens<'_>) -> Result<Option<Boxed<Expr>>, ReadFault>
         requires { Nests self.now.depth (F.pre self.now.expr) (F.post self.now.expr) }
-        ensures { Reads (reading.operand (reading.expr self.now.depth) tokens.old) result tokens.new }
+        ensures { Reads (reading.operand (reading.expr self.now.depth) tokens.old)
+            result tokens.new }
     {
         if tokens.eat(Kind::When) {
             return Ok(None);
@@ -161,7 +167,8 @@ impl<F: Fn(Global, &mut Tokens<'_>, usize) -> Result<Expr, ReadFault>> Grammar<F
     #[tactic(auto, unfolding(hv_grammar::specs::Reading::otherwise))]
     fn otherwise(&self, tokens: &mut Tokens<'_>) -> Result<Option<Boxed<Expr>>, ReadFault>
         requires { Nests self.now.depth (F.pre self.now.expr) (F.post self.now.expr) }
-        ensures { Reads (reading.otherwise (reading.expr self.now.depth) tokens.old) result tokens.new }
+        ensures { Reads (reading.otherwise (reading.expr self.now.depth) tokens.old)
+            result tokens.new }
     {
         if !tokens.eat(Kind::Else) {
             tokens.expect(Kind::End)?;
@@ -206,7 +213,8 @@ impl<F: Fn(Global, &mut Tokens<'_>, usize) -> Result<Expr, ReadFault>> Grammar<F
     #[tactic(auto, unfolding(hv_grammar::specs::Reading::primary))]
     pub fn primary(&self, tokens: &mut Tokens<'_>) -> Result<Expr, ReadFault>
         requires { Nests self.now.depth (F.pre self.now.expr) (F.post self.now.expr) }
-        ensures { Reads (reading.primary (reading.expr self.now.depth) tokens.old) result tokens.new }
+        ensures { Reads (reading.primary (reading.expr self.now.depth) tokens.old)
+            result tokens.new }
     {
         match tokens.peek() {
             Kind::Number | Kind::Text => tokens.literal(self.alloc),

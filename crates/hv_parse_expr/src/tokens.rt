@@ -95,7 +95,7 @@ impl<'a> Tokens<'a> {
     }
 
     /// The text of the next word, keyword or not, or of an identifier between backquotes.
-    #[tactic(auto, unfolding(hv_grammar::specs::Reading::word, hv_grammar::specs::Readers::held, hv_grammar::specs::Readers::next))]
+    #[tactic(auto, unfolding(hv_grammar::specs::Reading::word, hv_grammar::specs::Readers::held))]
     pub fn word(&mut self, alloc: Global) -> Result<Text, ReadFault>
         ensures { Reads (reading.word self.old) result self.new }
     {

@@ -1,5 +1,5 @@
 -- What is too deep in all tokens is too deep in those that are left, with the room that is left.
-use Rattle.std.proofs.Common.{◌≡◌, ◌+◌, ◌≤◌, drop, length}
+use Rattle.std.proofs.Common.{◌≡◌, ◌+◌, ◌≤◌, drop}
 use Rattle.hv_grammar.specs.Nesting.{most_levels}
 use Rattle.hv_grammar.specs.Nesting as nesting
 use Rattle.hv_parse_expr.proofs.nesting.too_deep.Given as goal

@@ -1,4 +1,4 @@
-use Rattle.std.proofs.Common.{◌≡◌, Some, rules, arith, sym, ◌∙◌}
+use Rattle.std.proofs.Common.{◌≡◌, Some, rules, arith}
 use Rattle.std.proofs.lemmas.Grind.{common_steps}
 use Rattle.hv_grammar.specs.Reading.{expr, multiplicative, suffixed, factors}
 use Rattle.hv_parse_expr.proofs.Turns.{operated, no_operator, operations_run_out}
