@@ -1,0 +1,7 @@
+use Rattle.std.proofs.Common.{rules}
+use Rattle.hv_grammar.specs.Kinds.{words}
+use Rattle.hv_grammar.proofs.kind.word_kind.Goals as goal
+
+pub returns : goal.returns
+unfolding words
+returns c = search rules

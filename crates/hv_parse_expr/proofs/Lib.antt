@@ -1,0 +1,10 @@
+pub mod Begins
+pub mod Depth
+pub mod Found
+pub mod Joins
+pub mod Room
+pub mod Rows
+pub mod Spelled
+pub mod Told
+pub mod Turns
+pub mod Wholes

@@ -1,0 +1,11 @@
+-- What was read, and what the rest gives behind it, is the whole.
+use Rattle.std.proofs.Common.{◌≡◌, ◌-◌}
+use Rattle.hv_grammar.specs.declared.kind.Kind.TheVariants as k
+use Rattle.hv_grammar.specs.Readers.{more}
+use Rattle.hv_grammar.specs.Reading.{expr, when, whens}
+use Rattle.hv_parse_expr.proofs.grammar.Grammar.whens.Given as goal
+
+abbrev pub invariant-loop-turn : goal.invariant-loop-turn
+invariant-loop-turn g l =
+    whens (expr l.self.depth) l.fn.tokens
+    ≡ more k.When (when (expr l.self.depth)) (l._turn-end - l._turn) l.found.items l.tokens

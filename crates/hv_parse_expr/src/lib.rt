@@ -1,0 +1,26 @@
+//! Expressions and types by their tokens.
+#![tactic(auto)]
+
+mod fault;
+mod grammar;
+mod laws;
+mod levels;
+mod names;
+mod nesting;
+mod operators;
+mod parse;
+mod primary;
+mod tokens;
+mod types;
+
+pub use fault::{ParseFault, ReadFault};
+pub use grammar::{Grammar, expr};
+pub use laws::{one_tree, read_is_spelled, spelled_is_read, types_are_exact};
+pub use names::name;
+pub use nesting::too_deep;
+pub use parse::parse_expr;
+pub use tokens::Tokens;
+pub use types::type_name;
+
+#[cfg(test)]
+mod tests;

@@ -1,0 +1,52 @@
+//! Names, as columns, tables and functions have them.
+
+ghost use Rattle.std.specs.Prelude.{◌≡◌};
+ghost use Rattle.hv_grammar.specs.Reading as reading;
+ghost use Rattle.hv_parse_expr.specs.Reads.{Reads};
+
+use crate::fault::ReadFault;
+use crate::tokens::Tokens;
+use hv_ast::{Expr, Literal};
+use hv_base::Text;
+use hv_grammar::Kind;
+use std::alloc::Global;
+
+/// Whether a name may be spelled so: a word that is no keyword here, or an identifier between
+/// backquotes.
+pub fn is_name(kind: Kind) -> bool
+    ensures { result ≡ reading.is_name kind }
+{
+    matches!(kind, Kind::Name | Kind::Count | Kind::String)
+}
+
+/// `ident`
+#[tactic(auto, unfolding(hv_grammar::specs::Reading::name))]
+pub fn name(alloc: Global, tokens: &mut Tokens<'_>) -> Result<Text, ReadFault>
+    ensures { Reads (reading.name tokens.old) result tokens.new }
+{
+    if is_name(tokens.peek()) {
+        tokens.word(alloc)
+    } else {
+        Err(ReadFault::Syntax)
+    }
+}
+
+/// Behind DATE, the string.
+#[tactic(auto, unfolding(hv_grammar::specs::Reading::date))]
+pub fn date(alloc: Global, tokens: &mut Tokens<'_>) -> Result<Expr, ReadFault>
+    ensures { Reads (reading.date tokens.old) result tokens.new }
+{
+    Ok(Expr::Literal(Literal::Date(tokens.string(alloc)?)))
+}
+
+/// Behind the first name, `[. ident]`.
+#[tactic(auto, unfolding(hv_grammar::specs::Reading::column))]
+pub fn column(alloc: Global, tokens: &mut Tokens<'_>, first: Text) -> Result<Expr, ReadFault>
+    ensures { Reads (reading.column first tokens.old) result tokens.new }
+{
+    if tokens.eat(Kind::Dot) {
+        Ok(Expr::Column(Some(first), name(alloc, tokens)?))
+    } else {
+        Ok(Expr::Column(None, first))
+    }
+}

@@ -1,0 +1,112 @@
+//! Which tokens are operators, and the trees that they make.
+
+ghost use Rattle.std.specs.Prelude.{◌≡◌, IfOk};
+ghost use Rattle.hv_grammar.specs.Reading as reading;
+
+use hv_ast::{Arithmetic, Binary, Expr, Unary};
+use hv_base::{Boxed, NoMemory};
+use hv_grammar::Kind;
+use std::alloc::Global;
+
+/// `= | == | <> | != | < | <= | > | >= | <=>`
+pub fn comparison(kind: Kind) -> Option<Binary>
+    ensures { result ≡ reading.comparison kind }
+{
+    match kind {
+        Kind::Equal => Some(Binary::Equal),
+        Kind::Unequal => Some(Binary::Unequal),
+        Kind::Less => Some(Binary::Less),
+        Kind::AtMost => Some(Binary::AtMost),
+        Kind::Greater => Some(Binary::Greater),
+        Kind::AtLeast => Some(Binary::AtLeast),
+        Kind::NullSafeEqual => Some(Binary::NullSafeEqual),
+        _ => None,
+    }
+}
+
+/// `+ | -`
+pub fn additive(kind: Kind) -> Option<Arithmetic>
+    ensures { result ≡ reading.additive kind }
+{
+    match kind {
+        Kind::Plus => Some(Arithmetic::Add),
+        Kind::Minus => Some(Arithmetic::Subtract),
+        _ => None,
+    }
+}
+
+/// `* | DIV | %`
+pub fn multiplicative(kind: Kind) -> Option<Arithmetic>
+    ensures { result ≡ reading.multiplicative kind }
+{
+    match kind {
+        Kind::Star => Some(Arithmetic::Multiply),
+        Kind::Div => Some(Arithmetic::Divide),
+        Kind::Percent => Some(Arithmetic::Remainder),
+        _ => None,
+    }
+}
+
+/// `[+ | -]`
+pub fn sign(kind: Kind) -> Option<Unary>
+    ensures { result ≡ reading.sign kind }
+{
+    match kind {
+        Kind::Plus => Some(Unary::Plus),
+        Kind::Minus => Some(Unary::Minus),
+        _ => None,
+    }
+}
+
+/// How tightly a token binds to an expression before it; 0 where it can't continue one.
+pub fn binds(kind: Kind) -> u8
+    ensures { result ≡ reading.binds kind }
+{
+    match kind {
+        Kind::Or => 1,
+        Kind::And => 2,
+        Kind::Not | Kind::In | Kind::Between | Kind::Like => 3,
+        Kind::Equal | Kind::Unequal | Kind::Less | Kind::AtMost => 3,
+        Kind::Greater | Kind::AtLeast | Kind::NullSafeEqual => 3,
+        Kind::Plus | Kind::Minus => 4,
+        Kind::Star | Kind::Div | Kind::Percent => 5,
+        Kind::Is => 6,
+        Kind::OpenIndex => 7,
+        Kind::Open | Kind::Dot => 8,
+        _ => 0,
+    }
+}
+
+pub fn unary(alloc: Global, operator: Unary, operand: Expr) -> Result<Expr, NoMemory>
+    ensures { IfOk result (λ tree. tree ≡ Expr.Unary operator operand) }
+{
+    Ok(Expr::Unary(operator, Boxed::new(alloc, operand)?))
+}
+
+pub fn binary(alloc: Global, operator: Binary, left: Expr, right: Expr) -> Result<Expr, NoMemory>
+    ensures { IfOk result (λ tree. tree ≡ Expr.Binary operator left right) }
+{
+    let left = Boxed::new(alloc, left)?;
+    let right = Boxed::new(alloc, right)?;
+    Ok(Expr::Binary(operator, left, right))
+}
+
+pub fn between(
+    alloc: Global,
+    value: Expr,
+    negated: bool,
+    low: Expr,
+    high: Expr,
+) -> Result<Expr, NoMemory>
+    ensures { IfOk result (λ tree. tree ≡ Expr.Between value negated low high) }
+{
+    let value = Boxed::new(alloc, value)?;
+    let low = Boxed::new(alloc, low)?;
+    let high = Boxed::new(alloc, high)?;
+    Ok(Expr::Between {
+        value,
+        negated,
+        low,
+        high,
+    })
+}
