@@ -76,6 +76,11 @@ abbrev pub folders_of : (table : ℕ) (partition dir : List ℕ) → List (List 
 folders_of table partition dir =
     table_name table ∷ (map piece_name (pieces_of partition) ++ dir_name dir ∷ [])
 
+-- the path that leads from a folder through folders of these names
+abbrev pub path_below : List ℕ → List (List ℕ) → List ℕ
+path_below path [] = path
+path_below path (name ∷ names) = path_below (path ++ slash ∷ name) names
+
 -- ## Names that stay in their folder
 
 abbrev pub has_slash : List ℕ → Bool

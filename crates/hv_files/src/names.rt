@@ -1,5 +1,5 @@
 ghost use Rattle.std.specs.Prelude.{◌≡◌, ◌<◌, ◌++◌, ◌^◌, ℕ, map, Some, IfOk, IfSome, OnOk, string_bytes};
-ghost use Rattle.hv_files.specs.Names.{is_marked, has_equals, piece_name, dir_name, padded, table_name, bucket_name, Names, folders_of, pieces_of};
+ghost use Rattle.hv_files.specs.Names.{is_marked, has_equals, piece_name, dir_name, padded, table_name, bucket_name, Names, folders_of, pieces_of, has_slash};
 
 use hv_base::{NoMemory, TableId};
 use std::alloc::Global;
@@ -29,6 +29,13 @@ fn has_equals(name: &str) -> bool
     ensures { result ≡ has_equals name.now }
 {
     name.as_bytes().iter().any(|byte| *byte == b'=')
+}
+
+/// Whether a name would lead to another folder.
+pub fn has_slash(name: &str) -> bool
+    ensures { result ≡ has_slash name.now }
+{
+    name.as_bytes().iter().any(|byte| *byte == b'/')
 }
 
 /// The name of the folder of one piece of a partition's text.

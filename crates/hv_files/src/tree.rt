@@ -1,10 +1,11 @@
 //! The tree of files.
-ghost use Rattle.std.specs.Prelude.{IfOk};
+ghost use Rattle.std.specs.Prelude.{◌≡◌, false, IfOk, OnOk, string_bytes};
 ghost use Rattle.hv_shelf.specs.Disk.{IsListing};
+ghost use Rattle.hv_files.specs.Names.{folders_of, path_below, has_slash};
 
 use crate::fault::FileFault;
 use crate::folder::{below, is_there, make_folder, names_in, sync_folder};
-use crate::names::{Entry, bucket_name, entry_of, folders_of, read_bucket, table_name};
+use crate::names::{Entry, bucket_name, entry_of, folders_of, has_slash, read_bucket, table_name};
 use hv_base::{Duplicate, NoMemory, TableId, Text};
 use hv_shelf::{DirAt, Place};
 use std::alloc::Global;
@@ -56,14 +57,19 @@ impl<R: Files> Tree<R> {
         synced
     }
 
-    /// The folder of a partition, and the folder of a directory in it.
+    /// The path of a partition's folder, and of the folder of a directory in it. A name with a slash
+    /// has none.
     fn folders(
         &self,
         table: TableId,
         partition: &Text,
         dir: &Text,
-    ) -> Result<(String, String), FileFault> {
-        if dir.as_str().contains('/') {
+    ) -> Result<(String, String), FileFault>
+        ensures path { IfOk result (λ paths. string_bytes paths.1
+            ≡ path_below (string_bytes self.now.root) (folders_of table.0 partition.now dir.now)) }
+        ensures safe { OnOk result (has_slash dir.now ≡ false) }
+    {
+        if has_slash(dir.as_str()) {
             return Err(FileFault::Device);
         }
         let names = folders_of(self.alloc, table, partition.as_str(), dir.as_str())?;
