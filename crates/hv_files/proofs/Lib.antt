@@ -1,0 +1,4 @@
+pub mod CauseLemmas
+pub mod ListingLemmas
+pub mod NameLemmas
+pub mod PathLemmas

@@ -1,0 +1,5 @@
+use Rattle.hv_files.proofs.CauseLemmas.{soft_where}
+use Rattle.hv_files.proofs.counts.Counts.soft_device.Goals as goal
+
+pub returns-in-Err-clause-cause : goal.returns-in-Err-clause-cause
+returns-in-Err-clause-cause g c = soft_where _ _ _ _ _ c.raise_soft.ensures.cause

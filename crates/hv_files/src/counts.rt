@@ -1,0 +1,100 @@
+ghost use Rattle.std.specs.Prelude.{◌≡◌, IsErr, IsErrOf};
+ghost use Rattle.hv_shelf.specs.Causes.{SoftCause, HardCause};
+ghost use Rattle.hv_files.specs.Answers.{counted_soft, counted_hard, answer_of, device_answer_of};
+
+use crate::fault::FileFault;
+use hv_base::{Failed, raise};
+use hv_shelf::ShelfFault;
+
+/// The counts of a store: all calls that failed, and those behind which it isn't to be used.
+#[derive(Clone, Copy, Debug)]
+pub struct Counts {
+    pub faults: u64,
+    pub hard: u64,
+}
+
+impl Counts {
+    /// A call on files failed: the hard count rises where the count of faults ends.
+    fn raise_soft(&mut self)
+        ensures counted { self.new ≡ counted_soft self.old }
+        ensures cause { SoftCause (Unit {0})
+            self.old.faults self.new.faults self.old.hard self.new.hard }
+    {
+        raise(&mut self.faults);
+        if self.faults == u64::MAX {
+            raise(&mut self.hard);
+        }
+    }
+
+    /// A call on the journal, or a rename, failed.
+    fn raise_hard(&mut self)
+        ensures counted { self.new ≡ counted_hard self.old }
+        ensures cause { HardCause (Unit {0})
+            self.old.faults self.new.faults self.old.hard self.new.hard }
+    {
+        raise(&mut self.faults);
+        raise(&mut self.hard);
+    }
+
+    /// The answer of a call on files.
+    pub fn soft<T>(&mut self, done: Result<T, FileFault>) -> Result<T, ShelfFault>
+        ensures answer { result ≡ answer_of done }
+        ensures cause { SoftCause (IsErrOf result ShelfFault.Failed)
+            self.old.faults self.new.faults self.old.hard self.new.hard }
+    {
+        match done {
+            Ok(value) => Ok(value),
+            Err(FileFault::NoMemory) => Err(ShelfFault::NoMemory),
+            Err(FileFault::Device) => {
+                self.raise_soft();
+                Err(ShelfFault::Failed)
+            }
+        }
+    }
+
+    /// The answer of a write to the journal, or of a rename.
+    pub fn hard<T>(&mut self, done: Result<T, FileFault>) -> Result<T, ShelfFault>
+        ensures answer { result ≡ answer_of done }
+        ensures cause { HardCause (IsErrOf result ShelfFault.Failed)
+            self.old.faults self.new.faults self.old.hard self.new.hard }
+    {
+        match done {
+            Ok(value) => Ok(value),
+            Err(FileFault::NoMemory) => Err(ShelfFault::NoMemory),
+            Err(FileFault::Device) => {
+                self.raise_hard();
+                Err(ShelfFault::Failed)
+            }
+        }
+    }
+
+    /// The answer of a call on files that has none for want of memory: that is a failure too.
+    pub fn soft_device<T>(&mut self, done: Result<T, FileFault>) -> Result<T, Failed>
+        ensures answer { result ≡ device_answer_of done }
+        ensures cause { SoftCause (IsErr result)
+            self.old.faults self.new.faults self.old.hard self.new.hard }
+    {
+        match done {
+            Ok(value) => Ok(value),
+            Err(_) => {
+                self.raise_soft();
+                Err(Failed)
+            }
+        }
+    }
+
+    /// The answer of a call on the journal that takes no memory.
+    pub fn hard_device<T>(&mut self, done: Result<T, FileFault>) -> Result<T, Failed>
+        ensures answer { result ≡ device_answer_of done }
+        ensures cause { HardCause (IsErr result)
+            self.old.faults self.new.faults self.old.hard self.new.hard }
+    {
+        match done {
+            Ok(value) => Ok(value),
+            Err(_) => {
+                self.raise_hard();
+                Err(Failed)
+            }
+        }
+    }
+}

@@ -1,0 +1,18 @@
+//! A store over the files of one folder.
+//!
+//! The folder holds the file `journal`, the file `lock`, and under `tables` one folder a table, in
+//! which the pieces of a partition's text are nested folders, as `tables/0000001/k=x/ds=2024-01-01`,
+//! and in these the directories with their files, as `delta_0000001_0000001_0000/bucket_00000`.
+#![tactic(auto)]
+
+mod counts;
+mod fault;
+mod file_shelf;
+mod folder;
+mod journal;
+mod laws;
+mod names;
+mod tree;
+
+pub use file_shelf::FileShelf;
+pub use laws::{folders_differ, names_are_safe, names_differ};
