@@ -1,8 +1,8 @@
 -- Paths: two directories have two, and none leads out of the folder.
-use Rattle.std.proofs.Common.{◌≡◌, ℕ, ◌+◌, ◌-◌, ◌^◌, ◌<◌, ◌⊎◌, inl, inr, List, [], ◌∷◌, ◌++◌, length, drop, get_or, replicate, map, Bool, true, false, true≢false, not, ◌&&◌, ◌||◌, ◌==◌, cond, if◌then◌else◌, refl, sym, ap, ◌∙◌, subst, eqb-true, arith, codes}
+use Rattle.std.proofs.Common.{◌≡◌, ℕ, ◌^◌, ◌<◌, ◌⊎◌, inl, inr, List, [], ◌∷◌, ◌++◌, length, drop, map, Bool, true, false, true≢false, not, ◌&&◌, ◌||◌, ◌==◌, cond, refl, sym, ap, ◌∙◌, eqb-true, arith}
 use Rattle.std.specs.Char.{is_ascii_digit}
 use Rattle.std.specs.Str.{all_ascii_digits}
-use Rattle.std.specs.List.{list_any, list_all, slice_split, onto_first, join_with_byte}
+use Rattle.std.specs.List.{list_all, slice_split, onto_first, join_with_byte}
 use Rattle.std.proofs.lemmas.List.Splits.{join_with_byte-slice_split}
 use Rattle.hv_files.specs.Names.{slash, dot, piece_mark, dir_mark, is_marked, piece_name, dir_name, padded, table_name, bucket_name, pieces_of, folders_of, has_slash, is_dotted, is_name}
 use Rattle.hv_files.proofs.NameLemmas.{piece_cases, dir_cases, piece_name-same, dir_name-same, padded-same, padded_digits, padded_some}

@@ -1,4 +1,4 @@
-use Rattle.std.proofs.Common.{◌≡◌, Some, Ok, sym, ap, ◌∙◌, true≢false, true, false}
+use Rattle.std.proofs.Common.{◌≡◌, Some, sym, ap, ◌∙◌, true≢false}
 use Rattle.std.specs.Cmp.Lexicographic.{pointwise, nat_list_eq_equiv}
 use Rattle.std.specs.Prelude.{nat_eq}
 use Rattle.hv_files.specs.Names.{bucket_name}
