@@ -169,7 +169,9 @@ fn fails<R: Threads + Wait + Sync + Abort>(
 }
 
 const CREATED: &str = "OK\n";
+
 const INSERTED: &str = "OK\nOK inserted 2 deleted 0\n";
+
 const ALL: &str = "OK\nOK inserted 2 deleted 0\na\ts\n1\tx\n2\ty\n";
 
 /// The journal is written and synced once for the opening, and then twice for each entry: for the
