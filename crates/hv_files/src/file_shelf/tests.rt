@@ -141,38 +141,62 @@ fn places_are_listed_and_read_back(rt: HostRuntime) -> Result<(), Fail> {
     Ok(())
 }
 
+fn put(rt: &HostRuntime, path: &str, at: &Place, bytes: &[u8]) -> Result<(), Fail> {
+    Ok(open(rt, path)?.put(at, bytes)?)
+}
+
+fn get(rt: &HostRuntime, path: &str, at: &Place) -> Result<Option<Vec<u8>>, Fail> {
+    Ok(open(rt, path)?.get(rt.alloc(), at)?)
+}
+
 #[test]
-fn changes_are_seen_by_the_next_store(rt: HostRuntime) -> Result<(), Fail> {
-    let (alloc, path) = (rt.alloc(), "files_changes");
-    let mut shelf = fresh(&rt, path)?;
+fn a_put_is_seen_by_the_next_store(rt: HostRuntime) -> Result<(), Fail> {
+    let path = "files_put";
+    fresh(&rt, path)?;
+    let at = place(rt.alloc(), "../x=1", "a", 0)?;
+    put(&rt, path, &at, b"first")?;
+    put(&rt, path, &at, b"second")?;
+    let bytes = get(&rt, path, &at)?.ok_or("no file")?;
+    assert_eq!(rt; bytes.as_slice(), b"second".as_slice());
+    fs::remove_dir_all(&rt, path)?;
+    Ok(())
+}
+
+fn rename(rt: &HostRuntime, path: &str, from: &DirAt, to: &Text) -> Result<(), Fail> {
+    Ok(open(rt, path)?.rename(from, to)?)
+}
+
+#[test]
+fn a_rename_is_seen_by_the_next_store(rt: HostRuntime) -> Result<(), Fail> {
+    let (alloc, path) = (rt.alloc(), "files_rename");
+    fresh(&rt, path)?;
     let (old, new) = (
         place(alloc, "../x=1", "a", 0)?,
         place(alloc, "../x=1", "b", 0)?,
     );
-    shelf.put(&old, b"first")?;
-    shelf.put(&old, b"second")?;
-    shelf.put(&place(alloc, "../x=1", "a", 1)?, b"")?;
-    drop(shelf);
-    let mut shelf = open(&rt, path)?;
-    assert!(rt;
-        shelf
-            .get(alloc, &old)?
-            .is_some_and(|bytes| bytes.as_slice() == b"second".as_slice())
-    );
-    shelf.rename(&dir(alloc, "../x=1", "a")?, &new.dir)?;
-    shelf.rename(&dir(alloc, "../x=1", "none")?, &old.dir)?;
-    drop(shelf);
-    let mut shelf = open(&rt, path)?;
-    assert!(rt; shelf.get(alloc, &old)?.is_none());
-    assert_eq!(rt; shelf.list(alloc, TableId(1))?.len(), 2);
-    assert!(rt; shelf.get(alloc, &new)?.is_some());
-    shelf.remove(&dir(alloc, "../x=1", "b")?)?;
-    shelf.remove(&dir(alloc, "../x=1", "b")?)?;
-    shelf.remove(&dir(alloc, "k=1", "b")?)?;
-    drop(shelf);
-    let mut shelf = open(&rt, path)?;
-    assert_eq!(rt; shelf.list(alloc, TableId(1))?.len(), 0);
-    assert_eq!(rt; shelf.fault_count(), 0);
+    put(&rt, path, &old, b"moved")?;
+    rename(&rt, path, &dir(alloc, "../x=1", "a")?, &new.dir)?;
+    rename(&rt, path, &dir(alloc, "../x=1", "none")?, &old.dir)?;
+    assert!(rt; get(&rt, path, &old)?.is_none());
+    assert!(rt; get(&rt, path, &new)?.is_some());
+    fs::remove_dir_all(&rt, path)?;
+    Ok(())
+}
+
+fn remove(rt: &HostRuntime, path: &str, dir: &DirAt) -> Result<(), Fail> {
+    Ok(open(rt, path)?.remove(dir)?)
+}
+
+#[test]
+fn a_remove_is_seen_by_the_next_store(rt: HostRuntime) -> Result<(), Fail> {
+    let (alloc, path) = (rt.alloc(), "files_remove");
+    fresh(&rt, path)?;
+    let at = place(alloc, "k=1", "a", 3)?;
+    put(&rt, path, &at, b"gone")?;
+    remove(&rt, path, &dir(alloc, "k=1", "a")?)?;
+    remove(&rt, path, &dir(alloc, "k=1", "a")?)?;
+    remove(&rt, path, &dir(alloc, "k=2", "a")?)?;
+    assert!(rt; get(&rt, path, &at)?.is_none());
     fs::remove_dir_all(&rt, path)?;
     Ok(())
 }

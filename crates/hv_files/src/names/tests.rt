@@ -1,6 +1,19 @@
 use crate::names::{Entry, bucket_name, dir_name, entry_of, folders_of, read_bucket};
-use hv_base::TableId;
+use hv_base::{NoMemory, TableId};
+use std::alloc::Global;
 use std::test::Fail;
+
+/// The names of the folders, with a slash between each two.
+fn path_of(alloc: Global, table: u64, partition: &str, dir: &str) -> Result<String, NoMemory> {
+    let mut path = String::new(alloc);
+    for name in &folders_of(alloc, TableId(table), partition, dir)? {
+        if !path.is_empty() {
+            path.push('/')?;
+        }
+        path.push_str(name.as_str())?;
+    }
+    Ok(path)
+}
 
 #[test]
 fn paths_of_partitions(rt: HostRuntime) -> Result<(), Fail> {
@@ -25,14 +38,7 @@ fn paths_of_partitions(rt: HostRuntime) -> Result<(), Fail> {
         ("k=1", 1, "", "0000001/k=1/@"),
     ];
     for (partition, table, dir, path) in rows {
-        let names = folders_of(alloc, TableId(table), partition, dir)?;
-        let mut joined = String::new(alloc);
-        for name in &names {
-            if !joined.is_empty() {
-                joined.push('/')?;
-            }
-            joined.push_str(name.as_str())?;
-        }
+        let joined = path_of(alloc, table, partition, dir)?;
         assert_eq!(rt; joined.as_str(), path);
     }
     Ok(())
