@@ -18,7 +18,7 @@ use Rattle.hv_ast.specs.Tokens.{Text}
 use Rattle.hv_grammar.specs.declared.kind.Kind.{Kind}
 use Rattle.hv_grammar.specs.declared.kind.Kind.TheVariants as k
 use Rattle.hv_grammar.specs.Kinds.{kind_of}
-use Rattle.hv_grammar.specs.Reading.{is_name, is_function_word, word_in, string_in, literal_in, scalar_at, comparison, additive, multiplicative, sign, binds}
+use Rattle.hv_grammar.specs.Choices.{is_name, is_function_word, word_in, string_in, literal_in, scalar_at, comparison, additive, multiplicative, sign, binds}
 use Rattle.hv_grammar.specs.Nesting.{too_deep, most_levels}
 use Rattle.hv_grammar.specs.Readers.{kind_at}
 use Rattle.hv_grammar.specs.Rules.{Rule, ◌>>=◌, ◌>>◌, ◌<|>◌, give, held, word, flag, one_of, many, separated}

@@ -1,7 +1,17 @@
+pub mod Choices
 pub mod Grammar
 pub mod Kinds
 pub mod Nesting
+pub mod QueryGrammar
+pub mod QueryReading
 pub mod Readers
 pub mod Reading
 pub mod Rules
+pub mod Settings
+pub mod StatementGrammar
+pub mod StatementReading
+pub mod Texts
 pub mod Worked
+pub mod WorkedQueries
+pub mod WorkedStatements
+pub mod WorkedTexts

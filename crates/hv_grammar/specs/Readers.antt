@@ -1,6 +1,6 @@
 -- Readers: functions from tokens to a value and the tokens behind it. They follow the grammar's
 -- rules step by step, each choice made by the kind of the next token.
-use Rattle.std.specs.Prelude.{ℕ, zero, suc, Bool, if◌then◌else◌, List, [], ◌∷◌, ◌++◌, length, drop, Option, Some, None}
+use Rattle.std.specs.Prelude.{ℕ, zero, suc, Bool, true, false, if◌then◌else◌, List, [], ◌∷◌, ◌++◌, length, drop, Option, Some, None}
 use Rattle.hv_ast.specs.declared.token.Token.{Token}
 use Rattle.hv_ast.specs.declared.expr.Arithmetic.{Arithmetic}
 use Rattle.hv_ast.specs.declared.expr.Operation.{Operation}
@@ -115,3 +115,35 @@ more_operations level operand (suc turns) found = do
 
 abbrev pub operations : {A : Type 0} → (Kind → Option Arithmetic) → Reader A → Reader (List (Operation A))
 operations level operand = λ tokens. more_operations level operand (length tokens) [] tokens
+
+-- behind some items the further ones, as long as the next token begins one
+unfoldable pub more_while : {A : Type 0} → (Kind → Bool) → Reader A → ℕ → List A → Reader (List A)
+more_while begins item zero found = give found
+more_while begins item (suc turns) found = do
+  kind ← peek
+  if begins kind then (do one ← item; more_while begins item turns (found ++ one ∷ [])) else give found
+
+abbrev pub many : {A : Type 0} → (Kind → Bool) → Reader A → List A → Reader (List A)
+many begins item found = λ tokens. more_while begins item (length tokens) found tokens
+
+-- ---- what may stand or not
+
+-- [word r]
+abbrev pub perhaps : {A : Type 0} → Kind → Reader A → Reader (Option A)
+perhaps kind r = do
+  is_there ← eat kind
+  if is_there then Some <$> r else give None
+
+-- [mark | other], as whether `mark` stands there
+unfoldable pub either : Kind → Kind → Reader Bool
+either mark other = do
+  is_there ← eat mark
+  if is_there then give true else eat other >> give false
+
+-- ( r )
+abbrev pub bracketed : {A : Type 0} → Reader A → Reader A
+bracketed r = do
+  expect k.Open
+  a ← r
+  expect k.Close
+  give a

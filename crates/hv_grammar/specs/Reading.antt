@@ -2,20 +2,13 @@
 -- follow, and the laws of hv_parse_expr say that both give the same trees.
 use Rattle.std.specs.Prelude.{ℕ, zero, suc, ◌-◌, Bool, true, false, if◌then◌else◌, List, [], ◌∷◌, length, drop, Option, Some, None}
 use Rattle.hv_ast.specs.declared.token.Token.{Token}
-use Rattle.hv_ast.specs.declared.token.Lexeme.{Lexeme}
-use Rattle.hv_ast.specs.declared.token.Lexeme.TheVariants as lexeme
 use Rattle.hv_ast.specs.declared.types.ScalarName.{ScalarName}
-use Rattle.hv_ast.specs.declared.types.ScalarName.TheVariants as s
 use Rattle.hv_ast.specs.declared.types.TypeName.{TypeName}
 use Rattle.hv_ast.specs.declared.types.TypeName.TheVariants as type
-use Rattle.hv_ast.specs.declared.expr.Literal.{Literal}
 use Rattle.hv_ast.specs.declared.expr.Literal.TheVariants as l
-use Rattle.hv_ast.specs.declared.expr.Unary.{Unary}
 use Rattle.hv_ast.specs.declared.expr.Unary.TheVariants as unary
 use Rattle.hv_ast.specs.declared.expr.Binary.{Binary}
 use Rattle.hv_ast.specs.declared.expr.Binary.TheVariants as binary
-use Rattle.hv_ast.specs.declared.expr.Arithmetic.{Arithmetic}
-use Rattle.hv_ast.specs.declared.expr.Arithmetic.TheVariants as arithmetic
 use Rattle.hv_ast.specs.declared.expr.When.{When}
 use Rattle.hv_ast.specs.declared.expr.Operation.{Operation}
 use Rattle.hv_ast.specs.declared.expr.Expr.{Expr}
@@ -24,38 +17,11 @@ use Rattle.hv_ast.specs.Tokens.{Text}
 use Rattle.hv_grammar.specs.declared.kind.Kind.{Kind}
 use Rattle.hv_grammar.specs.declared.kind.Kind.TheVariants as k
 use Rattle.hv_grammar.specs.Kinds.{same_kind}
+use Rattle.hv_grammar.specs.Choices.{is_name, word_in, string_in, literal_in, scalar_at, comparison, additive, multiplicative, sign, binds}
 use Rattle.hv_grammar.specs.Nesting.{too_deep, most_levels}
 use Rattle.hv_grammar.specs.Readers.{Outcome, Reader, ◌>>=◌, ◌>>◌, ◌<$>◌, give, refuse, peek, pass, look, eat, expect, held, behind, separated, operations, by_option}
 
--- ---- what single tokens stand for
-
--- a word that is no keyword here, or an identifier between backquotes
-abbrev pub is_name : Kind → Bool
-is_name k.Name = true
-is_name k.Count = true
-is_name k.String = true
-is_name _ = false
-
--- a keyword that names a function
-abbrev pub is_function_word : Kind → Bool
-is_function_word k.If = true
-is_function_word k.Array = true
-is_function_word _ = false
-
-abbrev pub word_in : Lexeme → Option Text
-word_in (lexeme.Word text) = Some text
-word_in (lexeme.Quoted text) = Some text
-word_in _ = None
-
-abbrev pub string_in : Lexeme → Option Text
-string_in (lexeme.Str text) = Some text
-string_in _ = None
-
-abbrev pub literal_in : Lexeme → Option Literal
-literal_in (lexeme.Int number) = Some (l.Int number)
-literal_in (lexeme.Big number) = Some (l.Big number)
-literal_in (lexeme.Str text) = Some (l.Str text)
-literal_in _ = None
+-- ---- words, strings and literals
 
 -- the text of the next word, keyword or not
 unfoldable pub word : Reader Text
@@ -73,45 +39,7 @@ name = do
   kind ← peek
   if is_name kind then word else refuse
 
--- = | == | <> | != | < | <= | > | >= | <=>
-abbrev pub comparison : Kind → Option Binary
-comparison k.Equal = Some binary.Equal
-comparison k.Unequal = Some binary.Unequal
-comparison k.Less = Some binary.Less
-comparison k.AtMost = Some binary.AtMost
-comparison k.Greater = Some binary.Greater
-comparison k.AtLeast = Some binary.AtLeast
-comparison k.NullSafeEqual = Some binary.NullSafeEqual
-comparison _ = None
-
--- + | -
-abbrev pub additive : Kind → Option Arithmetic
-additive k.Plus = Some arithmetic.Add
-additive k.Minus = Some arithmetic.Subtract
-additive _ = None
-
--- * | DIV | %
-abbrev pub multiplicative : Kind → Option Arithmetic
-multiplicative k.Star = Some arithmetic.Multiply
-multiplicative k.Div = Some arithmetic.Divide
-multiplicative k.Percent = Some arithmetic.Remainder
-multiplicative _ = None
-
--- [+ | -]
-abbrev pub sign : Kind → Option Unary
-sign k.Plus = Some unary.Plus
-sign k.Minus = Some unary.Minus
-sign _ = None
-
 -- ---- types
-
-abbrev pub scalar_at : Kind → Option ScalarName
-scalar_at k.Boolean = Some s.Boolean
-scalar_at k.Int = Some s.Int
-scalar_at k.BigInt = Some s.BigInt
-scalar_at k.String = Some s.String
-scalar_at k.Date = Some s.Date
-scalar_at _ = None
 
 -- BOOLEAN | INT | INTEGER | BIGINT | STRING | DATE. An identifier between backquotes is none.
 unfoldable pub scalar : Reader ScalarName
@@ -258,10 +186,7 @@ module _ (expr : Reader Expr) where
   primary_by k.Cast = pass >> cast
   primary_by k.If = keyword_call
   primary_by k.Array = keyword_call
-  primary_by k.Name = named
-  primary_by k.Count = named
-  primary_by k.String = named
-  primary_by _ = refuse
+  primary_by kind = if is_name kind then named else refuse
 
   -- number | string | DATE string | TRUE | FALSE | NULL | ident [. ident] | ( expr )
   -- | CASE .. END | CAST ( .. ) | COUNT ( * ) | fname ( [DISTINCT] [expr {, expr}] )
@@ -400,33 +325,11 @@ unfoldable pub expr : ℕ → Reader Expr
 expr zero = refuse
 expr (suc depth) = disjunction (expr depth)
 
--- ---- the expression at a place
+-- an expression, however deep a text may nest
+abbrev pub any_expr : Reader Expr
+any_expr = expr (suc most_levels)
 
--- how tightly a token binds to an expression before it
-abbrev pub binds : Kind → ℕ
-binds k.Or = 1
-binds k.And = 2
-binds k.Not = 3
-binds k.In = 3
-binds k.Between = 3
-binds k.Like = 3
-binds k.Equal = 3
-binds k.Unequal = 3
-binds k.Less = 3
-binds k.AtMost = 3
-binds k.Greater = 3
-binds k.AtLeast = 3
-binds k.NullSafeEqual = 3
-binds k.Plus = 4
-binds k.Minus = 4
-binds k.Star = 5
-binds k.Div = 5
-binds k.Percent = 5
-binds k.Is = 6
-binds k.Open = 8
-binds k.Dot = 8
-binds k.OpenIndex = 7
-binds _ = 0
+-- ---- the expression at a place
 
 abbrev pub at_end : ℕ → Expr → Reader Expr
 at_end zero found = give found
@@ -435,7 +338,7 @@ at_end (suc level) found = refuse
 -- an expression whose next token can't continue one
 unfoldable pub whole : Reader Expr
 whole = do
-  found ← expr (suc most_levels)
+  found ← any_expr
   kind ← peek
   at_end (binds kind) found
 

@@ -1,8 +1,9 @@
 -- The grammar's combinators. A rule says which value is written from a place to a place: the tokens
 -- from the first on, and those from the second on.
-use Rattle.std.specs.Prelude.{◌≡◌, ◌⊎◌, Bool, true, false, List, [], ◌∷◌, Option, Some}
+use Rattle.std.specs.Prelude.{◌≡◌, ◌⊎◌, Bool, true, false, List, [], ◌∷◌, Option, Some, None}
 use Rattle.hv_ast.specs.declared.token.Token.{Token}
 use Rattle.hv_grammar.specs.declared.kind.Kind.{Kind}
+use Rattle.hv_grammar.specs.declared.kind.Kind.TheVariants as k
 use Rattle.hv_grammar.specs.Kinds.{kind_of}
 
 abbrev pub Rule : Type 0 → Type 1
@@ -53,3 +54,23 @@ separated mark r = do
   first ← r
   rest ← many (word mark >> r)
   give (first ∷ rest)
+
+-- {word r}
+abbrev pub rows : {A : Type 0} → Kind → Rule A → Rule (List A)
+rows mark r = many (word mark >> r)
+
+-- [word r]
+abbrev pub perhaps : {A : Type 0} → Kind → Rule A → Rule (Option A)
+perhaps kind r = (do word kind; a ← r; give (Some a)) <|> give None
+
+-- [mark | other], as whether `mark` stands there
+abbrev pub either : Kind → Kind → Rule Bool
+either mark other = (word mark >> give true) <|> (flag other >> give false)
+
+-- ( r )
+abbrev pub bracketed : {A : Type 0} → Rule A → Rule A
+bracketed r = do
+  word k.Open
+  a ← r
+  word k.Close
+  give a

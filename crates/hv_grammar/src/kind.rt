@@ -9,36 +9,96 @@ use hv_ast::Lexeme;
 #[derive(Clone, Copy, Debug, PartialEq, Eq)]
 pub enum Kind {
     // Keywords.
+    All,
+    Alter,
     And,
     Array,
     As,
     Between,
     BigInt,
     Boolean,
+    By,
     Case,
     Cast,
+    Create,
+    Cross,
     Date,
+    Delete,
+    Describe,
     Distinct,
     Div,
+    Drop,
     Else,
     End,
+    Exists,
     False,
+    From,
+    Full,
+    Group,
+    Having,
     If,
     In,
+    Inner,
+    Insert,
     Int,
+    Into,
     Is,
+    Join,
+    Lateral,
+    Left,
     Like,
+    Limit,
+    Merge,
     Not,
     Null,
+    On,
     Or,
+    Order,
+    Outer,
+    Overwrite,
+    Partition,
+    Right,
+    Select,
+    Set,
+    Table,
     Then,
     True,
+    Truncate,
+    Union,
+    Update,
+    Using,
+    Values,
+    View,
     When,
-    /// Another reserved word.
-    Reserved,
+    Where,
     // Words that are keywords by their place alone, and names elsewhere.
+    Abort,
+    Asc,
+    Buckets,
+    Clustered,
+    Comment,
+    Compact,
+    Compactions,
     Count,
+    Default,
+    Desc,
+    Explain,
+    Explode,
+    Formatted,
+    Locks,
+    Matched,
+    Orc,
+    Partitioned,
+    Partitions,
+    PosExplode,
+    Purge,
+    Semi,
+    Show,
+    Stored,
     String,
+    Tables,
+    TblProperties,
+    Transactions,
     /// Any other word, or an identifier between backquotes.
     Name,
     Number,
@@ -54,8 +114,10 @@ pub enum Kind {
     Plus,
     Minus,
     Percent,
-    /// `=` or `==`
+    /// `=`
     Equal,
+    /// `==`, which compares as `=` does and stands in no assignment.
+    EqualTwice,
     /// `<>` or `!=`
     Unequal,
     Less,
@@ -73,14 +135,14 @@ struct Row {
     kind: Kind,
 }
 
-const WORDS: [Row; 65] = [
+const WORDS: [Row; 90] = [
     Row {
         spelling: "all",
-        kind: Kind::Reserved,
+        kind: Kind::All,
     },
     Row {
         spelling: "alter",
-        kind: Kind::Reserved,
+        kind: Kind::Alter,
     },
     Row {
         spelling: "and",
@@ -108,7 +170,7 @@ const WORDS: [Row; 65] = [
     },
     Row {
         spelling: "by",
-        kind: Kind::Reserved,
+        kind: Kind::By,
     },
     Row {
         spelling: "case",
@@ -120,11 +182,11 @@ const WORDS: [Row; 65] = [
     },
     Row {
         spelling: "create",
-        kind: Kind::Reserved,
+        kind: Kind::Create,
     },
     Row {
         spelling: "cross",
-        kind: Kind::Reserved,
+        kind: Kind::Cross,
     },
     Row {
         spelling: "date",
@@ -132,11 +194,11 @@ const WORDS: [Row; 65] = [
     },
     Row {
         spelling: "delete",
-        kind: Kind::Reserved,
+        kind: Kind::Delete,
     },
     Row {
         spelling: "describe",
-        kind: Kind::Reserved,
+        kind: Kind::Describe,
     },
     Row {
         spelling: "distinct",
@@ -148,7 +210,7 @@ const WORDS: [Row; 65] = [
     },
     Row {
         spelling: "drop",
-        kind: Kind::Reserved,
+        kind: Kind::Drop,
     },
     Row {
         spelling: "else",
@@ -160,7 +222,7 @@ const WORDS: [Row; 65] = [
     },
     Row {
         spelling: "exists",
-        kind: Kind::Reserved,
+        kind: Kind::Exists,
     },
     Row {
         spelling: "false",
@@ -168,19 +230,19 @@ const WORDS: [Row; 65] = [
     },
     Row {
         spelling: "from",
-        kind: Kind::Reserved,
+        kind: Kind::From,
     },
     Row {
         spelling: "full",
-        kind: Kind::Reserved,
+        kind: Kind::Full,
     },
     Row {
         spelling: "group",
-        kind: Kind::Reserved,
+        kind: Kind::Group,
     },
     Row {
         spelling: "having",
-        kind: Kind::Reserved,
+        kind: Kind::Having,
     },
     Row {
         spelling: "if",
@@ -192,11 +254,11 @@ const WORDS: [Row; 65] = [
     },
     Row {
         spelling: "inner",
-        kind: Kind::Reserved,
+        kind: Kind::Inner,
     },
     Row {
         spelling: "insert",
-        kind: Kind::Reserved,
+        kind: Kind::Insert,
     },
     Row {
         spelling: "int",
@@ -208,7 +270,7 @@ const WORDS: [Row; 65] = [
     },
     Row {
         spelling: "into",
-        kind: Kind::Reserved,
+        kind: Kind::Into,
     },
     Row {
         spelling: "is",
@@ -216,15 +278,15 @@ const WORDS: [Row; 65] = [
     },
     Row {
         spelling: "join",
-        kind: Kind::Reserved,
+        kind: Kind::Join,
     },
     Row {
         spelling: "lateral",
-        kind: Kind::Reserved,
+        kind: Kind::Lateral,
     },
     Row {
         spelling: "left",
-        kind: Kind::Reserved,
+        kind: Kind::Left,
     },
     Row {
         spelling: "like",
@@ -232,11 +294,11 @@ const WORDS: [Row; 65] = [
     },
     Row {
         spelling: "limit",
-        kind: Kind::Reserved,
+        kind: Kind::Limit,
     },
     Row {
         spelling: "merge",
-        kind: Kind::Reserved,
+        kind: Kind::Merge,
     },
     Row {
         spelling: "not",
@@ -248,7 +310,7 @@ const WORDS: [Row; 65] = [
     },
     Row {
         spelling: "on",
-        kind: Kind::Reserved,
+        kind: Kind::On,
     },
     Row {
         spelling: "or",
@@ -256,35 +318,35 @@ const WORDS: [Row; 65] = [
     },
     Row {
         spelling: "order",
-        kind: Kind::Reserved,
+        kind: Kind::Order,
     },
     Row {
         spelling: "outer",
-        kind: Kind::Reserved,
+        kind: Kind::Outer,
     },
     Row {
         spelling: "overwrite",
-        kind: Kind::Reserved,
+        kind: Kind::Overwrite,
     },
     Row {
         spelling: "partition",
-        kind: Kind::Reserved,
+        kind: Kind::Partition,
     },
     Row {
         spelling: "right",
-        kind: Kind::Reserved,
+        kind: Kind::Right,
     },
     Row {
         spelling: "select",
-        kind: Kind::Reserved,
+        kind: Kind::Select,
     },
     Row {
         spelling: "set",
-        kind: Kind::Reserved,
+        kind: Kind::Set,
     },
     Row {
         spelling: "table",
-        kind: Kind::Reserved,
+        kind: Kind::Table,
     },
     Row {
         spelling: "then",
@@ -296,27 +358,27 @@ const WORDS: [Row; 65] = [
     },
     Row {
         spelling: "truncate",
-        kind: Kind::Reserved,
+        kind: Kind::Truncate,
     },
     Row {
         spelling: "union",
-        kind: Kind::Reserved,
+        kind: Kind::Union,
     },
     Row {
         spelling: "update",
-        kind: Kind::Reserved,
+        kind: Kind::Update,
     },
     Row {
         spelling: "using",
-        kind: Kind::Reserved,
+        kind: Kind::Using,
     },
     Row {
         spelling: "values",
-        kind: Kind::Reserved,
+        kind: Kind::Values,
     },
     Row {
         spelling: "view",
-        kind: Kind::Reserved,
+        kind: Kind::View,
     },
     Row {
         spelling: "when",
@@ -324,15 +386,115 @@ const WORDS: [Row; 65] = [
     },
     Row {
         spelling: "where",
-        kind: Kind::Reserved,
+        kind: Kind::Where,
+    },
+    Row {
+        spelling: "abort",
+        kind: Kind::Abort,
+    },
+    Row {
+        spelling: "asc",
+        kind: Kind::Asc,
+    },
+    Row {
+        spelling: "buckets",
+        kind: Kind::Buckets,
+    },
+    Row {
+        spelling: "clustered",
+        kind: Kind::Clustered,
+    },
+    Row {
+        spelling: "comment",
+        kind: Kind::Comment,
+    },
+    Row {
+        spelling: "compact",
+        kind: Kind::Compact,
+    },
+    Row {
+        spelling: "compactions",
+        kind: Kind::Compactions,
     },
     Row {
         spelling: "count",
         kind: Kind::Count,
     },
     Row {
+        spelling: "default",
+        kind: Kind::Default,
+    },
+    Row {
+        spelling: "desc",
+        kind: Kind::Desc,
+    },
+    Row {
+        spelling: "explain",
+        kind: Kind::Explain,
+    },
+    Row {
+        spelling: "explode",
+        kind: Kind::Explode,
+    },
+    Row {
+        spelling: "formatted",
+        kind: Kind::Formatted,
+    },
+    Row {
+        spelling: "locks",
+        kind: Kind::Locks,
+    },
+    Row {
+        spelling: "matched",
+        kind: Kind::Matched,
+    },
+    Row {
+        spelling: "orc",
+        kind: Kind::Orc,
+    },
+    Row {
+        spelling: "partitioned",
+        kind: Kind::Partitioned,
+    },
+    Row {
+        spelling: "partitions",
+        kind: Kind::Partitions,
+    },
+    Row {
+        spelling: "posexplode",
+        kind: Kind::PosExplode,
+    },
+    Row {
+        spelling: "purge",
+        kind: Kind::Purge,
+    },
+    Row {
+        spelling: "semi",
+        kind: Kind::Semi,
+    },
+    Row {
+        spelling: "show",
+        kind: Kind::Show,
+    },
+    Row {
+        spelling: "stored",
+        kind: Kind::Stored,
+    },
+    Row {
         spelling: "string",
         kind: Kind::String,
+    },
+    Row {
+        spelling: "tables",
+        kind: Kind::Tables,
+    },
+    Row {
+        spelling: "tblproperties",
+        kind: Kind::TblProperties,
+    },
+    Row {
+        spelling: "transactions",
+        kind: Kind::Transactions,
     },
 ];
 
@@ -383,7 +545,7 @@ const SYMBOLS: [Row; 19] = [
     },
     Row {
         spelling: "==",
-        kind: Kind::Equal,
+        kind: Kind::EqualTwice,
     },
     Row {
         spelling: "<>",
