@@ -1,5 +1,5 @@
 -- What the first token of a rule may be, and what may stand behind a rule.
-use Rattle.std.proofs.Common.{◌≡◌, ◌⊎◌, inl, inr, ℕ, Bool, true, false, Option, Some, None, List, nat_lt, nat_le, sym, ap, rules, arith, ◌∙◌}
+use Rattle.std.proofs.Common.{◌≡◌, ◌⊎◌, inl, inr, ℕ, Bool, true, false, cond, Option, Some, None, List, nat_lt, nat_le, sym, ap, rules, arith, ◌∙◌}
 use denote.Enum.Bare.{true_same, false_same}
 use Rattle.hv_ast.specs.declared.token.Token.{Token}
 use Rattle.hv_grammar.specs.contracts.kind.Kind.{the_type}
@@ -9,7 +9,8 @@ use Rattle.hv_grammar.specs.Kinds.{same_kind}
 use Rattle.hv_grammar.specs.Rules as rule
 use Rattle.hv_grammar.specs.Rules.{Rule, word, many, flag, one_of}
 use Rattle.hv_grammar.specs.Readers.{kind_at, next, sees}
-use Rattle.hv_grammar.specs.Reading.{binds}
+use Rattle.hv_grammar.specs.Choices.{binds}
+use Rattle.hv_grammar.specs.Choices as c
 
 -- ---- kinds that are seen or not
 
@@ -51,9 +52,6 @@ starts k.Date = 3
 starts k.True = 3
 starts k.False = 3
 starts k.Null = 3
-starts k.Name = 3
-starts k.Count = 3
-starts k.String = 3
 starts k.Open = 3
 starts k.Case = 3
 starts k.Cast = 3
@@ -62,7 +60,7 @@ starts k.Array = 3
 starts k.Plus = 2
 starts k.Minus = 2
 starts k.Not = 1
-starts _ = 0
+starts kind = cond (c.is_name kind) 3 0
 
 pub record Begins {A : Type 0} (level : ℕ) (p : Rule A) : Type 0 where
   pub begins : (a : A) (from to : List Token) → p a from to → nat_le level (starts (kind_at from)) ≡ true

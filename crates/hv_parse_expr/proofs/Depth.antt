@@ -24,17 +24,21 @@ use Rattle.hv_grammar.specs.Rules.{Rule}
 use Rattle.hv_grammar.specs.Rules as rule
 use Rattle.hv_grammar.specs.Grammar as g
 use Rattle.hv_grammar.specs.Reading as r
+use Rattle.hv_grammar.specs.Choices as c
 use Rattle.hv_parse_expr.proofs.Room.{Goes, goes_give, goes_bind, goes_or, goes_token, goes_one_of, goes_word, goes_close, goes_open, goes_many, goes_separated, goes_flag}
 
 -- ---- tokens that hold something open and close nothing
 
-name_stays : (kind : Kind) → r.is_name kind ≡ true → turn_of kind ≡ stays
-name_stays k.Name is = refl
-name_stays k.Count is = refl
-name_stays k.String is = refl
-name_stays kind is = absurd (cc)
+name_stays : (kind : Kind) → c.is_name kind ≡ true → turn_of kind ≡ stays
+name_stays k.Open is = absurd (cc)
+name_stays k.OpenIndex is = absurd (cc)
+name_stays k.Case is = absurd (cc)
+name_stays k.Close is = absurd (cc)
+name_stays k.CloseIndex is = absurd (cc)
+name_stays k.End is = absurd (cc)
+name_stays kind is = refl
 
-function_stays : (kind : Kind) → r.is_function_word kind ≡ true → turn_of kind ≡ stays
+function_stays : (kind : Kind) → c.is_function_word kind ≡ true → turn_of kind ≡ stays
 function_stays k.If is = refl
 function_stays k.Array is = refl
 function_stays kind is = absurd (cc)
@@ -42,23 +46,23 @@ function_stays kind is = absurd (cc)
 by_word : (test : Kind → Bool) → ((kind : Kind) → test kind ≡ true → turn_of kind ≡ stays) → (token : Token) (text : Text) → g.word_by test token ≡ Some text → turn_of (kind_of token.what) ≡ stays
 by_word test F token text h = by_bool (test (kind_of token.what)) refl h
   where
-    by_bool : (b : Bool) → test (kind_of token.what) ≡ b → cond b (r.word_in token.what) None ≡ Some text → turn_of (kind_of token.what) ≡ stays
+    by_bool : (b : Bool) → test (kind_of token.what) ≡ b → cond b (c.word_in token.what) None ≡ Some text → turn_of (kind_of token.what) ≡ stays
     by_bool true e h = F (kind_of token.what) e
     by_bool false e h = absurd (cc)
 
-literal_stays : (what : Lexeme) (value : Literal) → r.literal_in what ≡ Some value → turn_of (kind_of what) ≡ stays
+literal_stays : (what : Lexeme) (value : Literal) → c.literal_in what ≡ Some value → turn_of (kind_of what) ≡ stays
 unfolding kind_of
 literal_stays (lexeme.Int number) value h = refl
 literal_stays (lexeme.Big number) value h = refl
 literal_stays (lexeme.Str text) value h = refl
 literal_stays what value h = absurd (cc)
 
-string_stays : (what : Lexeme) (value : Text) → r.string_in what ≡ Some value → turn_of (kind_of what) ≡ stays
+pub string_stays : (what : Lexeme) (value : Text) → c.string_in what ≡ Some value → turn_of (kind_of what) ≡ stays
 unfolding kind_of
 string_stays (lexeme.Str text) value h = refl
 string_stays what value h = absurd (cc)
 
-scalar_stays : (kind : Kind) (x : ScalarName) → r.scalar_at kind ≡ Some x → turn_of kind ≡ stays
+scalar_stays : (kind : Kind) (x : ScalarName) → c.scalar_at kind ≡ Some x → turn_of kind ≡ stays
 scalar_stays k.Open x h = absurd (cc)
 scalar_stays k.OpenIndex x h = absurd (cc)
 scalar_stays k.Case x h = absurd (cc)
@@ -67,7 +71,7 @@ scalar_stays k.CloseIndex x h = absurd (cc)
 scalar_stays k.End x h = absurd (cc)
 scalar_stays kind x h = refl
 
-comparison_stays : (kind : Kind) (x : Binary) → r.comparison kind ≡ Some x → turn_of kind ≡ stays
+comparison_stays : (kind : Kind) (x : Binary) → c.comparison kind ≡ Some x → turn_of kind ≡ stays
 comparison_stays k.Open x h = absurd (cc)
 comparison_stays k.OpenIndex x h = absurd (cc)
 comparison_stays k.Case x h = absurd (cc)
@@ -76,31 +80,31 @@ comparison_stays k.CloseIndex x h = absurd (cc)
 comparison_stays k.End x h = absurd (cc)
 comparison_stays kind x h = refl
 
-additive_stays : (kind : Kind) (x : Arithmetic) → r.additive kind ≡ Some x → turn_of kind ≡ stays
+additive_stays : (kind : Kind) (x : Arithmetic) → c.additive kind ≡ Some x → turn_of kind ≡ stays
 additive_stays k.Plus x h = refl
 additive_stays k.Minus x h = refl
 additive_stays kind x h = absurd (cc)
 
-multiplicative_stays : (kind : Kind) (x : Arithmetic) → r.multiplicative kind ≡ Some x → turn_of kind ≡ stays
+multiplicative_stays : (kind : Kind) (x : Arithmetic) → c.multiplicative kind ≡ Some x → turn_of kind ≡ stays
 multiplicative_stays k.Star x h = refl
 multiplicative_stays k.Div x h = refl
 multiplicative_stays k.Percent x h = refl
 multiplicative_stays kind x h = absurd (cc)
 
-sign_stays : (kind : Kind) (x : Unary) → r.sign kind ≡ Some x → turn_of kind ≡ stays
+sign_stays : (kind : Kind) (x : Unary) → c.sign kind ≡ Some x → turn_of kind ≡ stays
 sign_stays k.Plus x h = refl
 sign_stays k.Minus x h = refl
 sign_stays kind x h = absurd (cc)
 
 -- ---- names and types
 
-name_goes : (n : ℕ) → Goes n n g.name g.name
-name_goes n = goes_token n (g.word_by r.is_name) (by_word r.is_name name_stays)
+pub name_goes : (n : ℕ) → Goes n n g.name g.name
+name_goes n = goes_token n (g.word_by c.is_name) (by_word c.is_name name_stays)
 
 scalar_goes : (n : ℕ) → Goes n n g.scalar g.scalar
-scalar_goes n = goes_one_of n r.scalar_at scalar_stays
+scalar_goes n = goes_one_of n c.scalar_at scalar_stays
 
-type_goes : (n : ℕ) → Goes n n g.type_name g.type_name
+pub type_goes : (n : ℕ) → Goes n n g.type_name g.type_name
 unfolding g.type_name g.array
 type_goes n = goes_or
     (goes_bind (goes_word n k.Array refl) (λ _. goes_bind (goes_word n k.Less refl) (λ _. goes_bind (scalar_goes n) (λ of. goes_bind (goes_word n k.Greater refl) (λ _. goes_give n (type.Array of))))))
@@ -130,7 +134,7 @@ module _ (n : ℕ) (p q : Rule Expr) (I : (m : ℕ) → n ≡ suc m → Goes m m
 
   call_goes : Goes n n (g.call p) (g.call q)
   unfolding g.call
-  call_goes = goes_bind (goes_or (name_goes n) (goes_token n (g.word_by r.is_function_word) (by_word r.is_function_word function_stays)))
+  call_goes = goes_bind (goes_or (name_goes n) (goes_token n (g.word_by c.is_function_word) (by_word c.is_function_word function_stays)))
       (λ function. goes_open n k.Open refl (passed_goes function))
 
   count_goes : Goes n n g.count_rows g.count_rows
@@ -165,8 +169,8 @@ module _ (n : ℕ) (p q : Rule Expr) (I : (m : ℕ) → n ≡ suc m → Goes m m
   primary_goes : Goes n n (g.primary p) (g.primary q)
   unfolding g.primary
   primary_goes =
-      goes_or (goes_bind (goes_token n (λ token. r.literal_in token.what) (λ token value h. literal_stays token.what value h)) (λ value. goes_give n (expr.Literal value)))
-      (goes_or (goes_bind (goes_word n k.Date refl) (λ _. goes_bind (goes_token n (λ token. r.string_in token.what) (λ token value h. string_stays token.what value h)) (λ text. goes_give n (expr.Literal (l.Date text)))))
+      goes_or (goes_bind (goes_token n (λ token. c.literal_in token.what) (λ token value h. literal_stays token.what value h)) (λ value. goes_give n (expr.Literal value)))
+      (goes_or (goes_bind (goes_word n k.Date refl) (λ _. goes_bind (goes_token n (λ token. c.string_in token.what) (λ token value h. string_stays token.what value h)) (λ text. goes_give n (expr.Literal (l.Date text)))))
       (goes_or (goes_bind (goes_word n k.True refl) (λ _. goes_give n (expr.Literal (l.Bool true))))
       (goes_or (goes_bind (goes_word n k.False refl) (λ _. goes_give n (expr.Literal (l.Bool false))))
       (goes_or (goes_bind (goes_word n k.Null refl) (λ _. goes_give n (expr.Literal l.Null)))
@@ -184,7 +188,7 @@ module _ (n : ℕ) (p q : Rule Expr) (I : (m : ℕ) → n ≡ suc m → Goes m m
 
   signed_goes : Goes n n (g.signed p) (g.signed q)
   unfolding g.signed
-  signed_goes = goes_or (goes_bind (goes_one_of n r.sign sign_stays) (λ operator. goes_bind indexed_goes (λ operand. goes_give n (expr.Unary operator operand)))) indexed_goes
+  signed_goes = goes_or (goes_bind (goes_one_of n c.sign sign_stays) (λ operator. goes_bind indexed_goes (λ operand. goes_give n (expr.Unary operator operand)))) indexed_goes
 
   suffixed_goes : Goes n n (g.suffixed p) (g.suffixed q)
   unfolding g.suffixed
@@ -201,11 +205,11 @@ module _ (n : ℕ) (p q : Rule Expr) (I : (m : ℕ) → n ≡ suc m → Goes m m
 
   term_goes : Goes n n (g.term p) (g.term q)
   unfolding g.term
-  term_goes = chain_goes r.multiplicative multiplicative_stays suffixed_goes
+  term_goes = chain_goes c.multiplicative multiplicative_stays suffixed_goes
 
   sum_goes : Goes n n (g.sum p) (g.sum q)
   unfolding g.sum
-  sum_goes = chain_goes r.additive additive_stays term_goes
+  sum_goes = chain_goes c.additive additive_stays term_goes
 
   matched_goes : (value : Expr) (negated : Bool) → Goes n n (g.matched p value negated) (g.matched q value negated)
   unfolding g.matched
@@ -217,7 +221,7 @@ module _ (n : ℕ) (p q : Rule Expr) (I : (m : ℕ) → n ≡ suc m → Goes m m
   predicate_goes : Goes n n (g.predicate p) (g.predicate q)
   unfolding g.predicate
   predicate_goes = goes_bind sum_goes (λ value. goes_or
-      (goes_bind (goes_one_of n r.comparison comparison_stays) (λ operator. goes_bind sum_goes (λ other. goes_give n (expr.Binary operator value other))))
+      (goes_bind (goes_one_of n c.comparison comparison_stays) (λ operator. goes_bind sum_goes (λ other. goes_give n (expr.Binary operator value other))))
       (goes_or (goes_bind (goes_word n k.Not refl) (λ _. matched_goes value true))
       (goes_or (matched_goes value false) (goes_give n value))))
 

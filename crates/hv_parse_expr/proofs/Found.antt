@@ -27,7 +27,8 @@ use Rattle.hv_grammar.specs.Readers.{Outcome, Reader, and_then, kind_at, next, s
 use Rattle.hv_grammar.specs.Readers as reader
 use Rattle.hv_grammar.specs.Grammar as g
 use Rattle.hv_grammar.specs.Reading as r
-use Rattle.hv_grammar.specs.Reading.{binds}
+use Rattle.hv_grammar.specs.Choices as c
+use Rattle.hv_grammar.specs.Choices.{binds}
 use Rattle.hv_parse_expr.proofs.Joins.{Sound}
 use Rattle.hv_parse_expr.proofs.Begins.{Stop, End, Begins, Avoids, starts, begins_bind, begins_or, begins_word, avoids_begins, avoids_give, avoids_word, avoids_bind, avoids_or, avoids_one_of, avoids_flag, follows_word, follows_give, follows_or, follows_end, stop_at, not_at, end_at, weaker, word_kind, word_next, is_seen, is_not_seen}
 use Rattle.hv_parse_expr.proofs.Wholes.{Whole, chosen_kind, chosen_next, whole_give, whole_bind, whole_then, whole_word, whole_pass, whole_eat, whole_flag, whole_held, whole_choice, whole_one_of}
@@ -42,7 +43,7 @@ Any to = Unit {0}
 
 pub scalar_whole : Whole Any g.scalar r.scalar
 unfolding r.scalar
-scalar_whole = whole_one_of r.scalar_at
+scalar_whole = whole_one_of c.scalar_at
 
 array_whole : Whole Any g.array r.array
 unfolding g.array r.array
@@ -50,29 +51,29 @@ array_whole = whole_then (whole_word k.Less) (λ _. whole_then scalar_whole (λ 
 
 pub type_whole : Whole Any g.type_name r.type_name
 unfolding g.type_name r.type_name
-type_whole = whole_eat k.Array array_whole (whole_then scalar_whole (λ of. whole_give (type.Scalar of))) (avoids_bind (avoids_one_of r.scalar_at k.Array refl))
+type_whole = whole_eat k.Array array_whole (whole_then scalar_whole (λ of. whole_give (type.Scalar of))) (avoids_bind (avoids_one_of c.scalar_at k.Array refl))
 
 -- a word of some kind
-word_is : (p : Kind → Bool) (token : Token) (text : Text) → g.word_by p token ≡ Some text → (p (kind_of token.what) ≡ true) × (r.word_in token.what ≡ Some text)
+word_is : (p : Kind → Bool) (token : Token) (text : Text) → g.word_by p token ≡ Some text → (p (kind_of token.what) ≡ true) × (c.word_in token.what ≡ Some text)
 word_is p token text h = by_bool (p (kind_of token.what)) h
   where
-    by_bool : (b : Bool) → cond b (r.word_in token.what) None ≡ Some text → (b ≡ true) × (r.word_in token.what ≡ Some text)
+    by_bool : (b : Bool) → cond b (c.word_in token.what) None ≡ Some text → (b ≡ true) × (c.word_in token.what ≡ Some text)
     by_bool true h = (refl, h)
     by_bool false h = absurd (cc)
 
-word_kind_is : (p : Kind → Bool) (text : Text) (from to : List Token) → rule.held (g.word_by p) text from to → p (kind_at from) ≡ true
+pub word_kind_is : (p : Kind → Bool) (text : Text) (from to : List Token) → rule.held (g.word_by p) text from to → p (kind_at from) ≡ true
 unfolding kind_at
 word_kind_is p text from to s = ap (λ t. p (kind_at t)) s.2 ∙ (word_is p s.0 text s.1).0
 
 word_read : (p : Kind → Bool) (text : Text) (from to : List Token) → rule.held (g.word_by p) text from to → r.word from ≡ Some (text, to)
 unfolding r.word
-word_read p text from to s = (whole_held (λ token. r.word_in token.what)).read text from to (s.0, (word_is p s.0 text s.1).1, s.2) tt
+word_read p text from to s = (whole_held (λ token. c.word_in token.what)).read text from to (s.0, (word_is p s.0 text s.1).1, s.2) tt
 
 pub name_whole : Whole Any g.name r.name
 unfolding r.name
 name_whole = record {
   read = λ text from to s stop.
-      ap (λ b. cond {A = Reader Text} b r.word (λ _. None) from) (word_kind_is r.is_name text from to s) ∙ word_read r.is_name text from to s;
+      ap (λ b. cond {A = Reader Text} b r.word (λ _. None) from) (word_kind_is c.is_name text from to s) ∙ word_read c.is_name text from to s;
 }
 
 pub qualified_whole : (first : Text) → Whole (Stop 8) (g.qualified first) (r.column first)
@@ -85,36 +86,36 @@ qualified_avoids first = avoids_or (avoids_bind (avoids_word k.Dot k.Open (λ e.
 
 literal_whole : Whole Any g.literal r.literal
 unfolding r.literal
-literal_whole = whole_then (whole_held (λ token. r.literal_in token.what)) (λ value. whole_give (e.Literal value))
+literal_whole = whole_then (whole_held (λ token. c.literal_in token.what)) (λ value. whole_give (e.Literal value))
 
 date_whole : Whole Any g.date r.date
 unfolding r.date r.string
-date_whole = whole_then (whole_held (λ token. r.string_in token.what)) (λ text. whole_give (e.Literal (l.Date text)))
+date_whole = whole_then (whole_held (λ token. c.string_in token.what)) (λ text. whole_give (e.Literal (l.Date text)))
 
 -- a literal is a number or a string
-literal_lexeme : (what : Lexeme) (value : Literal) → r.literal_in what ≡ Some value → (kind_of what ≡ k.Number) ⊎ (kind_of what ≡ k.Text)
+literal_lexeme : (what : Lexeme) (value : Literal) → c.literal_in what ≡ Some value → (kind_of what ≡ k.Number) ⊎ (kind_of what ≡ k.Text)
 unfolding kind_of
 literal_lexeme (lexeme.Int number) value h = inl refl
 literal_lexeme (lexeme.Big number) value h = inl refl
 literal_lexeme (lexeme.Str text) value h = inr refl
 literal_lexeme what value h = absurd (cc)
 
-literal_kind : (value : Literal) (from to : List Token) → rule.held (λ token. r.literal_in token.what) value from to → (kind_at from ≡ k.Number) ⊎ (kind_at from ≡ k.Text)
+literal_kind : (value : Literal) (from to : List Token) → rule.held (λ token. c.literal_in token.what) value from to → (kind_at from ≡ k.Number) ⊎ (kind_at from ≡ k.Text)
 unfolding kind_at
 literal_kind value from to s = elim (literal_lexeme s.0.what value s.1) as (λ _. (kind_at from ≡ k.Number) ⊎ (kind_at from ≡ k.Text)) [
   | inl e ↦ inl (ap kind_at s.2 ∙ e)
   | inr e ↦ inr (ap kind_at s.2 ∙ e)
 ]
 
-both : (x y : Bool) → x && y ≡ true → (x ≡ true) × (y ≡ true)
+pub both : (x y : Bool) → x && y ≡ true → (x ≡ true) × (y ≡ true)
 both true y h = (refl, h)
 both false y h = absurd (cc)
 
-true_false : true ≡ false → ⊥
+pub true_false : true ≡ false → ⊥
 true_false e = absurd (cc)
 
 -- COUNT is a word, and no symbol
-look_up_kind : (test : Kind → Bool) (rows : List (Text × Kind)) (other : Kind) (spelling : Text)
+pub look_up_kind : (test : Kind → Bool) (rows : List (Text × Kind)) (other : Kind) (spelling : Text)
     → list_all (λ row. test row.1) rows ≡ true → test other ≡ true → test (look_up rows other spelling) ≡ true
 look_up_kind test [] other spelling all last = last
 look_up_kind test (row ∷ rows) other spelling all last =
@@ -128,7 +129,7 @@ not_count : Kind → Bool
 not_count k.Count = false
 not_count _ = true
 
-count_lexeme : (what : Lexeme) → kind_of what ≡ k.Count → (text : Text) × (r.word_in what ≡ Some text)
+count_lexeme : (what : Lexeme) → kind_of what ≡ k.Count → (text : Text) × (c.word_in what ≡ Some text)
 unfolding kind_of symbols not_count
 count_lexeme (lexeme.Word text) h = (text, refl)
 count_lexeme (lexeme.Quoted text) h = (text, refl)
@@ -141,7 +142,7 @@ counted : (u : Unit {0}) (from to : List Token) → rule.word k.Count u from to 
 unfolding r.word
 counted u from to s =
     let t = count_lexeme s.0.what s.1 in
-    (t.0, (whole_held (λ token. r.word_in token.what)).read t.0 from to (s.0, t.1, s.2) tt)
+    (t.0, (whole_held (λ token. c.word_in token.what)).read t.0 from to (s.0, t.1, s.2) tt)
 
 literal_starts : (kind : Kind) → (kind ≡ k.Number) ⊎ (kind ≡ k.Text) → nat_le 3 (starts kind) ≡ true
 literal_starts kind is = elim is as (λ _. nat_le 3 (starts kind) ≡ true) [
@@ -149,21 +150,32 @@ literal_starts kind is = elim is as (λ _. nat_le 3 (starts kind) ≡ true) [
   | inr e ↦ ap (λ z. nat_le 3 (starts z)) e
 ]
 
-name_starts : (kind : Kind) → r.is_name kind ≡ true → nat_le 3 (starts kind) ≡ true
-name_starts k.Name is = refl
-name_starts k.Count is = refl
-name_starts k.String is = refl
-name_starts kind is = absurd (cc)
+name_starts : (kind : Kind) → c.is_name kind ≡ true → nat_le 3 (starts kind) ≡ true
+name_starts k.Number is = absurd (cc)
+name_starts k.Text is = absurd (cc)
+name_starts k.Date is = absurd (cc)
+name_starts k.True is = absurd (cc)
+name_starts k.False is = absurd (cc)
+name_starts k.Null is = absurd (cc)
+name_starts k.Open is = absurd (cc)
+name_starts k.Case is = absurd (cc)
+name_starts k.Cast is = absurd (cc)
+name_starts k.If is = absurd (cc)
+name_starts k.Array is = absurd (cc)
+name_starts k.Plus is = absurd (cc)
+name_starts k.Minus is = absurd (cc)
+name_starts k.Not is = absurd (cc)
+name_starts kind is = ap (λ b. nat_le 3 (cond b 3 0)) is
 
-function_starts : (kind : Kind) → r.is_function_word kind ≡ true → nat_le 3 (starts kind) ≡ true
+function_starts : (kind : Kind) → c.is_function_word kind ≡ true → nat_le 3 (starts kind) ≡ true
 function_starts k.If is = refl
 function_starts k.Array is = refl
 function_starts kind is = absurd (cc)
 
 name_begins : Begins 3 g.name
-name_begins = record { begins = λ text from to s. name_starts (kind_at from) (word_kind_is r.is_name text from to s) }
+name_begins = record { begins = λ text from to s. name_starts (kind_at from) (word_kind_is c.is_name text from to s) }
 
-sign_starts : (kind : Kind) (x : Unary) → r.sign kind ≡ Some x → nat_le 2 (starts kind) ≡ true
+sign_starts : (kind : Kind) (x : Unary) → c.sign kind ≡ Some x → nat_le 2 (starts kind) ≡ true
 sign_starts k.Plus x e = refl
 sign_starts k.Minus x e = refl
 sign_starts kind x e = absurd (cc)
@@ -175,35 +187,36 @@ even_starts : (kind : Kind) → nat_le 2 (starts kind) ≡ true → nat_le 1 (st
 even_starts kind e = grind arith
 
 -- which operators may stand behind an operand of their level
-no_sign : (kind : Kind) → nat_le 3 (starts kind) ≡ true → r.sign kind ≡ None
+no_sign : (kind : Kind) → nat_le 3 (starts kind) ≡ true → c.sign kind ≡ None
 no_sign k.Plus e = absurd (cc)
 no_sign k.Minus e = absurd (cc)
 no_sign kind e = refl
 
-factor_stops : (kind : Kind) (x : Arithmetic) → r.multiplicative kind ≡ Some x → nat_lt (binds kind) 6 ≡ true
+factor_stops : (kind : Kind) (x : Arithmetic) → c.multiplicative kind ≡ Some x → nat_lt (binds kind) 6 ≡ true
 factor_stops k.Star x e = refl
 factor_stops k.Div x e = refl
 factor_stops k.Percent x e = refl
 factor_stops kind x e = absurd (cc)
 
-no_factor : (kind : Kind) → nat_lt (binds kind) 5 ≡ true → r.multiplicative kind ≡ None
+no_factor : (kind : Kind) → nat_lt (binds kind) 5 ≡ true → c.multiplicative kind ≡ None
 no_factor k.Star e = absurd (cc)
 no_factor k.Div e = absurd (cc)
 no_factor k.Percent e = absurd (cc)
 no_factor kind e = refl
 
-summand_stops : (kind : Kind) (x : Arithmetic) → r.additive kind ≡ Some x → nat_lt (binds kind) 5 ≡ true
+summand_stops : (kind : Kind) (x : Arithmetic) → c.additive kind ≡ Some x → nat_lt (binds kind) 5 ≡ true
 summand_stops k.Plus x e = refl
 summand_stops k.Minus x e = refl
 summand_stops kind x e = absurd (cc)
 
-no_summand : (kind : Kind) → nat_lt (binds kind) 4 ≡ true → r.additive kind ≡ None
+no_summand : (kind : Kind) → nat_lt (binds kind) 4 ≡ true → c.additive kind ≡ None
 no_summand k.Plus e = absurd (cc)
 no_summand k.Minus e = absurd (cc)
 no_summand kind e = refl
 
-comparison_stops : (kind : Kind) (x : Binary) → r.comparison kind ≡ Some x → nat_lt (binds kind) 4 ≡ true
+comparison_stops : (kind : Kind) (x : Binary) → c.comparison kind ≡ Some x → nat_lt (binds kind) 4 ≡ true
 comparison_stops k.Equal x e = refl
+comparison_stops k.EqualTwice x e = refl
 comparison_stops k.Unequal x e = refl
 comparison_stops k.Less x e = refl
 comparison_stops k.AtMost x e = refl
@@ -283,13 +296,21 @@ module _ (p : Rule Expr) (q : Reader Expr) (E : Whole (Stop 1) p q) (B : Begins 
   unfolding r.primary
   primary_is kind from o at h = ap (λ z. r.primary_by q z from) at ∙ h
 
-  by_name : (kind : Kind) (from : List Token) (o : Outcome Expr) → r.is_name kind ≡ true → r.named q from ≡ o → r.primary_by q kind from ≡ o
-  by_name k.Name from o is h = h
-  by_name k.Count from o is h = h
-  by_name k.String from o is h = h
-  by_name kind from o is h = absurd (cc)
+  by_name : (kind : Kind) (from : List Token) (o : Outcome Expr) → c.is_name kind ≡ true → r.named q from ≡ o → r.primary_by q kind from ≡ o
+  by_name k.Number from o is h = absurd (cc)
+  by_name k.Text from o is h = absurd (cc)
+  by_name k.Date from o is h = absurd (cc)
+  by_name k.True from o is h = absurd (cc)
+  by_name k.False from o is h = absurd (cc)
+  by_name k.Null from o is h = absurd (cc)
+  by_name k.Open from o is h = absurd (cc)
+  by_name k.Case from o is h = absurd (cc)
+  by_name k.Cast from o is h = absurd (cc)
+  by_name k.If from o is h = absurd (cc)
+  by_name k.Array from o is h = absurd (cc)
+  by_name kind from o is h = ap (λ b. cond {A = Reader Expr} b (r.named q) reader.refuse from) is ∙ h
 
-  by_function : (kind : Kind) (from : List Token) (o : Outcome Expr) → r.is_function_word kind ≡ true → r.keyword_call q from ≡ o → r.primary_by q kind from ≡ o
+  by_function : (kind : Kind) (from : List Token) (o : Outcome Expr) → c.is_function_word kind ≡ true → r.keyword_call q from ≡ o → r.primary_by q kind from ≡ o
   by_function k.If from o is h = h
   by_function k.Array from o is h = h
   by_function kind from o is h = absurd (cc)
@@ -336,8 +357,8 @@ module _ (p : Rule Expr) (q : Reader Expr) (E : Whole (Stop 1) p q) (B : Begins 
   column_read : (b : Expr) (from to : List Token) → g.column b from to → Stop 8 to → r.primary q from ≡ Some (b, to)
   unfolding g.column
   column_read b from to s stop = primary_is (kind_at from) from (Some (b, to)) refl
-      (by_name (kind_at from) from (Some (b, to)) (word_kind_is r.is_name s.0 from s.1 s.2)
-      (named_is from s.0 s.1 (Some (b, to)) (word_read r.is_name s.0 from s.1 s.2) (column_after from s.1 to s.0 b s.3 stop)))
+      (by_name (kind_at from) from (Some (b, to)) (word_kind_is c.is_name s.0 from s.1 s.2)
+      (named_is from s.0 s.1 (Some (b, to)) (word_read c.is_name s.0 from s.1 s.2) (column_after from s.1 to s.0 b s.3 stop)))
 
   count_read : (b : Expr) (from to : List Token) → g.count_rows b from to → r.primary q from ≡ Some (b, to)
   unfolding g.count_rows same_kind
@@ -357,12 +378,12 @@ module _ (p : Rule Expr) (q : Reader Expr) (E : Whole (Stop 1) p q) (B : Begins 
       let rest = s.3 in
       elim s.2 as (λ _. r.primary q from ≡ Some (b, to)) [
         | inl name ↦ primary_is (kind_at from) from (Some (b, to)) refl
-            (by_name (kind_at from) from (Some (b, to)) (word_kind_is r.is_name s.0 from s.1 name)
-            (named_is from s.0 s.1 (Some (b, to)) (word_read r.is_name s.0 from s.1 name)
+            (by_name (kind_at from) from (Some (b, to)) (word_kind_is c.is_name s.0 from s.1 name)
+            (named_is from s.0 s.1 (Some (b, to)) (word_read c.is_name s.0 from s.1 name)
             (opened_after from s.1 rest.1 s.0 rest.0 (Some (b, to)) rest.2 (passed_after s.0 (same_kind (kind_at from) k.Count) b rest.1 to rest.3))))
         | inr name ↦ primary_is (kind_at from) from (Some (b, to)) refl
-            (by_function (kind_at from) from (Some (b, to)) (word_kind_is r.is_function_word s.0 from s.1 name)
-            (ap (λ w. and_then w (λ function. λ mid. and_then (expect k.Open mid) (λ _. r.call q function))) (word_read r.is_function_word s.0 from s.1 name)
+            (by_function (kind_at from) from (Some (b, to)) (word_kind_is c.is_function_word s.0 from s.1 name)
+            (ap (λ w. and_then w (λ function. λ mid. and_then (expect k.Open mid) (λ _. r.call q function))) (word_read c.is_function_word s.0 from s.1 name)
             ∙ (whole_then (whole_word k.Open) (λ _. passed_whole s.0)).read b s.1 to rest tt))
       ]
 
@@ -423,7 +444,7 @@ module _ (p : Rule Expr) (q : Reader Expr) (E : Whole (Stop 1) p q) (B : Begins 
       (begins_or (begins_bind (begins_word k.Case refl))
       (begins_or (begins_bind (begins_word k.Cast refl))
       (begins_or (begins_bind (begins_word k.Count refl))
-      (begins_bind (begins_or name_begins (record { begins = λ b from to s. function_starts (kind_at from) (word_kind_is r.is_function_word b from to s) }))))))))))))
+      (begins_bind (begins_or name_begins (record { begins = λ b from to s. function_starts (kind_at from) (word_kind_is c.is_function_word b from to s) }))))))))))))
 
   indexed_begins : Begins 3 (g.indexed p)
   unfolding g.indexed
@@ -431,7 +452,7 @@ module _ (p : Rule Expr) (q : Reader Expr) (E : Whole (Stop 1) p q) (B : Begins 
 
   signed_begins : Begins 2 (g.signed p)
   unfolding g.signed
-  signed_begins = begins_or (begins_bind (record { begins = λ x from to s. sign_starts (kind_at from) x (chosen_kind r.sign x from to s) }))
+  signed_begins = begins_or (begins_bind (record { begins = λ x from to s. sign_starts (kind_at from) x (chosen_kind c.sign x from to s) }))
       (record { begins = λ b from to s. still_starts (kind_at from) (indexed_begins.begins b from to s) })
 
   sum_begins : Begins 2 (g.sum p)
@@ -461,7 +482,7 @@ module _ (p : Rule Expr) (q : Reader Expr) (E : Whole (Stop 1) p q) (B : Begins 
 
   pub signed_whole : Whole (Stop 7) (g.signed p) (r.signed q)
   unfolding g.signed r.signed
-  signed_whole = whole_choice r.sign (λ operator. whole_bind indexed_whole (λ operand. whole_give (e.Unary operator operand)) (follows_give 7 7 refl)) indexed_whole
+  signed_whole = whole_choice c.sign (λ operator. whole_bind indexed_whole (λ operand. whole_give (e.Unary operator operand)) (follows_give 7 7 refl)) indexed_whole
       (record { lacks = λ b from to s stop. no_sign (kind_at from) (indexed_begins.begins b from to s) })
 
   pub suffixed_whole : Whole (Stop 6) (g.suffixed p) (r.suffixed q)
@@ -473,12 +494,12 @@ module _ (p : Rule Expr) (q : Reader Expr) (E : Whole (Stop 1) p q) (B : Begins 
 
   pub term_whole : Whole (Stop 5) (g.term p) (r.term q)
   unfolding g.term r.term r.factors
-  term_whole = whole_chain r.multiplicative suffixed_whole (sound.suffixed_sound p q K)
+  term_whole = whole_chain c.multiplicative suffixed_whole (sound.suffixed_sound p q K)
       (λ t x e. factor_stops (kind_at t) x e) (λ t stop. weaker 5 6 t refl stop) (λ t stop. no_factor (kind_at t) stop)
 
   pub sum_whole : Whole (Stop 4) (g.sum p) (r.sum q)
   unfolding g.sum r.sum r.summands
-  sum_whole = whole_chain r.additive term_whole (sound.term_sound p q K)
+  sum_whole = whole_chain c.additive term_whole (sound.term_sound p q K)
       (λ t x e. summand_stops (kind_at t) x e) (λ t stop. weaker 4 5 t refl stop) (λ t stop. no_summand (kind_at t) stop)
 
   matched_is : (value : Expr) (negated : Bool) (kind : Kind) (from : List Token) (o : Outcome Expr) → kind_at from ≡ kind → r.match_by q value negated kind from ≡ o → r.matched q value negated from ≡ o
@@ -519,9 +540,9 @@ module _ (p : Rule Expr) (q : Reader Expr) (E : Whole (Stop 1) p q) (B : Begins 
   tested_is value kind from o at h = ap (λ z. r.tested_by q value z from) at ∙ h
 
   Compared : Expr → Kind → Reader Expr
-  Compared value kind = by_option (r.comparison kind) (reader.give value) (λ operator. λ tokens. r.compared q value operator (next tokens))
+  Compared value kind = by_option (c.comparison kind) (reader.give value) (λ operator. λ tokens. r.compared q value operator (next tokens))
 
-  by_comparison : (value : Expr) (kind : Kind) (x : Binary) → r.comparison kind ≡ Some x → (from : List Token) (o : Outcome Expr) → Compared value kind from ≡ o → r.tested_by q value kind from ≡ o
+  by_comparison : (value : Expr) (kind : Kind) (x : Binary) → c.comparison kind ≡ Some x → (from : List Token) (o : Outcome Expr) → Compared value kind from ≡ o → r.tested_by q value kind from ≡ o
   unfolding Compared
   by_comparison value k.Not x e from o h = absurd (cc)
   by_comparison value k.Like x e from o h = absurd (cc)
@@ -535,6 +556,7 @@ module _ (p : Rule Expr) (q : Reader Expr) (E : Whole (Stop 1) p q) (B : Begins 
   by_nothing value k.Between e from = absurd (cc)
   by_nothing value k.In e from = absurd (cc)
   by_nothing value k.Equal e from = absurd (cc)
+  by_nothing value k.EqualTwice e from = absurd (cc)
   by_nothing value k.Unequal e from = absurd (cc)
   by_nothing value k.Less e from = absurd (cc)
   by_nothing value k.AtMost e from = absurd (cc)
@@ -547,14 +569,14 @@ module _ (p : Rule Expr) (q : Reader Expr) (E : Whole (Stop 1) p q) (B : Begins 
   unfolding r.compared
   compared_whole value operator = whole_bind sum_whole (λ other. whole_give (e.Binary operator value other)) (follows_give 3 4 refl)
 
-  compared_read : (value : Expr) (x : Binary) (b : Expr) (from mid to : List Token) → rule.one_of r.comparison x from mid
+  compared_read : (value : Expr) (x : Binary) (b : Expr) (from mid to : List Token) → rule.one_of c.comparison x from mid
       → ((other : Expr) × (behind : List Token) × g.sum p other mid behind × rule.give (e.Binary x value other) b behind to) → Stop 3 to → r.tested q value from ≡ Some (b, to)
   unfolding Compared
   compared_read value x b from mid to w s stop =
-      let at = chosen_kind r.comparison x from mid w in
+      let at = chosen_kind c.comparison x from mid w in
       tested_is value (kind_at from) from (Some (b, to)) refl (by_comparison value (kind_at from) x at from (Some (b, to))
       (ap (λ o. by_option o (reader.give value) (λ operator. λ tokens. r.compared q value operator (next tokens)) from) at
-      ∙ ap (r.compared q value x) (chosen_next r.comparison x from mid w) ∙ (compared_whole value x).read b mid to s stop))
+      ∙ ap (r.compared q value x) (chosen_next c.comparison x from mid w) ∙ (compared_whole value x).read b mid to s stop))
 
   matched_read : (value b : Expr) (from to : List Token) → g.matched p value false b from to → Stop 3 to → r.tested q value from ≡ Some (b, to)
   matched_read value b from to s stop =
@@ -570,7 +592,7 @@ module _ (p : Rule Expr) (q : Reader Expr) (E : Whole (Stop 1) p q) (B : Begins 
   -- what may stand behind a sum
   abbrev Behind : Expr → Rule Expr
   Behind value b from to =
-      ((operator : Binary) × (between : List Token) × rule.one_of r.comparison operator from between × ((other : Expr) × (behind : List Token) × g.sum p other between behind × rule.give (e.Binary operator value other) b behind to))
+      ((operator : Binary) × (between : List Token) × rule.one_of c.comparison operator from between × ((other : Expr) × (behind : List Token) × g.sum p other between behind × rule.give (e.Binary operator value other) b behind to))
       ⊎ (((u : Unit {0}) × (between : List Token) × rule.word k.Not u from between × g.matched p value true b between to)
       ⊎ (g.matched p value false b from to ⊎ rule.give value b from to))
 
@@ -591,7 +613,7 @@ module _ (p : Rule Expr) (q : Reader Expr) (E : Whole (Stop 1) p q) (B : Begins 
 
   behind_stops : (value b : Expr) (from to : List Token) → Behind value b from to → Stop 3 to → Stop 4 from
   behind_stops value b from to s stop = elim s as (λ _. Stop 4 from) [
-    | inl it ↦ comparison_stops (kind_at from) it.0 (chosen_kind r.comparison it.0 from it.1 it.2)
+    | inl it ↦ comparison_stops (kind_at from) it.0 (chosen_kind c.comparison it.0 from it.1 it.2)
     | inr s ↦ elim s as (λ _. Stop 4 from) [
       | inl it ↦ stop_at 4 k.Not refl from (word_kind it.2)
       | inr s ↦ elim s as (λ _. Stop 4 from) [

@@ -20,13 +20,14 @@ use Rattle.hv_grammar.specs.Readers.{Reader, kind_at, and_then, sees, after, nex
 use Rattle.hv_grammar.specs.Readers as reader
 use Rattle.hv_grammar.specs.Grammar as g
 use Rattle.hv_grammar.specs.Reading as r
+use Rattle.hv_grammar.specs.Choices as c
 use Rattle.hv_parse_expr.proofs.Joins.{Sound, SoundAt, Suffix, then_some, further, sound_give, sound_bind, sound_one_of, sound_word, sound_pass, sound_eat, sound_flag, sound_held, sound_choice, sound_separated, sound_joined, sound_chain, sound_peek, at_left, at_right, at_any, at_refuse}
 
 -- ---- names and types
 
 pub scalar_sound : Sound g.scalar r.scalar
 unfolding r.scalar
-scalar_sound = sound_one_of r.scalar_at refl
+scalar_sound = sound_one_of c.scalar_at refl
 
 pub array_sound : Sound g.array r.array
 unfolding g.array r.array
@@ -41,17 +42,17 @@ word_taken : (p : Kind → Bool) (tokens : List Token) (text : Text) (mid : List
     → rule.held (g.word_by p) text tokens mid × Suffix tokens mid
 unfolding r.word kind_at
 word_taken p tokens text mid is h =
-    let t = (sound_held (λ token. r.word_in token.what)).spelled tokens text mid h in
+    let t = (sound_held (λ token. c.word_in token.what)).spelled tokens text mid h in
     let kind : p (kind_of t.0.0.what) ≡ true = sym (ap (λ z. p (kind_at z)) t.0.2) ∙ is in
-    ((t.0.0, ap (λ b. cond b (r.word_in t.0.0.what) None) kind ∙ t.0.1, t.0.2), t.1)
+    ((t.0.0, ap (λ b. cond b (c.word_in t.0.0.what) None) kind ∙ t.0.1, t.0.2), t.1)
 
 pub name_sound : Sound g.name r.name
 unfolding r.name
-name_sound = record { spelled = λ tokens text rest h. by_kind tokens (r.is_name (kind_at tokens)) refl text rest h }
+name_sound = record { spelled = λ tokens text rest h. by_kind tokens (c.is_name (kind_at tokens)) refl text rest h }
   where
-    by_kind : (tokens : List Token) (b : Bool) → r.is_name (kind_at tokens) ≡ b → (text : Text) (rest : List Token)
+    by_kind : (tokens : List Token) (b : Bool) → c.is_name (kind_at tokens) ≡ b → (text : Text) (rest : List Token)
         → cond {A = Reader Text} b r.word (λ _. None) tokens ≡ Some (text, rest) → g.name text tokens rest × Suffix tokens rest
-    by_kind tokens true e text rest h = word_taken r.is_name tokens text rest e h
+    by_kind tokens true e text rest h = word_taken c.is_name tokens text rest e h
     by_kind tokens false e text rest h = absurd (cc)
 
 pub qualified_sound : (first : Text) → Sound (g.qualified first) (r.column first)
@@ -60,11 +61,11 @@ qualified_sound first = sound_eat k.Dot tt (sound_bind name_sound (λ second. so
 
 literal_sound : Sound g.literal r.literal
 unfolding r.literal
-literal_sound = sound_bind (sound_held (λ token. r.literal_in token.what)) (λ value. sound_give (e.Literal value))
+literal_sound = sound_bind (sound_held (λ token. c.literal_in token.what)) (λ value. sound_give (e.Literal value))
 
 date_sound : Sound g.date r.date
 unfolding r.date r.string
-date_sound = sound_bind (sound_held (λ token. r.string_in token.what)) (λ text. sound_give (e.Literal (l.Date text)))
+date_sound = sound_bind (sound_held (λ token. c.string_in token.what)) (λ text. sound_give (e.Literal (l.Date text)))
 
 same_kinds : (left right : Kind) → same_kind left right ≡ true → left ≡ right
 unfolding same_kind
@@ -144,22 +145,22 @@ module _ (p : Rule Expr) (q : Reader Expr) (E : Sound p q) where
       )
 
   -- a name, and a bracket behind it or not
-  named_sound : (kind : Kind) → r.is_name kind ≡ true → SoundAt kind Named (r.named q)
+  named_sound : (kind : Kind) → c.is_name kind ≡ true → SoundAt kind Named (r.named q)
   unfolding r.named
   named_sound kind is = record {
     spelled_at = λ tokens b rest at h.
         let t = then_some (r.word tokens) (λ first. λ mid. cond (sees k.Open mid) (cond (same_kind (kind_at tokens) k.Count) (r.count q first) (r.call q first)) (r.column first) (after k.Open mid)) b rest h in
-        let name = word_taken r.is_name tokens t.0.0 t.0.1 (ap r.is_name at ∙ is) t.1 in
+        let name = word_taken c.is_name tokens t.0.0 t.0.1 (ap c.is_name at ∙ is) t.1 in
         behind_name tokens t.0.1 t.0.0 name.0 name.1 (same_kind (kind_at tokens) k.Count) (same_kinds (kind_at tokens) k.Count) b rest t.2;
   }
 
   -- IF or ARRAY as a function
-  keyword_sound : (kind : Kind) → r.is_function_word kind ≡ true → SoundAt kind (g.call p) (r.keyword_call q)
+  keyword_sound : (kind : Kind) → c.is_function_word kind ≡ true → SoundAt kind (g.call p) (r.keyword_call q)
   unfolding r.keyword_call g.call
   keyword_sound kind is = record {
     spelled_at = λ tokens b rest at h.
         let t = then_some (r.word tokens) (λ first. λ mid. and_then (expect k.Open mid) (λ _. r.call q first)) b rest h in
-        let name = word_taken r.is_function_word tokens t.0.0 t.0.1 (ap r.is_function_word at ∙ is) t.1 in
+        let name = word_taken c.is_function_word tokens t.0.0 t.0.1 (ap c.is_function_word at ∙ is) t.1 in
         let others = (sound_bind (sound_word k.Open tt) (λ _. passed_sound t.0.0)).spelled t.0.1 b rest t.2 in
         ((t.0.0, t.0.1, inr name.0, others.0), further name.1 others.1);
   }
@@ -180,6 +181,11 @@ module _ (p : Rule Expr) (q : Reader Expr) (E : Sound p q) where
         );
   }
 
+  -- a name, or nothing that begins an expression
+  at_word : (kind : Kind) (b : Bool) → c.is_name kind ≡ b → SoundAt kind (g.primary p) (cond b (r.named q) reader.refuse)
+  at_word kind true is = at_named kind (named_sound kind is)
+  at_word kind false is = at_refuse kind
+
   -- the alternatives of a primary, by the kind of the first token
   primary_at : (kind : Kind) → SoundAt kind (g.primary p) (r.primary_by q kind)
   unfolding g.primary
@@ -194,10 +200,7 @@ module _ (p : Rule Expr) (q : Reader Expr) (E : Sound p q) where
   primary_at k.Cast = at_right (at_right (at_right (at_right (at_right (at_right (at_right (at_right (at_left (sound_pass k.Cast tt cast_sound)))))))))
   primary_at k.If = at_right (at_right (at_right (at_right (at_right (at_right (at_right (at_right (at_right (at_right (keyword_sound k.If refl))))))))))
   primary_at k.Array = at_right (at_right (at_right (at_right (at_right (at_right (at_right (at_right (at_right (at_right (keyword_sound k.Array refl))))))))))
-  primary_at k.Name = at_named k.Name (named_sound k.Name refl)
-  primary_at k.Count = at_named k.Count (named_sound k.Count refl)
-  primary_at k.String = at_named k.String (named_sound k.String refl)
-  primary_at kind = at_refuse kind
+  primary_at kind = at_word kind (c.is_name kind) refl
 
   pub primary_sound : Sound (g.primary p) (r.primary q)
   unfolding r.primary
@@ -213,7 +216,7 @@ module _ (p : Rule Expr) (q : Reader Expr) (E : Sound p q) where
 
   pub signed_sound : Sound (g.signed p) (r.signed q)
   unfolding g.signed r.signed
-  signed_sound = sound_choice r.sign refl (λ operator. sound_bind indexed_sound (λ operand. sound_give (e.Unary operator operand))) indexed_sound
+  signed_sound = sound_choice c.sign refl (λ operator. sound_bind indexed_sound (λ operand. sound_give (e.Unary operator operand))) indexed_sound
 
   pub suffixed_sound : Sound (g.suffixed p) (r.suffixed q)
   unfolding g.suffixed r.suffixed r.null_test
@@ -223,11 +226,11 @@ module _ (p : Rule Expr) (q : Reader Expr) (E : Sound p q) where
 
   pub term_sound : Sound (g.term p) (r.term q)
   unfolding g.term r.term r.factors
-  term_sound = sound_chain r.multiplicative refl suffixed_sound
+  term_sound = sound_chain c.multiplicative refl suffixed_sound
 
   pub sum_sound : Sound (g.sum p) (r.sum q)
   unfolding g.sum r.sum r.summands
-  sum_sound = sound_chain r.additive refl term_sound
+  sum_sound = sound_chain c.additive refl term_sound
 
   matched_at : (value : Expr) (negated : Bool) (kind : Kind) → SoundAt kind (g.matched p value negated) (r.match_by q value negated kind)
   unfolding g.matched r.like r.between r.among
@@ -243,18 +246,18 @@ module _ (p : Rule Expr) (q : Reader Expr) (E : Sound p q) where
   -- what may stand behind a sum
   abbrev Behind : Expr → Rule Expr
   Behind value b from to =
-      ((operator : Binary) × (between : List Token) × rule.one_of r.comparison operator from between × ((other : Expr) × (behind : List Token) × g.sum p other between behind × rule.give (e.Binary operator value other) b behind to))
+      ((operator : Binary) × (between : List Token) × rule.one_of c.comparison operator from between × ((other : Expr) × (behind : List Token) × g.sum p other between behind × rule.give (e.Binary operator value other) b behind to))
       ⊎ (((u : Unit {0}) × (between : List Token) × rule.word k.Not u from between × g.matched p value true b between to)
       ⊎ (g.matched p value false b from to ⊎ rule.give value b from to))
 
   -- a comparison, or nothing
-  compared_at : (value : Expr) (kind : Kind) → SoundAt kind (Behind value) (by_option (r.comparison kind) (reader.give value) (λ operator. λ tokens. r.compared q value operator (next tokens)))
+  compared_at : (value : Expr) (kind : Kind) → SoundAt kind (Behind value) (by_option (c.comparison kind) (reader.give value) (λ operator. λ tokens. r.compared q value operator (next tokens)))
   unfolding r.compared
   compared_at value kind = record {
     spelled_at = λ tokens b rest at h.
-        let t = (sound_choice {f = λ operator. λ b from to. (other : Expr) × (behind : List Token) × g.sum p other from behind × rule.give (e.Binary operator value other) b behind to} {p = rule.give value} r.comparison refl
+        let t = (sound_choice {f = λ operator. λ b from to. (other : Expr) × (behind : List Token) × g.sum p other from behind × rule.give (e.Binary operator value other) b behind to} {p = rule.give value} c.comparison refl
         (λ operator. sound_bind sum_sound (λ other. sound_give (e.Binary operator value other))) (sound_give value)).spelled tokens b rest
-        (ap (λ (z : Kind). by_option (r.comparison z) (reader.give value) (λ operator. λ rest. r.compared q value operator (next rest)) tokens) at ∙ h) in (
+        (ap (λ (z : Kind). by_option (c.comparison z) (reader.give value) (λ operator. λ rest. r.compared q value operator (next rest)) tokens) at ∙ h) in (
           elim t.0 as (λ _. Behind value b tokens rest) [
             | inl it ↦ inl it
             | inr none ↦ inr (inr (inr none))

@@ -9,7 +9,8 @@ use Rattle.hv_grammar.specs.Readers.{Outcome, and_then, kind_at}
 use Rattle.hv_grammar.specs.Grammar as g
 use Rattle.hv_grammar.specs.Grammar.{IsExpression}
 use Rattle.hv_grammar.specs.Reading as r
-use Rattle.hv_grammar.specs.Reading.{binds, at_end, answer_of, answer_by, found, nesting, syntax, Answer, expression_at, whole}
+use Rattle.hv_grammar.specs.Reading.{at_end, answer_of, answer_by, found, nesting, syntax, Answer, expression_at, whole}
+use Rattle.hv_grammar.specs.Choices.{binds}
 use Rattle.hv_parse_expr.specs.Exact.{ReadIsSpelled, SpelledIsRead, OneTree, TypesAreExact, Finds, TellsNesting}
 use Rattle.hv_parse_expr.specs.Reads.{Tells}
 use Rattle.hv_parse_expr.specs.declared.fault.ParseFault.{ParseFault}

@@ -8,7 +8,7 @@ use Rattle.hv_grammar.specs.Readers.{kind_at}
 use Rattle.hv_grammar.specs.Grammar as grammar
 use Rattle.hv_grammar.specs.Grammar.{IsExpression}
 use Rattle.hv_grammar.specs.Reading as reading
-use Rattle.hv_grammar.specs.Reading.{binds}
+use Rattle.hv_grammar.specs.Choices.{binds}
 use Rattle.hv_parse_expr.specs.declared.fault.ParseFault.{ParseFault}
 use Rattle.hv_parse_expr.specs.declared.fault.ParseFault.TheVariants as fault
 

@@ -6,15 +6,20 @@ ghost use Rattle.hv_parse_expr.specs.Nests.{Nests};
 ghost use Rattle.hv_parse_expr.specs.Reads.{Reads};
 
 use crate::fault::ReadFault;
+use crate::nesting::MOST_LEVELS;
 use crate::tokens::Tokens;
 use hv_ast::Expr;
+use hv_base::List;
 use std::alloc::Global;
 
+/// The rules that hold expressions, over a function that reads what stands between brackets.
 #[derive(Clone, Copy)]
 pub struct Grammar<F> {
+    /// What trees are made of.
     pub alloc: Global,
     /// How deep an expression between brackets may nest.
     pub depth: usize,
+    /// Reads an expression that nests less deep than a number: `expr` of this module.
     pub expr: F,
 }
 
@@ -41,4 +46,23 @@ pub fn expr(alloc: Global, tokens: &mut Tokens<'_>, depth: usize) -> Result<Expr
         expr,
     }
     .disjunction(tokens)
+}
+
+/// An expression, however deep a text may nest.
+pub fn any_expr(alloc: Global, tokens: &mut Tokens<'_>) -> Result<Expr, ReadFault>
+    ensures { Reads (reading.any_expr tokens.old) result tokens.new }
+{
+    expr(alloc, tokens, MOST_LEVELS + 1)
+}
+
+/// `expr {, expr}`
+pub fn expr_list(alloc: Global, tokens: &mut Tokens<'_>) -> Result<List<Expr>, ReadFault>
+    ensures { Reads (reading.list reading.any_expr tokens.old) result tokens.new }
+{
+    Grammar {
+        alloc,
+        depth: MOST_LEVELS + 1,
+        expr,
+    }
+    .list(tokens)
 }

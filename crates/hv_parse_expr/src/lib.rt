@@ -14,13 +14,10 @@ mod tokens;
 mod types;
 
 pub use fault::{ParseFault, ReadFault};
-pub use grammar::{Grammar, expr};
+pub use grammar::{Grammar, any_expr, expr, expr_list};
 pub use laws::{one_tree, read_is_spelled, spelled_is_read, types_are_exact};
-pub use names::name;
-pub use nesting::too_deep;
+pub use names::{is_name, name};
+pub use nesting::{MOST_LEVELS, too_deep};
 pub use parse::parse_expr;
 pub use tokens::Tokens;
 pub use types::type_name;
-
-#[cfg(test)]
-mod tests;

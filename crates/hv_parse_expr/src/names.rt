@@ -1,6 +1,7 @@
 //! Names, as columns, tables and functions have them.
 
 ghost use Rattle.std.specs.Prelude.{◌≡◌};
+ghost use Rattle.hv_grammar.specs.Choices as choices;
 ghost use Rattle.hv_grammar.specs.Reading as reading;
 ghost use Rattle.hv_parse_expr.specs.Reads.{Reads};
 
@@ -14,9 +15,21 @@ use std::alloc::Global;
 /// Whether a name may be spelled so: a word that is no keyword here, or an identifier between
 /// backquotes.
 pub fn is_name(kind: Kind) -> bool
-    ensures { result ≡ reading.is_name kind }
+    ensures { result ≡ choices.is_name kind }
 {
-    matches!(kind, Kind::Name | Kind::Count | Kind::String)
+    match kind {
+        Kind::Name => true,
+        Kind::Abort | Kind::Asc | Kind::Buckets => true,
+        Kind::Clustered | Kind::Comment | Kind::Compact => true,
+        Kind::Compactions | Kind::Count | Kind::Default => true,
+        Kind::Desc | Kind::Explain | Kind::Explode => true,
+        Kind::Formatted | Kind::Locks | Kind::Matched => true,
+        Kind::Orc | Kind::Partitioned | Kind::Partitions => true,
+        Kind::PosExplode | Kind::Purge | Kind::Semi => true,
+        Kind::Show | Kind::Stored | Kind::String => true,
+        Kind::Tables | Kind::TblProperties | Kind::Transactions => true,
+        _ => false,
+    }
 }
 
 /// `ident`

@@ -1,7 +1,7 @@
 //! Which tokens are operators, and the trees that they make.
 
 ghost use Rattle.std.specs.Prelude.{◌≡◌, IfOk};
-ghost use Rattle.hv_grammar.specs.Reading as reading;
+ghost use Rattle.hv_grammar.specs.Choices as choices;
 
 use hv_ast::{Arithmetic, Binary, Expr, Unary};
 use hv_base::{Boxed, NoMemory};
@@ -10,10 +10,10 @@ use std::alloc::Global;
 
 /// `= | == | <> | != | < | <= | > | >= | <=>`
 pub fn comparison(kind: Kind) -> Option<Binary>
-    ensures { result ≡ reading.comparison kind }
+    ensures { result ≡ choices.comparison kind }
 {
     match kind {
-        Kind::Equal => Some(Binary::Equal),
+        Kind::Equal | Kind::EqualTwice => Some(Binary::Equal),
         Kind::Unequal => Some(Binary::Unequal),
         Kind::Less => Some(Binary::Less),
         Kind::AtMost => Some(Binary::AtMost),
@@ -26,7 +26,7 @@ pub fn comparison(kind: Kind) -> Option<Binary>
 
 /// `+ | -`
 pub fn additive(kind: Kind) -> Option<Arithmetic>
-    ensures { result ≡ reading.additive kind }
+    ensures { result ≡ choices.additive kind }
 {
     match kind {
         Kind::Plus => Some(Arithmetic::Add),
@@ -37,7 +37,7 @@ pub fn additive(kind: Kind) -> Option<Arithmetic>
 
 /// `* | DIV | %`
 pub fn multiplicative(kind: Kind) -> Option<Arithmetic>
-    ensures { result ≡ reading.multiplicative kind }
+    ensures { result ≡ choices.multiplicative kind }
 {
     match kind {
         Kind::Star => Some(Arithmetic::Multiply),
@@ -49,7 +49,7 @@ pub fn multiplicative(kind: Kind) -> Option<Arithmetic>
 
 /// `[+ | -]`
 pub fn sign(kind: Kind) -> Option<Unary>
-    ensures { result ≡ reading.sign kind }
+    ensures { result ≡ choices.sign kind }
 {
     match kind {
         Kind::Plus => Some(Unary::Plus),
@@ -60,13 +60,13 @@ pub fn sign(kind: Kind) -> Option<Unary>
 
 /// How tightly a token binds to an expression before it; 0 where it can't continue one.
 pub fn binds(kind: Kind) -> u8
-    ensures { result ≡ reading.binds kind }
+    ensures { result ≡ choices.binds kind }
 {
     match kind {
         Kind::Or => 1,
         Kind::And => 2,
         Kind::Not | Kind::In | Kind::Between | Kind::Like => 3,
-        Kind::Equal | Kind::Unequal | Kind::Less | Kind::AtMost => 3,
+        Kind::Equal | Kind::EqualTwice | Kind::Unequal | Kind::Less | Kind::AtMost => 3,
         Kind::Greater | Kind::AtLeast | Kind::NullSafeEqual => 3,
         Kind::Plus | Kind::Minus => 4,
         Kind::Star | Kind::Div | Kind::Percent => 5,

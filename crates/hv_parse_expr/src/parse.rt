@@ -9,8 +9,8 @@ ghost use Rattle.hv_parse_expr.specs.Exact.{Finds, TellsNesting};
 ghost use Rattle.hv_parse_expr.specs.Reads.{Reads, Tells};
 
 use crate::fault::{ParseFault, ReadFault};
-use crate::grammar::expr;
-use crate::nesting::{MOST_LEVELS, too_deep};
+use crate::grammar::any_expr;
+use crate::nesting::too_deep;
 use crate::operators::binds;
 use crate::tokens::Tokens;
 use hv_ast::{Expr, Token};
@@ -21,7 +21,7 @@ use std::alloc::Global;
 fn whole(alloc: Global, tokens: &mut Tokens<'_>) -> Result<Expr, ReadFault>
     ensures { Reads (reading.whole tokens.old) result tokens.new }
 {
-    let found = expr(alloc, tokens, MOST_LEVELS + 1)?;
+    let found = any_expr(alloc, tokens)?;
     if binds(tokens.peek()) == 0 {
         Ok(found)
     } else {

@@ -6,7 +6,7 @@ ghost use Rattle.hv_parse_expr.specs.Reads.{Reads};
 
 use crate::fault::ReadFault;
 use crate::grammar::Grammar;
-use crate::names::{column, date};
+use crate::names::{column, date, is_name};
 use crate::tokens::Tokens;
 use crate::types::type_name;
 use hv_ast::{Expr, Literal, When};
@@ -216,9 +216,9 @@ impl<F: Fn(Global, &mut Tokens<'_>, usize) -> Result<Expr, ReadFault>> Grammar<F
         ensures { Reads (reading.primary (reading.expr self.now.depth) tokens.old)
             result tokens.new }
     {
-        match tokens.peek() {
+        let kind = tokens.peek();
+        match kind {
             Kind::Number | Kind::Text => tokens.literal(self.alloc),
-            Kind::Name | Kind::Count | Kind::String => self.named(tokens),
             Kind::If | Kind::Array => self.keyword_call(tokens),
             Kind::Date => {
                 tokens.pass();
@@ -248,6 +248,7 @@ impl<F: Fn(Global, &mut Tokens<'_>, usize) -> Result<Expr, ReadFault>> Grammar<F
                 tokens.pass();
                 self.cast(tokens)
             }
+            _ if is_name(kind) => self.named(tokens),
             _ => Err(ReadFault::Syntax),
         }
     }

@@ -1,12 +1,16 @@
 //! The tokens that are left to be read.
 
-ghost use Rattle.std.specs.Prelude.{◌≡◌, length};
+ghost use Rattle.std.specs.Prelude.{◌≡◌, length, Some};
 ghost use Rattle.hv_grammar.specs.Readers as reader;
+ghost use Rattle.hv_grammar.specs.Choices as choices;
+ghost use Rattle.hv_grammar.specs.QueryReading as query;
 ghost use Rattle.hv_grammar.specs.Reading as reading;
+ghost use Rattle.hv_grammar.specs.StatementReading as statement;
 ghost use Rattle.hv_parse_expr.specs.Reads.{Reads, Holds};
 
 use crate::fault::ReadFault;
-use hv_ast::{Expr, Lexeme, Literal, Token};
+use crate::names::is_name;
+use hv_ast::{CompactionKind, Expr, Lexeme, Literal, Token};
 use hv_base::{Duplicate, Text};
 use hv_grammar::{Kind, kind_of, same_kind};
 use std::alloc::Global;
@@ -28,6 +32,7 @@ impl<'a> Model for Tokens<'a> {
 }
 
 impl<'a> Tokens<'a> {
+    /// All of these tokens are left.
     pub fn new(rest: &'a [Token]) -> Tokens<'a>
         ensures { result ≡ rest.now }
     {
@@ -62,6 +67,7 @@ impl<'a> Tokens<'a> {
         }
     }
 
+    /// Whether a token of this kind comes next.
     #[tactic(auto, unfolding(hv_grammar::specs::Readers::sees))]
     pub fn sees(&self, kind: Kind) -> bool
         ensures { result ≡ reader.sees kind self.now }
@@ -82,6 +88,8 @@ impl<'a> Tokens<'a> {
         found
     }
 
+    /// Passes a token of this kind. Where another comes next, or none, it is `Syntax`, and all tokens
+    /// are still left.
     #[tactic(auto, unfolding(hv_grammar::specs::Readers::expect))]
     pub fn expect(&mut self, kind: Kind) -> Result<(), ReadFault>
         ensures { Reads (reader.expect kind self.old) result self.new }
@@ -92,6 +100,28 @@ impl<'a> Tokens<'a> {
         } else {
             Err(ReadFault::Syntax)
         }
+    }
+
+    /// `[mark | other]`, as whether `mark` stands there.
+    #[tactic(auto, unfolding(hv_grammar::specs::Readers::either))]
+    pub fn either(&mut self, mark: Kind, other: Kind) -> bool
+        ensures { reader.either mark other self.old ≡ Some (result, self.new) }
+    {
+        if self.eat(mark) {
+            return true;
+        }
+        self.eat(other);
+        false
+    }
+
+    /// Whether `ident . *` comes next.
+    #[tactic(auto, unfolding(hv_grammar::specs::QueryReading::sees_all_of, hv_grammar::specs::Readers::next))]
+    pub fn sees_all_of(&self) -> bool
+        ensures { result ≡ query.sees_all_of self.now }
+    {
+        let behind = Tokens::new(self.rest.get(1..).unwrap_or_default());
+        let last = Tokens::new(self.rest.get(2..).unwrap_or_default());
+        is_name(self.peek()) && behind.sees(Kind::Dot) && last.sees(Kind::Star)
     }
 
     /// The text of the next word, keyword or not, or of an identifier between backquotes.
@@ -132,10 +162,36 @@ impl<'a> Tokens<'a> {
         self.rest = rest;
         Ok(Expr::Literal(literal))
     }
+
+    /// A number from 0.
+    #[tactic(auto, unfolding(hv_grammar::specs::QueryReading::number, hv_grammar::specs::Readers::held))]
+    pub fn number(&mut self) -> Result<u64, ReadFault>
+        ensures { Reads (query.number self.old) result self.new }
+    {
+        let [token, rest @ ..] = self.rest else {
+            return Err(ReadFault::Syntax);
+        };
+        let number = number_in(token)?;
+        self.rest = rest;
+        Ok(number)
+    }
+
+    /// `'minor'` or `'major'`, in any case.
+    #[tactic(auto, unfolding(hv_grammar::specs::StatementReading::compaction, hv_grammar::specs::Readers::held))]
+    pub fn compaction(&mut self) -> Result<CompactionKind, ReadFault>
+        ensures { Reads (statement.compaction self.old) result self.new }
+    {
+        let [token, rest @ ..] = self.rest else {
+            return Err(ReadFault::Syntax);
+        };
+        let kind = compaction_in(token)?;
+        self.rest = rest;
+        Ok(kind)
+    }
 }
 
 fn word_in(alloc: Global, token: &Token) -> Result<Text, ReadFault>
-    ensures { Holds (reading.word_in token.now.what) result }
+    ensures { Holds (choices.word_in token.now.what) result }
 {
     match &token.what {
         Lexeme::Word(text) | Lexeme::Quoted(text) => Ok(text.duplicate(alloc)?),
@@ -144,7 +200,7 @@ fn word_in(alloc: Global, token: &Token) -> Result<Text, ReadFault>
 }
 
 fn string_in(alloc: Global, token: &Token) -> Result<Text, ReadFault>
-    ensures { Holds (reading.string_in token.now.what) result }
+    ensures { Holds (choices.string_in token.now.what) result }
 {
     match &token.what {
         Lexeme::Str(text) => Ok(text.duplicate(alloc)?),
@@ -153,12 +209,37 @@ fn string_in(alloc: Global, token: &Token) -> Result<Text, ReadFault>
 }
 
 fn literal_in(alloc: Global, token: &Token) -> Result<Literal, ReadFault>
-    ensures { Holds (reading.literal_in token.now.what) result }
+    ensures { Holds (choices.literal_in token.now.what) result }
 {
     match &token.what {
         Lexeme::Int(number) => Ok(Literal::Int(*number)),
         Lexeme::Big(number) => Ok(Literal::Big(*number)),
         Lexeme::Str(text) => Ok(Literal::Str(text.duplicate(alloc)?)),
         _ => Err(ReadFault::Syntax),
+    }
+}
+
+fn number_in(token: &Token) -> Result<u64, ReadFault>
+    ensures { Holds (choices.number_in token.now.what) result }
+{
+    match &token.what {
+        Lexeme::Int(number) => u64::try_from(*number).map_err(|_| ReadFault::Syntax),
+        Lexeme::Big(number) => u64::try_from(*number).map_err(|_| ReadFault::Syntax),
+        _ => Err(ReadFault::Syntax),
+    }
+}
+
+fn compaction_in(token: &Token) -> Result<CompactionKind, ReadFault>
+    ensures { Holds (choices.compaction_in token.now.what) result }
+{
+    let Lexeme::Str(text) = &token.what else {
+        return Err(ReadFault::Syntax);
+    };
+    if text.as_str().eq_ignore_ascii_case("minor") {
+        Ok(CompactionKind::Minor)
+    } else if text.as_str().eq_ignore_ascii_case("major") {
+        Ok(CompactionKind::Major)
+    } else {
+        Err(ReadFault::Syntax)
     }
 }

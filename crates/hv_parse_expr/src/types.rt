@@ -1,6 +1,7 @@
 //! Types as they are written.
 
 ghost use Rattle.std.specs.Prelude.{◌≡◌};
+ghost use Rattle.hv_grammar.specs.Choices as choices;
 ghost use Rattle.hv_grammar.specs.Reading as reading;
 ghost use Rattle.hv_parse_expr.specs.Reads.{Reads};
 
@@ -10,7 +11,7 @@ use hv_ast::{ScalarName, TypeName};
 use hv_grammar::Kind;
 
 fn scalar_at(kind: Kind) -> Option<ScalarName>
-    ensures { result ≡ reading.scalar_at kind }
+    ensures { result ≡ choices.scalar_at kind }
 {
     match kind {
         Kind::Boolean => Some(ScalarName::Boolean),

@@ -1,6 +1,7 @@
 use Rattle.std.proofs.Common.{◌≡◌, Some, rules, arith}
 use Rattle.std.proofs.lemmas.Grind.{common_steps}
-use Rattle.hv_grammar.specs.Reading.{expr, multiplicative, suffixed, factors}
+use Rattle.hv_grammar.specs.Reading.{expr, suffixed, factors}
+use Rattle.hv_grammar.specs.Choices.{multiplicative}
 use Rattle.hv_parse_expr.proofs.Turns.{operated, no_operator, operations_run_out}
 use Rattle.hv_parse_expr.proofs.grammar.Grammar.factors.Goals.{else-loop-turn-test, then-loop-turn-test+in_default}
 use Rattle.hv_parse_expr.proofs.grammar.Grammar.factors.Goals as goal

@@ -1,7 +1,8 @@
 -- What was read, and what the rest gives behind it, is the whole.
 use Rattle.std.proofs.Common.{◌≡◌, ◌-◌}
 use Rattle.hv_grammar.specs.Readers.{more_operations}
-use Rattle.hv_grammar.specs.Reading.{expr, factors, multiplicative, suffixed}
+use Rattle.hv_grammar.specs.Reading.{expr, factors, suffixed}
+use Rattle.hv_grammar.specs.Choices.{multiplicative}
 use Rattle.hv_parse_expr.proofs.grammar.Grammar.factors.Given as goal
 
 abbrev pub invariant-loop-turn : goal.invariant-loop-turn

@@ -1,6 +1,7 @@
 use Rattle.std.proofs.Common.{◌≡◌, Some, rules, arith}
 use Rattle.std.proofs.lemmas.Grind.{common_steps}
-use Rattle.hv_grammar.specs.Reading.{expr, additive, term, summands}
+use Rattle.hv_grammar.specs.Reading.{expr, term, summands}
+use Rattle.hv_grammar.specs.Choices.{additive}
 use Rattle.hv_parse_expr.proofs.Turns.{operated, no_operator, operations_run_out}
 use Rattle.hv_parse_expr.proofs.grammar.Grammar.summands.Goals.{else-loop-turn-test, then-loop-turn-test+in_default}
 use Rattle.hv_parse_expr.proofs.grammar.Grammar.summands.Goals as goal
