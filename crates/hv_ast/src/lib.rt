@@ -32,6 +32,3 @@ pub use table::{
 };
 pub use token::{Lexeme, Token};
 pub use types::{ScalarName, TypeName};
-
-#[cfg(test)]
-mod tests;

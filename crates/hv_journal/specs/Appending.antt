@@ -1,5 +1,5 @@
 -- What a store's journal holds, where the store tells it.
-use Rattle.std.specs.Prelude.{◌≡◌, ◌⊎◌, ◌≤◌, ℕ, Option, List, [], ◌∷◌, ◌++◌, length, take}
+use Rattle.std.specs.Prelude.{◌≡◌, ◌⊎◌, ◌≤◌, ℕ, Option, List, [], ◌∷◌, ◌++◌, length}
 use Rattle.hv_base.specs.Told.{Tells}
 use Rattle.hv_shelf.specs.Disk.{Store}
 use Rattle.hv_history.specs.declared.entry.Entry.{Entry}
@@ -19,10 +19,6 @@ HoldsOneMore told book e = Tells told (λ s. ReadsOneMore book e s.journal)
 
 abbrev pub KeepsTree : Store → Store → Type 0
 KeepsTree before now = now.tree ≡ before.tree
-
--- what stands in the journal before this place is as it was
-abbrev pub KeepsFront : ℕ → Store → Store → Type 0
-KeepsFront at before now = take at now.journal ≡ take at before.journal
 
 -- an empty journal, of no byte or of one, is as short as that
 abbrev pub StaysShort : Store → Store → Type 0

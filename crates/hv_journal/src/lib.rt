@@ -15,6 +15,3 @@ pub use laws::{one_book, one_spelling};
 pub use reading::records::decode_entry;
 pub use writing::lengths::record_length;
 pub use writing::records::encode_entry;
-
-#[cfg(test)]
-mod tests;

@@ -14,6 +14,3 @@ mod words;
 pub use fault::LexFault;
 pub use reserved::is_reserved;
 pub use tokens::lex;
-
-#[cfg(test)]
-mod tests;

@@ -12,6 +12,3 @@ pub use laws::one_spelling;
 pub use reading::files::decode;
 pub use record::Rec;
 pub use writing::files::encode;
-
-#[cfg(test)]
-mod tests;

@@ -19,6 +19,3 @@ pub use printing::print_value;
 pub use row::Row;
 pub use sql_type::{Elem, SqlType};
 pub use value::Value;
-
-#[cfg(test)]
-mod tests;

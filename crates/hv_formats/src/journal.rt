@@ -1,4 +1,7 @@
-use super::*;
+use hv_journal::{
+    JournalFault, RecordFault, append, decode_entry, encode_entry, open_empty, read_records,
+    record_length,
+};
 use hv_shelf::{Fail as Planned, MemoryShelf, Op};
 use std::alloc::Global;
 use std::process::Abort;

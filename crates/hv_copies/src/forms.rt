@@ -1,55 +1,10 @@
 //! Which forms run, and copies of each kind of tree.
 
-use super::*;
+use crate::trees::*;
+use hv_ast::*;
 use hv_base::{Boxed, Duplicate, List, NoMemory, Text};
 use std::alloc::Global;
 use std::test::Fail;
-
-fn text(alloc: Global, text: &str) -> Result<Text, NoMemory> {
-    Text::of(alloc, text)
-}
-
-fn one<T: Drop>(alloc: Global, item: T) -> Result<List<T>, NoMemory> {
-    let mut items = Vec::new(alloc);
-    items.push(item)?;
-    Ok(List::from_vec(items))
-}
-
-fn two<T: Drop>(alloc: Global, first: T, second: T) -> Result<List<T>, NoMemory> {
-    let mut items = Vec::new(alloc);
-    items.push(first)?;
-    items.push(second)?;
-    Ok(List::from_vec(items))
-}
-
-fn number(value: i32) -> Expr {
-    Expr::Literal(Literal::Int(value))
-}
-
-fn boxed(alloc: Global, expr: Expr) -> Result<Boxed<Expr>, NoMemory> {
-    Boxed::new(alloc, expr)
-}
-
-fn column(alloc: Global, name: &str, kind: ScalarName) -> Result<ColumnDefinition, NoMemory> {
-    Ok(ColumnDefinition {
-        name: text(alloc, name)?,
-        kind: TypeName::Scalar(kind),
-        comment: None,
-    })
-}
-
-fn create(alloc: Global, columns: List<ColumnDefinition>) -> Result<CreateTable, NoMemory> {
-    Ok(CreateTable {
-        if_absent: false,
-        table: text(alloc, "t")?,
-        columns,
-        comment: None,
-        partitions: List::empty(alloc),
-        clustering: None,
-        stored: false,
-        properties: List::empty(alloc),
-    })
-}
 
 /// A table of so many columns `c0`, `c1` and so on.
 fn wide(alloc: Global, count: u32) -> Result<Stmt, Fail> {
@@ -59,42 +14,6 @@ fn wide(alloc: Global, count: u32) -> Result<Stmt, Fail> {
         columns.push(column(alloc, name.as_str(), ScalarName::Int)?)?;
     }
     Ok(Stmt::CreateTable(create(alloc, List::from_vec(columns))?))
-}
-
-fn insert(alloc: Global, value: Expr) -> Result<Insert, NoMemory> {
-    Ok(Insert {
-        overwrite: false,
-        table: text(alloc, "t")?,
-        partition: List::empty(alloc),
-        columns: List::empty(alloc),
-        rows: Rows::Values(one(alloc, two(alloc, number(1), value)?)?),
-    })
-}
-
-/// SELECT item FROM source
-fn select(alloc: Global, item: Item, source: Source) -> Result<Query, NoMemory> {
-    let from = From {
-        source,
-        joins: List::empty(alloc),
-        laterals: List::empty(alloc),
-    };
-    Ok(Query {
-        select: Select {
-            distinct: false,
-            items: one(alloc, item)?,
-            from: Some(from),
-            filter: None,
-            group: List::empty(alloc),
-            having: None,
-        },
-        unions: List::empty(alloc),
-        order: List::empty(alloc),
-        limit: None,
-    })
-}
-
-fn table(alloc: Global) -> Result<Source, NoMemory> {
-    Ok(Source::Table(text(alloc, "t")?, None))
 }
 
 #[test]
@@ -133,35 +52,6 @@ fn changes_and_queries_that_run(rt: HostRuntime) -> Result<(), Fail> {
     assert!(rt; !is_built(&Stmt::Query(select(alloc, one, table(alloc)?)?)));
     assert!(rt; !is_built(&Stmt::Transaction(Transaction::Commit)));
     Ok(())
-}
-
-/// 1 + 2
-fn sum(alloc: Global) -> Result<Expr, NoMemory> {
-    let addition = Operation {
-        operator: Arithmetic::Add,
-        operand: number(2),
-    };
-    let rest = one(alloc, addition)?;
-    Ok(Expr::Chain(boxed(alloc, number(1))?, rest))
-}
-
-/// x.b
-fn name(alloc: Global) -> Result<Expr, NoMemory> {
-    let table = text(alloc, "x")?;
-    Ok(Expr::Column(Some(table), text(alloc, "b")?))
-}
-
-/// 1 NOT BETWEEN x.b AND 1 + 2
-fn between(alloc: Global) -> Result<Expr, NoMemory> {
-    let low = boxed(alloc, name(alloc)?)?;
-    let high = boxed(alloc, sum(alloc)?)?;
-    let value = boxed(alloc, number(1))?;
-    Ok(Expr::Between {
-        value,
-        negated: true,
-        low,
-        high,
-    })
 }
 
 /// WHEN NOT between THEN CAST(1 AS INT)

@@ -1,8 +1,8 @@
 //! Texts with their tokens or their first fault, worked out by hand.
 
-use super::*;
 use hv_ast::{Lexeme, Token};
 use hv_base::Text;
+use hv_lex::{LexFault, is_reserved, lex};
 use std::alloc::{AllocError, Global};
 use std::test::Fail;
 

@@ -1,4 +1,4 @@
-use crate::{Elem, Row, SqlType, Value, compare_rows, convert, parse_date, print_value};
+use hv_value::{Elem, Row, SqlType, Value, compare_rows, convert, parse_date, print_value};
 use hv_base::{Duplicate, List, NoMemory, Text};
 use std::alloc::Global;
 use std::cmp::Ordering;

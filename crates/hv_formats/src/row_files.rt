@@ -1,5 +1,5 @@
-use super::*;
 use hv_base::{List, RowId, Text, WriteId};
+use hv_rowfile::{FileFault, Rec, decode, encode};
 use hv_value::Value;
 use std::alloc::Global;
 use std::process::Abort;
