@@ -1,0 +1,10 @@
+pub mod Depth
+pub mod Found
+pub mod Ranks
+pub mod Room
+pub mod Sounds
+pub mod Spelled
+pub mod Starred
+pub mod Turns
+pub mod Whole
+pub mod Wholes

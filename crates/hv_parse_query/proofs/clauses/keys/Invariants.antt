@@ -1,0 +1,11 @@
+-- What was read, and what the rest gives behind it, is the whole.
+use Rattle.std.proofs.Common.{◌≡◌, ◌-◌}
+use Rattle.hv_grammar.specs.declared.kind.Kind.TheVariants as k
+use Rattle.hv_grammar.specs.Readers.{more}
+use Rattle.hv_grammar.specs.Reading.{any_expr}
+use Rattle.hv_grammar.specs.QueryReading.{key, keys}
+use Rattle.hv_parse_query.proofs.clauses.keys.Given as goal
+
+abbrev pub invariant-loop-turn : goal.invariant-loop-turn
+invariant-loop-turn l =
+    keys any_expr l.fn.tokens ≡ more k.Comma (key any_expr) (l._turn-end - l._turn) l.found.items l.tokens
