@@ -1,0 +1,13 @@
+-- What was read, and what the rest gives behind it, is the whole.
+use Rattle.std.proofs.Common.{◌≡◌, ◌-◌}
+use Rattle.hv_grammar.specs.declared.kind.Kind.TheVariants as k
+use Rattle.hv_grammar.specs.Readers.{more}
+use Rattle.hv_grammar.specs.Reading.{any_expr}
+use Rattle.hv_grammar.specs.QueryReading.{any_query}
+use Rattle.hv_grammar.specs.StatementReading.{assignment, assignment_list}
+use Rattle.hv_parse_stmt.proofs.changes.assignment_list.Given as goal
+
+abbrev pub invariant-loop-turn : goal.invariant-loop-turn
+invariant-loop-turn l =
+    assignment_list any_expr any_query l.fn.tokens
+    ≡ more k.Comma (assignment any_expr any_query) (l._turn-end - l._turn) l.found.items l.tokens

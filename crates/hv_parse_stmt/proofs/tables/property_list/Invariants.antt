@@ -1,0 +1,11 @@
+-- What was read, and what the rest gives behind it, is the whole.
+use Rattle.std.proofs.Common.{◌≡◌, ◌-◌}
+use Rattle.hv_grammar.specs.declared.kind.Kind.TheVariants as k
+use Rattle.hv_grammar.specs.Readers.{more}
+use Rattle.hv_grammar.specs.StatementReading.{property, property_list}
+use Rattle.hv_parse_stmt.proofs.tables.property_list.Given as goal
+
+abbrev pub invariant-loop-turn : goal.invariant-loop-turn
+invariant-loop-turn l =
+    property_list l.fn.tokens
+    ≡ more k.Comma property (l._turn-end - l._turn) l.found.items l.tokens
