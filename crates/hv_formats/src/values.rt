@@ -1,5 +1,5 @@
-use hv_value::{Elem, Row, SqlType, Value, compare_rows, convert, parse_date, print_value};
 use hv_base::{Duplicate, List, NoMemory, Text};
+use hv_value::{Elem, Row, SqlType, Value, compare_rows, convert, parse_date, print_value};
 use std::alloc::Global;
 use std::cmp::Ordering;
 use std::process::Abort;

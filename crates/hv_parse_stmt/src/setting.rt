@@ -57,7 +57,8 @@ fn word_length(text: &[u8]) -> usize
 
 /// Whether SET is the word at the front.
 fn begins_with_set(text: &[u8]) -> bool
-    ensures { result ≡ str_eq_ignore_ascii_case (take_while continues_word text.now) (codes "set") }
+    ensures { result ≡
+        str_eq_ignore_ascii_case (take_while continues_word text.now) (codes "set") }
 {
     let word = &text[..word_length(text)];
     word.eq_ignore_ascii_case(b"set")
