@@ -260,7 +260,7 @@ realistic = (
   })),
 )
     ∷ (
-      codes "INSERT INTO TABLE sales PARTITION (ds) VALUES (1,'pen',3,'2024-01-01'),(2,'ink',1,'2024-01-02')",
+      codes "INSERT INTO TABLE sales PARTITION (ds) VALUES (1,'pen',3,'2024-01-01'),(2,'ink',1,'2024-01-02'),(5,'cap',2,'2024-01-01')",
       found (stmt.Insert (record {
         overwrite = false;
         table = codes "sales";
@@ -269,6 +269,7 @@ realistic = (
         rows = given.Values (
             (number 1 ∷ string (codes "pen") ∷ number 3 ∷ string (codes "2024-01-01") ∷ [])
             ∷ (number 2 ∷ string (codes "ink") ∷ number 1 ∷ string (codes "2024-01-02") ∷ [])
+            ∷ (number 5 ∷ string (codes "cap") ∷ number 2 ∷ string (codes "2024-01-01") ∷ [])
             ∷ []);
       })),
     )
