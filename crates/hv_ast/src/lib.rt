@@ -7,7 +7,6 @@ mod copy;
 mod expr;
 mod laws;
 mod query;
-mod reading;
 mod statement;
 mod table;
 mod token;
@@ -24,7 +23,6 @@ pub use query::{
     Explode, From, Item, Join, JoinKind, Key, Lateral, Query, Select, Source, Union, Window,
     WindowFunction,
 };
-pub use reading::texts_are_read;
 pub use statement::{Setting, Show, Stmt, Transaction};
 pub use table::{
     AddColumns, Clustering, ColumnDefinition, Compact, CompactionKind, CreateTable, CreateView,

@@ -1,15 +1,27 @@
 -- The tree of a text of the whole language, or its fault. A text whose first word is SET is read by
 -- its own rule alone; any other by its tokens.
-use Rattle.std.specs.Prelude.{◌≡◌, Option, Some, None, Ok, Err}
+use Rattle.std.specs.Prelude.{◌≡◌, ℕ, Option, Some, None, Ok, Err}
 use Rattle.std.specs.Option.{option_map}
 use Rattle.hv_ast.specs.declared.statement.Stmt.{Stmt}
 use Rattle.hv_ast.specs.declared.statement.Stmt.TheVariants as s
 use Rattle.hv_ast.specs.declared.statement.Setting.{Setting}
-use Rattle.hv_ast.specs.Tokens.{Text, Tokens, tokens_of}
-use Rattle.hv_ast.specs.Reading.{TextFault, Syntax, Nesting, lexing_fault}
+use Rattle.hv_ast.specs.Tokens.{Text, Tokens, Fault, bad_character, open_string, wide_number, tokens_of}
 use Rattle.hv_grammar.specs.Settings.{behind_set, setting_in}
 use Rattle.hv_grammar.specs.StatementGrammar.{IsStatement}
 use Rattle.hv_grammar.specs.StatementReading.{Answer, found, nesting, syntax, statement_of}
+
+-- why a text is no statement, with the place of a byte, from 0
+pub data TextFault : Type 0 where
+  BadCharacter : ℕ → TextFault
+  OpenString : ℕ → TextFault
+  WideNumber : ℕ → TextFault
+  Syntax : TextFault
+  Nesting : ℕ → TextFault
+
+abbrev pub lexing_fault : Fault → TextFault
+lexing_fault (bad_character at) = BadCharacter at
+lexing_fault (open_string at) = OpenString at
+lexing_fault (wide_number at) = WideNumber at
 
 -- ---- which tree a text spells, by the grammar
 

@@ -3,8 +3,7 @@ use Rattle.std.specs.Prelude.{◌≡◌, List, [], ◌∷◌, map, Option, Some,
 use Rattle.hv_ast.specs.declared.statement.Stmt.{Stmt}
 use Rattle.hv_ast.specs.declared.statement.Stmt.TheVariants as stmt
 use Rattle.hv_ast.specs.Tokens.{Text}
-use Rattle.hv_ast.specs.Reading.{TextFault, BadCharacter, OpenString, WideNumber, Syntax}
-use Rattle.hv_grammar.specs.Texts.{tree_of, fault_of}
+use Rattle.hv_grammar.specs.Texts.{TextFault, BadCharacter, OpenString, WideNumber, Syntax, tree_of, fault_of}
 use Rattle.hv_grammar.specs.WorkedQueries.{all, from}
 
 abbrev pub HaveTrees : List (Text × Option Stmt) → Type 0

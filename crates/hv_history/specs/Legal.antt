@@ -14,7 +14,8 @@ use Rattle.hv_ast.specs.declared.query.Source.{Source}
 use Rattle.hv_ast.specs.declared.query.Source.TheVariants.{Table as TableSource}
 use Rattle.hv_ast.specs.declared.statement.Stmt.{Stmt}
 use Rattle.hv_ast.specs.declared.statement.Stmt.TheVariants as stmt
-use Rattle.hv_ast.specs.Reading.{tree_of}
+use Rattle.hv_grammar.specs.Running.{Runs}
+use Rattle.hv_grammar.specs.Texts.{tree_of}
 use Rattle.hv_logic.specs.declared.catalog.TableInfo.{TableInfo}
 use Rattle.hv_logic.specs.declared.effect.Effect.{Effect}
 use Rattle.hv_logic.specs.declared.meaning.Meaning.{Meaning}
@@ -111,8 +112,9 @@ MeetsNoConflict state transaction wrote =
 
 -- ---- what fits
 
+-- the text is a statement, of a form that runs
 abbrev pub IsStatement : List ℕ → Type 0
-IsStatement text = IsSome (tree_of text)
+IsStatement text = (tree : Stmt) × Runs text tree
 
 abbrev pub is_create : Option Stmt → Bool
 is_create (Some (stmt.CreateTable create)) = true

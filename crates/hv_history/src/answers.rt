@@ -1,7 +1,7 @@
 ghost use Rattle.std.specs.Prelude.{◌≡◌, ◌++◌, ◌∷◌, [], if◌then◌else◌, IfOk, OnOk, map, sum_by};
 ghost use Rattle.std.specs.List.{join_with_byte};
 ghost use Rattle.std.specs.Option.{option_copied};
-ghost use Rattle.hv_ast.specs.Reading.{tree_of};
+ghost use Rattle.hv_grammar.specs.Texts.{tree_of};
 ghost use Rattle.hv_value.specs.Printing.{printed};
 ghost use Rattle.hv_base.specs.declared.ids.Touch.{Touch};
 ghost use Rattle.hv_history.specs.Answers.{tab, row_line, listing, counts_line, ok_line, committed_text, ending_text, answer_of};

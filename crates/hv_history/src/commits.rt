@@ -1,6 +1,6 @@
 ghost use Rattle.std.specs.Prelude.{◌≡◌, IfOk, []};
 ghost use Rattle.std.specs.Option.{option_copied};
-ghost use Rattle.hv_ast.specs.Reading.{tree_of};
+ghost use Rattle.hv_grammar.specs.Texts.{tree_of};
 ghost use Rattle.hv_history.specs.State.{meaning_at, meaning, numbered_from, written_by, given_in, commits_to};
 
 use crate::content::seen_tables;

@@ -6,7 +6,7 @@ ghost use Rattle.hv_history.specs.declared.entry.Entry.TheVariants as entries;
 ghost use Rattle.hv_history.specs.Spelling.{entry_spelling};
 ghost use Rattle.hv_history.specs.Journal.{record_of};
 ghost use Rattle.hv_history.specs.Book.{tree_of_entry};
-ghost use Rattle.hv_ast.specs.Reading.{tree_of};
+ghost use Rattle.hv_grammar.specs.Texts.{tree_of};
 ghost use Rattle.hv_journal.specs.Appending.{Holds, KeepsTree};
 ghost use Rattle.hv_house.specs.declared.fault.HouseFault.TheVariants.{Store};
 ghost use Rattle.hv_house.specs.Faults.{StoreCause};

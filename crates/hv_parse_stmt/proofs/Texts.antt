@@ -1,16 +1,15 @@
 -- What a text spells, and its tree and its fault as functions of it.
-use Rattle.std.proofs.Common.{◌≡◌, ◌⊎◌, ◌↔◌, inl, inr, Option, Some, None, Result, Ok, Err, List, refl, sym, ap, subst, ◌∙◌}
+use Rattle.std.proofs.Common.{◌≡◌, ◌⊎◌, ◌↔◌, inl, inr, Option, Some, None, Ok, Err, List, refl, sym, ap, subst, ◌∙◌}
 use Rattle.std.specs.Option.{option_map}
 use Rattle.hv_ast.specs.declared.token.Token.{Token}
 use Rattle.hv_ast.specs.declared.statement.Stmt.{Stmt}
 use Rattle.hv_ast.specs.declared.statement.Stmt.TheVariants as s
 use Rattle.hv_ast.specs.declared.statement.Setting.{Setting}
 use Rattle.hv_ast.specs.Tokens.{Text, Tokens, tokens_of}
-use Rattle.hv_ast.specs.Reading.{TextFault, Syntax, Nesting, lexing_fault}
 use Rattle.hv_grammar.specs.Settings.{behind_set, setting_in}
 use Rattle.hv_grammar.specs.StatementGrammar.{IsStatement}
 use Rattle.hv_grammar.specs.StatementReading.{Answer, found, nesting, syntax, statement_of}
-use Rattle.hv_grammar.specs.Texts.{Spells, SpelledBy, SpellsSetting, SpellsStatement, tree_of, tree_by, tree_in, fault_of, fault_by, fault_in, setting_fault}
+use Rattle.hv_grammar.specs.Texts.{TextFault, Syntax, Nesting, lexing_fault, Spells, SpelledBy, SpellsSetting, tree_of, tree_by, tree_in, fault_of, fault_by, fault_in, setting_fault}
 use Rattle.hv_parse_stmt.specs.Exact.{TreeIsSpelled, OneTree, SpelledOrFaulty}
 use Rattle.hv_parse_stmt.proofs.Told.{found_of, only_of}
 

@@ -3,12 +3,11 @@ use Rattle.std.specs.Prelude.{◌≡◌, ◌⊎◌, ◌↔◌, ℕ, suc, List, [
 use Rattle.hv_ast.specs.declared.token.Token.{Token}
 use Rattle.hv_ast.specs.declared.statement.Stmt.{Stmt}
 use Rattle.hv_ast.specs.Tokens.{Text}
-use Rattle.hv_ast.specs.Reading.{TextFault}
 use Rattle.hv_grammar.specs.Nesting.{too_deep, most_levels}
 use Rattle.hv_grammar.specs.StatementGrammar as grammar
 use Rattle.hv_grammar.specs.StatementGrammar.{IsStatement}
 use Rattle.hv_grammar.specs.StatementReading as reading
-use Rattle.hv_grammar.specs.Texts.{Spells, tree_of, fault_of}
+use Rattle.hv_grammar.specs.Texts.{TextFault, Spells, tree_of, fault_of}
 
 -- what is read is spelled
 abbrev pub ReadIsSpelled : Type 0

@@ -1,11 +1,10 @@
 -- What was printed stays true as the book goes on, and one more reply.
-use Rattle.std.proofs.Common.{◌≡◌, ℕ, ◌+◌, Bool, false, ◌||◌, IsSome, Option, Some, None, List, [], ◌∷◌, ◌++◌, length, fold, inl, inr, refl, sym, ap, ◌∙◌, subst, arith, append_assoc}
+use Rattle.std.proofs.Common.{◌≡◌, ℕ, ◌+◌, Bool, false, ◌||◌, Option, Some, None, List, [], ◌∷◌, ◌++◌, length, fold, inl, inr, refl, sym, ap, ◌∙◌, subst, arith, append_assoc}
 use Rattle.std.specs.List.{Contains}
 use Rattle.std.specs.Option.{option_map}
 use Rattle.std.proofs.Math.Bool.{or_assoc, or-false}
 use Rattle.std.proofs.lemmas.List.{append-nil}
 use Rattle.std.proofs.lemmas.List.Elements.{Contains-append_left, Contains-append_right}
-use Rattle.hv_ast.specs.Reading.{fault_of}
 use Rattle.hv_history.specs.declared.entry.Entry.{Entry}
 use Rattle.hv_history.specs.declared.state.Transaction.{Transaction}
 use Rattle.hv_history.specs.declared.state.Ending.{Ending}
@@ -112,14 +111,10 @@ grown before now number text reply refused (inr h) = ([], h.book ∙ sym (append
 
 -- ---- the statements in the book, and one more
 
-has_some : {A : Type 0} (o : Option A) (x : A) → o ≡ Some x → IsSome o
-has_some None x e = cc
-has_some (Some y) x e = refl
-
 pub GoesOn-answered : (before now : List Entry) (number : ℕ) (text reply : List ℕ) (refused : Bool)
     → IsAnswered before now number text reply refused → GoesOn before now number text
 GoesOn-answered before now number text reply refused (inl h) = inl (h.ends, h.ending, h.book)
-GoesOn-answered before now number text reply refused (inr h) = inr (has_some (fault_of text) h.fault.fault h.fault.found, h.book)
+GoesOn-answered before now number text reply refused (inr h) = inr ((h.fault.fault, h.fault.found), h.book)
 
 pub GoesOneByOne-then : (a b c : List Entry) (number : ℕ) (texts : List (List ℕ)) (text : List ℕ)
     → GoesOneByOne a b number texts → GoesOn b c (number + length texts) text → GoesOneByOne a c number (texts ++ text ∷ [])

@@ -16,7 +16,7 @@ pub record IsAnswerIn (book : List Entry) (number : ℕ) (text reply : List ℕ)
   pub answer_is : answer (state_of book) txn.0 ≡ Some reply
   pub refusal : is_refused (state_of book) txn.0 ≡ refused
 
--- the text is no statement
+-- the text is refused, and its line is the reply
 pub record IsFaultIn (text reply : List ℕ) (refused : Bool) : Type 0 where
   pub line : IsFaultLine text reply
   pub refusal : refused ≡ true

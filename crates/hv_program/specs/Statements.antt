@@ -1,6 +1,6 @@
 -- The statements of a script in the book, one after another.
-use Rattle.std.specs.Prelude.{◌≡◌, ◌⊎◌, ℕ, ◌+◌, IsSome, List, [], ◌∷◌, ◌++◌}
-use Rattle.hv_ast.specs.Reading.{fault_of}
+use Rattle.std.specs.Prelude.{◌≡◌, ◌⊎◌, ℕ, ◌+◌, List, [], ◌∷◌, ◌++◌}
+use Rattle.hv_grammar.specs.Running.{IsRefused}
 use Rattle.hv_history.specs.declared.entry.Entry.{Entry}
 use Rattle.hv_history.specs.declared.entry.Entry.TheVariants.{Boot}
 use Rattle.hv_stands.specs.Endings.{statement_entries}
@@ -10,12 +10,12 @@ use Rattle.hv_session.specs.Halting.{IsEnding, next_txn}
 abbrev pub opening_book : List Entry
 opening_book = Boot 0 ∷ []
 
--- The book went on by one statement: by its entries from its opening to its end; or by none, where its text is no
--- statement.
+-- The book went on by one statement: by its entries from its opening to its end; or by none, where its text is
+-- refused.
 abbrev pub GoesOn : List Entry → List Entry → ℕ → List ℕ → Type 0
 GoesOn before now number text =
     ((ends : List Entry) × IsEnding (next_txn before) ends × (now ≡ before ++ statement_entries before number text ends))
-    ⊎ (IsSome (fault_of text) × (now ≡ before))
+    ⊎ (IsRefused text × (now ≡ before))
 
 -- The same by these statements, of which the first has this number: each has one opening at most, and the next one's
 -- opening stands behind its end.

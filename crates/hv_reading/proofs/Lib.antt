@@ -1,5 +1,1 @@
-pub mod Fronts
-pub mod Columns
-pub mod Rows
-pub mod Forms
 pub mod Texts

@@ -2,6 +2,7 @@ ghost use Rattle.std.specs.Prelude.{◌≡◌};
 
 use hv_base::NoMemory as OutOfMemory;
 use hv_lex::LexFault;
+use hv_parse_expr::ParseFault;
 use thiserror::Error;
 
 /// Why a text is no statement. Places are offsets of bytes from 0.
@@ -16,17 +17,20 @@ pub enum TextFault {
     /// A number above 9223372036854775807, at its first digit.
     #[error("number too wide at {at}")]
     WideNumber { at: u64 },
-    /// The tokens are none of the three statements.
+    /// The tokens are no statement, or a SET text has no key.
     #[error("no statement")]
     Syntax,
+    /// The token at this place opens level 65 of brackets and CASE.
+    #[error("nested too deep at {at}")]
+    Nesting { at: u64 },
     #[error("out of memory")]
     NoMemory,
 }
 
 impl From<LexFault> for TextFault {
-    ghost use Rattle.hv_reading.specs.Faults.{text_fault};
+    ghost use Rattle.hv_reading.specs.Faults.{of_lexing};
 
-    ghost from_gives = { λ fault e. e ≡ text_fault fault };
+    ghost from_gives = { λ fault e. e ≡ of_lexing fault };
 
     fn from(fault: LexFault) -> TextFault {
         match fault {
@@ -34,6 +38,20 @@ impl From<LexFault> for TextFault {
             LexFault::OpenString { at } => TextFault::OpenString { at },
             LexFault::WideNumber { at } => TextFault::WideNumber { at },
             LexFault::NoMemory => TextFault::NoMemory,
+        }
+    }
+}
+
+impl From<ParseFault> for TextFault {
+    ghost use Rattle.hv_reading.specs.Faults.{of_parsing};
+
+    ghost from_gives = { λ fault e. e ≡ of_parsing fault };
+
+    fn from(fault: ParseFault) -> TextFault {
+        match fault {
+            ParseFault::Nesting { at } => TextFault::Nesting { at },
+            ParseFault::Syntax => TextFault::Syntax,
+            ParseFault::NoMemory => TextFault::NoMemory,
         }
     }
 }

@@ -1,14 +1,8 @@
-//! The narrow reading of a text as one of three statements: CREATE TABLE, INSERT VALUES and
-//! SELECT of a whole table.
+//! Texts as statements: SET by its own rule, the others by their tokens.
 #![tactic(auto)]
 
 mod fault;
-mod parser;
 mod reading;
 
 pub use fault::TextFault;
-pub use parser::statement_of;
-pub use reading::read_statement;
-
-#[cfg(test)]
-mod tests;
+pub use reading::{read_statement, read_text};

@@ -1,25 +1,44 @@
 //! A text as a statement.
 
 ghost use Rattle.std.specs.Prelude.{◌≡◌, Some, IfOk, IfErr};
-ghost use Rattle.hv_ast.specs.Reading.{tree_of};
-ghost use Rattle.hv_reading.specs.Faults.{IsFaultOf};
+ghost use Rattle.hv_grammar.specs.Texts.{tree_of};
+ghost use Rattle.hv_grammar.specs.Running.{Runs};
+ghost use Rattle.hv_reading.specs.Faults.{IsFaultOf, IsRefusalOf};
 
 use crate::fault::TextFault;
-use crate::parser::statement_of;
-use hv_ast::Stmt;
+use hv_ast::{Stmt, is_built};
 use hv_base::Text;
 use hv_lex::lex;
+use hv_parse_stmt::{is_set, parse_set, parse_stmt};
 use std::alloc::Global;
 
-/// The statement that a text is. The error is the first fault of its characters by place, and
-/// `Syntax` where each of them stands in a token.
-pub fn read_statement(alloc: Global, text: &Text) -> Result<Stmt, TextFault>
+/// Drops it, in a function without other paths.
+fn discard<T: Drop>(_value: T) {}
+
+/// The statement that a text is, of any form of the language. The error of a SET text is `Syntax`;
+/// of another the first fault of its characters by place, else `Nesting` at the first token that
+/// opens a level too many, else `Syntax`.
+pub fn read_text(alloc: Global, text: &Text) -> Result<Stmt, TextFault>
     ensures tree { IfOk result (λ tree. tree_of text.now ≡ Some tree) }
     ensures fault { IfErr result (λ fault. IsFaultOf fault text.now) }
 {
-    let tokens = lex(alloc, text)?;
-    match statement_of(alloc, &tokens)? {
-        Some(tree) => Ok(tree),
-        None => Err(TextFault::Syntax),
+    if is_set(text) {
+        return Ok(parse_set(text, alloc)?);
     }
+    let tokens = lex(alloc, text)?;
+    Ok(parse_stmt(&tokens, alloc)?)
+}
+
+/// The statement that a text is, where it is of a form that runs today. The error is the text's
+/// fault, and `Syntax` for a statement of another form.
+pub fn read_statement(alloc: Global, text: &Text) -> Result<Stmt, TextFault>
+    ensures tree { IfOk result (Runs text.now) }
+    ensures fault { IfErr result (λ fault. IsRefusalOf fault text.now) }
+{
+    let tree = read_text(alloc, text)?;
+    if is_built(&tree) {
+        return Ok(tree);
+    }
+    discard(tree);
+    Err(TextFault::Syntax)
 }

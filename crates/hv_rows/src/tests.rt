@@ -152,6 +152,77 @@ fn refusals(rt: HostRuntime) -> Result<(), Fail> {
     Ok(())
 }
 
+/// The three forms that run, with everything that the language lets stand in them; and statements of
+/// other forms, which are refused until they are built.
+#[test]
+fn what_of_the_language_runs(rt: HostRuntime) -> Result<(), Fail> {
+    let alloc = rt.alloc();
+    let rows = [
+        (
+            "create table DEFAULT.t (A integer, `b c` string); INSERT INTO TABLE default.t VALUES (((1)), ('x'));\nSELECT ALL * FROM Default . T; SELECT * FROM `default`;",
+            1,
+            "OK\nOK inserted 1 deleted 0\na\tb c\n1\tx\nFAILED 10 NoTable\n",
+        ),
+        (
+            "CREATE TABLE tables (comment STRING, location INT); INSERT INTO tables VALUES ('c', 1); SELECT * FROM tables;",
+            0,
+            "OK\nOK inserted 1 deleted 0\ncomment\tlocation\nc\t1\n",
+        ),
+        (
+            "CREATE TABLE t (a INT) STORED AS ORC; CREATE TABLE IF NOT EXISTS t (a INT); CREATE TABLE t (a DATE);\nCREATE TABLE t (a INT, A INT); SELECT * FROM t;",
+            1,
+            "FAILED 4 Syntax\nFAILED 4 Syntax\nFAILED 4 Syntax\nFAILED 4 Syntax\nFAILED 10 NoTable\n",
+        ),
+        (
+            "CREATE TABLE t (a INT); INSERT OVERWRITE TABLE t VALUES (1); INSERT INTO t (a) VALUES (1); INSERT INTO t SELECT * FROM t;\nINSERT INTO t VALUES (NULL); SELECT * FROM t;",
+            1,
+            "OK\nFAILED 4 Syntax\nFAILED 4 Syntax\nFAILED 4 Syntax\nFAILED 4 Syntax\na\n",
+        ),
+        (
+            "SELECT * FROM t u; SELECT * FROM t LIMIT 1; SELECT DISTINCT * FROM t; SHOW TABLES; EXPLAIN FORMATTED SELECT * FROM t;",
+            1,
+            "FAILED 4 Syntax\nFAILED 4 Syntax\nFAILED 4 Syntax\nFAILED 4 Syntax\nFAILED 4 Syntax\n",
+        ),
+        // Behind SET nothing is a token, and so there is no open string.
+        (
+            "SET hive.txn.manager=true; SET ; SET a b='; SELECT * FROM t",
+            1,
+            "FAILED 4 Syntax\nFAILED 4 Syntax\nFAILED 4 Syntax\n",
+        ),
+    ];
+    for (script, status, printed) in rows {
+        runs(&rt, alloc, empty(alloc)?, script, status, printed)?;
+    }
+    Ok(())
+}
+
+/// SELECT and so many brackets.
+fn nested(alloc: Global, levels: usize) -> Result<String, Fail> {
+    let mut text = String::from_str(alloc, "SELECT ")?;
+    for _ in 0..levels {
+        text.push('(')?;
+    }
+    Ok(text)
+}
+
+#[test]
+fn nesting(rt: HostRuntime) -> Result<(), Fail> {
+    let alloc = rt.alloc();
+    let deepest = nested(alloc, 64)?;
+    runs(&rt, alloc, empty(alloc)?, &deepest, 1, "FAILED 4 Syntax\n")?;
+    // The bracket of level 65 stands behind `SELECT ` and 64 others.
+    let deeper = nested(alloc, 65)?;
+    runs(
+        &rt,
+        alloc,
+        empty(alloc)?,
+        &deeper,
+        1,
+        "FAILED 5 Nesting at 71\n",
+    )?;
+    Ok(())
+}
+
 /// Runs the first script over a store where one call fails.
 fn fails<R: Threads + Wait + Sync + Abort>(
     rt: &R,

@@ -8,7 +8,7 @@ use Rattle.hv_base.specs.declared.ids.WriteId.{WriteId}
 use Rattle.hv_base.specs.Told.{Moves}
 use Rattle.hv_shelf.specs.Disk.{Store}
 use Rattle.hv_ast.specs.declared.statement.Stmt.{Stmt}
-use Rattle.hv_ast.specs.Reading.{tree_of}
+use Rattle.hv_grammar.specs.Running.{Runs}
 use Rattle.hv_history.specs.declared.entry.Entry.{Entry}
 use Rattle.hv_history.specs.declared.entry.Entry.TheVariants as entry
 use Rattle.hv_history.specs.declared.state.Table.{Table}
@@ -131,7 +131,7 @@ table-of s id known (Some table) at e =
     let same : known_of table ≡ known = cc in
     record { table = table; here = at; given = ap (λ (k : Known). k.given) (sym same) }
 
-given-legal : (book : List Entry) (number : ℕ) (text : List ℕ) (tree : Stmt) (table : TableId) (known : Known) → IsSound (state_of book) → tree_of text ≡ Some tree
+given-legal : (book : List Entry) (number : ℕ) (text : List ℕ) (tree : Stmt) (table : TableId) (known : Known) → IsSound (state_of book) → Runs text tree
     → IsTableOf (state_of book) table.0 known
     → IsLegalFrom (state_of book) (statement_entries book number text (entry.Given (next_txn book) table (record { 0 = known.given + 1 }) ∷ []))
 given-legal book number text tree table known sound is here =
@@ -149,7 +149,7 @@ given-legal book number text tree table known sound is here =
 module _ {D : Type 0} (told : D → Option Store) (number : ℕ) (text : List ℕ) where
   -- it had started
   pub unended-stopped : (before started now : House D) (tree : Stmt) (txn : TxnId) (why : HouseFault) → IsReady told before
-      → tree_of text ≡ Some tree → IsStarted told before started number text txn
+      → Runs text tree → IsStarted told before started number text txn
       → IsUnended told why started now txn → HasStopped told why before now number text
   unended-stopped before started now tree txn why ready is begun unended = by unended.noted
     where
@@ -188,7 +188,7 @@ module _ {D : Type 0} (told : D → Option Store) (number : ℕ) (text : List �
           }
 
   pub run-stopped : {T : Type 0} (before started now : House D) (tree : Stmt) (txn : TxnId) (result : Result T HouseFault) → IsReady told before
-      → tree_of text ≡ Some tree → IsStarted told before started number text txn
+      → Runs text tree → IsStarted told before started number text txn
       → IfErr result (λ why. IsUnended told why started now txn) → IfErr result (λ why. HasStopped told why before now number text)
   run-stopped before started now tree txn (Ok x) ready is begun unended = tt
   run-stopped before started now tree txn (Err why) ready is begun unended = unended-stopped before started now tree txn why ready is begun unended

@@ -1,11 +1,11 @@
 -- A statement from its text to its reply.
-use Rattle.std.proofs.Common.{◌≡◌, ℕ, ◌+◌, ◌≤◌, Option, Some, Result, Ok, Err, List, length, refl, inl, inr}
+use Rattle.std.proofs.Common.{ℕ, ◌+◌, ◌≤◌, Option, Result, Ok, Err, List, length, refl, inl, inr}
 use Rattle.std.specs.Prelude.{IfOk}
 use Rattle.std.specs.List.{AllByRecursion}
 use Rattle.hv_base.specs.declared.ids.TxnId.{TxnId}
 use Rattle.hv_shelf.specs.Disk.{Store}
 use Rattle.hv_ast.specs.declared.statement.Stmt.{Stmt}
-use Rattle.hv_ast.specs.Reading.{tree_of}
+use Rattle.hv_grammar.specs.Running.{Runs}
 use Rattle.hv_logic.specs.Meaning.{meaning_of}
 use Rattle.hv_house.specs.declared.house.House.{House}
 use Rattle.hv_house.specs.declared.fault.HouseFault.{HouseFault}
@@ -19,21 +19,21 @@ asked-nothing : {D : Type 0} (told : D → Option Store) (house : House D) → I
 asked-nothing told house = record { store = refl; place = refl; book = refl; opened = refl; tables = refl }
 
 pub run-numbers : {D : Type 0} (told : D → Option Store) (before started : House D) (number : ℕ) (text : List ℕ) (tree : Stmt) (txn : TxnId)
-    → IsReady told before → tree_of text ≡ Some tree → length (entries_of before) + 4 ≤ book_limit → IsStarted told before started number text txn
+    → IsReady told before → Runs text tree → length (entries_of before) + 4 ≤ book_limit → IsStarted told before started number text txn
     → AllByRecursion HasNumbers started.tables.items
 run-numbers told before started number text tree txn ready is room begun =
     numbers told before started started started number text tree txn
     (record { ready = ready; is = is; few = room; started = begun; asked = asked-nothing told started })
 
 pub run-can : {D : Type 0} (told : D → Option Store) (before started : House D) (number : ℕ) (text : List ℕ) (tree : Stmt) (txn : TxnId)
-    → IsReady told before → tree_of text ≡ Some tree → length (entries_of before) + 4 ≤ book_limit → IsStarted told before started number text txn
+    → IsReady told before → Runs text tree → length (entries_of before) + 4 ≤ book_limit → IsStarted told before started number text txn
     → CanFinish told started tree
 run-can told before started number text tree txn ready is room begun asked seen only sees =
     can-end told before started asked asked number text tree txn
     (record { ready = ready; is = is; few = room; started = begun; asked = only }) seen sees (meaning_of seen tree) refl
 
 pub run-ran : {D : Type 0} (told : D → Option Store) (before started now : House D) (number : ℕ) (text : List ℕ) (tree : Stmt) (txn : TxnId) (result : Result Reply HouseFault)
-    → IsReady told before → tree_of text ≡ Some tree → length (entries_of before) + 4 ≤ book_limit → IsStarted told before started number text txn
+    → IsReady told before → Runs text tree → length (entries_of before) + 4 ≤ book_limit → IsStarted told before started number text txn
     → IfOk result (λ reply. IsFinished told started now txn tree reply.text reply.refused)
     → IfOk result (λ reply. HasRun told before now number text reply.text reply.refused)
 run-ran told before started now number text tree txn (Ok reply) ready is room begun (inl seen) =

@@ -10,7 +10,7 @@ use Rattle.hv_base.specs.declared.ids.Touch.{Touch}
 use Rattle.hv_base.specs.Told.{Moves}
 use Rattle.hv_shelf.specs.Disk.{Store}
 use Rattle.hv_ast.specs.declared.statement.Stmt.{Stmt}
-use Rattle.hv_ast.specs.Reading.{tree_of}
+use Rattle.hv_grammar.specs.Running.{Runs}
 use Rattle.hv_journal.specs.Appending.{KeepsTree}
 use Rattle.hv_value.specs.declared.row.Row.{Row}
 use Rattle.hv_rowfile.specs.Layout.{IsFile}
@@ -35,7 +35,7 @@ use Rattle.hv_stands.specs.Files.{Stands, own_place, file_of, records_of}
 use Rattle.hv_stands.specs.Sound.{IsSound, AreSound, AreInserts}
 use Rattle.hv_stands.specs.Endings.{next_number, statement_entries, Goes}
 use Rattle.hv_stands.specs.Laws.{meant, committing, IsCauseOf, made_table, next_table, inserting, tables_inserted}
-use Rattle.hv_stands.proofs.Forms.{forms-are-built, made-columns-plain}
+use Rattle.hv_stands.proofs.Forms.{made-columns-plain}
 use Rattle.hv_stands.proofs.Written.{inserts-written}
 use Rattle.hv_stands.proofs.Queries.{queries-end}
 use Rattle.hv_stands.proofs.Refusals.{refusals-end}
@@ -69,7 +69,7 @@ module _ {D : Type 0} (told : D → Option Store) (h0 h3 h4 h5 : House D) (numbe
   -- what is known when the statement ends
   pub record Given : Type 0 where
     pub ready : IsReady told h0
-    pub is : tree_of text ≡ Some tree
+    pub is : Runs text tree
     pub few : length (entries_of h0) + 4 ≤ book_limit
     pub started : IsStarted told h0 h3 number text txn
     pub asked : IsAsked told h3 h4
@@ -279,7 +279,7 @@ module _ {D : Type 0} (told : D → Option Store) (h0 h3 h4 h5 : House D) (numbe
         subst (λ (t : TxnId). IsNoted told (entry.Create t (record { 0 = next_table book })) h4 h5) txn-is
         (subst (λ (i : TableId). IsNoted told (entry.Create txn i) h4 h5) next-id-is make.noted) in
         let goes = tables-made book number text tree name columns given.ready.sound given.is is in
-        let plain = made-columns-plain book tree name columns (forms-are-built text tree given.is) is in
+        let plain = made-columns-plain book tree name columns given.is.built is in
         let sound = tables-made-sound ((state_of book).entries + 1) (state_of book).tables name columns same-sound plain in
         let known : h5.tables.items ≡ map known_of tables =
         make.tables
@@ -390,7 +390,7 @@ module _ {D : Type 0} (told : D → Option Store) (h0 h3 h4 h5 : House D) (numbe
         by (inr l) = absurd (subst NoListing (is ∙ l.2) unlisted)
 
     nothing : (m : Meaning) → meant book tree ≡ m → (MeansSomething m → ⊥) → ⊥
-    nothing m is empty = empty (subst MeansSomething is (built-means (seen_tables (state_of book).tables) tree (forms-are-built text tree given.is)))
+    nothing m is empty = empty (subst MeansSomething is (built-means (seen_tables (state_of book).tables) tree given.is.built))
 
     no-rows : (effect : Effect) → length effect.inserts ≡ 0 → effect.inserts ≡ []
     no-rows effect e = by effect.inserts e

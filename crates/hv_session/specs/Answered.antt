@@ -18,7 +18,7 @@ pub record WentThrough (before now : List Entry) (number : ℕ) (text reply : Li
   pub tables : List Table
   pub goes : Goes before (statement_entries before number text ends) number text reply refused tables
 
--- it is no statement: nothing was noted, and the reply is its fault's line
+-- its text is refused: nothing was noted, and the reply is its fault's line
 pub record IsNoStatement (before now : List Entry) (text reply : List ℕ) (refused : Bool) : Type 0 where
   pub book : now ≡ before
   pub is_refused : refused ≡ true

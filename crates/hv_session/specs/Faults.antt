@@ -1,7 +1,8 @@
--- What is printed for a text that is no statement. This project's profile.
-use Rattle.std.specs.Prelude.{◌≡◌, ℕ, Some, List, ◌++◌, codes}
+-- What is printed for a text that doesn't run. This project's profile.
+use Rattle.std.specs.Prelude.{◌≡◌, ℕ, List, ◌++◌, codes}
 use Rattle.std.specs.Fmt.{decimal}
-use Rattle.hv_ast.specs.Reading.{TextFault, BadCharacter, OpenString, WideNumber, Syntax, Nesting, fault_of}
+use Rattle.hv_grammar.specs.Texts.{TextFault, BadCharacter, OpenString, WideNumber, Syntax, Nesting}
+use Rattle.hv_grammar.specs.Running.{IsRefusedFor}
 use Rattle.hv_history.specs.Answers.{line}
 
 unfoldable pub fault_line : TextFault → List ℕ
@@ -11,8 +12,8 @@ fault_line (WideNumber at) = line (codes "FAILED 3 WideNumber at " ++ decimal at
 fault_line Syntax = line (codes "FAILED 4 Syntax")
 fault_line (Nesting at) = line (codes "FAILED 5 Nesting at " ++ decimal at)
 
--- the text is no statement, and this is its line
+-- the text is refused, and this is its line
 pub record IsFaultLine (text reply : List ℕ) : Type 0 where
   pub fault : TextFault
-  pub found : fault_of text ≡ Some fault
+  pub found : IsRefusedFor text fault
   pub line_is : reply ≡ fault_line fault

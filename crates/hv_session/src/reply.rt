@@ -1,5 +1,5 @@
 ghost use Rattle.std.specs.Prelude.{List, ℕ, IfOk};
-ghost use Rattle.hv_reading.specs.Faults.{IsFaultOf};
+ghost use Rattle.hv_reading.specs.Faults.{IsRefusalOf};
 ghost use Rattle.hv_session.specs.Faults.{IsFaultLine};
 
 use hv_base::{List, NoMemory};
@@ -13,10 +13,10 @@ pub struct Reply {
     pub refused: bool,
 }
 
-/// The line of a text that is no statement.
+/// The line of a text that is refused.
 #[tactic(auto, unfolding(crate::specs::Faults::fault_line))]
 pub fn fault_line(alloc: Global, fault: TextFault) -> Result<Vec<u8>, NoMemory>
-    ensures line { IfOk result (λ line. (text : List ℕ) → IsFaultOf fault text
+    ensures line { IfOk result (λ line. (text : List ℕ) → IsRefusalOf fault text
         → IsFaultLine text line.items) }
 {
     let line = match fault {
@@ -24,6 +24,7 @@ pub fn fault_line(alloc: Global, fault: TextFault) -> Result<Vec<u8>, NoMemory>
         TextFault::OpenString { at } => format!(in alloc; "FAILED 2 OpenString at {at}\n")?,
         TextFault::WideNumber { at } => format!(in alloc; "FAILED 3 WideNumber at {at}\n")?,
         TextFault::Syntax => format!(in alloc; "FAILED 4 Syntax\n")?,
+        TextFault::Nesting { at } => format!(in alloc; "FAILED 5 Nesting at {at}\n")?,
         TextFault::NoMemory => return Err(NoMemory),
     };
     Ok(line.into_bytes())

@@ -1,12 +1,12 @@
-ghost use Rattle.std.specs.Prelude.{◌≡◌, ◌<◌, ◌≤◌, ◌+◌, ℕ, List, length, true, Some, IfOk, IfErr, IsErrOf};
+ghost use Rattle.std.specs.Prelude.{◌≡◌, ◌<◌, ◌≤◌, ◌+◌, ℕ, List, length, true, IfOk, IfErr, IsErrOf};
 ghost use Rattle.std.specs.List.{AllByRecursion};
 ghost use Rattle.hv_base.specs.Told.{Tells};
-ghost use Rattle.hv_ast.specs.Reading.{tree_of};
+ghost use Rattle.hv_grammar.specs.Running.{Runs};
 ghost use Rattle.hv_house.specs.declared.fault.HouseFault.TheVariants.{Store};
 ghost use Rattle.hv_house.specs.Faults.{StoreCause};
 ghost use Rattle.hv_house.specs.House.{entries_of, book_limit, HasNumbers, IsKept, IsReady, Shows, StaysTold};
 ghost use Rattle.hv_session.specs.Answered.{IsAnswered, AddsAtMost, HasRun};
-ghost use Rattle.hv_reading.specs.Faults.{IsFaultOf};
+ghost use Rattle.hv_reading.specs.Faults.{IsRefusalOf};
 ghost use Rattle.hv_stands.specs.Endings.{main_session};
 ghost use Rattle.hv_session.specs.Faults.{IsFaultLine};
 ghost use Rattle.hv_session.specs.Started.{IsStarted, CanFinish, IsFinished};
@@ -39,7 +39,7 @@ fn begin<D: Shelf>(
     tree: Stmt,
 ) -> Result<TxnId, HouseFault>
     requires ready { IsReady D.told house.old }
-    requires tree { tree_of text ≡ Some tree }
+    requires tree { Runs text tree }
     requires room { length (entries_of house.old) + 4 ≤ book_limit }
     requires short { length text ≤ 32768 }
     requires named { session ≡ main_session }
@@ -93,7 +93,7 @@ fn run<D: Shelf>(
 ) -> Result<Reply, HouseFault>
     requires ready { IsReady D.told house.old }
     requires named { session ≡ main_session }
-    requires tree { tree_of text ≡ Some tree.now }
+    requires tree { Runs text tree.now }
     requires same { kept ≡ tree.now }
     requires room { length (entries_of house.old) + 4 ≤ book_limit }
     requires short { length text ≤ 32768 }
@@ -118,7 +118,7 @@ fn run_copies<D: Shelf>(
     tree: &Stmt,
 ) -> Result<Reply, HouseFault>
     requires ready { IsReady D.told house.old }
-    requires tree { tree_of text.now ≡ Some tree.now }
+    requires tree { Runs text.now tree.now }
     requires room { length (entries_of house.old) + 4 ≤ book_limit }
     requires short { length text.now ≤ 32768 }
     ensures ran { IfOk result (λ reply. HasRun D.told house.old house.new number text.now
@@ -146,7 +146,7 @@ fn run_owned<D: Shelf>(
     tree: Stmt,
 ) -> Result<Reply, HouseFault>
     requires ready { IsReady D.told house.old }
-    requires tree { tree_of text.now ≡ Some tree }
+    requires tree { Runs text.now tree }
     requires room { length (entries_of house.old) + 4 ≤ book_limit }
     requires short { length text.now ≤ 32768 }
     ensures ran { IfOk result (λ reply. HasRun D.told house.old house.new number text.now
@@ -162,9 +162,9 @@ fn run_owned<D: Shelf>(
     result
 }
 
-/// The reply to a text that is no statement.
+/// The reply to a text that doesn't run.
 fn refuse_text(alloc: Global, fault: TextFault) -> Result<Reply, NoMemory>
-    ensures { IfOk result (λ reply. ((text : List ℕ) → IsFaultOf fault text
+    ensures { IfOk result (λ reply. ((text : List ℕ) → IsRefusalOf fault text
         → IsFaultLine text reply.text) × (reply.refused ≡ true)) }
 {
     Ok(Reply {

@@ -1,7 +1,7 @@
 -- What makes a table.
 use Rattle.std.proofs.Common.{◌≡◌, ℕ, ◌+◌, false, IsTrue, IsNone, Option, Some, None, List, [], ◌∷◌, ◌++◌, length, refl, sym, ap, ◌∙◌, subst}
 use Rattle.hv_ast.specs.declared.statement.Stmt.{Stmt}
-use Rattle.hv_ast.specs.Reading.{tree_of}
+use Rattle.hv_grammar.specs.Texts.{tree_of}
 use Rattle.hv_logic.specs.declared.catalog.Column.{Column}
 use Rattle.hv_logic.specs.declared.meaning.Meaning.{Meaning}
 use Rattle.hv_logic.specs.declared.meaning.Meaning.TheVariants.{Make}
@@ -54,8 +54,8 @@ made-legal s number text tree name columns is means now =
 pub tables-made : TablesAreMade
 tables-made book number text tree name columns sound is means =
     let s : State = state_of book in
-    let now : meaning (running s number text [] None) ≡ Make name columns = meaning-running s number text [] None tree (Make name columns) is means in
+    let now : meaning (running s number text [] None) ≡ Make name columns = meaning-running s number text [] None tree (Make name columns) is.read means in
     goes book number text tree (entry.Create (record { 0 = next_of s }) (record { 0 = length s.tables + 1 }) ∷ []) (s.entries + 1 + 1 + 1)
     (s.tables ++ made_table (length s.tables + 1) name columns ∷ []) [] (Made (s.entries + 1 + 1) (length s.tables + 1)) ok_line false sound is
     (made-behind s number text (length s.tables + 1) (Make name columns) now)
-    (made-legal s number text tree name columns is means now) refl refl
+    (made-legal s number text tree name columns is.read means now) refl refl

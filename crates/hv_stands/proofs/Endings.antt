@@ -1,8 +1,9 @@
 -- A statement's entries, one after another: the state behind each, which fits, and what is said at the end.
-use Rattle.std.proofs.Common.{◌≡◌, ℕ, suc, ◌+◌, ◌&&◌, ◌||◌, Bool, IsFalse, IsSome, IsSomeAnd, Option, Some, None, List, [], ◌∷◌, ◌++◌, length, fold, refl, sym, ap, ◌∙◌, subst, length-append, arith}
+use Rattle.std.proofs.Common.{◌≡◌, ℕ, suc, ◌+◌, ◌&&◌, ◌||◌, Bool, IsFalse, IsSomeAnd, Option, Some, None, List, [], ◌∷◌, ◌++◌, length, fold, refl, sym, ap, ◌∙◌, subst, length-append, arith}
 use Rattle.std.specs.List.{list_any, AllByRecursion}
 use Rattle.hv_ast.specs.declared.statement.Stmt.{Stmt}
-use Rattle.hv_ast.specs.Reading.{tree_of}
+use Rattle.hv_grammar.specs.Running.{Runs}
+use Rattle.hv_grammar.specs.Texts.{tree_of}
 use Rattle.hv_logic.specs.declared.meaning.Meaning.{Meaning}
 use Rattle.hv_logic.specs.Meaning.{meaning_of}
 use Rattle.hv_history.specs.declared.entry.Entry.{Entry}
@@ -112,12 +113,12 @@ unlocked s number text (t ∷ ts) h =
     || list_any (holds_against (locks_of (tree_of text))) (ts ++ opened main_session number text ∷ [])) h.0
     ∙ unlocked s number text ts h.1
 
-pub begins-legal : (s : State) (number : ℕ) (text : List ℕ) (tree : Stmt) (ends : List Entry) → IsSound s → tree_of text ≡ Some tree
+pub begins-legal : (s : State) (number : ℕ) (text : List ℕ) (tree : Stmt) (ends : List Entry) → IsSound s → Runs text tree
     → IsLegalFrom (behind_start s number text) ends
     → IsLegalFrom s (entry.Opened (record { 0 = next_of s }) main_session number text ∷ entry.Start (record { 0 = next_of s }) 0 ∷ ends)
 begins-legal s number text tree ends sound is legal =
     legal-step s (behind_opened s number text) (entry.Opened (record { 0 = next_of s }) main_session number text) (entry.Start (record { 0 = next_of s }) 0 ∷ ends) (opened-behind s number text)
-    (record { next = refl; statement = subst (λ (o : Option Stmt). IsSome o) (sym is) refl }) tt
+    (record { next = refl; statement = (tree, is) }) tt
     (legal-step (behind_opened s number text) (behind_start s number text) (entry.Start (record { 0 = next_of s }) 0) ends (started-behind s number text)
     (of-last s (s.entries + 1) s.tables (opened main_session number text) (StartFits (behind_opened s number text) 0)
     (record {
@@ -131,7 +132,7 @@ begins-legal s number text tree ends sound is legal =
 
 pub goes : (book : List Entry) (number : ℕ) (text : List ℕ) (tree : Stmt) (ends : List Entry) (entries : ℕ) (tables : List Table)
     (given : List (ℕ × ℕ)) (ending : Ending) (reply : List ℕ) (refused : Bool)
-    → IsSound (state_of book) → tree_of text ≡ Some tree
+    → IsSound (state_of book) → Runs text tree
     → fold after (behind_start (state_of book) number text) ends
     ≡ with_last (state_of book) entries tables (running (state_of book) number text given (Some ending))
     → IsLegalFrom (behind_start (state_of book) number text) ends

@@ -166,7 +166,7 @@ rows-inserted book number text tree info effect table sound is means some at =
     let wrote : List Touch = inserting info effect ∷ [] in
     let given : List (ℕ × ℕ) = (info.table.0, write) ∷ [] in
     let now : meaning (running s number text given None) ≡ Change info effect =
-    meaning-running s number text given None tree (Change info effect) is means in
+    meaning-running s number text given None tree (Change info effect) is.read means in
     goes book number text tree
     (entry.Given (record { 0 = next_of s }) info.table (record { 0 = write }) ∷ entry.Commit (record { 0 = next_of s }) wrote ∷ [])
     (s.entries + 1 + 1 + 1 + 1) (tables_inserted s.tables (next_of s) info.table.0 (written_by write effect)) given
@@ -174,5 +174,5 @@ rows-inserted book number text tree info effect table sound is means some at =
     (inserted-behind s number text info effect write now)
     (inserted-legal s number text info effect table sound at some (deletes-nothing tree (seen_tables s.tables) info effect means) now)
     (ap (λ (n : Meaning). committed_text n wrote)
-    (meaning-running s number text given (Some (Committed (s.entries + 1 + 1 + 1) wrote)) tree (Change info effect) is means))
+    (meaning-running s number text given (Some (Committed (s.entries + 1 + 1 + 1) wrote)) tree (Change info effect) is.read means))
     refl

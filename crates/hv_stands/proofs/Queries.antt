@@ -3,7 +3,7 @@ use Rattle.std.proofs.Common.{◌≡◌, ℕ, ◌+◌, ◌&&◌, ◌||◌, Bool,
 use Rattle.std.specs.List.{list_any}
 use Rattle.hv_base.specs.declared.ids.Touch.{Touch}
 use Rattle.hv_ast.specs.declared.statement.Stmt.{Stmt}
-use Rattle.hv_ast.specs.Reading.{tree_of}
+use Rattle.hv_grammar.specs.Running.{Runs}
 use Rattle.hv_logic.specs.declared.meaning.Meaning.{Meaning}
 use Rattle.hv_logic.specs.declared.meaning.Meaning.TheVariants.{Listing}
 use Rattle.hv_history.specs.declared.entry.Entry.{Entry}
@@ -77,16 +77,16 @@ nothing-legal s number text m means none = (
 )
 
 pub nothing-goes : (book : List Entry) (number : ℕ) (text : List ℕ) (tree : Stmt) (m : Meaning)
-    → IsSound (state_of book) → tree_of text ≡ Some tree → meant book tree ≡ m → TouchesAreMeant [] m → commits_to m [] ≡ None
+    → IsSound (state_of book) → Runs text tree → meant book tree ≡ m → TouchesAreMeant [] m → commits_to m [] ≡ None
     → Goes book (statement_entries book number text (committing book [] ∷ [])) number text (committed_text m []) false (state_of book).tables
 nothing-goes book number text tree m sound is means none writes =
     let s : State = state_of book in
-    let now : meaning (running s number text [] None) ≡ m = meaning-running s number text [] None tree m is means in
+    let now : meaning (running s number text [] None) ≡ m = meaning-running s number text [] None tree m is.read means in
     goes book number text tree _ _ _ [] (Committed (s.entries + 1 + 1) []) _ false sound is
     (committed-behind s number text (s.entries + 1 + 1) s.tables [] [] m now
     ∙ ap (λ o. with_last s (s.entries + 1 + 1 + 1) (tables_behind o s.tables) (running s number text [] (Some (Committed (s.entries + 1 + 1) [])))) writes)
     (nothing-legal s number text m now none)
-    (ap (λ (n : Meaning). committed_text n []) (meaning-running s number text [] (Some (Committed (s.entries + 1 + 1) [])) tree m is means))
+    (ap (λ (n : Meaning). committed_text n []) (meaning-running s number text [] (Some (Committed (s.entries + 1 + 1) [])) tree m is.read means))
     refl
 
 pub queries-end : QueriesEnd

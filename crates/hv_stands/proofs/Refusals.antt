@@ -55,7 +55,7 @@ aborted-legal s number text m why h means = (
 pub refusals-end : RefusalsEnd
 refusals-end book number text tree why sound is h =
     let s : State = state_of book in
-    let now : meaning (running s number text [] None) ≡ meant book tree = meaning-running s number text [] None tree (meant book tree) is refl in
+    let now : meaning (running s number text [] None) ≡ meant book tree = meaning-running s number text [] None tree (meant book tree) is.read refl in
     goes book number text tree (entry.Abort (record { 0 = next_of s }) why ∷ []) (s.entries + 1 + 1 + 1) s.tables [] (Aborted (s.entries + 1 + 1) why)
     (cause_text None why) true sound is (aborted-behind s number text why) (aborted-legal s number text (meant book tree) why h now)
     (cause-told (meant book tree) why (Some (record { place = s.entries + 1; tables = s.tables })) h) refl

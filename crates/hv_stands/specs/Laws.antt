@@ -4,7 +4,7 @@ use Rattle.std.specs.List.{AllByRecursion}
 use Rattle.hv_base.specs.declared.ids.Touch.{Touch}
 use Rattle.hv_shelf.specs.Disk.{Store, Tree, HasFile}
 use Rattle.hv_ast.specs.declared.statement.Stmt.{Stmt}
-use Rattle.hv_ast.specs.Reading.{tree_of}
+use Rattle.hv_grammar.specs.Running.{Runs}
 use Rattle.hv_ast.specs.Built.{IsBuilt}
 use Rattle.hv_value.specs.declared.row.Row.{Row}
 use Rattle.hv_logic.specs.declared.catalog.Column.{Column}
@@ -38,10 +38,6 @@ committing book wrote = entry.Commit (record { 0 = next_number book }) wrote
 
 -- ---- which trees there are
 
--- each text that is a statement is of a form that is built
-abbrev pub StatementsAreBuilt : Type 0
-StatementsAreBuilt = (text : List ℕ) (tree : Stmt) → tree_of text ≡ Some tree → IsBuilt tree
-
 -- a table that is made has columns that are built
 abbrev pub MadeColumnsArePlain : Type 0
 MadeColumnsArePlain =
@@ -53,7 +49,7 @@ MadeColumnsArePlain =
 abbrev pub QueriesEnd : Type 0
 QueriesEnd =
     (book : List Entry) (number : ℕ) (text : List ℕ) (tree : Stmt) (names : List (List ℕ)) (rows : List Row)
-    → IsSound (state_of book) → tree_of text ≡ Some tree → meant book tree ≡ Listing names rows
+    → IsSound (state_of book) → Runs text tree → meant book tree ≡ Listing names rows
     → Goes book (statement_entries book number text (committing book [] ∷ [])) number text (listing names rows) false (state_of book).tables
 
 -- a statement may be aborted for this cause; damage is told of files alone
@@ -66,7 +62,7 @@ IsCauseOf meaning _ = ⊥
 abbrev pub RefusalsEnd : Type 0
 RefusalsEnd =
     (book : List Entry) (number : ℕ) (text : List ℕ) (tree : Stmt) (cause : Cause)
-    → IsSound (state_of book) → tree_of text ≡ Some tree → IsCauseOf (meant book tree) cause
+    → IsSound (state_of book) → Runs text tree → IsCauseOf (meant book tree) cause
     → Goes book (statement_entries book number text (entry.Abort (record { 0 = next_number book }) cause ∷ []))
     number text (cause_text None cause) true (state_of book).tables
 
@@ -81,7 +77,7 @@ next_table book = length (state_of book).tables + 1
 abbrev pub TablesAreMade : Type 0
 TablesAreMade =
     (book : List Entry) (number : ℕ) (text : List ℕ) (tree : Stmt) (name : List ℕ) (columns : List Column)
-    → IsSound (state_of book) → tree_of text ≡ Some tree → meant book tree ≡ Make name columns
+    → IsSound (state_of book) → Runs text tree → meant book tree ≡ Make name columns
     → Goes book
     (statement_entries book number text (entry.Create (record { 0 = next_number book }) (record { 0 = next_table book }) ∷ []))
     number text ok_line false ((state_of book).tables ++ made_table (next_table book) name columns ∷ [])
@@ -96,7 +92,7 @@ inserting info effect = record { table = info.table; partition = []; inserted = 
 abbrev pub RowsAreInserted : Type 0
 RowsAreInserted =
     (book : List Entry) (number : ℕ) (text : List ℕ) (tree : Stmt) (info : TableInfo) (effect : Effect) (table : Table)
-    → IsSound (state_of book) → tree_of text ≡ Some tree → meant book tree ≡ Change info effect → 0 < length effect.inserts
+    → IsSound (state_of book) → Runs text tree → meant book tree ≡ Change info effect → 0 < length effect.inserts
     → numbered (state_of book).tables info.table.0 ≡ Some table
     → Goes book
     (statement_entries book number text
@@ -109,7 +105,7 @@ RowsAreInserted =
 abbrev pub NothingIsInserted : Type 0
 NothingIsInserted =
     (book : List Entry) (number : ℕ) (text : List ℕ) (tree : Stmt) (info : TableInfo) (effect : Effect)
-    → IsSound (state_of book) → tree_of text ≡ Some tree → meant book tree ≡ Change info effect → effect.inserts ≡ []
+    → IsSound (state_of book) → Runs text tree → meant book tree ≡ Change info effect → effect.inserts ≡ []
     → Goes book (statement_entries book number text (committing book [] ∷ []))
     number text (counts_line []) false (state_of book).tables
 

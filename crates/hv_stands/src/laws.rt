@@ -1,9 +1,8 @@
-ghost use Rattle.hv_stands.specs.Laws.{StatementsAreBuilt, MadeColumnsArePlain, QueriesEnd, RefusalsEnd, TablesAreMade, RowsAreInserted, NothingIsInserted, InsertsCanBeWritten, ChangedTableStands, ReadingIsEnough, SoundnessGoesOn, MadeTablesAreSound, InsertedTablesAreSound, MadeTablesStand, InsertedFilesStand};
+ghost use Rattle.hv_stands.specs.Laws.{MadeColumnsArePlain, QueriesEnd, RefusalsEnd, TablesAreMade, RowsAreInserted, NothingIsInserted, InsertsCanBeWritten, ChangedTableStands, ReadingIsEnough, SoundnessGoesOn, MadeTablesAreSound, InsertedTablesAreSound, MadeTablesStand, InsertedFilesStand};
 
-/// Each text that is a statement is of a form that is built, and so are a new table's columns.
-pub fn forms_are_built()
-    ensures statements { StatementsAreBuilt }
-    ensures columns { MadeColumnsArePlain }
+/// A table that a statement makes, of a form that is built, has columns of kinds that are built.
+pub fn made_columns_are_plain()
+    ensures law { MadeColumnsArePlain }
 {}
 
 /// A query commits without rows, and its answer is its listing.

@@ -1,5 +1,5 @@
 ghost use Rattle.std.specs.Prelude.{◌≡◌, ◌++◌, ◌∷◌, [], Some, OnOk, OnErr, IfErr};
-ghost use Rattle.hv_reading.specs.Faults.{IsFaultOf};
+ghost use Rattle.hv_reading.specs.Faults.{IsRefusalOf};
 ghost use Rattle.hv_history.specs.declared.entry.Entry.TheVariants.{Opened};
 
 use hv_base::{Text, TxnId};
@@ -19,7 +19,7 @@ pub fn take(
 ) -> Result<(), TextFault>
     ensures taken { OnOk result (book.new.entries ≡ book.old.entries ++ Opened txn session number text ∷ []) }
     ensures kept { OnErr result (book.new.entries ≡ book.old.entries) }
-    ensures fault { IfErr result (λ fault. IsFaultOf fault text) }
+    ensures fault { IfErr result (λ fault. IsRefusalOf fault text) }
 {
     let tree = read_statement(alloc, &text)?;
     let entry = Entry::Opened {
