@@ -1,10 +1,16 @@
-//! Copies of statements of every kind, and which forms run. These tests stand apart from hv_ast, which every crate of
-//! the language stands on: a change of them proves nothing there again.
+//! Copies of statements of every kind, and which forms run. These tests stand apart from hv_ast, on
+//! which every crate of the language stands: a change of them proves nothing there again.
 #![tactic(auto)]
 
 #[cfg(test)]
-mod forms;
+mod expressions;
 #[cfg(test)]
-mod tests;
+mod queries;
 #[cfg(test)]
-mod trees;
+mod reading;
+#[cfg(test)]
+mod running;
+#[cfg(test)]
+mod statements;
+#[cfg(test)]
+mod unspelled;
