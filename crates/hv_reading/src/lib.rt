@@ -2,7 +2,9 @@
 #![tactic(auto)]
 
 mod fault;
+mod laws;
 mod reading;
 
 pub use fault::TextFault;
+pub use laws::runs_or_is_refused;
 pub use reading::{read_statement, read_text};

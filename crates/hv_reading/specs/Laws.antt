@@ -1,0 +1,8 @@
+-- What holds of every text.
+use Rattle.hv_ast.specs.declared.statement.Stmt.{Stmt}
+use Rattle.hv_ast.specs.Tokens.{Text}
+use Rattle.hv_grammar.specs.Running.{Runs, IsRefused}
+
+-- a text that runs isn't refused
+abbrev pub RunsOrIsRefused : Type 0
+RunsOrIsRefused = (text : Text) (tree : Stmt) → Runs text tree → IsRefused text → ⊥
