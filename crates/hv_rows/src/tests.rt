@@ -118,7 +118,12 @@ fn refusals(rt: HostRuntime) -> Result<(), Fail> {
             "CREATE TABLE t (a INT); INSERT INTO t VALUES (9223372036854775808); SELECT * FROM t;",
             "OK\nFAILED 3 WideNumber at 22\na\n",
         ),
+        ("SELECT 12345678901234567890;", "FAILED 3 WideNumber at 7\n"),
         (";", "FAILED 4 Syntax\n"),
+        (
+            "SELECT FROM; SELECT ?",
+            "FAILED 4 Syntax\nFAILED 1 BadCharacter at 7\n",
+        ),
         (
             "CREATE TABLE t (a INT); DROP TABLE t; UPDATE t SET a = 1; SELECT * FROM t;",
             "OK\nFAILED 4 Syntax\nFAILED 4 Syntax\na\n",
@@ -196,11 +201,40 @@ fn what_of_the_language_runs(rt: HostRuntime) -> Result<(), Fail> {
     Ok(())
 }
 
-/// SELECT and so many brackets.
+/// Characters beyond ASCII stand in strings and comments, and nowhere else.
+#[test]
+fn characters_beyond_ascii(rt: HostRuntime) -> Result<(), Fail> {
+    let alloc = rt.alloc();
+    let rows = [
+        (
+            "CREATE TABLE t (s STRING); -- \u{e9};\nINSERT INTO t VALUES ('\u{20ac}'), ('z'), ('\u{e9};'); SELECT * FROM t;",
+            0,
+            "OK\nOK inserted 3 deleted 0\ns\nz\n\u{e9};\n\u{20ac}\n",
+        ),
+        (
+            "SELECT \u{e9} FROM t; SELECT * FROM `t\u{e9}`",
+            1,
+            "FAILED 1 BadCharacter at 7\nFAILED 1 BadCharacter at 16\n",
+        ),
+    ];
+    for (script, status, printed) in rows {
+        runs(&rt, alloc, empty(alloc)?, script, status, printed)?;
+    }
+    // `hive: script refused at line 2`
+    let broken = Vec::from_slice(alloc, b"SELECT * FROM t;\n\xe9;")?;
+    assert_eq!(rt; sizes(&rt, alloc, broken)?, (8, 31));
+    Ok(())
+}
+
+/// A SELECT of 1 in so many brackets.
 fn nested(alloc: Global, levels: usize) -> Result<String, Fail> {
     let mut text = String::from_str(alloc, "SELECT ")?;
     for _ in 0..levels {
         text.push('(')?;
+    }
+    text.push('1')?;
+    for _ in 0..levels {
+        text.push(')')?;
     }
     Ok(text)
 }

@@ -1,1 +1,1 @@
-pub mod Ascii
+pub mod Utf8

@@ -1,27 +1,23 @@
--- Where a script is refused, and its statements. This project's profile: a script is ASCII and has no directives
+-- Where a script is refused, and its statements. This project's profile: a script is UTF-8 and has no directives
 -- yet. It is refused at the first line where a fault stands.
 use Rattle.std.specs.Prelude.{◌≡◌, ℕ, ◌+◌, ◌==◌, Result, Ok, Err, ◌||◌, Bool, false, if◌then◌else◌, Option, Some, None, List, [], ◌∷◌, length, take, map, min, count_by, nat_lt, nat_le}
 use Rattle.std.specs.List.{AllByRecursion}
-use Rattle.std.specs.Str.{IsAscii}
+use Rattle.std.specs.Str.{IsUtf8, is_utf8}
+use Rattle.std.specs.Str.Lossy.{utf8_valid_len}
 use Rattle.hv_script.specs.declared.script.Script.{Script}
 use Rattle.hv_script.specs.declared.script.ScriptFault.{ScriptFault}
 use Rattle.hv_script.specs.declared.script.ScriptFault.TheVariants.{Refused, NoMemory}
 use Rattle.hv_script.specs.declared.script.TheConstants.{MAX_SCRIPT, MAX_STATEMENTS, MAX_TEXT}
 use Rattle.hv_script.specs.declared.items.Item.{Item}
-use Rattle.hv_script.specs.Items.{exclamation_mark, line_feed, line_behind, first_of, items_of}
-
--- a byte that isn't ASCII
-abbrev pub is_high : ℕ → Bool
-is_high b = nat_lt 127 b
-
--- the line of the first byte that isn't ASCII, where the bytes begin on this line
-abbrev pub high_line : ℕ → List ℕ → Option ℕ
-high_line line [] = None
-high_line line (b ∷ bytes) = if is_high b then Some line else high_line (line_behind line b) bytes
+use Rattle.hv_script.specs.Items.{exclamation_mark, line_feed, first_of, items_of}
 
 -- the line on which the byte at a place stands
 abbrev pub line_at : ℕ → List ℕ → ℕ
 line_at place script = 1 + count_by (λ b. b == line_feed) (take place script)
+
+-- the line of the first byte that isn't UTF-8: the one behind the longest front that is
+abbrev pub broken_line : List ℕ → Option ℕ
+broken_line bytes = if is_utf8 bytes then None else Some (line_at (utf8_valid_len bytes) bytes)
 
 -- the line of the first byte that is too much
 abbrev pub limit_line : List ℕ → Option ℕ
@@ -51,7 +47,7 @@ front script = take MAX_SCRIPT script
 
 -- the line at which a script is refused, or None where it isn't
 abbrev pub refused_line : List ℕ → Option ℕ
-refused_line script = earlier (earlier (high_line 1 (front script)) (limit_line script)) (item_line 0 (items_of (front script)))
+refused_line script = earlier (earlier (broken_line (front script)) (limit_line script)) (item_line 0 (items_of (front script)))
 
 -- the statements' texts, in order
 abbrev pub texts_of : List ℕ → List (List ℕ)
@@ -64,6 +60,6 @@ IsReading line texts (Ok script) = (line ≡ None) × (script.texts ≡ texts)
 IsReading line texts (Err (Refused refused)) = line ≡ Some refused
 IsReading line texts (Err NoMemory) = Unit {0}
 
--- no byte of the items is above 127
-abbrev pub HaveAscii : List Item → Type 0
-HaveAscii items = AllByRecursion (λ (item : Item). IsAscii item.bytes) items
+-- each item is UTF-8
+abbrev pub HaveUtf8 : List Item → Type 0
+HaveUtf8 items = AllByRecursion (λ (item : Item). IsUtf8 item.bytes) items

@@ -1,11 +1,12 @@
-ghost use Rattle.std.specs.Prelude.{◌≡◌, ◌<◌, ◌^◌, length, map, IfOk};
-ghost use Rattle.hv_script.specs.Script.{HaveAscii, IsReading, begins_directive, earlier, front, high_line, item_line, limit_line, refused_line, texts_of};
+ghost use Rattle.std.specs.Prelude.{◌≡◌, ◌<◌, ◌≤◌, ◌^◌, length, map, IfOk};
+ghost use Rattle.hv_script.specs.Script.{HaveUtf8, IsReading, begins_directive, broken_line, earlier, front, item_line, limit_line, line_at, refused_line, texts_of};
 ghost use Rattle.hv_script.specs.Items.{first_of, items_of};
 
 use crate::items::Item;
-use crate::reader::{items, next_line};
+use crate::reader::items;
 use hv_base::{List, NoMemory, Text};
 use std::alloc::Global;
+use std::str;
 use thiserror::Error;
 
 /// The most bytes of a script.
@@ -40,19 +41,28 @@ impl From<NoMemory> for ScriptFault {
     }
 }
 
-/// The line of the first byte that isn't ASCII.
-fn first_high(bytes: &[u8]) -> Option<u64>
-    requires short { length bytes.now < 2 ^ 63 }
-    ensures value { result ≡ high_line 1 bytes.now }
+/// The line on which the byte at a place stands, from 1.
+fn line_at(script: &[u8], place: usize) -> u64
+    requires place { place ≤ length script.now }
+    requires short { place < 2 ^ 63 }
+    ensures value { result ≡ line_at place script.now }
 {
-    let mut line = 1;
-    for byte in bytes {
-        if *byte > 127 {
-            return Some(line);
-        }
-        line = next_line(line, *byte);
+    let feeds = script[..place]
+        .iter()
+        .filter(|byte| **byte == b'\n')
+        .count();
+    1 + feeds as u64
+}
+
+/// The line of the first byte that isn't UTF-8.
+fn first_broken(bytes: &[u8]) -> Option<u64>
+    requires short { length bytes.now < 2 ^ 63 }
+    ensures value { result ≡ broken_line bytes.now }
+{
+    match str::from_utf8(bytes) {
+        Ok(_) => None,
+        Err(fault) => Some(line_at(bytes, fault.valid_up_to())),
     }
-    None
 }
 
 /// The line of the first byte that is too much.
@@ -60,11 +70,7 @@ fn first_beyond(script: &[u8]) -> Option<u64>
     ensures value { result ≡ limit_line script.now }
 {
     if script.len() > MAX_SCRIPT {
-        let feeds = script[..MAX_SCRIPT]
-            .iter()
-            .filter(|byte| **byte == b'\n')
-            .count();
-        Some(1 + feeds as u64)
+        Some(line_at(script, MAX_SCRIPT))
     } else {
         None
     }
@@ -110,7 +116,7 @@ fn refusal(script: &[u8], before: &[u8], items: &[Item]) -> Option<u64>
     ensures value { result ≡ refused_line script.now }
 {
     earlier_of(
-        earlier_of(first_high(before), first_beyond(script)),
+        earlier_of(first_broken(before), first_beyond(script)),
         first_refused(items),
     )
 }
@@ -127,9 +133,9 @@ fn readable(script: &[u8]) -> &[u8]
     }
 }
 
-/// The texts of items of which no byte is above 127.
+/// The texts of items that are UTF-8.
 fn texts(alloc: Global, items: &[Item]) -> Result<Vec<Text>, NoMemory>
-    requires ascii { HaveAscii items.now }
+    requires utf8 { HaveUtf8 items.now }
     ensures value { IfOk result (λ found. found.items ≡ map (λ (item : Item). item.bytes) items.now) }
 {
     let mut texts = Vec::with_capacity(alloc, items.len())?;
@@ -143,8 +149,8 @@ fn texts(alloc: Global, items: &[Item]) -> Result<Vec<Text>, NoMemory>
 /// The script that these bytes are.
 ///
 /// # Errors
-/// `Refused` with the first line where a fault stands: a byte above 127, the byte after 16 MiB, a
-/// directive, statement 10,001, or a text above 32,768 bytes.
+/// `Refused` with the first line where a fault stands: a byte that isn't UTF-8, the byte after
+/// 16 MiB, a directive, statement 10,001, or a text above 32,768 bytes.
 pub fn read_script(alloc: Global, script: &[u8]) -> Result<Script, ScriptFault>
     ensures read { IsReading (refused_line script.now) (texts_of script.now) result }
 {

@@ -4,7 +4,7 @@ use std::process::Abort;
 use std::test::Fail;
 
 /// A script, and its texts with a bar behind each, or the line where it is refused.
-const SCRIPTS: [(&str, Result<&str, u64>); 20] = [
+const SCRIPTS: [(&str, Result<&str, u64>); 23] = [
     ("", Ok("")),
     (" \t\r\n -- only a comment", Ok("")),
     ("a;b", Ok("a|b|")),
@@ -24,7 +24,13 @@ const SCRIPTS: [(&str, Result<&str, u64>); 20] = [
     ("'never; ends", Ok("'never; ends|")),
     ("!go a", Err(1)),
     ("a;\n!session b\n\u{e9}", Err(2)),
-    ("a;\n'\u{e9}';\n!x", Err(2)),
+    ("a;\n'\u{e9}';\n!x", Err(3)),
+    ("\u{e9};x", Ok("\u{e9}|x|")),
+    ("-- \u{20ac};\nx;'\u{e9};';y", Ok("x|'\u{e9};'|y|")),
+    (
+        "b -- \u{20ac};\n;`\u{e9};`;z",
+        Ok("b -- \u{20ac};\n|`\u{e9};`|z|"),
+    ),
 ];
 
 fn as_expected(
@@ -58,7 +64,7 @@ fn scripts_are_cut_into_texts(rt: HostRuntime) -> Result<(), Fail> {
     Ok(())
 }
 
-/// The lines, from 1, at which `long` is refused.
+/// The line, from 1, at which a script is refused.
 fn line_of(rt: &impl Abort, alloc: Global, script: &[u8]) -> Option<u64> {
     match read_script(alloc, script) {
         Ok(_) => None,
@@ -68,6 +74,24 @@ fn line_of(rt: &impl Abort, alloc: Global, script: &[u8]) -> Option<u64> {
             None
         }
     }
+}
+
+#[test]
+fn bytes_that_are_no_utf8(rt: HostRuntime) -> Result<(), Fail> {
+    let rows: [(&[u8], u64); 8] = [
+        (b"\xff", 1),
+        (b"a;\n'\xc3'", 2),
+        (b"\n\n-- \x80", 3),
+        (b"\n\xe2\x82\nx", 2),
+        (b"x\n\xc3", 2),
+        (b"\n\xc0\xaf", 2),
+        (b"\xed\xa0\x80\n!go a", 1),
+        (b"!go a\n\xff", 1),
+    ];
+    for (script, line) in rows {
+        assert_eq!(rt; line_of(&rt, rt.alloc(), script), Some(line));
+    }
+    Ok(())
 }
 
 #[test]

@@ -1,14 +1,14 @@
 use Rattle.std.proofs.Common.{◌∙◌, ap, map, sym, subst}
 use Rattle.hv_script.specs.declared.items.Item.{Item}
 use Rattle.hv_script.specs.Items.{items_of}
-use Rattle.hv_script.specs.Script.{HaveAscii}
-use Rattle.hv_script.proofs.Ascii.{low-refused}
+use Rattle.hv_script.specs.Script.{HaveUtf8}
+use Rattle.hv_script.proofs.Utf8.{utf8-refused}
 use Rattle.hv_script.proofs.script.read_script.Goals as goal
 
 pub texts-requires : goal.texts-requires
 texts-requires c =
     let same = c.deref-in-None.ensures.value ∙ c.in_ok-items.ensures.value ∙ ap items_of c.readable-before.ensures.value in
-    record { ascii = subst HaveAscii (sym same) (low-refused c.args.script.now (sym c.in-None.ensures.value)) }
+    record { utf8 = subst HaveUtf8 (sym same) (utf8-refused c.args.script.now (sym c.in-None.ensures.value)) }
 
 pub returns : goal.returns
 returns c =
