@@ -1,4 +1,5 @@
 pub mod ReadingLemmas
+pub mod RefusalLemmas
 pub mod SinkLemmas
 pub mod SourceLemmas
 pub mod ToldLemmas

@@ -15,3 +15,7 @@ Moves step None None = Unit {0}
 Moves step None (Some now) = ⊥
 Moves step (Some before) None = ⊥
 Moves step (Some before) (Some now) = step before now
+
+-- it is told afterwards where it was before, and nowhere else
+abbrev pub StaysTold : {A : Type 0} → Option A → Option A → Type 0
+StaysTold before now = Moves (λ _ _. Unit {0}) before now

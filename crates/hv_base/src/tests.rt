@@ -1,7 +1,7 @@
 ghost use Rattle.std.specs.Prelude.{◌≡◌, IfOk, ◌↔◌, IsTrue};
 ghost use Rattle.hv_base.specs.Same.{same, same_laws};
 
-use crate::{Boxed, Duplicate, Limits, List, NoMemory, RowId, Text, WriteId};
+use crate::{Boxed, Duplicate, Limits, List, NoMemory, Refusal, RowId, Text, WriteId};
 use std::alloc::Global;
 use std::cmp::Ordering;
 use std::test::Fail;
@@ -147,4 +147,25 @@ fn lists_and_identifiers_are_ordered(rt: HostRuntime) -> Result<(), Fail> {
     assert_eq!(rt; early.cmp(&late), Ordering::Less);
     assert_eq!(rt; Limits::profile().entries, 131072);
     Ok(())
+}
+
+/// The numbers and names of docs/REFUSALS.md.
+const REFUSALS: [(u32, &str); 5] = [
+    (1, "BadCharacter"),
+    (10, "NoTable"),
+    (19, "Limit"),
+    (30, "Conflict"),
+    (43, "Damaged"),
+];
+
+#[test]
+fn refusals_have_numbers_and_names(rt: HostRuntime) {
+    for (number, name) in REFUSALS {
+        let refusal = Refusal::of_number(number);
+        assert_eq!(rt; refusal.map(Refusal::number), Some(number));
+        assert_eq!(rt; refusal.map(Refusal::name), Some(name));
+    }
+    for number in [0, 6, 9, 20, 29, 33, 35, 44] {
+        assert_eq!(rt; Refusal::of_number(number), None, "{number}");
+    }
 }
