@@ -1,4 +1,3 @@
 pub mod Built
 pub mod Layout
 pub mod Tokens
-pub mod Words

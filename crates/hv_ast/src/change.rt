@@ -3,21 +3,21 @@ use crate::query::{Query, Source};
 use hv_base::{List, Text};
 
 /// An item of PARTITION: `name [= value]`
-#[derive(Debug, Drop, PartialEq, Eq)]
+#[derive(Drop)]
 pub struct PartitionItem {
     pub name: Text,
     pub value: Option<Expr>,
 }
 
 /// Where the rows of an INSERT come from.
-#[derive(Debug, Drop, PartialEq, Eq)]
+#[derive(Drop)]
 pub enum Rows {
     /// `VALUES row {, row}`, each row with its values.
     Values(List<List<Expr>>),
     Query(Query),
 }
 
-#[derive(Debug, Drop, PartialEq, Eq)]
+#[derive(Drop)]
 pub struct Insert {
     /// OVERWRITE, and not INTO.
     pub overwrite: bool,
@@ -30,27 +30,27 @@ pub struct Insert {
 }
 
 /// `column = value`
-#[derive(Debug, Drop, PartialEq, Eq)]
+#[derive(Drop)]
 pub struct Assignment {
     pub column: Text,
     pub value: Expr,
 }
 
-#[derive(Debug, Drop, PartialEq, Eq)]
+#[derive(Drop)]
 pub struct Update {
     pub table: Text,
     pub assignments: List<Assignment>,
     pub filter: Option<Expr>,
 }
 
-#[derive(Debug, Drop, PartialEq, Eq)]
+#[derive(Drop)]
 pub struct Delete {
     pub table: Text,
     pub filter: Option<Expr>,
 }
 
 /// What a clause of MERGE does: the first two WHEN MATCHED, the last WHEN NOT MATCHED.
-#[derive(Debug, Drop, PartialEq, Eq)]
+#[derive(Drop)]
 pub enum MergeAction {
     Update(List<Assignment>),
     Delete,
@@ -58,14 +58,14 @@ pub enum MergeAction {
 }
 
 /// `WHEN [NOT] MATCHED [AND condition] THEN action`
-#[derive(Debug, Drop, PartialEq, Eq)]
+#[derive(Drop)]
 pub struct MergeClause {
     pub condition: Option<Expr>,
     pub action: MergeAction,
 }
 
 /// `MERGE INTO table [[AS] alias] USING source ON condition clause {clause}`
-#[derive(Debug, Drop, PartialEq, Eq)]
+#[derive(Drop)]
 pub struct Merge {
     pub table: Text,
     pub alias: Option<Text>,
@@ -74,7 +74,7 @@ pub struct Merge {
     pub clauses: List<MergeClause>,
 }
 
-#[derive(Debug, Drop, PartialEq, Eq)]
+#[derive(Drop)]
 pub struct Truncate {
     pub table: Text,
     /// Empty without PARTITION.

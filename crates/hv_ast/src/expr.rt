@@ -4,7 +4,7 @@ use crate::types::TypeName;
 use hv_base::{Boxed, List, Text};
 
 /// A value that is written out.
-#[derive(Debug, Drop, PartialEq, Eq)]
+#[derive(Drop)]
 pub enum Literal {
     Null,
     Bool(bool),
@@ -17,7 +17,7 @@ pub enum Literal {
 }
 
 /// An operator with one operand, before it or behind it.
-#[derive(Clone, Copy, Debug, PartialEq, Eq)]
+#[derive(Clone, Copy)]
 pub enum Unary {
     Not,
     Plus,
@@ -27,7 +27,7 @@ pub enum Unary {
 }
 
 /// An operator with two operands that makes no chain.
-#[derive(Clone, Copy, Debug, PartialEq, Eq)]
+#[derive(Clone, Copy)]
 pub enum Binary {
     /// `=` or `==`
     Equal,
@@ -46,7 +46,7 @@ pub enum Binary {
 }
 
 /// An operator of a chain of numbers.
-#[derive(Clone, Copy, Debug, PartialEq, Eq)]
+#[derive(Clone, Copy)]
 pub enum Arithmetic {
     Add,
     Subtract,
@@ -58,21 +58,21 @@ pub enum Arithmetic {
 }
 
 /// An operator and the operand behind it.
-#[derive(Debug, Drop, PartialEq, Eq)]
+#[derive(Drop)]
 pub struct Operation<E = Expr> {
     pub operator: Arithmetic,
     pub operand: E,
 }
 
 /// `WHEN condition THEN value`
-#[derive(Debug, Drop, PartialEq, Eq)]
+#[derive(Drop)]
 pub struct When<E = Expr> {
     pub condition: E,
     pub value: E,
 }
 
 /// An expression. Parentheses leave no trace in it. Names are in lower case.
-#[derive(Debug, Drop, PartialEq, Eq)]
+#[derive(Drop)]
 pub enum Expr {
     /// Two operands or more, as in `And`.
     Or(List<Expr>),

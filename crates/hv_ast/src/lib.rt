@@ -3,7 +3,7 @@
 
 mod built;
 mod change;
-mod copy;
+mod drops;
 mod expr;
 mod laws;
 mod query;
@@ -17,6 +17,7 @@ pub use change::{
     Assignment, Delete, Insert, Merge, MergeAction, MergeClause, PartitionItem, Rows, Truncate,
     Update,
 };
+pub use drops::discard;
 pub use expr::{Arithmetic, Binary, Expr, Literal, Operation, Unary, When};
 pub use laws::{nothing_between, places_rise, tokens_or_fault};
 pub use query::{

@@ -5,14 +5,14 @@ use crate::expr::Expr;
 use hv_base::{Boxed, List, Text};
 
 /// `expr [ASC | DESC]`
-#[derive(Debug, Drop, PartialEq, Eq)]
+#[derive(Drop)]
 pub struct Key {
     pub expr: Expr,
     pub descending: bool,
 }
 
 /// What a window function counts or sums.
-#[derive(Debug, Drop, PartialEq, Eq)]
+#[derive(Drop)]
 pub enum WindowFunction {
     RowNumber,
     Rank,
@@ -20,7 +20,7 @@ pub enum WindowFunction {
 }
 
 /// `function OVER ( [PARTITION BY expr {, expr}] ORDER BY key {, key} )`
-#[derive(Debug, Drop, PartialEq, Eq)]
+#[derive(Drop)]
 pub struct Window {
     pub function: WindowFunction,
     pub partition: List<Expr>,
@@ -28,7 +28,7 @@ pub struct Window {
 }
 
 /// An item of a select's list.
-#[derive(Debug, Drop, PartialEq, Eq)]
+#[derive(Drop)]
 pub enum Item {
     /// `*`
     All,
@@ -40,7 +40,7 @@ pub enum Item {
     Window(Window, Option<Text>),
 }
 
-#[derive(Clone, Copy, Debug, PartialEq, Eq)]
+#[derive(Clone, Copy)]
 pub enum JoinKind {
     /// A comma, or CROSS JOIN.
     Cross,
@@ -52,7 +52,7 @@ pub enum JoinKind {
 }
 
 /// What a lateral view makes rows of.
-#[derive(Debug, Drop, PartialEq, Eq)]
+#[derive(Drop)]
 pub enum Explode {
     /// `EXPLODE`, and the name of its column, if it is written.
     Elements(Option<Text>),
@@ -61,7 +61,7 @@ pub enum Explode {
 }
 
 /// `LATERAL VIEW [OUTER] explode ( array ) alias [AS names]`
-#[derive(Debug, Drop, PartialEq, Eq)]
+#[derive(Drop)]
 pub struct Lateral {
     pub outer: bool,
     pub array: Expr,
@@ -70,7 +70,7 @@ pub struct Lateral {
 }
 
 /// What stands in FROM, or behind USING.
-#[derive(Debug, Drop, PartialEq, Eq)]
+#[derive(Drop)]
 pub enum Source {
     /// A table's name and its alias.
     Table(Text, Option<Text>),
@@ -79,7 +79,7 @@ pub enum Source {
 }
 
 /// A source that is joined to those before it.
-#[derive(Debug, Drop, PartialEq, Eq)]
+#[derive(Drop)]
 pub struct Join<S = Source> {
     pub kind: JoinKind,
     pub source: S,
@@ -87,14 +87,14 @@ pub struct Join<S = Source> {
 }
 
 /// `FROM source {join} {lateral}`
-#[derive(Debug, Drop, PartialEq, Eq)]
+#[derive(Drop)]
 pub struct From<S = Source> {
     pub source: S,
     pub joins: List<Join<S>>,
     pub laterals: List<Lateral>,
 }
 
-#[derive(Debug, Drop, PartialEq, Eq)]
+#[derive(Drop)]
 pub struct Select<S = Source> {
     pub distinct: bool,
     pub items: List<Item>,
@@ -106,13 +106,13 @@ pub struct Select<S = Source> {
 }
 
 /// `UNION [ALL | DISTINCT] select`
-#[derive(Debug, Drop, PartialEq, Eq)]
+#[derive(Drop)]
 pub struct Union<S = Source> {
     pub all: bool,
     pub select: Select<S>,
 }
 
-#[derive(Debug, Drop, PartialEq, Eq)]
+#[derive(Drop)]
 pub struct Query<S = Source> {
     pub select: Select<S>,
     pub unions: List<Union<S>>,

@@ -4,7 +4,7 @@ use crate::table::{AddColumns, Compact, CreateTable, CreateView, DropTable};
 use hv_base::{List, Text};
 
 /// What SHOW lists.
-#[derive(Debug, Drop, PartialEq, Eq)]
+#[derive(Drop)]
 pub enum Show {
     Tables,
     /// Those of the named table.
@@ -14,7 +14,7 @@ pub enum Show {
     Compactions,
 }
 
-#[derive(Clone, Copy, Debug, PartialEq, Eq)]
+#[derive(Clone, Copy)]
 pub enum Transaction {
     /// START TRANSACTION
     Start,
@@ -23,7 +23,7 @@ pub enum Transaction {
 }
 
 /// `SET key = value`
-#[derive(Debug, Drop, PartialEq, Eq)]
+#[derive(Drop)]
 pub struct Setting {
     pub key: Text,
     pub value: Text,
@@ -31,7 +31,7 @@ pub struct Setting {
 
 /// A statement as it is written. The name of a table stands without its `DEFAULT.`, since there
 /// is one database.
-#[derive(Debug, Drop, PartialEq, Eq)]
+#[derive(Drop)]
 pub enum Stmt {
     Query(Query),
     Insert(Insert),

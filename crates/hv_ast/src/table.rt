@@ -4,7 +4,7 @@ use crate::types::TypeName;
 use hv_base::{List, Text};
 
 /// `name type [COMMENT string]`
-#[derive(Debug, Drop, PartialEq, Eq)]
+#[derive(Drop)]
 pub struct ColumnDefinition {
     pub name: Text,
     pub kind: TypeName,
@@ -12,20 +12,20 @@ pub struct ColumnDefinition {
 }
 
 /// `CLUSTERED BY ( columns ) INTO count BUCKETS`
-#[derive(Debug, Drop, PartialEq, Eq)]
+#[derive(Drop)]
 pub struct Clustering {
     pub columns: List<Text>,
     pub count: u64,
 }
 
 /// An item of TBLPROPERTIES: `key = value`
-#[derive(Debug, Drop, PartialEq, Eq)]
+#[derive(Drop)]
 pub struct Property {
     pub key: Text,
     pub value: Text,
 }
 
-#[derive(Debug, Drop, PartialEq, Eq)]
+#[derive(Drop)]
 pub struct CreateTable {
     /// IF NOT EXISTS
     pub if_absent: bool,
@@ -41,7 +41,7 @@ pub struct CreateTable {
     pub properties: List<Property>,
 }
 
-#[derive(Debug, Drop, PartialEq, Eq)]
+#[derive(Drop)]
 pub struct DropTable {
     pub if_exists: bool,
     pub table: Text,
@@ -49,21 +49,21 @@ pub struct DropTable {
 }
 
 /// `ALTER TABLE table ADD COLUMNS ( columns )`
-#[derive(Debug, Drop, PartialEq, Eq)]
+#[derive(Drop)]
 pub struct AddColumns {
     pub table: Text,
     pub columns: List<ColumnDefinition>,
 }
 
 /// The string behind COMPACT, in any case.
-#[derive(Clone, Copy, Debug, PartialEq, Eq)]
+#[derive(Clone, Copy)]
 pub enum CompactionKind {
     Minor,
     Major,
 }
 
 /// `ALTER TABLE table [PARTITION ( items )] COMPACT kind`
-#[derive(Debug, Drop, PartialEq, Eq)]
+#[derive(Drop)]
 pub struct Compact {
     pub table: Text,
     /// Empty without PARTITION.
@@ -72,7 +72,7 @@ pub struct Compact {
 }
 
 /// `CREATE MATERIALIZED VIEW view AS query`
-#[derive(Debug, Drop, PartialEq, Eq)]
+#[derive(Drop)]
 pub struct CreateView {
     pub view: Text,
     pub query: Query,

@@ -1,7 +1,7 @@
 use hv_base::Text;
 
 /// What a token is.
-#[derive(Debug, Drop, PartialEq, Eq)]
+#[derive(Drop)]
 pub enum Lexeme {
     /// A word, in lower case: a keyword or an identifier.
     Word(Text),
@@ -18,7 +18,7 @@ pub enum Lexeme {
 }
 
 /// A token of a text, and the place of its first byte, from 0.
-#[derive(Debug, Drop, PartialEq, Eq)]
+#[derive(Drop)]
 pub struct Token {
     pub what: Lexeme,
     pub at: u64,

@@ -1,5 +1,5 @@
 /// The type of a value that is no array.
-#[derive(Clone, Copy, Debug, PartialEq, Eq)]
+#[derive(Clone, Copy)]
 pub enum ScalarName {
     Boolean,
     /// INT or INTEGER.
@@ -10,7 +10,7 @@ pub enum ScalarName {
 }
 
 /// A type as it is written.
-#[derive(Clone, Copy, Debug, PartialEq, Eq)]
+#[derive(Clone, Copy)]
 pub enum TypeName {
     Scalar(ScalarName),
     /// `ARRAY < scalar >`

@@ -6,4 +6,4 @@ mod taking;
 pub use taking::take;
 
 #[cfg(test)]
-mod tests;
+mod running;

@@ -1,10 +1,9 @@
-//! Which forms run: those that docs/LANGUAGE.md lists first.
+//! Which forms run: those that docs/LANGUAGE.md lists first. Each text here is a statement.
 
-use crate::reading::read;
-use hv_ast::{CreateTable, Stmt, Transaction, is_built};
-use hv_base::{List, NoMemory, Text};
+use hv_ast::discard;
+use hv_base::Text;
+use hv_reading::{TextFault, read_statement, read_text};
 use std::alloc::Global;
-use std::process::Abort;
 use std::test::Fail;
 
 const RUNNING: [&str; 8] = [
@@ -18,7 +17,7 @@ const RUNNING: [&str; 8] = [
     "SELECT * FROM default.t",
 ];
 
-const TABLES: [&str; 13] = [
+const OTHERS: [&str; 50] = [
     "CREATE TABLE t (a INT, a STRING)",
     "CREATE TABLE t (a INT, b INT, a INT)",
     "CREATE TABLE t (a BOOLEAN)",
@@ -32,9 +31,6 @@ const TABLES: [&str; 13] = [
     "CREATE TABLE t (a INT) CLUSTERED BY (a) INTO 4 BUCKETS",
     "CREATE TABLE t (a INT) STORED AS ORC",
     "CREATE TABLE t (a INT) TBLPROPERTIES ('k' = 'v')",
-];
-
-const INSERTS: [&str; 11] = [
     "INSERT OVERWRITE TABLE t VALUES (1)",
     "INSERT INTO t PARTITION (p) VALUES (1)",
     "INSERT INTO t (a) VALUES (1)",
@@ -46,9 +42,6 @@ const INSERTS: [&str; 11] = [
     "INSERT INTO t VALUES (- 1)",
     "INSERT INTO t VALUES (1, a)",
     "INSERT INTO t VALUES (1), (NULL)",
-];
-
-const QUERIES: [&str; 16] = [
     "SELECT DISTINCT * FROM t",
     "SELECT t.* FROM t",
     "SELECT 1 FROM t",
@@ -65,9 +58,6 @@ const QUERIES: [&str; 16] = [
     "SELECT * FROM t ORDER BY a",
     "SELECT * FROM t LIMIT 1",
     "EXPLAIN FORMATTED SELECT * FROM t",
-];
-
-const OTHERS: [&str; 10] = [
     "UPDATE t SET a = 1",
     "DELETE FROM t",
     "MERGE INTO t USING u ON a WHEN MATCHED THEN DELETE",
@@ -80,71 +70,48 @@ const OTHERS: [&str; 10] = [
     "SET k = v",
 ];
 
-/// Each of these statements runs, or none does.
-fn decide(rt: &impl Abort, statements: &[Stmt], runs: bool) {
-    for (place, statement) in statements.iter().enumerate() {
-        assert_eq!(rt; is_built(statement), runs, "{place}");
+/// Whether a statement runs. The error says that the text is none.
+fn runs(alloc: Global, text: &Text) -> Result<bool, TextFault> {
+    match read_text(alloc, text) {
+        Ok(tree) => discard(tree),
+        Err(fault) => return Err(fault),
     }
-}
-
-fn decide_texts(rt: &impl Abort, alloc: Global, texts: &[&str], runs: bool) -> Result<(), Fail> {
-    let statements = read(alloc, texts)?;
-    decide(rt, statements.as_slice(), runs);
-    Ok(())
-}
-
-#[test]
-fn plain_forms_run(rt: HostRuntime) -> Result<(), Fail> {
-    decide_texts(&rt, rt.alloc(), &RUNNING, true)
+    match read_statement(alloc, text) {
+        Ok(tree) => discard(tree),
+        Err(_) => return Ok(false),
+    }
+    Ok(true)
 }
 
 #[test]
-fn other_forms_do_not_run(rt: HostRuntime) -> Result<(), Fail> {
-    for texts in [&TABLES[..], &INSERTS[..], &QUERIES[..], &OTHERS[..]] {
-        decide_texts(&rt, rt.alloc(), texts, false)?;
+fn plain_forms_run_and_no_others(rt: HostRuntime) -> Result<(), Fail> {
+    let alloc = rt.alloc();
+    for (texts, wanted) in [(&RUNNING[..], true), (&OTHERS[..], false)] {
+        for text in texts {
+            let source = Text::of(alloc, text)?;
+            assert_eq!(rt; runs(alloc, &source), Ok(wanted), "{text}");
+        }
     }
     Ok(())
 }
 
 /// CREATE TABLE with this many columns `c0`, `c1` and so on, one at least.
-fn wide(alloc: Global, count: u32) -> Result<String, Fail> {
+fn wide(alloc: Global, count: u32) -> Result<Text, Fail> {
     let mut text = format!(in alloc; "CREATE TABLE t (c0 INT")?;
     for number in 1..count {
         let column = format!(in alloc; ", c{number} INT")?;
         text.push_str(column.as_str())?;
     }
     text.push_str(")")?;
-    Ok(text)
+    Ok(Text::of(alloc, &text)?)
 }
 
 #[test]
 fn tables_of_64_columns_run(rt: HostRuntime) -> Result<(), Fail> {
     let alloc = rt.alloc();
-    for (count, runs) in [(1, true), (64, true), (65, false)] {
-        let text = wide(alloc, count)?;
-        decide_texts(&rt, alloc, &[text.as_str()], runs)?;
+    for (count, wanted) in [(1, true), (64, true), (65, false)] {
+        let source = wide(alloc, count)?;
+        assert_eq!(rt; runs(alloc, &source), Ok(wanted), "{count}");
     }
-    Ok(())
-}
-
-/// CREATE TABLE t (), which no text spells.
-fn bare_table(alloc: Global) -> Result<Stmt, NoMemory> {
-    Ok(Stmt::CreateTable(CreateTable {
-        if_absent: false,
-        table: Text::of(alloc, "t")?,
-        columns: List::empty(alloc),
-        comment: None,
-        partitions: List::empty(alloc),
-        clustering: None,
-        stored: false,
-        properties: List::empty(alloc),
-    }))
-}
-
-#[test]
-fn what_no_text_spells_does_not_run(rt: HostRuntime) -> Result<(), Fail> {
-    let bare = bare_table(rt.alloc())?;
-    let commit = Stmt::Transaction(Transaction::Commit);
-    decide(&rt, &[bare, commit], false);
     Ok(())
 }
