@@ -1,6 +1,7 @@
 -- What a token is to the grammar. The keywords are words of the Hive Language Manual; which of them
 -- are reserved is this project's profile. An identifier between backquotes is never a keyword.
-use Rattle.std.specs.Prelude.{Bool, if◌then◌else◌, List, [], ◌∷◌, codes}
+use Rattle.std.specs.Prelude.{Bool, if◌then◌else◌, List, [], ◌∷◌, ◌++◌, codes}
+use Rattle.std.specs.List.{list_any}
 use Rattle.std.specs.Str.{bytes_eq}
 use denote.Enum.Bare.{sameb}
 use Rattle.hv_ast.specs.declared.token.Lexeme.{Lexeme}
@@ -13,9 +14,9 @@ use Rattle.hv_grammar.specs.declared.kind.Kind.TheVariants as k
 unfoldable pub same_kind : Kind → Kind → Bool
 same_kind = sameb the_type
 
--- the reserved words, and behind them those that are keywords where the grammar names them, and names elsewhere
-unfoldable pub words : List (Text × Kind)
-words =
+-- the reserved words: those that are no identifiers
+unfoldable pub reserved : List (Text × Kind)
+reserved =
     (codes "all", k.All)
     ∷ (codes "alter", k.Alter)
     ∷ (codes "and", k.And)
@@ -78,8 +79,12 @@ words =
     ∷ (codes "values", k.Values)
     ∷ (codes "view", k.View)
     ∷ (codes "when", k.When)
-    ∷ (codes "where", k.Where)
-    ∷ (codes "abort", k.Abort)
+    ∷ (codes "where", k.Where) ∷ []
+
+-- the words that are keywords where the grammar names them, and names elsewhere
+unfoldable pub placed : List (Text × Kind)
+placed =
+    (codes "abort", k.Abort)
     ∷ (codes "asc", k.Asc)
     ∷ (codes "buckets", k.Buckets)
     ∷ (codes "clustered", k.Clustered)
@@ -106,6 +111,9 @@ words =
     ∷ (codes "tables", k.Tables)
     ∷ (codes "tblproperties", k.TblProperties)
     ∷ (codes "transactions", k.Transactions) ∷ []
+
+unfoldable pub words : List (Text × Kind)
+words = reserved ++ placed
 
 unfoldable pub symbols : List (Text × Kind)
 symbols =
@@ -135,8 +143,16 @@ look_up [] other spelling = other
 look_up (row ∷ rows) other spelling =
     if bytes_eq row.0 spelling then row.1 else look_up rows other spelling
 
+-- the kind of a word in lower case
+abbrev pub word_kind : Text → Kind
+word_kind word = look_up words k.Name word
+
+-- a reserved word: no identifier but between backquotes
+abbrev pub is_reserved : Text → Bool
+is_reserved word = list_any (λ row. bytes_eq row.0 word) reserved
+
 unfoldable pub kind_of : Lexeme → Kind
-kind_of (Word word) = look_up words k.Name word
+kind_of (Word word) = word_kind word
 kind_of (Quoted name) = k.Name
 kind_of (Int number) = k.Number
 kind_of (Big number) = k.Number

@@ -6,7 +6,7 @@ ghost use Rattle.hv_grammar.specs.Kinds as spec;
 use hv_ast::Lexeme;
 
 /// What a token is to the grammar: a keyword, a symbol, or one that holds a name or a value.
-#[derive(Clone, Copy, Debug, PartialEq, Eq)]
+#[derive(Clone, Copy, PartialEq, Eq)]
 pub enum Kind {
     // Keywords.
     All,
@@ -129,471 +129,143 @@ pub enum Kind {
     Nothing,
 }
 
-/// The spelling of a keyword or a symbol.
-struct Row {
-    spelling: &'static str,
-    kind: Kind,
-}
+/// A keyword or a symbol: how it is spelled, and its kind.
+struct Row(&'static str, Kind);
 
-const WORDS: [Row; 90] = [
-    Row {
-        spelling: "all",
-        kind: Kind::All,
-    },
-    Row {
-        spelling: "alter",
-        kind: Kind::Alter,
-    },
-    Row {
-        spelling: "and",
-        kind: Kind::And,
-    },
-    Row {
-        spelling: "array",
-        kind: Kind::Array,
-    },
-    Row {
-        spelling: "as",
-        kind: Kind::As,
-    },
-    Row {
-        spelling: "between",
-        kind: Kind::Between,
-    },
-    Row {
-        spelling: "bigint",
-        kind: Kind::BigInt,
-    },
-    Row {
-        spelling: "boolean",
-        kind: Kind::Boolean,
-    },
-    Row {
-        spelling: "by",
-        kind: Kind::By,
-    },
-    Row {
-        spelling: "case",
-        kind: Kind::Case,
-    },
-    Row {
-        spelling: "cast",
-        kind: Kind::Cast,
-    },
-    Row {
-        spelling: "create",
-        kind: Kind::Create,
-    },
-    Row {
-        spelling: "cross",
-        kind: Kind::Cross,
-    },
-    Row {
-        spelling: "date",
-        kind: Kind::Date,
-    },
-    Row {
-        spelling: "delete",
-        kind: Kind::Delete,
-    },
-    Row {
-        spelling: "describe",
-        kind: Kind::Describe,
-    },
-    Row {
-        spelling: "distinct",
-        kind: Kind::Distinct,
-    },
-    Row {
-        spelling: "div",
-        kind: Kind::Div,
-    },
-    Row {
-        spelling: "drop",
-        kind: Kind::Drop,
-    },
-    Row {
-        spelling: "else",
-        kind: Kind::Else,
-    },
-    Row {
-        spelling: "end",
-        kind: Kind::End,
-    },
-    Row {
-        spelling: "exists",
-        kind: Kind::Exists,
-    },
-    Row {
-        spelling: "false",
-        kind: Kind::False,
-    },
-    Row {
-        spelling: "from",
-        kind: Kind::From,
-    },
-    Row {
-        spelling: "full",
-        kind: Kind::Full,
-    },
-    Row {
-        spelling: "group",
-        kind: Kind::Group,
-    },
-    Row {
-        spelling: "having",
-        kind: Kind::Having,
-    },
-    Row {
-        spelling: "if",
-        kind: Kind::If,
-    },
-    Row {
-        spelling: "in",
-        kind: Kind::In,
-    },
-    Row {
-        spelling: "inner",
-        kind: Kind::Inner,
-    },
-    Row {
-        spelling: "insert",
-        kind: Kind::Insert,
-    },
-    Row {
-        spelling: "int",
-        kind: Kind::Int,
-    },
-    Row {
-        spelling: "integer",
-        kind: Kind::Int,
-    },
-    Row {
-        spelling: "into",
-        kind: Kind::Into,
-    },
-    Row {
-        spelling: "is",
-        kind: Kind::Is,
-    },
-    Row {
-        spelling: "join",
-        kind: Kind::Join,
-    },
-    Row {
-        spelling: "lateral",
-        kind: Kind::Lateral,
-    },
-    Row {
-        spelling: "left",
-        kind: Kind::Left,
-    },
-    Row {
-        spelling: "like",
-        kind: Kind::Like,
-    },
-    Row {
-        spelling: "limit",
-        kind: Kind::Limit,
-    },
-    Row {
-        spelling: "merge",
-        kind: Kind::Merge,
-    },
-    Row {
-        spelling: "not",
-        kind: Kind::Not,
-    },
-    Row {
-        spelling: "null",
-        kind: Kind::Null,
-    },
-    Row {
-        spelling: "on",
-        kind: Kind::On,
-    },
-    Row {
-        spelling: "or",
-        kind: Kind::Or,
-    },
-    Row {
-        spelling: "order",
-        kind: Kind::Order,
-    },
-    Row {
-        spelling: "outer",
-        kind: Kind::Outer,
-    },
-    Row {
-        spelling: "overwrite",
-        kind: Kind::Overwrite,
-    },
-    Row {
-        spelling: "partition",
-        kind: Kind::Partition,
-    },
-    Row {
-        spelling: "right",
-        kind: Kind::Right,
-    },
-    Row {
-        spelling: "select",
-        kind: Kind::Select,
-    },
-    Row {
-        spelling: "set",
-        kind: Kind::Set,
-    },
-    Row {
-        spelling: "table",
-        kind: Kind::Table,
-    },
-    Row {
-        spelling: "then",
-        kind: Kind::Then,
-    },
-    Row {
-        spelling: "true",
-        kind: Kind::True,
-    },
-    Row {
-        spelling: "truncate",
-        kind: Kind::Truncate,
-    },
-    Row {
-        spelling: "union",
-        kind: Kind::Union,
-    },
-    Row {
-        spelling: "update",
-        kind: Kind::Update,
-    },
-    Row {
-        spelling: "using",
-        kind: Kind::Using,
-    },
-    Row {
-        spelling: "values",
-        kind: Kind::Values,
-    },
-    Row {
-        spelling: "view",
-        kind: Kind::View,
-    },
-    Row {
-        spelling: "when",
-        kind: Kind::When,
-    },
-    Row {
-        spelling: "where",
-        kind: Kind::Where,
-    },
-    Row {
-        spelling: "abort",
-        kind: Kind::Abort,
-    },
-    Row {
-        spelling: "asc",
-        kind: Kind::Asc,
-    },
-    Row {
-        spelling: "buckets",
-        kind: Kind::Buckets,
-    },
-    Row {
-        spelling: "clustered",
-        kind: Kind::Clustered,
-    },
-    Row {
-        spelling: "comment",
-        kind: Kind::Comment,
-    },
-    Row {
-        spelling: "compact",
-        kind: Kind::Compact,
-    },
-    Row {
-        spelling: "compactions",
-        kind: Kind::Compactions,
-    },
-    Row {
-        spelling: "count",
-        kind: Kind::Count,
-    },
-    Row {
-        spelling: "default",
-        kind: Kind::Default,
-    },
-    Row {
-        spelling: "desc",
-        kind: Kind::Desc,
-    },
-    Row {
-        spelling: "explain",
-        kind: Kind::Explain,
-    },
-    Row {
-        spelling: "explode",
-        kind: Kind::Explode,
-    },
-    Row {
-        spelling: "formatted",
-        kind: Kind::Formatted,
-    },
-    Row {
-        spelling: "locks",
-        kind: Kind::Locks,
-    },
-    Row {
-        spelling: "matched",
-        kind: Kind::Matched,
-    },
-    Row {
-        spelling: "orc",
-        kind: Kind::Orc,
-    },
-    Row {
-        spelling: "partitioned",
-        kind: Kind::Partitioned,
-    },
-    Row {
-        spelling: "partitions",
-        kind: Kind::Partitions,
-    },
-    Row {
-        spelling: "posexplode",
-        kind: Kind::PosExplode,
-    },
-    Row {
-        spelling: "purge",
-        kind: Kind::Purge,
-    },
-    Row {
-        spelling: "semi",
-        kind: Kind::Semi,
-    },
-    Row {
-        spelling: "show",
-        kind: Kind::Show,
-    },
-    Row {
-        spelling: "stored",
-        kind: Kind::Stored,
-    },
-    Row {
-        spelling: "string",
-        kind: Kind::String,
-    },
-    Row {
-        spelling: "tables",
-        kind: Kind::Tables,
-    },
-    Row {
-        spelling: "tblproperties",
-        kind: Kind::TblProperties,
-    },
-    Row {
-        spelling: "transactions",
-        kind: Kind::Transactions,
-    },
+/// The reserved words, and behind them those that are keywords by their place alone.
+static WORDS: [Row; 90] = [
+    Row("all", Kind::All),
+    Row("alter", Kind::Alter),
+    Row("and", Kind::And),
+    Row("array", Kind::Array),
+    Row("as", Kind::As),
+    Row("between", Kind::Between),
+    Row("bigint", Kind::BigInt),
+    Row("boolean", Kind::Boolean),
+    Row("by", Kind::By),
+    Row("case", Kind::Case),
+    Row("cast", Kind::Cast),
+    Row("create", Kind::Create),
+    Row("cross", Kind::Cross),
+    Row("date", Kind::Date),
+    Row("delete", Kind::Delete),
+    Row("describe", Kind::Describe),
+    Row("distinct", Kind::Distinct),
+    Row("div", Kind::Div),
+    Row("drop", Kind::Drop),
+    Row("else", Kind::Else),
+    Row("end", Kind::End),
+    Row("exists", Kind::Exists),
+    Row("false", Kind::False),
+    Row("from", Kind::From),
+    Row("full", Kind::Full),
+    Row("group", Kind::Group),
+    Row("having", Kind::Having),
+    Row("if", Kind::If),
+    Row("in", Kind::In),
+    Row("inner", Kind::Inner),
+    Row("insert", Kind::Insert),
+    Row("int", Kind::Int),
+    Row("integer", Kind::Int),
+    Row("into", Kind::Into),
+    Row("is", Kind::Is),
+    Row("join", Kind::Join),
+    Row("lateral", Kind::Lateral),
+    Row("left", Kind::Left),
+    Row("like", Kind::Like),
+    Row("limit", Kind::Limit),
+    Row("merge", Kind::Merge),
+    Row("not", Kind::Not),
+    Row("null", Kind::Null),
+    Row("on", Kind::On),
+    Row("or", Kind::Or),
+    Row("order", Kind::Order),
+    Row("outer", Kind::Outer),
+    Row("overwrite", Kind::Overwrite),
+    Row("partition", Kind::Partition),
+    Row("right", Kind::Right),
+    Row("select", Kind::Select),
+    Row("set", Kind::Set),
+    Row("table", Kind::Table),
+    Row("then", Kind::Then),
+    Row("true", Kind::True),
+    Row("truncate", Kind::Truncate),
+    Row("union", Kind::Union),
+    Row("update", Kind::Update),
+    Row("using", Kind::Using),
+    Row("values", Kind::Values),
+    Row("view", Kind::View),
+    Row("when", Kind::When),
+    Row("where", Kind::Where),
+    Row("abort", Kind::Abort),
+    Row("asc", Kind::Asc),
+    Row("buckets", Kind::Buckets),
+    Row("clustered", Kind::Clustered),
+    Row("comment", Kind::Comment),
+    Row("compact", Kind::Compact),
+    Row("compactions", Kind::Compactions),
+    Row("count", Kind::Count),
+    Row("default", Kind::Default),
+    Row("desc", Kind::Desc),
+    Row("explain", Kind::Explain),
+    Row("explode", Kind::Explode),
+    Row("formatted", Kind::Formatted),
+    Row("locks", Kind::Locks),
+    Row("matched", Kind::Matched),
+    Row("orc", Kind::Orc),
+    Row("partitioned", Kind::Partitioned),
+    Row("partitions", Kind::Partitions),
+    Row("posexplode", Kind::PosExplode),
+    Row("purge", Kind::Purge),
+    Row("semi", Kind::Semi),
+    Row("show", Kind::Show),
+    Row("stored", Kind::Stored),
+    Row("string", Kind::String),
+    Row("tables", Kind::Tables),
+    Row("tblproperties", Kind::TblProperties),
+    Row("transactions", Kind::Transactions),
 ];
 
-const SYMBOLS: [Row; 19] = [
-    Row {
-        spelling: "(",
-        kind: Kind::Open,
-    },
-    Row {
-        spelling: ")",
-        kind: Kind::Close,
-    },
-    Row {
-        spelling: "[",
-        kind: Kind::OpenIndex,
-    },
-    Row {
-        spelling: "]",
-        kind: Kind::CloseIndex,
-    },
-    Row {
-        spelling: ",",
-        kind: Kind::Comma,
-    },
-    Row {
-        spelling: ".",
-        kind: Kind::Dot,
-    },
-    Row {
-        spelling: "*",
-        kind: Kind::Star,
-    },
-    Row {
-        spelling: "+",
-        kind: Kind::Plus,
-    },
-    Row {
-        spelling: "-",
-        kind: Kind::Minus,
-    },
-    Row {
-        spelling: "%",
-        kind: Kind::Percent,
-    },
-    Row {
-        spelling: "=",
-        kind: Kind::Equal,
-    },
-    Row {
-        spelling: "==",
-        kind: Kind::EqualTwice,
-    },
-    Row {
-        spelling: "<>",
-        kind: Kind::Unequal,
-    },
-    Row {
-        spelling: "!=",
-        kind: Kind::Unequal,
-    },
-    Row {
-        spelling: "<",
-        kind: Kind::Less,
-    },
-    Row {
-        spelling: "<=",
-        kind: Kind::AtMost,
-    },
-    Row {
-        spelling: ">",
-        kind: Kind::Greater,
-    },
-    Row {
-        spelling: ">=",
-        kind: Kind::AtLeast,
-    },
-    Row {
-        spelling: "<=>",
-        kind: Kind::NullSafeEqual,
-    },
+static SYMBOLS: [Row; 19] = [
+    Row("(", Kind::Open),
+    Row(")", Kind::Close),
+    Row("[", Kind::OpenIndex),
+    Row("]", Kind::CloseIndex),
+    Row(",", Kind::Comma),
+    Row(".", Kind::Dot),
+    Row("*", Kind::Star),
+    Row("+", Kind::Plus),
+    Row("-", Kind::Minus),
+    Row("%", Kind::Percent),
+    Row("=", Kind::Equal),
+    Row("==", Kind::EqualTwice),
+    Row("<>", Kind::Unequal),
+    Row("!=", Kind::Unequal),
+    Row("<", Kind::Less),
+    Row("<=", Kind::AtMost),
+    Row(">", Kind::Greater),
+    Row(">=", Kind::AtLeast),
+    Row("<=>", Kind::NullSafeEqual),
 ];
 
 /// The kind in the first row of this spelling, and `other` where there is none.
 fn look_up(rows: &[Row], other: Kind, spelling: &str) -> Kind
-    ensures { result ≡ spec.look_up (map (λ row. (row.spelling.now, row.kind)) rows.now)
+    ensures { result ≡ spec.look_up (map (λ row. (row.0.now, row.1)) rows.now)
         other spelling.now }
 {
     let mut rest = rows;
     while let [row, behind @ ..] = rest {
-        if row.spelling == spelling {
-            return row.kind;
+        if row.0 == spelling {
+            return row.1;
         }
         rest = behind;
     }
     other
 }
 
-fn word_kind(word: &str) -> Kind
-    ensures { result ≡ spec.look_up spec.words Kind.Name word.now }
+/// The kind of a word, by its spelling in lower case.
+pub fn word_kind(word: &str) -> Kind
+    ensures { result ≡ spec.word_kind word.now }
 {
     look_up(&WORDS, Kind::Name, word)
 }

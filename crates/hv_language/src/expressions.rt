@@ -1,14 +1,15 @@
 //! Texts with the place behind their expression, or their fault, worked out by hand. Their trees
 //! are laws of hv_grammar.
 
+use hv_ast::{Delete, Expr, Stmt, discard};
 use hv_base::Text;
 use hv_lex::lex;
 use hv_parse_expr::{ParseFault, parse_expr};
-use std::alloc::Global;
+use std::alloc::{AllocError, Global};
 use std::test::Fail;
 
 /// Each text, and the number of the token behind its expression, or its fault.
-const CASES: [(&str, &str); 56] = [
+static CASES: [(&str, &str); 56] = [
     ("", "syntax"),
     ("1", "1"),
     ("7L", "1"),
@@ -67,63 +68,97 @@ const CASES: [(&str, &str); 56] = [
     (") a", "syntax"),
 ];
 
-fn show(alloc: Global, text: &Text) -> Result<String, Fail> {
-    let tokens = lex(alloc, text)?;
-    match parse_expr(&tokens, 0, alloc) {
-        Ok((_tree, behind)) => Ok(format!(in alloc; "{behind}")?),
-        Err(ParseFault::Nesting { at }) => Ok(format!(in alloc; "nesting at {at}")?),
-        Err(ParseFault::Syntax) => Ok(format!(in alloc; "syntax")?),
-        Err(ParseFault::NoMemory) => Ok(format!(in alloc; "no memory")?),
+/// What was read, as the tables write it. The tree is let go of in a statement, as hv_ast alone drops one.
+fn shown(
+    alloc: Global,
+    table: Text,
+    read: Result<(Expr, usize), ParseFault>,
+) -> Result<String, AllocError> {
+    match read {
+        Ok((tree, behind)) => {
+            let filter = Some(tree);
+            discard(Stmt::Delete(Delete { table, filter }));
+            format!(in alloc; "{behind}")
+        }
+        Err(fault) => format!(in alloc; "{fault}"),
     }
+}
+
+fn show(alloc: Global, text: &str) -> Result<String, Fail> {
+    let tokens = lex(alloc, &Text::of(alloc, text)?)?;
+    let table = Text::of(alloc, "t")?;
+    Ok(shown(alloc, table, parse_expr(&tokens, 0, alloc))?)
+}
+
+fn is_read(alloc: Global, text: &str, want: &str) -> Result<bool, Fail> {
+    let shown = show(alloc, text)?;
+    Ok(shown.as_str() == want)
 }
 
 #[test]
 fn reads_texts(rt: HostRuntime) -> Result<(), Fail> {
-    for (text, want) in CASES {
-        let shown = show(rt.alloc(), &Text::of(rt.alloc(), text)?)?;
-        assert_eq!(rt; shown.as_str(), want, "of {text}");
+    for (text, want) in &CASES {
+        assert!(rt; is_read(rt.alloc(), text, want)?, "{text}");
+    }
+    Ok(())
+}
+
+fn push_times(text: &mut String, part: &str, count: u32) -> Result<(), AllocError> {
+    for _turn in 0..count {
+        text.push_str(part)?;
     }
     Ok(())
 }
 
 /// `count` times one text, another, and `count` times a third.
-fn nested(alloc: Global, open: &str, count: u32, inner: &str, close: &str) -> Result<Text, Fail> {
+pub fn nested(
+    alloc: Global,
+    open: &str,
+    count: u32,
+    inner: &str,
+    close: &str,
+) -> Result<String, AllocError> {
     let mut text = String::new(alloc);
-    for _ in 0..count {
-        text.push_str(open)?;
-    }
+    push_times(&mut text, open, count)?;
     text.push_str(inner)?;
-    for _ in 0..count {
-        text.push_str(close)?;
-    }
-    Ok(Text::of(alloc, &text)?)
+    push_times(&mut text, close, count)?;
+    Ok(text)
+}
+
+/// A text of parts that nest: its opening part, how often it stands, what stands inside, its closing
+/// part; and the number of the token behind its expression, or its fault.
+type Nest = (&'static str, u32, &'static str, &'static str, &'static str);
+
+/// Texts of 64 and of 65 levels, and of 32 KB.
+static NESTED: [Nest; 10] = [
+    ("(", 64, "1", ")", "129"),
+    ("(", 65, "1", ")", "nested too deep at 64"),
+    ("a[", 64, "1", "]", "193"),
+    ("a[", 65, "1", "]", "nested too deep at 129"),
+    ("f(", 64, "1", ")", "193"),
+    ("f(", 65, "1", ")", "nested too deep at 129"),
+    ("case when 1 then ", 64, "1", " end", "321"),
+    (
+        "case when 1 then ",
+        65,
+        "1",
+        " end",
+        "nested too deep at 1088",
+    ),
+    ("1+", 16_383, "10", "", "32767"),
+    ("(1)+", 8_000, "1", "", "32001"),
+];
+
+fn is_nested(alloc: Global, nest: &Nest) -> Result<bool, Fail> {
+    let (open, count, inner, close, want) = *nest;
+    let text = nested(alloc, open, count, inner, close)?;
+    is_read(alloc, text.as_str(), want)
 }
 
 #[test]
 fn takes_64_levels(rt: HostRuntime) -> Result<(), Fail> {
-    let alloc = rt.alloc();
-    let brackets = [
-        ("(", ")", "129", "nesting at 64"),
-        ("a[", "]", "193", "nesting at 129"),
-        ("f(", ")", "193", "nesting at 129"),
-        ("case when 1 then ", " end", "321", "nesting at 1088"),
-    ];
-    for (open, close, fits, over) in brackets {
-        let shown = show(alloc, &nested(alloc, open, 64, "1", close)?)?;
-        assert_eq!(rt; shown.as_str(), fits, "64 of {open}");
-        let shown = show(alloc, &nested(alloc, open, 65, "1", close)?)?;
-        assert_eq!(rt; shown.as_str(), over, "65 of {open}");
+    for nest in &NESTED {
+        assert!(rt; is_nested(rt.alloc(), nest)?, "{} of {}", nest.1, nest.0);
     }
-    Ok(())
-}
-
-#[test]
-fn reads_long_texts(rt: HostRuntime) -> Result<(), Fail> {
-    let alloc = rt.alloc();
-    let longest = nested(alloc, "1+", 16_383, "10", "")?;
-    assert_eq!(rt; longest.len(), 32_768);
-    assert_eq!(rt; show(alloc, &longest)?.as_str(), "32767");
-    let brackets = nested(alloc, "(1)+", 8_000, "1", "")?;
-    assert_eq!(rt; show(alloc, &brackets)?.as_str(), "32001");
     Ok(())
 }

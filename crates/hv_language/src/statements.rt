@@ -1,14 +1,17 @@
 //! Texts that are statements or none, worked out by hand. Their trees are laws of hv_grammar.
 
-use hv_ast::Stmt;
+use crate::expressions::nested;
+use hv_ast::{Stmt, discard};
 use hv_base::Text;
 use hv_lex::lex;
 use hv_parse_expr::ParseFault;
 use hv_parse_stmt::{is_set, parse_set, parse_stmt};
-use std::alloc::Global;
+use std::alloc::{AllocError, Global};
 use std::test::Fail;
 
-const OTHERS: [(&str, &str); 27] = [
+/// Each text, and `ok` for a statement, or its fault.
+static CASES: [(&str, &str); 69] = [
+    // Queries, and what is asked.
     ("", "syntax"),
     ("set a = b", "syntax"),
     ("select 1", "ok"),
@@ -42,9 +45,7 @@ const OTHERS: [(&str, &str); 27] = [
     ("explain select 1", "syntax"),
     ("explain formatted delete from t", "syntax"),
     ("explain formatted select 1 formatted", "ok"),
-];
-
-const TABLES: [(&str, &str); 18] = [
+    // Tables.
     ("create table t (a int)", "ok"),
     (
         "create table if not exists default.t (a int comment 'x', b array<string>) comment 'y' \
@@ -71,9 +72,7 @@ const TABLES: [(&str, &str); 18] = [
     ("truncate t", "ok"),
     ("truncate table t partition (a = 1, b)", "ok"),
     ("truncate table t partition ()", "syntax"),
-];
-
-const CHANGES: [(&str, &str); 23] = [
+    // Changes.
     ("insert into t values (1)", "ok"),
     (
         "insert into table default.t partition (a = 1, b) (c, d) values (1, 2), (3, 4)",
@@ -104,6 +103,10 @@ const CHANGES: [(&str, &str); 23] = [
         "merge into t using (select 1) u on true when not matched then insert values (1)",
         "ok",
     ),
+    (
+        "merge into default.t as u using (select b from v) as w on a = 1 when matched then delete",
+        "ok",
+    ),
     ("merge into t using u on true", "syntax"),
     (
         "merge into t using u on true when matched then insert values (1)",
@@ -120,72 +123,54 @@ const CHANGES: [(&str, &str); 23] = [
     ),
 ];
 
-fn show(alloc: Global, text: &Text) -> Result<String, Fail> {
-    let tokens = lex(alloc, text)?;
-    match parse_stmt(&tokens, alloc) {
-        Ok(_tree) => Ok(format!(in alloc; "ok")?),
-        Err(ParseFault::Nesting { at }) => Ok(format!(in alloc; "nesting at {at}")?),
-        Err(ParseFault::Syntax) => Ok(format!(in alloc; "syntax")?),
-        Err(ParseFault::NoMemory) => Ok(format!(in alloc; "no memory")?),
+fn shown(alloc: Global, read: Result<Stmt, ParseFault>) -> Result<String, AllocError> {
+    match read {
+        Ok(tree) => {
+            discard(tree);
+            format!(in alloc; "ok")
+        }
+        Err(fault) => format!(in alloc; "{fault}"),
     }
+}
+
+fn show(alloc: Global, text: &str) -> Result<String, Fail> {
+    let tokens = lex(alloc, &Text::of(alloc, text)?)?;
+    Ok(shown(alloc, parse_stmt(&tokens, alloc))?)
+}
+
+fn is_read(alloc: Global, text: &str, want: &str) -> Result<bool, Fail> {
+    let shown = show(alloc, text)?;
+    Ok(shown.as_str() == want)
 }
 
 #[test]
 fn reads_statements(rt: HostRuntime) -> Result<(), Fail> {
-    let alloc = rt.alloc();
-    for (text, want) in OTHERS {
-        let shown = show(alloc, &Text::of(alloc, text)?)?;
-        assert_eq!(rt; shown.as_str(), want, "of {text}");
+    for (text, want) in &CASES {
+        assert!(rt; is_read(rt.alloc(), text, want)?, "{text}");
     }
     Ok(())
 }
 
-#[test]
-fn reads_tables(rt: HostRuntime) -> Result<(), Fail> {
-    let alloc = rt.alloc();
-    for (text, want) in TABLES {
-        let shown = show(alloc, &Text::of(alloc, text)?)?;
-        assert_eq!(rt; shown.as_str(), want, "of {text}");
-    }
-    Ok(())
+/// `select`, and a number inside so many brackets.
+fn bracketed(alloc: Global, levels: u32) -> Result<String, AllocError> {
+    let inner = nested(alloc, "(", levels, "1", ")")?;
+    format!(in alloc; "select {inner}")
 }
 
-#[test]
-fn reads_changes(rt: HostRuntime) -> Result<(), Fail> {
-    let alloc = rt.alloc();
-    for (text, want) in CHANGES {
-        let shown = show(alloc, &Text::of(alloc, text)?)?;
-        assert_eq!(rt; shown.as_str(), want, "of {text}");
-    }
-    Ok(())
-}
-
-/// A query with `levels` of brackets.
-fn nested(alloc: Global, levels: u32) -> Result<Text, Fail> {
-    let mut text = String::new(alloc);
-    text.push_str("select ")?;
-    for _ in 0..levels {
-        text.push_str("(")?;
-    }
-    text.push_str("1")?;
-    for _ in 0..levels {
-        text.push_str(")")?;
-    }
-    Ok(Text::of(alloc, &text)?)
+fn is_nested(alloc: Global, levels: u32, want: &str) -> Result<bool, Fail> {
+    let text = bracketed(alloc, levels)?;
+    is_read(alloc, text.as_str(), want)
 }
 
 #[test]
 fn takes_64_levels(rt: HostRuntime) -> Result<(), Fail> {
-    let alloc = rt.alloc();
-    for (levels, want) in [(64, "ok"), (65, "nesting at 71")] {
-        let shown = show(alloc, &nested(alloc, levels)?)?;
-        assert_eq!(rt; shown.as_str(), want, "of {levels}");
-    }
+    assert!(rt; is_nested(rt.alloc(), 64, "ok")?);
+    assert!(rt; is_nested(rt.alloc(), 65, "nested too deep at 71")?);
     Ok(())
 }
 
 /// Each text, whether its first word is SET, and its key and value.
-const SETTINGS: [(&str, &str); 9] = [
+static SETTINGS: [(&str, &str); 9] = [
     ("SET a=b", "true [a] [b]"),
     ("set  a.b = c d ;x", "true [a.b] [c d ;x]"),
     ("SET A = 'x' = y --z ", "true [A] ['x' = y --z]"),
@@ -197,25 +182,32 @@ const SETTINGS: [(&str, &str); 9] = [
     ("", "false syntax"),
 ];
 
-fn show_setting(alloc: Global, text: &Text) -> Result<String, Fail> {
-    let is_set = is_set(text);
-    match parse_set(text, alloc) {
-        Ok(Stmt::Set(found)) => Ok(format!(in alloc;
-            "{is_set} [{}] [{}]",
-            found.key, found.value
-        )?),
-        Ok(_other) => Ok(format!(in alloc; "{is_set} another statement")?),
-        Err(ParseFault::Syntax) => Ok(format!(in alloc; "{is_set} syntax")?),
-        Err(fault) => Ok(format!(in alloc; "{is_set} {fault}")?),
+/// What was read. Another statement, which none of these is, is let go of.
+fn shown_setting(
+    alloc: Global,
+    is_set: bool,
+    read: Result<Stmt, ParseFault>,
+) -> Result<String, AllocError> {
+    match read {
+        Ok(Stmt::Set(found)) => format!(in alloc; "{is_set} [{}] [{}]", found.key, found.value),
+        Ok(other) => {
+            discard(other);
+            format!(in alloc; "{is_set} another statement")
+        }
+        Err(fault) => format!(in alloc; "{is_set} {fault}"),
     }
+}
+
+fn is_read_setting(alloc: Global, text: &str, want: &str) -> Result<bool, Fail> {
+    let text = Text::of(alloc, text)?;
+    let shown = shown_setting(alloc, is_set(&text), parse_set(&text, alloc))?;
+    Ok(shown.as_str() == want)
 }
 
 #[test]
 fn reads_settings(rt: HostRuntime) -> Result<(), Fail> {
-    let alloc = rt.alloc();
-    for (text, want) in SETTINGS {
-        let shown = show_setting(alloc, &Text::of(alloc, text)?)?;
-        assert_eq!(rt; shown.as_str(), want, "of {text}");
+    for (text, want) in &SETTINGS {
+        assert!(rt; is_read_setting(rt.alloc(), text, want)?, "{text}");
     }
     Ok(())
 }

@@ -1,14 +1,12 @@
 -- Numbers: digits, their value, and the mark behind them.
-use Rattle.std.proofs.Common.{◌≡◌, ℕ, ◌+◌, ◌*◌, ◌^◌, ◌<◌, ◌≤◌, Bool, true, false, cond, pos, List, [], ◌∷◌, take, drop, length, get_or, nat_le, nat_lt, arith, rules, refl, sym, ◌∙◌, subst, ap}
+use Rattle.std.proofs.Common.{◌≡◌, ℕ, ◌+◌, ◌*◌, ◌<◌, ◌≤◌, Bool, true, false, cond, [], ◌∷◌, take, drop, length, get_or, arith, rules, refl, sym, subst}
 use Rattle.std.proofs.lemmas.Bool.Decides.{nat_tests}
 use Rattle.std.specs.List.{prefix_len, take_while}
 use Rattle.std.proofs.lemmas.List.Sums.{take_while-cons}
 use Rattle.std.specs.Char.{is_ascii_digit, digit_value}
-use Rattle.std.specs.Str.Parse.{AllDigits, digits_value, digits_value_after}
+use Rattle.std.specs.Str.Parse.{AllDigits, digits_value_after}
 use Rattle.std.proofs.lemmas.List.{drop_more}
-use Rattle.std.proofs.lemmas.Str.{digit_value_digit}
-use Rattle.hv_ast.specs.Tokens.{Text, Front, fault, wide_number, number, number_of, lone, first_is, is_big_mark}
-use Rattle.hv_ast.specs.declared.token.Lexeme.TheVariants.{Big}
+use Rattle.hv_ast.specs.Tokens.{Text}
 
 -- further digits make no number smaller
 pub value_grows : (n : ℕ) (digits : Text) → n ≤ digits_value_after 10 n digits

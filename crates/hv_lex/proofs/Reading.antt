@@ -1,8 +1,8 @@
 -- A text is read from the left, one front after the other.
-use Rattle.std.proofs.Common.{◌≡◌, ℕ, ◌+◌, ◌-◌, ◌<◌, ◌≤◌, get_or, Option, Some, None, Result, Ok, Err, List, [], ◌∷◌, ◌++◌, take, drop, length, arith, rules, refl, sym, ◌∙◌, subst, ap, append_assoc}
+use Rattle.std.proofs.Common.{◌≡◌, ℕ, ◌+◌, ◌-◌, ◌<◌, ◌≤◌, get_or, Option, Some, None, Ok, Err, List, [], ◌∷◌, ◌++◌, take, drop, length, arith, refl, sym, ◌∙◌, subst, ap, append_assoc}
 use Rattle.hv_ast.specs.declared.token.Lexeme.{Lexeme}
 use Rattle.hv_ast.specs.declared.token.Token.{Token}
-use Rattle.hv_ast.specs.Tokens.{Text, Fault, Tokens, Front, fault, front, after_token, tokens_from, tokens_of}
+use Rattle.hv_ast.specs.Tokens.{Text, Fault, Tokens, fault, front, after_token, tokens_from, tokens_of}
 use Rattle.hv_ast.proofs.Fronts.{tokens_gap, tokens_token, tokens_fault, LiesWithin, front_within}
 use Rattle.hv_lex.specs.Lexed.{front_of, kept}
 use Rattle.std.specs.Prelude.{slice_index}

@@ -5,12 +5,10 @@ mod fault;
 mod fronts;
 mod numbers;
 mod pieces;
-mod reserved;
 mod strings;
 mod symbols;
 mod tokens;
 mod words;
 
 pub use fault::LexFault;
-pub use reserved::is_reserved;
 pub use tokens::lex;

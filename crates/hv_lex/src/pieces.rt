@@ -3,7 +3,7 @@ ghost use Rattle.std.specs.Prelude.{◌≡◌, Some, None};
 use hv_ast::Lexeme;
 
 /// What a text begins with, and its length in bytes.
-#[derive(Debug, Drop)]
+#[derive(Drop)]
 pub struct Piece {
     /// The token, or None for a space or a comment.
     pub what: Option<Lexeme>,

@@ -1,5 +1,5 @@
 -- What the first token of a rule may be, and what may stand behind a rule.
-use Rattle.std.proofs.Common.{◌≡◌, ◌⊎◌, inl, inr, ℕ, Bool, true, false, cond, Option, Some, None, List, nat_lt, nat_le, sym, ap, rules, arith, ◌∙◌}
+use Rattle.std.proofs.Common.{◌≡◌, ◌⊎◌, inl, inr, ℕ, Bool, true, false, cond, Option, Some, None, List, nat_lt, nat_le, sym, ap, rules, ◌∙◌}
 use denote.Enum.Bare.{true_same, false_same}
 use Rattle.hv_ast.specs.declared.token.Token.{Token}
 use Rattle.hv_grammar.specs.contracts.kind.Kind.{the_type}
@@ -11,6 +11,7 @@ use Rattle.hv_grammar.specs.Rules.{Rule, word, many, flag, one_of}
 use Rattle.hv_grammar.specs.Readers.{kind_at, next, sees}
 use Rattle.hv_grammar.specs.Choices.{binds}
 use Rattle.hv_grammar.specs.Choices as c
+use Rattle.hv_parse_expr.proofs.Below.{Below, Without, differ, lower, below_at}
 
 -- ---- kinds that are seen or not
 
@@ -34,13 +35,7 @@ is_not_seen kind tokens e = false_same the_type (search rules) (kind_at tokens) 
 
 -- the token behind binds less tightly than this
 abbrev pub Stop : ℕ → List Token → Type 0
-Stop level to = nat_lt (binds (kind_at to)) level ≡ true
-
-less_of : (a b c : ℕ) → nat_lt a b ≡ true → nat_le b c ≡ true → nat_lt a c ≡ true
-less_of a b c one two = grind arith
-
-pub weaker : (low high : ℕ) (to : List Token) → nat_le low high ≡ true → Stop low to → Stop high to
-weaker low high to le stop = less_of (binds (kind_at to)) low high stop le
+Stop level to = Below binds level to
 
 -- ---- what a rule begins with
 
@@ -85,9 +80,6 @@ begins_word {level = level} kind e = record { begins = λ a from to s. ap (λ z.
 pub record Avoids {A : Type 0} (S : List Token → Type 0) (kind : Kind) (p : Rule A) : Type 0 where
   pub avoids : (a : A) (from to : List Token) → p a from to → S to → kind_at from ≡ kind → ⊥
 
-differ : (m n : ℕ) → nat_lt m n ≡ true → nat_le n m ≡ true → ⊥
-differ m n one two = grind arith
-
 pub avoids_begins : {A : Type 0} {S : List Token → Type 0} {level : ℕ} {p : Rule A} (kind : Kind) → Begins level p → nat_lt (starts kind) level ≡ true → Avoids S kind p
 avoids_begins {level = level} kind P low = record {
   avoids = λ a from to s stop e.
@@ -128,7 +120,7 @@ follows_word level kind e = record { follows = λ a b from to s stop. ap (λ z. 
 pub follows_give : {A B : Type 0} {h : A → B} (low high : ℕ) → nat_le low high ≡ true → Follows (Stop high) (Stop low) (λ a. rule.give (h a))
 follows_give low high e = record {
   follows = λ a b from to s stop.
-      weaker low high from e (ap (λ z. nat_lt (binds (kind_at z)) low) s.1 ∙ stop);
+      lower binds low high e from (ap (λ z. nat_lt (binds (kind_at z)) low) s.1 ∙ stop);
 }
 
 pub follows_or : {A B : Type 0} {T S : List Token → Type 0} {f g : A → Rule B} → Follows T S f → Follows T S g → Follows T S (λ a b from to. f a b from to ⊎ g a b from to)
@@ -142,16 +134,10 @@ follows_or {T = T} F G = record {
 -- ---- what stands behind a row: no further item, and nothing that continues the last one
 
 abbrev pub End : ℕ → Kind → List Token → Type 0
-End level mark to = Stop level to × (kind_at to ≡ mark → ⊥)
-
-pub stop_at : (level : ℕ) (kind : Kind) → nat_lt (binds kind) level ≡ true → (t : List Token) → kind_at t ≡ kind → Stop level t
-stop_at level kind e t at = ap (λ z. nat_lt (binds z) level) at ∙ e
-
-pub not_at : (level : ℕ) (kind : Kind) → nat_le level (binds kind) ≡ true → (t : List Token) → Stop level t → kind_at t ≡ kind → ⊥
-not_at level kind high t stop at = differ (binds kind) level (ap (λ z. nat_lt (binds z) level) (sym at) ∙ stop) high
+End level mark to = Stop level to × Without mark to
 
 pub end_at : (level : ℕ) (mark kind : Kind) → nat_lt (binds kind) level ≡ true → (kind ≡ mark → ⊥) → (t : List Token) → kind_at t ≡ kind → End level mark t
-end_at level mark kind e apart t at = (stop_at level kind e t at, λ is. apart (sym at ∙ is))
+end_at level mark kind e apart t at = (below_at binds level kind e t at, λ is. apart (sym at ∙ is))
 
 pub follows_end : {A B : Type 0} {S : List Token → Type 0} {h : A → Unit {0} → Rule B} (level : ℕ) (mark kind : Kind) → nat_lt (binds kind) level ≡ true → (kind ≡ mark → ⊥)
     → Follows (End level mark) S (λ a b from to. (u : Unit {0}) × (between : List Token) × word kind u from between × h a u b between to)

@@ -23,7 +23,6 @@ use Rattle.hv_grammar.specs.Nesting.{stays, closes, turn_of}
 use Rattle.hv_grammar.specs.Rules.{Rule}
 use Rattle.hv_grammar.specs.Rules as rule
 use Rattle.hv_grammar.specs.Grammar as g
-use Rattle.hv_grammar.specs.Reading as r
 use Rattle.hv_grammar.specs.Choices as c
 use Rattle.hv_parse_expr.proofs.Room.{Goes, goes_give, goes_bind, goes_or, goes_token, goes_one_of, goes_word, goes_close, goes_open, goes_many, goes_separated, goes_flag}
 

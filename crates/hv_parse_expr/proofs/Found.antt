@@ -30,14 +30,11 @@ use Rattle.hv_grammar.specs.Reading as r
 use Rattle.hv_grammar.specs.Choices as c
 use Rattle.hv_grammar.specs.Choices.{binds}
 use Rattle.hv_parse_expr.proofs.Joins.{Sound}
-use Rattle.hv_parse_expr.proofs.Begins.{Stop, End, Begins, Avoids, starts, begins_bind, begins_or, begins_word, avoids_begins, avoids_give, avoids_word, avoids_bind, avoids_or, avoids_one_of, avoids_flag, follows_word, follows_give, follows_or, follows_end, stop_at, not_at, end_at, weaker, word_kind, word_next, is_seen, is_not_seen}
+use Rattle.hv_parse_expr.proofs.Below.{Any, lower, below_at, below_without}
+use Rattle.hv_parse_expr.proofs.Begins.{Stop, End, Begins, Avoids, starts, begins_bind, begins_or, begins_word, avoids_begins, avoids_give, avoids_word, avoids_bind, avoids_or, avoids_one_of, avoids_flag, follows_word, follows_give, follows_or, follows_end, end_at, word_kind, word_next, is_seen, is_not_seen}
 use Rattle.hv_parse_expr.proofs.Wholes.{Whole, chosen_kind, chosen_next, whole_give, whole_bind, whole_then, whole_word, whole_pass, whole_eat, whole_flag, whole_held, whole_choice, whole_one_of}
 use Rattle.hv_parse_expr.proofs.Rows.{whole_separated, whole_joined, whole_chain}
 use Rattle.hv_parse_expr.proofs.Spelled as sound
-
--- whatever stands behind
-abbrev Any : List Token → Type 0
-Any to = Unit {0}
 
 -- ---- names and types
 
@@ -232,7 +229,7 @@ module _ (p : Rule Expr) (q : Reader Expr) (E : Whole (Stop 1) p q) (B : Begins 
 
   pub list_whole : Whole (End 1 k.Comma) (g.list p) (r.list q)
   unfolding g.list r.list
-  list_whole = whole_separated k.Comma E K (stop_at 1 k.Comma refl) (λ t s. s.0) (λ t s. s.1)
+  list_whole = whole_separated k.Comma E K (below_at binds 1 k.Comma refl) (λ t s. s.0) (λ t s. s.1)
 
   arguments_avoids : {S : List Token → Type 0} (kind : Kind) → nat_lt (starts kind) 1 ≡ true → (k.Close ≡ kind → ⊥) → Avoids S kind (g.arguments p)
   unfolding g.arguments
@@ -277,7 +274,7 @@ module _ (p : Rule Expr) (q : Reader Expr) (E : Whole (Stop 1) p q) (B : Begins 
   pub case_whole : Whole Any (g.case p) (r.case q)
   unfolding g.case r.case r.whens
   case_whole = whole_then operand_whole (λ value. whole_bind
-      (whole_separated {S = End 1 k.When} k.When when_whole (sound.when_sound p q K) (stop_at 1 k.When refl) (λ t s. s.0) (λ t s. s.1))
+      (whole_separated {S = End 1 k.When} k.When when_whole (sound.when_sound p q K) (below_at binds 1 k.When refl) (λ t s. s.0) (λ t s. s.1))
       (λ chosen. whole_then otherwise_whole (λ other. whole_give (e.Case value chosen other)))
       (record { follows = λ a b from to s stop. otherwise_ends s.0 from s.1 s.2 }))
 
@@ -495,12 +492,12 @@ module _ (p : Rule Expr) (q : Reader Expr) (E : Whole (Stop 1) p q) (B : Begins 
   pub term_whole : Whole (Stop 5) (g.term p) (r.term q)
   unfolding g.term r.term r.factors
   term_whole = whole_chain c.multiplicative suffixed_whole (sound.suffixed_sound p q K)
-      (λ t x e. factor_stops (kind_at t) x e) (λ t stop. weaker 5 6 t refl stop) (λ t stop. no_factor (kind_at t) stop)
+      (λ t x e. factor_stops (kind_at t) x e) (λ t stop. lower binds 5 6 refl t stop) (λ t stop. no_factor (kind_at t) stop)
 
   pub sum_whole : Whole (Stop 4) (g.sum p) (r.sum q)
   unfolding g.sum r.sum r.summands
   sum_whole = whole_chain c.additive term_whole (sound.term_sound p q K)
-      (λ t x e. summand_stops (kind_at t) x e) (λ t stop. weaker 4 5 t refl stop) (λ t stop. no_summand (kind_at t) stop)
+      (λ t x e. summand_stops (kind_at t) x e) (λ t stop. lower binds 4 5 refl t stop) (λ t stop. no_summand (kind_at t) stop)
 
   matched_is : (value : Expr) (negated : Bool) (kind : Kind) (from : List Token) (o : Outcome Expr) → kind_at from ≡ kind → r.match_by q value negated kind from ≡ o → r.matched q value negated from ≡ o
   unfolding r.matched
@@ -580,7 +577,7 @@ module _ (p : Rule Expr) (q : Reader Expr) (E : Whole (Stop 1) p q) (B : Begins 
 
   matched_read : (value b : Expr) (from to : List Token) → g.matched p value false b from to → Stop 3 to → r.tested q value from ≡ Some (b, to)
   matched_read value b from to s stop =
-      let whole = (matched_whole value false).read b from to s (weaker 3 4 to refl stop) in
+      let whole = (matched_whole value false).read b from to s (lower binds 3 4 refl to stop) in
       elim (matched_kind value false b from to s) as (λ _. r.tested q value from ≡ Some (b, to)) [
         | inl at ↦ tested_is value k.Like from (Some (b, to)) at whole
         | inr at ↦ elim at as (λ _. r.tested q value from ≡ Some (b, to)) [
@@ -601,7 +598,7 @@ module _ (p : Rule Expr) (q : Reader Expr) (E : Whole (Stop 1) p q) (B : Begins 
     read = λ b from to s stop. elim s as (λ _. r.tested q value from ≡ Some (b, to)) [
       | inl it ↦ compared_read value it.0 b from it.1 to it.2 it.3 stop
       | inr s ↦ elim s as (λ _. r.tested q value from ≡ Some (b, to)) [
-        | inl it ↦ tested_is value k.Not from (Some (b, to)) (word_kind it.2) ((whole_pass k.Not (matched_whole value true)).read b from to it (weaker 3 4 to refl stop))
+        | inl it ↦ tested_is value k.Not from (Some (b, to)) (word_kind it.2) ((whole_pass k.Not (matched_whole value true)).read b from to it (lower binds 3 4 refl to stop))
         | inr s ↦ elim s as (λ _. r.tested q value from ≡ Some (b, to)) [
           | inl it ↦ matched_read value b from to it stop
           | inr it ↦ tested_is value (kind_at from) from (Some (b, to)) refl
@@ -615,16 +612,16 @@ module _ (p : Rule Expr) (q : Reader Expr) (E : Whole (Stop 1) p q) (B : Begins 
   behind_stops value b from to s stop = elim s as (λ _. Stop 4 from) [
     | inl it ↦ comparison_stops (kind_at from) it.0 (chosen_kind c.comparison it.0 from it.1 it.2)
     | inr s ↦ elim s as (λ _. Stop 4 from) [
-      | inl it ↦ stop_at 4 k.Not refl from (word_kind it.2)
+      | inl it ↦ below_at binds 4 k.Not refl from (word_kind it.2)
       | inr s ↦ elim s as (λ _. Stop 4 from) [
         | inl it ↦ elim (matched_kind value false b from to it) as (λ _. Stop 4 from) [
-          | inl at ↦ stop_at 4 k.Like refl from at
+          | inl at ↦ below_at binds 4 k.Like refl from at
           | inr at ↦ elim at as (λ _. Stop 4 from) [
-            | inl at ↦ stop_at 4 k.Between refl from at
-            | inr at ↦ stop_at 4 k.In refl from at
+            | inl at ↦ below_at binds 4 k.Between refl from at
+            | inr at ↦ below_at binds 4 k.In refl from at
           ]
         ]
-        | inr it ↦ weaker 3 4 from refl (ap (λ t. nat_lt (binds (kind_at t)) 3) it.1 ∙ stop)
+        | inr it ↦ lower binds 3 4 refl from (ap (λ t. nat_lt (binds (kind_at t)) 3) it.1 ∙ stop)
       ]
     ]
   ]
@@ -641,12 +638,12 @@ module _ (p : Rule Expr) (q : Reader Expr) (E : Whole (Stop 1) p q) (B : Begins 
   pub conjunction_whole : Whole (Stop 2) (g.conjunction p) (r.conjunction q)
   unfolding g.conjunction r.conjunction r.conjuncts
   conjunction_whole = whole_joined e.And k.And negation_whole (sound.negation_sound p q K)
-      (stop_at 3 k.And refl) (λ t stop. weaker 2 3 t refl stop) (not_at 2 k.And refl)
+      (below_at binds 3 k.And refl) (λ t stop. lower binds 2 3 refl t stop) (below_without binds 2 k.And refl)
 
   pub disjunction_whole : Whole (Stop 1) (g.disjunction p) (r.disjunction q)
   unfolding g.disjunction r.disjunction r.disjuncts
   disjunction_whole = whole_joined e.Or k.Or conjunction_whole (sound.conjunction_sound p q K)
-      (stop_at 2 k.Or refl) (λ t stop. weaker 1 2 t refl stop) (not_at 1 k.Or refl)
+      (below_at binds 2 k.Or refl) (λ t stop. lower binds 1 2 refl t stop) (below_without binds 1 k.Or refl)
 
 -- whatever an expression nests
 pub expr_whole : (depth : ℕ) → Whole (Stop 1) (g.expr depth) (r.expr depth) × Begins 1 (g.expr depth)

@@ -1,7 +1,9 @@
 pub mod Begins
+pub mod Below
 pub mod Depth
 pub mod Found
 pub mod Joins
+pub mod Reserved
 pub mod Room
 pub mod Rows
 pub mod Spelled

@@ -1,4 +1,5 @@
-//! Operators, from the tightest to the loosest.
+//! Operators, from the tightest to the loosest. An operand is boxed before what follows it is read, so
+//! that leaving early drops a box and not each form of an expression.
 
 ghost use Rattle.hv_grammar.specs.Reading as reading;
 ghost use Rattle.hv_parse_expr.specs.Nests.{Nests};
@@ -6,7 +7,7 @@ ghost use Rattle.hv_parse_expr.specs.Reads.{Reads};
 
 use crate::fault::ReadFault;
 use crate::grammar::Grammar;
-use crate::operators::{additive, between, binary, comparison, multiplicative, sign, unary};
+use crate::operators::{additive, comparison, discard, multiplicative, sign, unary};
 use crate::tokens::Tokens;
 use hv_ast::{Binary, Expr, Operation, Unary};
 use hv_base::{Boxed, List};
@@ -21,9 +22,10 @@ impl<F: Fn(Global, &mut Tokens<'_>, usize) -> Result<Expr, ReadFault>> Grammar<F
         ensures { Reads (reading.element (reading.expr self.now.depth) array tokens.old)
             result tokens.new }
     {
-        let index = self.expr(tokens)?;
+        let array = Boxed::new(self.alloc, array)?;
+        let index = Boxed::new(self.alloc, self.expr(tokens)?)?;
         tokens.expect(Kind::CloseIndex)?;
-        Ok(binary(self.alloc, Binary::Element, array, index)?)
+        Ok(Expr::Binary(Binary::Element, array, index))
     }
 
     /// `prim ["[" expr "]"]`
@@ -66,8 +68,9 @@ impl<F: Fn(Global, &mut Tokens<'_>, usize) -> Result<Expr, ReadFault>> Grammar<F
         } else {
             Unary::IsNull
         };
+        let value = Boxed::new(self.alloc, value)?;
         tokens.expect(Kind::Null)?;
-        Ok(unary(self.alloc, operator, value)?)
+        Ok(Expr::Unary(operator, value))
     }
 
     /// `unary [IS [NOT] NULL]`
@@ -163,8 +166,9 @@ impl<F: Fn(Global, &mut Tokens<'_>, usize) -> Result<Expr, ReadFault>> Grammar<F
         } else {
             Binary::Like
         };
-        let pattern = self.sum(tokens)?;
-        Ok(binary(self.alloc, operator, value, pattern)?)
+        let value = Boxed::new(self.alloc, value)?;
+        let pattern = Boxed::new(self.alloc, self.sum(tokens)?)?;
+        Ok(Expr::Binary(operator, value, pattern))
     }
 
     /// Behind `[NOT] BETWEEN`: `sum AND sum`
@@ -179,10 +183,16 @@ impl<F: Fn(Global, &mut Tokens<'_>, usize) -> Result<Expr, ReadFault>> Grammar<F
         ensures { Reads (reading.between (reading.expr self.now.depth) value negated tokens.old)
             result tokens.new }
     {
-        let low = self.sum(tokens)?;
+        let value = Boxed::new(self.alloc, value)?;
+        let low = Boxed::new(self.alloc, self.sum(tokens)?)?;
         tokens.expect(Kind::And)?;
-        let high = self.sum(tokens)?;
-        Ok(between(self.alloc, value, negated, low, high)?)
+        let high = Boxed::new(self.alloc, self.sum(tokens)?)?;
+        Ok(Expr::Between {
+            value,
+            negated,
+            low,
+            high,
+        })
     }
 
     /// Behind `[NOT] IN`: `( expr {, expr} )`
@@ -192,11 +202,12 @@ impl<F: Fn(Global, &mut Tokens<'_>, usize) -> Result<Expr, ReadFault>> Grammar<F
         ensures { Reads (reading.among (reading.expr self.now.depth) value negated tokens.old)
             result tokens.new }
     {
+        let value = Boxed::new(self.alloc, value)?;
         tokens.expect(Kind::Open)?;
         let among = self.list(tokens)?;
         tokens.expect(Kind::Close)?;
         Ok(Expr::In {
-            value: Boxed::new(self.alloc, value)?,
+            value,
             negated,
             among,
         })
@@ -227,7 +238,10 @@ impl<F: Fn(Global, &mut Tokens<'_>, usize) -> Result<Expr, ReadFault>> Grammar<F
                 tokens.pass();
                 self.among(tokens, value, negated)
             }
-            _ => Err(ReadFault::Syntax),
+            _ => {
+                discard(value);
+                Err(ReadFault::Syntax)
+            }
         }
     }
 
@@ -243,8 +257,9 @@ impl<F: Fn(Global, &mut Tokens<'_>, usize) -> Result<Expr, ReadFault>> Grammar<F
         ensures { Reads (reading.compared (reading.expr self.now.depth) value operator tokens.old)
             result tokens.new }
     {
-        let right = self.sum(tokens)?;
-        Ok(binary(self.alloc, operator, value, right)?)
+        let value = Boxed::new(self.alloc, value)?;
+        let right = Boxed::new(self.alloc, self.sum(tokens)?)?;
+        Ok(Expr::Binary(operator, value, right))
     }
 
     /// Behind `sum`: `[cmp sum | [NOT] LIKE sum | [NOT] BETWEEN sum AND sum | [NOT] IN (..)]`

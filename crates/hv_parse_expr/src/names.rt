@@ -2,6 +2,7 @@
 
 ghost use Rattle.std.specs.Prelude.{◌≡◌};
 ghost use Rattle.hv_grammar.specs.Choices as choices;
+ghost use Rattle.hv_grammar.specs.Kinds as kinds;
 ghost use Rattle.hv_grammar.specs.Reading as reading;
 ghost use Rattle.hv_parse_expr.specs.Reads.{Reads};
 
@@ -9,7 +10,7 @@ use crate::fault::ReadFault;
 use crate::tokens::Tokens;
 use hv_ast::{Expr, Literal};
 use hv_base::Text;
-use hv_grammar::Kind;
+use hv_grammar::{Kind, word_kind};
 use std::alloc::Global;
 
 /// Whether a name may be spelled so: a word that is no keyword here, or an identifier between
@@ -30,6 +31,14 @@ pub fn is_name(kind: Kind) -> bool
         Kind::Tables | Kind::TblProperties | Kind::Transactions => true,
         _ => false,
     }
+}
+
+/// Whether a word in lower case is reserved, and so no identifier. An identifier between backquotes
+/// never is, whatever its characters.
+pub fn is_reserved(word: &Text) -> bool
+    ensures { result ≡ kinds.is_reserved word.now }
+{
+    !is_name(word_kind(word.as_str()))
 }
 
 /// `ident`

@@ -77,36 +77,12 @@ pub fn binds(kind: Kind) -> u8
     }
 }
 
+/// Lets go of an expression, in a function without other paths: where it is dropped among other paths,
+/// each of its forms is gone through there.
+pub fn discard(_expr: Expr) {}
+
 pub fn unary(alloc: Global, operator: Unary, operand: Expr) -> Result<Expr, NoMemory>
     ensures { IfOk result (λ tree. tree ≡ Expr.Unary operator operand) }
 {
     Ok(Expr::Unary(operator, Boxed::new(alloc, operand)?))
-}
-
-pub fn binary(alloc: Global, operator: Binary, left: Expr, right: Expr) -> Result<Expr, NoMemory>
-    ensures { IfOk result (λ tree. tree ≡ Expr.Binary operator left right) }
-{
-    let left = Boxed::new(alloc, left)?;
-    let right = Boxed::new(alloc, right)?;
-    Ok(Expr::Binary(operator, left, right))
-}
-
-pub fn between(
-    alloc: Global,
-    value: Expr,
-    negated: bool,
-    low: Expr,
-    high: Expr,
-) -> Result<Expr, NoMemory>
-    ensures { IfOk result (λ tree. tree ≡ Expr.Between value negated low high) }
-{
-    let value = Boxed::new(alloc, value)?;
-    let low = Boxed::new(alloc, low)?;
-    let high = Boxed::new(alloc, high)?;
-    Ok(Expr::Between {
-        value,
-        negated,
-        low,
-        high,
-    })
 }

@@ -11,7 +11,7 @@ ghost use Rattle.hv_parse_expr.specs.Reads.{Reads, Tells};
 use crate::fault::{ParseFault, ReadFault};
 use crate::grammar::any_expr;
 use crate::nesting::too_deep;
-use crate::operators::binds;
+use crate::operators::{binds, discard};
 use crate::tokens::Tokens;
 use hv_ast::{Expr, Token};
 use std::alloc::Global;
@@ -22,11 +22,11 @@ fn whole(alloc: Global, tokens: &mut Tokens<'_>) -> Result<Expr, ReadFault>
     ensures { Reads (reading.whole tokens.old) result tokens.new }
 {
     let found = any_expr(alloc, tokens)?;
-    if binds(tokens.peek()) == 0 {
-        Ok(found)
-    } else {
-        Err(ReadFault::Syntax)
+    if binds(tokens.peek()) > 0 {
+        discard(found);
+        return Err(ReadFault::Syntax);
     }
+    Ok(found)
 }
 
 #[tactic(auto, unfolding(hv_grammar::specs::Reading::expression_at))]

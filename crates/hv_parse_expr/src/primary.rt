@@ -39,9 +39,9 @@ impl<F: Fn(Global, &mut Tokens<'_>, usize) -> Result<Expr, ReadFault>> Grammar<F
         ensures { Reads (reading.bracketed (reading.expr self.now.depth) tokens.old)
             result tokens.new }
     {
-        let inner = self.expr(tokens)?;
+        let inner = Boxed::new(self.alloc, self.expr(tokens)?)?;
         tokens.expect(Kind::Close)?;
-        Ok(inner)
+        Ok(inner.into_inner())
     }
 
     /// Behind `( [DISTINCT]`: `[expr {, expr}] )`
@@ -125,10 +125,13 @@ impl<F: Fn(Global, &mut Tokens<'_>, usize) -> Result<Expr, ReadFault>> Grammar<F
         requires { Nests self.now.depth (F.pre self.now.expr) (F.post self.now.expr) }
         ensures { Reads (reading.when (reading.expr self.now.depth) tokens.old) result tokens.new }
     {
-        let condition = self.expr(tokens)?;
+        let condition = Boxed::new(self.alloc, self.expr(tokens)?)?;
         tokens.expect(Kind::Then)?;
         let value = self.expr(tokens)?;
-        Ok(When { condition, value })
+        Ok(When {
+            condition: condition.into_inner(),
+            value,
+        })
     }
 
     /// Behind WHEN: `expr THEN expr {WHEN expr THEN expr}`

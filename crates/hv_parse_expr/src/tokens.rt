@@ -16,19 +16,44 @@ use hv_grammar::{Kind, kind_of, same_kind};
 use std::alloc::Global;
 use std::marker::Model;
 
-/// Tokens from the left. Contracts see them as the list of those that are left.
+/// Tokens from the left. Contracts see them as the list of those that are left. The kind of the next
+/// one is looked up as it becomes the next, and kept, however often it is looked at.
 #[derive(Drop)]
 pub struct Tokens<'a> {
     rest: &'a [Token],
+    /// The kind of the next token.
+    kind: Kind,
 }
 
 impl<'a> Model for Tokens<'a> {
-    ghost use Rattle.std.specs.Prelude.{List};
+    ghost use Rattle.std.specs.Prelude.{◌≡◌, List};
     ghost use Rattle.hv_ast.specs.declared.token.Token.{Token};
+    ghost use Rattle.hv_grammar.specs.Readers.{kind_at};
 
     ghost Value = { List Token };
 
     ghost view = { λ tokens. tokens.rest.now };
+
+    ghost invariant = { λ tokens. tokens.kind ≡ kind_at tokens.rest.now };
+}
+
+/// The kind of the first token.
+#[tactic(auto, unfolding(hv_grammar::specs::Readers::kind_at))]
+fn first_kind(tokens: &[Token]) -> Kind
+    ensures { result ≡ reader.kind_at tokens.now }
+{
+    match tokens {
+        [token, ..] => kind_of(&token.what),
+        [] => Kind::Nothing,
+    }
+}
+
+/// Whether the first token is of this kind.
+#[tactic(auto, unfolding(hv_grammar::specs::Readers::sees))]
+fn begins_with(tokens: &[Token], kind: Kind) -> bool
+    ensures { result ≡ reader.sees kind tokens.now }
+{
+    same_kind(first_kind(tokens), kind)
 }
 
 impl<'a> Tokens<'a> {
@@ -36,7 +61,10 @@ impl<'a> Tokens<'a> {
     pub fn new(rest: &'a [Token]) -> Tokens<'a>
         ensures { result ≡ rest.now }
     {
-        Tokens { rest }
+        Tokens {
+            rest,
+            kind: first_kind(rest),
+        }
     }
 
     /// How many are left.
@@ -47,14 +75,10 @@ impl<'a> Tokens<'a> {
     }
 
     /// The kind of the next token.
-    #[tactic(auto, unfolding(hv_grammar::specs::Readers::kind_at))]
     pub fn peek(&self) -> Kind
         ensures { result ≡ reader.kind_at self.now }
     {
-        match self.rest {
-            [token, ..] => kind_of(&token.what),
-            [] => Kind::Nothing,
-        }
+        self.kind
     }
 
     /// Passes the next token, whatever it is.
@@ -64,6 +88,7 @@ impl<'a> Tokens<'a> {
     {
         if let [_, rest @ ..] = self.rest {
             self.rest = rest;
+            self.kind = first_kind(rest);
         }
     }
 
@@ -119,73 +144,73 @@ impl<'a> Tokens<'a> {
     pub fn sees_all_of(&self) -> bool
         ensures { result ≡ query.sees_all_of self.now }
     {
-        let behind = Tokens::new(self.rest.get(1..).unwrap_or_default());
-        let last = Tokens::new(self.rest.get(2..).unwrap_or_default());
-        is_name(self.peek()) && behind.sees(Kind::Dot) && last.sees(Kind::Star)
+        let behind = self.rest.get(1..).unwrap_or_default();
+        let last = self.rest.get(2..).unwrap_or_default();
+        is_name(self.peek()) && begins_with(behind, Kind::Dot) && begins_with(last, Kind::Star)
     }
 
     /// The text of the next word, keyword or not, or of an identifier between backquotes.
-    #[tactic(auto, unfolding(hv_grammar::specs::Reading::word, hv_grammar::specs::Readers::held))]
+    #[tactic(auto, unfolding(hv_grammar::specs::Reading::word, hv_grammar::specs::Readers::held, hv_grammar::specs::Readers::next))]
     pub fn word(&mut self, alloc: Global) -> Result<Text, ReadFault>
         ensures { Reads (reading.word self.old) result self.new }
     {
-        let [token, rest @ ..] = self.rest else {
+        let [token, ..] = self.rest else {
             return Err(ReadFault::Syntax);
         };
         let text = word_in(alloc, token)?;
-        self.rest = rest;
+        self.pass();
         Ok(text)
     }
 
     /// A string.
-    #[tactic(auto, unfolding(hv_grammar::specs::Reading::string, hv_grammar::specs::Readers::held))]
+    #[tactic(auto, unfolding(hv_grammar::specs::Reading::string, hv_grammar::specs::Readers::held, hv_grammar::specs::Readers::next))]
     pub fn string(&mut self, alloc: Global) -> Result<Text, ReadFault>
         ensures { Reads (reading.string self.old) result self.new }
     {
-        let [token, rest @ ..] = self.rest else {
+        let [token, ..] = self.rest else {
             return Err(ReadFault::Syntax);
         };
         let text = string_in(alloc, token)?;
-        self.rest = rest;
+        self.pass();
         Ok(text)
     }
 
     /// A number or a string as a literal.
-    #[tactic(auto, unfolding(hv_grammar::specs::Reading::literal, hv_grammar::specs::Readers::held))]
+    #[tactic(auto, unfolding(hv_grammar::specs::Reading::literal, hv_grammar::specs::Readers::held, hv_grammar::specs::Readers::next))]
     pub fn literal(&mut self, alloc: Global) -> Result<Expr, ReadFault>
         ensures { Reads (reading.literal self.old) result self.new }
     {
-        let [token, rest @ ..] = self.rest else {
+        let [token, ..] = self.rest else {
             return Err(ReadFault::Syntax);
         };
         let literal = literal_in(alloc, token)?;
-        self.rest = rest;
+        self.pass();
         Ok(Expr::Literal(literal))
     }
 
     /// A number from 0.
-    #[tactic(auto, unfolding(hv_grammar::specs::QueryReading::number, hv_grammar::specs::Readers::held))]
+    #[tactic(auto, unfolding(hv_grammar::specs::QueryReading::number, hv_grammar::specs::Readers::held, hv_grammar::specs::Readers::next))]
     pub fn number(&mut self) -> Result<u64, ReadFault>
         ensures { Reads (query.number self.old) result self.new }
     {
-        let [token, rest @ ..] = self.rest else {
+        let [token, ..] = self.rest else {
             return Err(ReadFault::Syntax);
         };
         let number = number_in(token)?;
-        self.rest = rest;
+        self.pass();
         Ok(number)
     }
 
     /// `'minor'` or `'major'`, in any case.
-    #[tactic(auto, unfolding(hv_grammar::specs::StatementReading::compaction, hv_grammar::specs::Readers::held))]
+    #[tactic(auto, unfolding(hv_grammar::specs::StatementReading::compaction, hv_grammar::specs::Readers::held, hv_grammar::specs::Readers::next))]
     pub fn compaction(&mut self) -> Result<CompactionKind, ReadFault>
         ensures { Reads (statement.compaction self.old) result self.new }
     {
-        let [token, rest @ ..] = self.rest else {
+        let [token, ..] = self.rest else {
             return Err(ReadFault::Syntax);
         };
         let kind = compaction_in(token)?;
-        self.rest = rest;
+        self.pass();
         Ok(kind)
     }
 }

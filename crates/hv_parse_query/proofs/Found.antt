@@ -24,16 +24,18 @@ use Rattle.hv_grammar.specs.Rules as rule
 use Rattle.hv_grammar.specs.Readers.{Outcome, Reader, and_then, kind_at, next, sees, after}
 use Rattle.hv_grammar.specs.Readers as reader
 use Rattle.hv_grammar.specs.Choices as c
+use Rattle.hv_grammar.specs.Choices.{binds}
 use Rattle.hv_grammar.specs.Grammar as grammar
 use Rattle.hv_grammar.specs.Reading as reading
 use Rattle.hv_grammar.specs.QueryGrammar as g
 use Rattle.hv_grammar.specs.QueryReading as r
 use Rattle.hv_parse_expr.proofs.Joins.{Sound, sound_bind, sound_word}
-use Rattle.hv_parse_expr.proofs.Begins.{Stop, End, Begins, starts, avoids_begins, stop_at, word_kind, word_next, is_seen, is_not_seen}
+use Rattle.hv_parse_expr.proofs.Below.{Any, Without, lower, below_at, below_without, without_at}
+use Rattle.hv_parse_expr.proofs.Begins.{Stop, End, Begins, starts, avoids_begins, word_kind, word_next, is_seen, is_not_seen}
 use Rattle.hv_parse_expr.proofs.Wholes.{Whole, whole_give, whole_then, whole_word, whole_pass, whole_eat, whole_flag, whole_held}
 use Rattle.hv_parse_expr.proofs.Rows.{whole_separated}
 use Rattle.hv_parse_expr.proofs.Found.{true_false, look_up_kind, word_kind_is, name_whole, list_whole}
-use Rattle.hv_parse_query.proofs.Ranks.{Any, Behind, Without, rank, lower, behind_at, behind_without, behind_stops, without_at, name_rank, no_alias, join_rank, no_join}
+use Rattle.hv_parse_query.proofs.Ranks.{Behind, rank, behind_stops, name_rank, no_alias, join_rank, no_join}
 use Rattle.hv_parse_query.proofs.Wholes.{Leads, Takes, leads_give, leads_word, leads_bind, leads_first, leads_or, leads_option, leads_either, leads_many, avoids, whole_weak, whole_next, whole_map, whole_perhaps, whole_either, whole_bracketed, whole_rows, whole_many, takes_word, takes_or}
 use Rattle.hv_parse_query.proofs.Spelled as sound
 
@@ -145,12 +147,12 @@ unfolding g.optional_alias
 leads_optional_alias one two weak = leads_or (leads_first (leads_alias one two)) (leads_give weak)
 
 pub none_behind : (n : ℕ) → nat_le n 11 ≡ true → (t : List Token) → Behind n t → NoAlias t
-none_behind n le t s = no_alias (kind_at t) (lower n 11 le t s)
+none_behind n le t s = no_alias (kind_at t) (lower rank n 11 le t s)
 
 -- an optional part leads to what ranks below a bound, where its first word and what follows do
 skip : {A B : Type 0} {S : List Token → Type 0} {f : Unit {0} → Rule A} {a : A} {h : A → Rule B} (n : ℕ) (kind : Kind) → nat_lt (rank kind) n ≡ true → ((o : A) → Leads (Behind n) S (h o))
     → Leads (Behind n) S (λ b from to. (o : A) × (between : List Token) × (((u : Unit {0}) × (mid : List Token) × rule.word kind u from mid × f u o mid between) ⊎ rule.give a o from between) × h o b between to)
-skip n kind lt H = leads_bind {U = Behind n} (leads_option kind (behind_at n kind lt) (λ t s. s)) H
+skip n kind lt H = leads_bind {U = Behind n} (leads_option kind (below_at rank n kind lt) (λ t s. s)) H
 
 and_all : (x y z : Bool) → x ≡ true → y ≡ true → z ≡ true → x && y && z ≡ true
 and_all x y z one two three = ap (λ b. b && y && z) one ∙ ap (λ b. true && b && z) two ∙ three
@@ -168,24 +170,24 @@ module _ (p : Rule Expr) (q : Reader Expr) (E : Whole (Stop 1) p q) (B : Begins 
 
   pub key_whole : Whole (Behind 11) (g.key p) (r.key q)
   unfolding g.key r.key
-  key_whole = whole_next E (λ value. whole_next {T = Behind 11} (whole_either k.Desc k.Asc (λ e. cc) (behind_without 11 k.Desc refl) (behind_without 11 k.Asc refl))
+  key_whole = whole_next E (λ value. whole_next {T = Behind 11} (whole_either k.Desc k.Asc (λ e. cc) (below_without rank 11 k.Desc refl) (below_without rank 11 k.Asc refl))
       (λ descending. whole_give (record { expr = value; descending = descending })) (λ _. leads_give (λ t s. s)))
-      (λ value. leads_bind {U = Stop 1} (leads_either k.Desc k.Asc (stop_at 1 k.Desc refl) (stop_at 1 k.Asc refl) (λ t s. s)) (λ _. leads_give (behind_stops 11 refl)))
+      (λ value. leads_bind {U = Stop 1} (leads_either k.Desc k.Asc (below_at binds 1 k.Desc refl) (below_at binds 1 k.Asc refl) (λ t s. s)) (λ _. leads_give (behind_stops 11 refl)))
 
   pub keys_whole : Whole (Behind 9) (g.keys p) (r.keys q)
   unfolding g.keys r.keys
-  keys_whole = whole_separated {S = Behind 9} k.Comma key_whole (sound.key_sound p q K) (behind_at 11 k.Comma refl) (lower 9 11 refl) (behind_without 9 k.Comma refl)
+  keys_whole = whole_separated {S = Behind 9} k.Comma key_whole (sound.key_sound p q K) (below_at rank 11 k.Comma refl) (lower rank 9 11 refl) (below_without rank 9 k.Comma refl)
 
   pub order_whole : Whole (Behind 2) (g.order p) (r.order q)
   unfolding g.order r.order
-  order_whole = whole_eat k.Order (whole_then (whole_word k.By) (λ _. whole_weak (lower 2 9 refl) keys_whole)) (whole_give []) (avoids (leads_give (behind_without 2 k.Order refl)))
+  order_whole = whole_eat k.Order (whole_then (whole_word k.By) (λ _. whole_weak (lower rank 2 9 refl) keys_whole)) (whole_give []) (avoids (leads_give (below_without rank 2 k.Order refl)))
 
   pub all_of_whole : Whole Any (g.all_of p) r.all_of
   unfolding g.all_of r.all_of
   all_of_whole = whole_then name_whole (λ table. whole_then (whole_word k.Dot) (λ _. whole_then (whole_word k.Star) (λ _. whole_give (i.AllOf table))))
 
   one_stops : (value : Expr) → Leads (Stop 1) (Behind 10) (λ b from to. (a : Option Text) × (between : List Token) × g.optional_alias a from between × rule.give (i.One value a) b between to)
-  one_stops value = leads_bind {U = Stop 1} (leads_optional_alias (stop_at 1 k.As refl) (λ t is. behind_stops 12 refl t (name_behind t is)) (λ t s. s)) (λ _. leads_give (behind_stops 10 refl))
+  one_stops value = leads_bind {U = Stop 1} (leads_optional_alias (below_at binds 1 k.As refl) (λ t is. behind_stops 12 refl t (name_behind t is)) (λ t s. s)) (λ _. leads_give (behind_stops 10 refl))
 
   pub one_whole : Whole (Behind 10) (g.one p) (r.one q)
   unfolding g.one r.one
@@ -241,7 +243,7 @@ module _ (p : Rule Expr) (q : Reader Expr) (E : Whole (Stop 1) p q) (B : Begins 
 
   pub items_whole : Whole (Behind 9) (g.items p) (r.items q)
   unfolding g.items r.items
-  items_whole = whole_separated {S = Behind 9} k.Comma item_whole (sound.item_sound p q K) (behind_at 10 k.Comma refl) (lower 9 10 refl) (behind_without 9 k.Comma refl)
+  items_whole = whole_separated {S = Behind 9} k.Comma item_whole (sound.item_sound p q K) (below_at rank 10 k.Comma refl) (lower rank 9 10 refl) (below_without rank 9 k.Comma refl)
 
   items_without : {S : List Token → Type 0} (kind : Kind) → (k.Star ≡ kind → ⊥) → c.is_name kind ≡ false → nat_lt (starts kind) 1 ≡ true → Leads (Without kind) S (g.items p)
   unfolding g.items
@@ -249,12 +251,12 @@ module _ (p : Rule Expr) (q : Reader Expr) (E : Whole (Stop 1) p q) (B : Begins 
 
   exploded_whole : Whole Any (rule.bracketed p) (r.exploded q)
   unfolding r.exploded
-  exploded_whole = whole_bracketed E (stop_at 1 k.Close refl)
+  exploded_whole = whole_bracketed E (below_at binds 1 k.Close refl)
 
   pub elements_whole : (outer : Bool) → Whole (Behind 11) (g.elements p outer) (r.elements q outer)
   unfolding g.elements r.elements
   elements_whole outer = whole_then exploded_whole (λ array. whole_then name_whole (λ alias.
-      whole_next {T = Behind 11} (whole_perhaps k.As (whole_weak (λ t s. tt) name_whole) (behind_without 11 k.As refl))
+      whole_next {T = Behind 11} (whole_perhaps k.As (whole_weak (λ t s. tt) name_whole) (below_without rank 11 k.As refl))
       (λ column. whole_give (record { outer = outer; array = array; alias = alias; explode = x.Elements column })) (λ _. leads_give (λ t s. s))))
 
   pub positions_whole : (outer : Bool) → Whole (Behind 11) (g.positions p outer) (r.positions q outer)
@@ -272,21 +274,21 @@ module _ (p : Rule Expr) (q : Reader Expr) (E : Whole (Stop 1) p q) (B : Begins 
 
   pub laterals_whole : Whole (Behind 8) (rule.rows k.Lateral (g.lateral p)) (r.laterals q)
   unfolding r.laterals
-  laterals_whole = whole_rows {S = Behind 8} k.Lateral lateral_whole (sound.lateral_sound p q K) (behind_at 11 k.Lateral refl) (lower 8 11 refl) (behind_without 8 k.Lateral refl)
+  laterals_whole = whole_rows {S = Behind 8} k.Lateral lateral_whole (sound.lateral_sound p q K) (below_at rank 11 k.Lateral refl) (lower rank 8 11 refl) (below_without rank 8 k.Lateral refl)
 
   pub group_whole : Whole (Behind 5) (g.group p) (r.group q)
   unfolding g.group r.group
   group_whole = whole_eat k.Group
-      (whole_then (whole_word k.By) (λ _. whole_weak {T = End 1 k.Comma} (λ t s. (behind_stops 5 refl t s, behind_without 5 k.Comma refl t s)) (list_whole p q E B K)))
-      (whole_give []) (avoids (leads_give (behind_without 5 k.Group refl)))
+      (whole_then (whole_word k.By) (λ _. whole_weak {T = End 1 k.Comma} (λ t s. (behind_stops 5 refl t s, below_without rank 5 k.Comma refl t s)) (list_whole p q E B K)))
+      (whole_give []) (avoids (leads_give (below_without rank 5 k.Group refl)))
 
   group_leads : (n : ℕ) → nat_lt 5 n ≡ true → Leads (Behind n) (Behind n) (g.group p)
   unfolding g.group
-  group_leads n lt = leads_option k.Group (behind_at n k.Group lt) (λ t s. s)
+  group_leads n lt = leads_option k.Group (below_at rank n k.Group lt) (λ t s. s)
 
   order_leads : (n : ℕ) → nat_lt 2 n ≡ true → Leads (Behind n) (Behind n) (g.order p)
   unfolding g.order
-  order_leads n lt = leads_option k.Order (behind_at n k.Order lt) (λ t s. s)
+  order_leads n lt = leads_option k.Order (below_at rank n k.Order lt) (λ t s. s)
 
   pub condition_whole : {S : List Token → Type 0} (kind : Kind) → ((t : List Token) → S t → Stop 1 t) → ((t : List Token) → S t → Without kind t)
       → Whole S (rule.perhaps kind p) (r.condition q kind)
@@ -300,7 +302,7 @@ module _ (p : Rule Expr) (q : Reader Expr) (E : Whole (Stop 1) p q) (B : Begins 
     unfolding g.table r.table
     table_whole = whole_next {T = Without k.Dot} table_name_whole
         (λ name. whole_next {T = NoAlias} optional_alias_whole (λ alias. whole_give (source.Table name alias)) (λ _. leads_give (none_behind 11 refl)))
-        (λ name. leads_bind {U = Without k.Dot} (leads_optional_alias (without_at k.Dot k.As (λ e. cc)) (name_without k.Dot refl) (λ t s. s)) (λ _. leads_give (behind_without 11 k.Dot refl)))
+        (λ name. leads_bind {U = Without k.Dot} (leads_optional_alias (without_at k.Dot k.As (λ e. cc)) (name_without k.Dot refl) (λ t s. s)) (λ _. leads_give (below_without rank 11 k.Dot refl)))
 
     table_without : {S : List Token → Type 0} (kind : Kind) → c.is_name kind ≡ false → Leads (Without kind) S (g.table p f)
     unfolding g.table
@@ -340,7 +342,7 @@ module _ (p : Rule Expr) (q : Reader Expr) (E : Whole (Stop 1) p q) (B : Begins 
     unfolding r.source r.subquery Subquery
     source_by = whole_eat k.Open
         (whole_next {T = Behind 1} W (λ inner. whole_then (whole_word k.Close) (λ _. whole_then alias_whole (λ alias. whole_give (source.Query inner alias))))
-        (λ inner. leads_first (leads_word k.Close (behind_at 1 k.Close refl))))
+        (λ inner. leads_first (leads_word k.Close (below_at rank 1 k.Close refl))))
         table_whole (avoids (table_without k.Open refl))
 
     pub source_whole : Whole (Behind 11) (g.source p f) (r.source q h)
@@ -357,7 +359,7 @@ module _ (p : Rule Expr) (q : Reader Expr) (E : Whole (Stop 1) p q) (B : Begins 
     unfolding g.joined_on r.joined_on
     joined_on_whole kind = whole_next {T = Behind 11} source_whole
         (λ right. whole_then (whole_word k.On) (λ _. whole_next E (λ condition. whole_give (record { kind = kind; source = right; on = Some condition })) (λ _. leads_give (behind_stops 10 refl))))
-        (λ right. leads_first (leads_word k.On (behind_at 11 k.On refl)))
+        (λ right. leads_first (leads_word k.On (below_at rank 11 k.On refl)))
 
     pub outer_join_whole : (kind : JoinKind) → Whole (Behind 10) (g.outer_join p f kind) (r.outer_join q h kind)
     unfolding g.outer_join r.outer_join
@@ -375,13 +377,13 @@ module _ (p : Rule Expr) (q : Reader Expr) (E : Whole (Stop 1) p q) (B : Begins 
     pub inner_join_whole : Whole (Behind 10) (g.inner_join p f) (r.inner_join q h)
     unfolding g.inner_join r.inner_join
     inner_join_whole = whole_next {T = Behind 11} source_whole
-        (λ right. whole_next {T = Behind 10} (condition_whole k.On (behind_stops 10 refl) (behind_without 10 k.On refl))
+        (λ right. whole_next {T = Behind 10} (condition_whole k.On (behind_stops 10 refl) (below_without rank 10 k.On refl))
         (λ condition. whole_give (record { kind = j.Inner; source = right; on = condition })) (λ _. leads_give (λ t s. s)))
-        (λ right. skip 11 k.On refl (λ _. leads_give (lower 10 11 refl)))
+        (λ right. skip 11 k.On refl (λ _. leads_give (lower rank 10 11 refl)))
 
     pub cross_join_whole : Whole (Behind 10) (g.cross_join p f) (r.cross_join q h)
     unfolding g.cross_join r.cross_join
-    cross_join_whole = whole_next {T = Behind 11} source_whole (λ right. whole_give (record { kind = j.Cross; source = right; on = None })) (λ _. leads_give (lower 10 11 refl))
+    cross_join_whole = whole_next {T = Behind 11} source_whole (λ right. whole_give (record { kind = j.Cross; source = right; on = None })) (λ _. leads_give (lower rank 10 11 refl))
 
     join_is : (kind : Kind) (from : List Token) (o : Outcome (Join Source)) → kind_at from ≡ kind → r.join_by q h kind from ≡ o → r.join q h from ≡ o
     unfolding r.join
@@ -432,28 +434,28 @@ module _ (p : Rule Expr) (q : Reader Expr) (E : Whole (Stop 1) p q) (B : Begins 
         (takes_word k.Full (outer_join_whole j.Full) (sound.outer_join_sound p q K f h Q j.Full)))))))
 
     join_leads : (n : ℕ) → nat_le 10 n ≡ true → Leads (Behind n) Any (g.join p f)
-    join_leads n le = record { leads = λ b from to s stop. lower 10 n le from (join_rank (kind_at from) (join_begins.leads b from to s tt)) }
+    join_leads n le = record { leads = λ b from to s stop. lower rank 10 n le from (join_rank (kind_at from) (join_begins.leads b from to s tt)) }
 
     pub joins_whole : Whole (Behind 9) (rule.many (g.join p f)) (r.joins q h)
     unfolding r.joins
     joins_whole = whole_many {S = Behind 9} c.begins_join join_whole join_takes (λ b from to s. join_begins.leads b from to s tt)
-        (λ t is. join_rank (kind_at t) is) (lower 9 10 refl) (λ t s. no_join (kind_at t) s)
+        (λ t is. join_rank (kind_at t) is) (lower rank 9 10 refl) (λ t s. no_join (kind_at t) s)
 
     lateral_leads : (n : ℕ) → nat_lt 8 n ≡ true → Leads (Behind n) (Behind n) (rule.rows k.Lateral (g.lateral p))
-    lateral_leads n lt = leads_many (leads_first (leads_word k.Lateral (behind_at n k.Lateral lt))) (λ t s. s)
+    lateral_leads n lt = leads_many (leads_first (leads_word k.Lateral (below_at rank n k.Lateral lt))) (λ t s. s)
 
     pub from_whole : Whole (Behind 8) (g.from p f) (r.from q h)
     unfolding g.from r.from
     from_whole = whole_next {T = Behind 11} source_whole
         (λ first. whole_next {T = Behind 9} joins_whole
         (λ joins. whole_next {T = Behind 8} laterals_whole (λ laterals. whole_give (record { source = first; joins = joins; laterals = laterals })) (λ _. leads_give (λ t s. s)))
-        (λ joins. leads_bind {U = Behind 9} (lateral_leads 9 refl) (λ _. leads_give (lower 8 9 refl))))
+        (λ joins. leads_bind {U = Behind 9} (lateral_leads 9 refl) (λ _. leads_give (lower rank 8 9 refl))))
         (λ first. leads_bind {U = Behind 11} (leads_many (join_leads 11 refl) (λ t s. s))
-        (λ joins. leads_bind {U = Behind 11} (lateral_leads 11 refl) (λ _. leads_give (lower 8 11 refl))))
+        (λ joins. leads_bind {U = Behind 11} (lateral_leads 11 refl) (λ _. leads_give (lower rank 8 11 refl))))
 
     pub optional_from_whole : Whole (Behind 7) (rule.perhaps k.From (g.from p f)) (r.optional_from q h)
     unfolding r.optional_from
-    optional_from_whole = whole_perhaps k.From (whole_weak (lower 7 8 refl) from_whole) (behind_without 7 k.From refl)
+    optional_from_whole = whole_perhaps k.From (whole_weak (lower rank 7 8 refl) from_whole) (below_without rank 7 k.From refl)
 
     pub select_whole : Whole (Behind 4) (g.select p f) (r.select q h)
     unfolding g.select r.select
@@ -461,15 +463,15 @@ module _ (p : Rule Expr) (q : Reader Expr) (E : Whole (Stop 1) p q) (B : Begins 
         whole_next {T = λ t. Without k.Distinct t × Without k.All t} (whole_either k.Distinct k.All (λ e. cc) (λ t s. s.0) (λ t s. s.1))
         (λ distinct. whole_next {T = Behind 9} items_whole
         (λ items. whole_next {T = Behind 7} optional_from_whole
-        (λ from. whole_next {T = Behind 6} (condition_whole k.Where (behind_stops 6 refl) (behind_without 6 k.Where refl))
+        (λ from. whole_next {T = Behind 6} (condition_whole k.Where (behind_stops 6 refl) (below_without rank 6 k.Where refl))
         (λ filter. whole_next {T = Behind 5} group_whole
-        (λ group. whole_next {T = Behind 4} (condition_whole k.Having (behind_stops 4 refl) (behind_without 4 k.Having refl))
+        (λ group. whole_next {T = Behind 4} (condition_whole k.Having (behind_stops 4 refl) (below_without rank 4 k.Having refl))
         (λ having. whole_give (record { distinct = distinct; items = items; from = from; filter = filter; group = group; having = having }))
         (λ _. leads_give (λ t s. s)))
-        (λ group. skip 5 k.Having refl (λ _. leads_give (lower 4 5 refl))))
-        (λ filter. leads_bind {U = Behind 6} (group_leads 6 refl) (λ _. skip 6 k.Having refl (λ _. leads_give (lower 4 6 refl)))))
-        (λ from. skip 7 k.Where refl (λ _. leads_bind {U = Behind 7} (group_leads 7 refl) (λ _. skip 7 k.Having refl (λ _. leads_give (lower 4 7 refl))))))
-        (λ items. skip 9 k.From refl (λ _. skip 9 k.Where refl (λ _. leads_bind {U = Behind 9} (group_leads 9 refl) (λ _. skip 9 k.Having refl (λ _. leads_give (lower 4 9 refl)))))))
+        (λ group. skip 5 k.Having refl (λ _. leads_give (lower rank 4 5 refl))))
+        (λ filter. leads_bind {U = Behind 6} (group_leads 6 refl) (λ _. skip 6 k.Having refl (λ _. leads_give (lower rank 4 6 refl)))))
+        (λ from. skip 7 k.Where refl (λ _. leads_bind {U = Behind 7} (group_leads 7 refl) (λ _. skip 7 k.Having refl (λ _. leads_give (lower rank 4 7 refl))))))
+        (λ items. skip 9 k.From refl (λ _. skip 9 k.Where refl (λ _. leads_bind {U = Behind 9} (group_leads 9 refl) (λ _. skip 9 k.Having refl (λ _. leads_give (lower rank 4 9 refl)))))))
         (λ distinct. leads_first (record {
           leads = λ b from to s stop. (
             (items_without {S = Any} k.Distinct (λ e. cc) refl refl).leads b from to s tt,
@@ -489,19 +491,19 @@ module _ (p : Rule Expr) (q : Reader Expr) (E : Whole (Stop 1) p q) (B : Begins 
 
     pub unions_whole : Whole (Behind 3) (rule.rows k.Union (g.union p f)) (r.unions q h)
     unfolding r.unions
-    unions_whole = whole_rows {S = Behind 3} k.Union union_whole (sound.union_sound p q K f h Q) (behind_at 4 k.Union refl) (lower 3 4 refl) (behind_without 3 k.Union refl)
+    unions_whole = whole_rows {S = Behind 3} k.Union union_whole (sound.union_sound p q K f h Q) (below_at rank 4 k.Union refl) (lower rank 3 4 refl) (below_without rank 3 k.Union refl)
 
     pub query_over_whole : Whole (Behind 1) (g.query_over p f) (r.query_over q h)
     unfolding g.query_over r.query_over
     query_over_whole = whole_next {T = Behind 4} select_whole
         (λ first. whole_next {T = Behind 3} unions_whole
         (λ unions. whole_next {T = Behind 2} order_whole
-        (λ order. whole_next {T = Behind 1} (whole_perhaps k.Limit (whole_weak (λ t s. tt) number_whole) (behind_without 1 k.Limit refl))
+        (λ order. whole_next {T = Behind 1} (whole_perhaps k.Limit (whole_weak (λ t s. tt) number_whole) (below_without rank 1 k.Limit refl))
         (λ limit. whole_give (record { select = first; unions = unions; order = order; limit = limit })) (λ _. leads_give (λ t s. s)))
-        (λ order. skip 2 k.Limit refl (λ _. leads_give (lower 1 2 refl))))
-        (λ unions. leads_bind {U = Behind 3} (order_leads 3 refl) (λ _. skip 3 k.Limit refl (λ _. leads_give (lower 1 3 refl)))))
-        (λ first. leads_bind {U = Behind 4} (leads_many (leads_first (leads_word k.Union (behind_at 4 k.Union refl))) (λ t s. s))
-        (λ unions. leads_bind {U = Behind 4} (order_leads 4 refl) (λ _. skip 4 k.Limit refl (λ _. leads_give (lower 1 4 refl)))))
+        (λ order. skip 2 k.Limit refl (λ _. leads_give (lower rank 1 2 refl))))
+        (λ unions. leads_bind {U = Behind 3} (order_leads 3 refl) (λ _. skip 3 k.Limit refl (λ _. leads_give (lower rank 1 3 refl)))))
+        (λ first. leads_bind {U = Behind 4} (leads_many (leads_first (leads_word k.Union (below_at rank 4 k.Union refl))) (λ t s. s))
+        (λ unions. leads_bind {U = Behind 4} (order_leads 4 refl) (λ _. skip 4 k.Limit refl (λ _. leads_give (lower rank 1 4 refl)))))
 
 -- whatever a query nests
 pub query_whole : (p : Rule Expr) (q : Reader Expr) → Whole (Stop 1) p q → Begins 1 p → Sound p q → ((tokens : List Token) → r.sees_all_of tokens ≡ true → q tokens ≡ None)

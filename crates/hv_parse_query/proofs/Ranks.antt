@@ -1,5 +1,5 @@
 -- What may stand behind the parts of a query.
-use Rattle.std.proofs.Common.{◌≡◌, ℕ, Bool, true, false, cond, List, nat_lt, nat_le, refl, sym, ap, arith, ◌∙◌}
+use Rattle.std.proofs.Common.{◌≡◌, ℕ, Bool, true, false, cond, List, nat_lt, nat_le, refl, ap}
 use Rattle.hv_ast.specs.declared.token.Token.{Token}
 use Rattle.hv_grammar.specs.declared.kind.Kind.{Kind}
 use Rattle.hv_grammar.specs.declared.kind.Kind.TheVariants as k
@@ -7,6 +7,7 @@ use Rattle.hv_grammar.specs.Readers.{kind_at}
 use Rattle.hv_grammar.specs.Choices as c
 use Rattle.hv_grammar.specs.Choices.{binds}
 use Rattle.hv_parse_expr.proofs.Begins.{Stop}
+use Rattle.hv_parse_expr.proofs.Below.{Below, lower}
 
 -- How far within a query a token goes on: LIMIT is the last clause, and an alias goes on with an
 -- item or a source. What goes on with an expression has the highest rank.
@@ -34,35 +35,9 @@ rank kind = cond (c.is_name kind) 11 12
 
 -- the token behind ranks below this
 abbrev pub Behind : ℕ → List Token → Type 0
-Behind n to = nat_lt (rank (kind_at to)) n ≡ true
-
--- the token behind is of another kind
-abbrev pub Without : Kind → List Token → Type 0
-Without kind to = kind_at to ≡ kind → ⊥
-
--- whatever stands behind
-abbrev pub Any : List Token → Type 0
-Any to = Unit {0}
+Behind n to = Below rank n to
 
 -- ---- what a rank says
-
-less_of : (a b c : ℕ) → nat_lt a b ≡ true → nat_le b c ≡ true → nat_lt a c ≡ true
-less_of a b c one two = grind arith
-
-differ : (m n : ℕ) → nat_lt m n ≡ true → nat_le n m ≡ true → ⊥
-differ m n one two = grind arith
-
-pub lower : (low high : ℕ) → nat_le low high ≡ true → (t : List Token) → Behind low t → Behind high t
-lower low high le t s = less_of (rank (kind_at t)) low high s le
-
-pub behind_at : (n : ℕ) (kind : Kind) → nat_lt (rank kind) n ≡ true → (t : List Token) → kind_at t ≡ kind → Behind n t
-behind_at n kind e t at = ap (λ z. nat_lt (rank z) n) at ∙ e
-
-pub behind_without : (n : ℕ) (kind : Kind) → nat_le n (rank kind) ≡ true → (t : List Token) → Behind n t → Without kind t
-behind_without n kind high t s at = differ (rank kind) n (ap (λ z. nat_lt (rank z) n) (sym at) ∙ s) high
-
-pub without_at : (other kind : Kind) → (kind ≡ other → ⊥) → (t : List Token) → kind_at t ≡ kind → Without other t
-without_at other kind apart t at is = apart (sym at ∙ is)
 
 -- what binds has the highest rank
 rank_stops : (kind : Kind) → nat_lt (rank kind) 12 ≡ true → nat_lt (binds kind) 1 ≡ true
@@ -92,7 +67,7 @@ rank_stops k.OpenIndex e = absurd (cc)
 rank_stops kind e = refl
 
 pub behind_stops : (n : ℕ) → nat_le n 12 ≡ true → (t : List Token) → Behind n t → Stop 1 t
-behind_stops n le t s = rank_stops (kind_at t) (lower n 12 le t s)
+behind_stops n le t s = rank_stops (kind_at t) (lower rank n 12 le t s)
 
 -- a name ranks with AS
 pub name_rank : (kind : Kind) → c.is_name kind ≡ true → nat_lt (rank kind) 12 ≡ true

@@ -13,7 +13,7 @@ use Rattle.hv_parse_expr.proofs.Joins.{Sound, Suffix}
 use Rattle.hv_parse_expr.proofs.Begins.{Avoids, Begins, starts, word_kind}
 use Rattle.hv_parse_expr.proofs.Wholes.{Whole, whole_give, whole_bind, whole_then, whole_word, whole_eat, whole_flag}
 use Rattle.hv_parse_expr.proofs.Rows.{behind_whole}
-use Rattle.hv_parse_query.proofs.Ranks.{Any, Without, without_at}
+use Rattle.hv_parse_expr.proofs.Below.{Any, Without, without_at}
 
 -- ---- what a rule begins with, where what stands behind it is known
 

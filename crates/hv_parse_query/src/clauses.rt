@@ -1,5 +1,6 @@
 //! What a query is made of besides its sources: conditions, keys and items.
 
+ghost use Rattle.std.specs.Prelude.{◌≡◌};
 ghost use Rattle.hv_grammar.specs.declared.kind.Kind.TheVariants as k;
 ghost use Rattle.hv_grammar.specs.QueryReading as reading;
 ghost use Rattle.hv_grammar.specs.Readers.{perhaps};
@@ -8,24 +9,35 @@ ghost use Rattle.hv_parse_expr.specs.Reads.{Reads};
 
 use crate::names::optional_alias;
 use hv_ast::{Expr, Item, Key};
-use hv_base::List;
+use hv_base::{Boxed, List};
 use hv_grammar::Kind;
 use hv_parse_expr::{ReadFault, Tokens, any_expr, expr_list, name};
 use std::alloc::Global;
 
-/// `[word expr]`, where the word is of this kind, as WHERE, HAVING or ON.
+/// `[word expr]`, where the word is of this kind, as WHERE, HAVING or ON. It is boxed, so that a caller
+/// that leaves early drops a box and not each form of an expression.
 #[tactic(auto, unfolding(hv_grammar::specs::QueryReading::condition))]
 pub fn condition(
     alloc: Global,
     tokens: &mut Tokens<'_>,
     kind: Kind,
-) -> Result<Option<Expr>, ReadFault>
+) -> Result<Option<Boxed<Expr>>, ReadFault>
     ensures { Reads (reading.condition any_expr kind tokens.old) result tokens.new }
 {
     if tokens.eat(kind) {
-        Ok(Some(any_expr(alloc, tokens)?))
+        Ok(Some(Boxed::new(alloc, any_expr(alloc, tokens)?)?))
     } else {
         Ok(None)
+    }
+}
+
+/// What the box holds, if there is one.
+pub fn unboxed<T>(boxed: Option<Boxed<T>>) -> Option<T>
+    ensures { result ≡ boxed }
+{
+    match boxed {
+        Some(boxed) => Some(boxed.into_inner()),
+        None => None,
     }
 }
 
@@ -95,9 +107,9 @@ pub fn limit(tokens: &mut Tokens<'_>) -> Result<Option<u64>, ReadFault>
 pub fn one(alloc: Global, tokens: &mut Tokens<'_>) -> Result<Item, ReadFault>
     ensures { Reads (reading.one any_expr tokens.old) result tokens.new }
 {
-    let value = any_expr(alloc, tokens)?;
+    let value = Boxed::new(alloc, any_expr(alloc, tokens)?)?;
     let alias = optional_alias(alloc, tokens)?;
-    Ok(Item::One(value, alias))
+    Ok(Item::One(value.into_inner(), alias))
 }
 
 /// `ident . *`

@@ -8,7 +8,7 @@ ghost use Rattle.hv_grammar.specs.Reading.{any_expr};
 ghost use Rattle.hv_parse_expr.specs.Reads.{Reads};
 ghost use Rattle.hv_parse_query.specs.Nests.{Nests};
 
-use crate::clauses::{condition, group, items, limit, order};
+use crate::clauses::{condition, group, items, limit, order, unboxed};
 use crate::laterals::laterals;
 use crate::names::{alias, optional_alias, table_name};
 use hv_ast::{From, Join, JoinKind, Query, Select, Source, Union};
@@ -25,16 +25,6 @@ fn begins_join(kind: Kind) -> bool
         Kind::Comma | Kind::Join | Kind::Inner | Kind::Cross => true,
         Kind::Left | Kind::Right | Kind::Full => true,
         _ => false,
-    }
-}
-
-/// What the box holds, if there is one.
-fn unboxed<T>(boxed: Option<Boxed<T>>) -> Option<T>
-    ensures { result ≡ boxed }
-{
-    match boxed {
-        Some(boxed) => Some(boxed.into_inner()),
-        None => None,
     }
 }
 
@@ -97,6 +87,15 @@ impl<F: Fn(Global, &mut Tokens<'_>, usize) -> Result<Query, ReadFault>> Queries<
         }
     }
 
+    /// A source in a box, so that a caller that leaves early drops a box and not each part.
+    fn boxed_source(&self, tokens: &mut Tokens<'_>) -> Result<Boxed<Source>, ReadFault>
+        requires { Nests self.now.depth (F.pre self.now.query) (F.post self.now.query) }
+        ensures { Reads (reading.source any_expr (reading.query any_expr self.now.depth) tokens.old)
+            result tokens.new }
+    {
+        Ok(Boxed::new(self.alloc, self.source(tokens)?)?)
+    }
+
     /// `source ON expr`
     #[tactic(auto, unfolding(hv_grammar::specs::QueryReading::joined_on))]
     fn joined_on(&self, tokens: &mut Tokens<'_>, kind: JoinKind) -> Result<Join, ReadFault>
@@ -104,12 +103,12 @@ impl<F: Fn(Global, &mut Tokens<'_>, usize) -> Result<Query, ReadFault>> Queries<
         ensures { Reads (reading.joined_on any_expr (reading.query any_expr self.now.depth) kind
             tokens.old) result tokens.new }
     {
-        let source = self.source(tokens)?;
+        let source = self.boxed_source(tokens)?;
         tokens.expect(Kind::On)?;
         let condition = any_expr(self.alloc, tokens)?;
         Ok(Join {
             kind,
-            source,
+            source: source.into_inner(),
             on: Some(condition),
         })
     }
@@ -147,12 +146,12 @@ impl<F: Fn(Global, &mut Tokens<'_>, usize) -> Result<Query, ReadFault>> Queries<
         ensures { Reads (reading.inner_join any_expr (reading.query any_expr self.now.depth)
             tokens.old) result tokens.new }
     {
-        let source = self.source(tokens)?;
+        let source = self.boxed_source(tokens)?;
         let on = condition(self.alloc, tokens, Kind::On)?;
         Ok(Join {
             kind: JoinKind::Inner,
-            source,
-            on,
+            source: source.into_inner(),
+            on: unboxed(on),
         })
     }
 
@@ -237,11 +236,11 @@ impl<F: Fn(Global, &mut Tokens<'_>, usize) -> Result<Query, ReadFault>> Queries<
         ensures { Reads (reading.from any_expr (reading.query any_expr self.now.depth) tokens.old)
             result tokens.new }
     {
-        let source = self.source(tokens)?;
+        let source = self.boxed_source(tokens)?;
         let joins = self.joins(tokens)?;
         let laterals = laterals(self.alloc, tokens)?;
         Ok(From {
-            source,
+            source: source.into_inner(),
             joins,
             laterals,
         })
@@ -280,9 +279,9 @@ impl<F: Fn(Global, &mut Tokens<'_>, usize) -> Result<Query, ReadFault>> Queries<
             distinct,
             items,
             from: unboxed(from),
-            filter,
+            filter: unboxed(filter),
             group,
-            having,
+            having: unboxed(having),
         })
     }
 

@@ -18,24 +18,26 @@ use Rattle.hv_grammar.specs.Rules.{Rule}
 use Rattle.hv_grammar.specs.Rules as rule
 use Rattle.hv_grammar.specs.Readers.{Reader, kind_at}
 use Rattle.hv_grammar.specs.Choices as c
+use Rattle.hv_grammar.specs.Choices.{binds}
 use Rattle.hv_grammar.specs.Reading as reading
 use Rattle.hv_grammar.specs.QueryGrammar as query
 use Rattle.hv_grammar.specs.QueryReading as query_reading
 use Rattle.hv_grammar.specs.StatementGrammar as g
 use Rattle.hv_grammar.specs.StatementReading as r
 use Rattle.hv_parse_expr.proofs.Joins.{Sound}
-use Rattle.hv_parse_expr.proofs.Begins.{Begins, Stop, End, stop_at, not_at, end_at}
+use Rattle.hv_parse_expr.proofs.Below.{Any, Below, Without, lower, below_at, below_without, without_at}
+use Rattle.hv_parse_expr.proofs.Begins.{Begins, Stop, End, end_at}
 use Rattle.hv_parse_expr.proofs.Wholes.{Whole, whole_give, whole_then, whole_word, whole_eat, whole_flag, whole_held}
 use Rattle.hv_parse_expr.proofs.Rows.{whole_separated}
 use Rattle.hv_parse_expr.proofs.Found.{name_whole, type_whole, list_whole, expr_whole}
 use Rattle.hv_parse_expr.proofs.Spelled.{name_sound, expr_sound}
-use Rattle.hv_parse_query.proofs.Ranks.{Any, Behind, Without, behind_at, without_at}
+use Rattle.hv_parse_query.proofs.Ranks.{Behind, rank}
 use Rattle.hv_parse_query.proofs.Wholes.{Leads, leads_give, leads_word, leads_bind, leads_first, leads_or, leads_option, avoids, whole_weak, whole_next, whole_map, whole_perhaps, whole_bracketed}
 use Rattle.hv_parse_query.proofs.Found.{NoAlias, number_whole, table_name_whole, optional_alias_whole, leads_table_name, leads_optional_alias, name_without, condition_whole, source_whole}
 use Rattle.hv_parse_query.proofs.Spelled.{query_sound}
 use Rattle.hv_parse_query.proofs.Starred.{no_expr}
 use Rattle.hv_parse_query.proofs.Whole.{any_query_whole}
-use Rattle.hv_parse_stmt.proofs.Wholes.{At, Below, Part, wherever, leads_at, lower, below_at, below_without, part_next, part_map, whole_look, whole_or, whole_led, whole_case, takes_held, whole_some}
+use Rattle.hv_parse_stmt.proofs.Wholes.{At, Part, wherever, leads_at, part_next, part_map, whole_look, whole_or, whole_led, whole_case, takes_held, whole_some}
 use Rattle.hv_parse_stmt.proofs.Spelled as sound
 
 -- nothing stands behind
@@ -244,22 +246,22 @@ module _ (p : Rule Expr) (q : Reader Expr) (E : Whole (Stop 1) p q) (B : Begins 
     (N : (tokens : List Token) → query_reading.sees_all_of tokens ≡ true → q tokens ≡ None)
     (f : Rule (Query Source)) (h : Reader (Query Source)) (W : Whole (Behind 1) f h) (F : Leads (At k.Select) Any f) (Q : Sound f h) where
   last_query : Whole Last f h
-  last_query = whole_weak (behind_at 1 k.Nothing refl) W
+  last_query = whole_weak (below_at rank 1 k.Nothing refl) W
 
   where_whole : Whole Last (rule.perhaps k.Where p) (query_reading.condition q k.Where)
-  where_whole = condition_whole p q E B K N k.Where (stop_at 1 k.Nothing refl) (without_at k.Where k.Nothing (λ e. cc))
+  where_whole = condition_whole p q E B K N k.Where (below_at binds 1 k.Nothing refl) (without_at k.Where k.Nothing (λ e. cc))
 
   partition_item_whole : Whole (Stop 1) (g.partition_item p f) (r.partition_item q h)
   unfolding g.partition_item r.partition_item
   partition_item_whole = whole_then name_whole (λ name. whole_map (λ value. record { name = name; value = value })
-      (condition_whole p q E B K N k.Equal (λ t s. s) (not_at 1 k.Equal refl)))
+      (condition_whole p q E B K N k.Equal (λ t s. s) (below_without binds 1 k.Equal refl)))
 
   partition_whole : Whole (Without k.Partition) (g.partition p f) (r.partition q h)
   unfolding g.partition r.partition r.partition_items
   partition_whole = whole_eat k.Partition
       (wherever (whole_bracketed
       (whole_separated {S = At k.Close} k.Comma partition_item_whole (sound.partition_item_sound p q K f h Q)
-      (stop_at 1 k.Comma refl) (stop_at 1 k.Close refl) (without_at k.Comma k.Close (λ e. cc)))
+      (below_at binds 1 k.Comma refl) (below_at binds 1 k.Close refl) (without_at k.Comma k.Close (λ e. cc)))
       (λ t at. at)))
       (whole_give []) (avoids (leads_give (λ t s. s)))
 
@@ -330,7 +332,7 @@ module _ (p : Rule Expr) (q : Reader Expr) (E : Whole (Stop 1) p q) (B : Begins 
   assignments_whole : Whole (End 1 k.Comma) (g.assignments p f) (r.assignments q h)
   unfolding g.assignments r.assignments r.assignment_list
   assignments_whole = whole_then (whole_word k.Set) (λ _. whole_separated {S = End 1 k.Comma} k.Comma assignment_whole (sound.assignment_sound p q K f h Q)
-      (stop_at 1 k.Comma refl) (λ t s. s.0) (λ t s. s.1))
+      (below_at binds 1 k.Comma refl) (λ t s. s.0) (λ t s. s.1))
 
   assignments_lead : {T S : List Token → Type 0} → ((t : List Token) → kind_at t ≡ k.Set → T t) → Leads T S (g.assignments p f)
   unfolding g.assignments
@@ -363,7 +365,7 @@ module _ (p : Rule Expr) (q : Reader Expr) (E : Whole (Stop 1) p q) (B : Begins 
   unmatched_action_whole = whole_then (whole_word k.Insert) (λ _. whole_then (whole_word k.Values) (λ _. whole_map action.Insert row_whole))
 
   and_whole : Whole (At k.Then) (rule.perhaps k.And p) (query_reading.condition q k.And)
-  and_whole = condition_whole p q E B K N k.And (stop_at 1 k.Then refl) (without_at k.And k.Then (λ e. cc))
+  and_whole = condition_whole p q E B K N k.And (below_at binds 1 k.Then refl) (without_at k.And k.Then (λ e. cc))
 
   matched_clause_whole : Whole (End 1 k.Comma) (g.acts p f (g.matched_action p f)) (r.matched_clause q h)
   unfolding g.acts r.matched_clause
@@ -394,8 +396,8 @@ module _ (p : Rule Expr) (q : Reader Expr) (E : Whole (Stop 1) p q) (B : Begins 
       (λ alias. whole_then (whole_word k.Using) (λ _. whole_next {T = Behind 11} (source_whole p q E B K N f h W Q)
       (λ other. whole_then (whole_word k.On) (λ _. whole_next {T = Stop 1} E
       (λ on. whole_then (whole_word k.When) (λ _. whole_map (λ clauses. s.Merge (record { table = table; alias = alias; source = other; on = on; clauses = clauses })) merge_clauses_whole))
-      (λ on. leads_first (leads_word k.When (stop_at 1 k.When refl)))))
-      (λ other. leads_first (leads_word k.On (behind_at 11 k.On refl)))))
+      (λ on. leads_first (leads_word k.When (below_at binds 1 k.When refl)))))
+      (λ other. leads_first (leads_word k.On (below_at rank 11 k.On refl)))))
       (λ alias. leads_first (leads_word k.Using (λ t at. ap c.begins_alias at))))
       (λ table. leads_bind {U = Without k.Dot} (leads_optional_alias (without_at k.Dot k.As (λ e. cc)) (name_without k.Dot refl) (λ t s. s))
       (λ alias. leads_first (leads_word k.Using (without_at k.Dot k.Using (λ e. cc))))))

@@ -1,5 +1,5 @@
 -- What is spelled is read, for the ways in which statements put rules together beside those of queries.
-use Rattle.std.proofs.Common.{◌≡◌, ◌⊎◌, inl, inr, ℕ, suc, ◌≤◌, Bool, true, false, cond, Option, Some, List, [], ◌∷◌, length, nat_lt, nat_le, sym, ap, subst, arith, ◌∙◌}
+use Rattle.std.proofs.Common.{◌≡◌, ◌⊎◌, inl, inr, suc, ◌≤◌, Bool, true, false, cond, Option, Some, List, [], ◌∷◌, length, sym, ap, subst, arith, ◌∙◌}
 use Rattle.hv_ast.specs.declared.token.Token.{Token}
 use Rattle.hv_grammar.specs.declared.kind.Kind.{Kind}
 use Rattle.hv_grammar.specs.Rules as rule
@@ -8,7 +8,7 @@ use Rattle.hv_grammar.specs.Readers.{Reader, and_then, kind_at, next, sees}
 use Rattle.hv_grammar.specs.Readers as reader
 use Rattle.hv_parse_expr.proofs.Begins.{word_kind, word_next, is_seen, is_not_seen}
 use Rattle.hv_parse_expr.proofs.Wholes.{Whole}
-use Rattle.hv_parse_query.proofs.Ranks.{Any, Without}
+use Rattle.hv_parse_expr.proofs.Below.{Any, Without}
 use Rattle.hv_parse_query.proofs.Wholes.{Leads, Takes, leads_bind, leads_give, whole_weak, whole_next, whole_map, more_while_whole}
 
 -- the token behind is of this kind
@@ -22,25 +22,7 @@ wherever P = whole_weak (λ t s. tt) P
 pub leads_at : {A : Type 0} {T S : List Token → Type 0} {p : Rule A} {kind : Kind} → Leads (At kind) S p → ((t : List Token) → kind_at t ≡ kind → T t) → Leads T S p
 leads_at P at = record { leads = λ a from to s stop. at from (P.leads a from to s stop) }
 
--- ---- clauses in an order: the token behind comes in it before this number
-
-abbrev pub Below : (Kind → ℕ) → ℕ → List Token → Type 0
-Below order n to = nat_lt (order (kind_at to)) n ≡ true
-
-less_of : (a b c : ℕ) → nat_lt a b ≡ true → nat_le b c ≡ true → nat_lt a c ≡ true
-less_of a b c one two = grind arith
-
-differ : (m n : ℕ) → nat_lt m n ≡ true → nat_le n m ≡ true → ⊥
-differ m n one two = grind arith
-
-pub lower : (order : Kind → ℕ) (low high : ℕ) → nat_le low high ≡ true → (t : List Token) → Below order low t → Below order high t
-lower order low high le t s = less_of (order (kind_at t)) low high s le
-
-pub below_at : (order : Kind → ℕ) (n : ℕ) (kind : Kind) → nat_lt (order kind) n ≡ true → (t : List Token) → kind_at t ≡ kind → Below order n t
-below_at order n kind e t at = ap (λ z. nat_lt (order z) n) at ∙ e
-
-pub below_without : (order : Kind → ℕ) (n : ℕ) (kind : Kind) → nat_le n (order kind) ≡ true → (t : List Token) → Below order n t → Without kind t
-below_without order n kind high t s at = differ (order kind) n (ap (λ z. nat_lt (order z) n) (sym at) ∙ s) high
+-- ---- clauses in an order
 
 -- what is read before S, and what it then begins with
 pub record Part {A : Type 0} (T S : List Token → Type 0) (p : Rule A) (r : Reader A) : Type 0 where

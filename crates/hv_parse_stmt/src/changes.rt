@@ -10,10 +10,10 @@ use hv_ast::{
     Assignment, Compact, Delete, Expr, Insert, Merge, MergeAction, MergeClause, PartitionItem,
     Rows, Stmt, Truncate, Update,
 };
-use hv_base::{List, Text};
+use hv_base::{Boxed, List, Text};
 use hv_grammar::Kind;
 use hv_parse_expr::{ReadFault, Tokens, any_expr, expr_list, name};
-use hv_parse_query::{any_query, any_source, condition, optional_alias, table_name};
+use hv_parse_query::{any_query, any_source, condition, optional_alias, table_name, unboxed};
 use std::alloc::Global;
 
 /// `ident [= expr]`
@@ -23,7 +23,10 @@ fn partition_item(alloc: Global, tokens: &mut Tokens<'_>) -> Result<PartitionIte
 {
     let name = name(alloc, tokens)?;
     let value = condition(alloc, tokens, Kind::Equal)?;
-    Ok(PartitionItem { name, value })
+    Ok(PartitionItem {
+        name,
+        value: unboxed(value),
+    })
 }
 
 /// `ident [= expr] {, ident [= expr]}`
@@ -187,7 +190,7 @@ pub fn update(alloc: Global, tokens: &mut Tokens<'_>) -> Result<Stmt, ReadFault>
     Ok(Stmt::Update(Update {
         table,
         assignments,
-        filter,
+        filter: unboxed(filter),
     }))
 }
 
@@ -199,7 +202,10 @@ pub fn delete(alloc: Global, tokens: &mut Tokens<'_>) -> Result<Stmt, ReadFault>
     tokens.expect(Kind::From)?;
     let table = table_name(alloc, tokens)?;
     let filter = condition(alloc, tokens, Kind::Where)?;
-    Ok(Stmt::Delete(Delete { table, filter }))
+    Ok(Stmt::Delete(Delete {
+        table,
+        filter: unboxed(filter),
+    }))
 }
 
 /// `UPDATE SET ident = expr {, ident = expr} | DELETE`
@@ -232,7 +238,10 @@ fn matched_clause(alloc: Global, tokens: &mut Tokens<'_>) -> Result<MergeClause,
     let condition = condition(alloc, tokens, Kind::And)?;
     tokens.expect(Kind::Then)?;
     let action = matched_action(alloc, tokens)?;
-    Ok(MergeClause { condition, action })
+    Ok(MergeClause {
+        condition: unboxed(condition),
+        action,
+    })
 }
 
 /// Behind WHEN NOT MATCHED, `[AND expr] THEN` and what is done then.
@@ -243,7 +252,10 @@ fn unmatched_clause(alloc: Global, tokens: &mut Tokens<'_>) -> Result<MergeClaus
     let condition = condition(alloc, tokens, Kind::And)?;
     tokens.expect(Kind::Then)?;
     let action = unmatched_action(alloc, tokens)?;
-    Ok(MergeClause { condition, action })
+    Ok(MergeClause {
+        condition: unboxed(condition),
+        action,
+    })
 }
 
 /// Behind WHEN, `[NOT] MATCHED` and what comes then.
@@ -284,16 +296,16 @@ pub fn merge(alloc: Global, tokens: &mut Tokens<'_>) -> Result<Stmt, ReadFault>
     let table = table_name(alloc, tokens)?;
     let alias = optional_alias(alloc, tokens)?;
     tokens.expect(Kind::Using)?;
-    let source = any_source(alloc, tokens)?;
+    let source = Boxed::new(alloc, any_source(alloc, tokens)?)?;
     tokens.expect(Kind::On)?;
-    let on = any_expr(alloc, tokens)?;
+    let on = Boxed::new(alloc, any_expr(alloc, tokens)?)?;
     tokens.expect(Kind::When)?;
     let clauses = merge_clauses(alloc, tokens)?;
     Ok(Stmt::Merge(Merge {
         table,
         alias,
-        source,
-        on,
+        source: source.into_inner(),
+        on: on.into_inner(),
         clauses,
     }))
 }

@@ -11,7 +11,7 @@ ghost use Rattle.hv_parse_stmt.specs.Told.{Tells, Finds, TellsNesting};
 use crate::asked::{abort, describe, show};
 use crate::changes::{compact, delete, explain, insert, merge, queried, truncate, update};
 use crate::tables::{create, drop_table};
-use hv_ast::{Stmt, Token};
+use hv_ast::{Stmt, Token, discard};
 use hv_grammar::Kind;
 use hv_parse_expr::{ParseFault, ReadFault, Tokens, too_deep};
 use std::alloc::Global;
@@ -42,9 +42,6 @@ fn statement(alloc: Global, tokens: &mut Tokens<'_>) -> Result<Stmt, ReadFault>
         _ => Err(ReadFault::Syntax),
     }
 }
-
-/// Drops it, in a function without other paths.
-fn discard<T: Drop>(_value: T) {}
 
 #[tactic(auto, unfolding(hv_grammar::specs::StatementReading::statement_of))]
 fn read_stmt(tokens: &[Token], alloc: Global) -> Result<Stmt, ParseFault>

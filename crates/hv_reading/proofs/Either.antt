@@ -7,7 +7,7 @@ use Rattle.hv_grammar.specs.Running.{Runs, IsUnbuilt}
 use Rattle.hv_grammar.specs.Texts.{TextFault, tree_of, fault_of}
 use Rattle.hv_parse_stmt.specs.Exact.{IsGood, IsFaulty}
 use Rattle.hv_parse_stmt.proofs.Texts.{tree_spelled, spelled_or_faulty}
-use Rattle.hv_reading.specs.Laws.{RunsOrIsRefused}
+use Rattle.hv_reading.specs.Laws.{RunsAndIsNotRefused}
 
 none-not_some : (text : Text) (fault : TextFault) → fault_of text ≡ None → fault_of text ≡ Some fault → ⊥
 none-not_some text fault none some = absurd (cc)
@@ -22,6 +22,6 @@ one-tree one other e = cc
 is-built : (text : Text) (tree : Stmt) → Runs text tree → IsUnbuilt text → ⊥
 is-built text tree runs other = other.unbuilt (subst IsBuilt (one-tree tree other.tree (sym runs.read ∙ other.read)) runs.built)
 
-pub runs-or_refused : RunsOrIsRefused
-runs-or_refused text tree runs (fault, inl found) = has-no_fault text tree fault runs.read (spelled_or_faulty text) found
-runs-or_refused text tree runs (fault, inr other) = is-built text tree runs other.1
+pub runs-not_refused : RunsAndIsNotRefused
+runs-not_refused text tree runs (fault, inl found) = has-no_fault text tree fault runs.read (spelled_or_faulty text) found
+runs-not_refused text tree runs (fault, inr other) = is-built text tree runs other.1

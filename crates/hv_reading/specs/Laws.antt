@@ -4,5 +4,5 @@ use Rattle.hv_ast.specs.Tokens.{Text}
 use Rattle.hv_grammar.specs.Running.{Runs, IsRefused}
 
 -- a text that runs isn't refused
-abbrev pub RunsOrIsRefused : Type 0
-RunsOrIsRefused = (text : Text) (tree : Stmt) → Runs text tree → IsRefused text → ⊥
+abbrev pub RunsAndIsNotRefused : Type 0
+RunsAndIsNotRefused = (text : Text) (tree : Stmt) → Runs text tree → IsRefused text → ⊥

@@ -6,5 +6,5 @@ mod laws;
 mod reading;
 
 pub use fault::TextFault;
-pub use laws::runs_or_is_refused;
+pub use laws::runs_and_is_not_refused;
 pub use reading::{read_statement, read_text};

@@ -6,14 +6,11 @@ ghost use Rattle.hv_grammar.specs.Running.{Runs};
 ghost use Rattle.hv_reading.specs.Faults.{IsFaultOf, IsRefusalOf};
 
 use crate::fault::TextFault;
-use hv_ast::{Stmt, is_built};
+use hv_ast::{Stmt, discard, is_built};
 use hv_base::Text;
 use hv_lex::lex;
 use hv_parse_stmt::{is_set, parse_set, parse_stmt};
 use std::alloc::Global;
-
-/// Drops it, in a function without other paths.
-fn discard<T: Drop>(_value: T) {}
 
 /// The statement that a text is, of any form of the language. The error of a SET text is `Syntax`;
 /// of another the first fault of its characters by place, else `Nesting` at the first token that

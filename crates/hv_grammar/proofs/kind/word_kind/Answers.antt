@@ -1,7 +1,7 @@
 use Rattle.std.proofs.Common.{rules}
-use Rattle.hv_grammar.specs.Kinds.{words}
+use Rattle.hv_grammar.specs.Kinds.{reserved, placed, words}
 use Rattle.hv_grammar.proofs.kind.word_kind.Goals as goal
 
 pub returns : goal.returns
-unfolding words
+unfolding words reserved placed
 returns c = search rules

@@ -1,4 +1,4 @@
-use Rattle.std.proofs.Common.{◌≤◌, ◌+◌, arith, length, subst, sym}
+use Rattle.std.proofs.Common.{arith, subst, sym}
 use Rattle.std.specs.Str.{IsUtf8}
 use Rattle.hv_lex.proofs.Reading.{left_utf8, piece_within, read_more}
 use Rattle.hv_lex.proofs.tokens.lex.Goals as goal
