@@ -1,17 +1,22 @@
 -- The date of a day number is the one that the calendar's arithmetic finds.
-use Rattle.std.proofs.Common.{◌≡◌, ℕ, zero, suc, ◌+◌, ◌<◌, ◌≤◌, ◌⊎◌, inl, inr, Bool, true, false, List, [], ◌∷◌, ◌++◌, map, cond, ◌==◌, refl, sym, ap, ◌∙◌, subst, arith, ℤ, pos, ◌<ℤ◌, unsigned_abs, Some, None, find}
+use Rattle.std.proofs.Common.{◌≡◌, ℕ, zero, suc, ◌+◌, ◌<◌, ◌≤◌, ◌⊎◌, inl, inr, Bool, true, false, List, [], ◌∷◌, ◌++◌, map, cond, ◌==◌, refl, sym, ap, ◌∙◌, subst, arith, ℤ, pos, negsuc, ◌≤ℤ◌, ◌<ℤ◌, unsigned_abs, rules, Some, None, find}
 use Rattle.std.specs.List.{flat_map, range_with_len}
 use Rattle.std.specs.Ordering.{int_eq}
 use Rattle.std.specs.Cmp.{signed_Decides}
 use Rattle.std.proofs.lemmas.Bool.{false≢true, eqb-true, eqb-false}
-use Rattle.std.proofs.lemmas.Int.{ints}
+use Rattle.std.proofs.lemmas.Bool.Decides.{nat_tests}
+use Rattle.std.proofs.lemmas.Int.{ints, by_lt_z}
+use Rattle.std.proofs.lemmas.Option.{cond_some}
 use Rattle.std.proofs.lemmas.List.Concat.{flat_map-cons}
-use Rattle.jiff_core.specs.Calendar.{days_from_civil, days_in_month, IsEpochDay}
+use Rattle.jiff_core.specs.Calendar.{days_from_civil, days_in_month}
 use Rattle.jiff_core.specs.Date.{epoch_day}
 use Rattle.jiff_core.specs.declared.civil.date.Date.{Date}
-use Rattle.jiff_core.proofs.DateLemmas.{epoch_day_injective, epoch_day_range}
+use Rattle.jiff_core.proofs.CalendarLemmas.{days_from_civil-day_count}
+use Rattle.jiff_core.proofs.DateLemmas.{epoch_day_injective, epoch_day_range, epoch_day-lt, epoch_day_same, cases_date}
+use Rattle.jiff_core.proofs.MarchLemmas.{day_count-early}
+use Rattle.jiff_core.proofs.SignedLemmas.{signed_arith}
 use Rattle.hv_value.specs.declared.dates.CivilDate.{CivilDate}
-use Rattle.hv_value.specs.Dates.{dates, dates_of_year, dates_of_month, day_number, date_of}
+use Rattle.hv_value.specs.Dates.{dates, dates_of_year, dates_of_month, day_number, date_of, is_day, is_date, numbered}
 
 module _ {X : Type 0} where
   abbrev pub In : X → List X → Type 0
@@ -166,19 +171,72 @@ date_of-none day none =
     find_none (λ (d : CivilDate). int_eq (day_number d) day) dates
     (λ y member pass. none y (of_dates y member) ((signed_Decides (day_number y) day).0 pass))
 
--- a day number of a date before the year 1 is none of the dates'
-pub date_of-early : (d : Date) → d.year <ℤ pos 1 → date_of (epoch_day d) ≡ None
-unfolding to_library
-date_of-early d early =
-    date_of-none (epoch_day d) (λ date h e.
-    let same = epoch_day_injective (to_library date h) d e in
-    absurd (omega (arith, ints, early, h.year_low, same.0)))
+-- ---- days
 
--- and neither is one that the library doesn't have
-pub date_of-outside : (day : ℤ) → ¬ (IsEpochDay day) → date_of day ≡ None
+-- 0001-01-01
+first_date : Date
+first_date = record { year = pos 1; month = 1; day = 1; year_in = search rules; month_in = search rules; day_in = search rules }
+
+first_date-number : days_from_civil (pos 1) 1 1 ≡ negsuc 719161
+first_date-number =
+    omega (arith, signed_arith, days_from_civil-day_count, day_count-early (pos 1) 10000 1 1 refl (omega arith) (omega arith) (omega arith))
+
+from_first : (d : Date) → pos 1 ≤ℤ d.year → negsuc 719161 ≤ℤ epoch_day d
+unfolding first_date
+from_first d low =
+    elim (cases_date first_date d) [
+      | inl later ↦ omega (arith, signed_arith, epoch_day-lt first_date d later, first_date-number)
+      | inr (inl (inl early)) ↦ absurd (omega (arith, signed_arith))
+      | inr (inl (inr (year, inl month))) ↦ absurd (omega (arith, d.month_in))
+      | inr (inl (inr (year, inr day))) ↦ absurd (omega (arith, d.day_in, day.1))
+      | inr (inr same) ↦ omega (arith, signed_arith, epoch_day_same first_date d same.0 same.1 same.2, first_date-number)
+    ]
+
+before_first : (d : Date) → d.year <ℤ pos 1 → epoch_day d <ℤ negsuc 719161
+unfolding first_date
+before_first d early = omega (arith, signed_arith, epoch_day-lt d first_date (inl early), first_date-number)
+
+is_day-within : (n : ℤ) → negsuc 719161 ≤ℤ n → n ≤ℤ pos 2932896 → is_day n ≡ true
+is_day-within n low high = grind (arith, ints)
+
+is_day-low : (n : ℤ) → is_day n ≡ true → negsuc 719161 ≤ℤ n
+is_day-low n e = grind (arith, ints)
+
+-- a date of the library's whose number is a day's is one from the year 1 on
+pub year-of_day : (d : Date) → is_day (epoch_day d) ≡ true → pos 1 ≤ℤ d.year
+year-of_day d e = by_lt_z d.year (pos 1) (λ early. absurd (omega (arith, ints, before_first d early, is_day-low (epoch_day d) e))) (λ low. low)
+
+-- a number that is no day's is no date's
+pub date_of-no_day : (day : ℤ) → is_day day ≡ false → date_of day ≡ None
 unfolding to_library
-date_of-outside day outside =
-    date_of-none day (λ date h e. outside (subst IsEpochDay e (epoch_day_range (to_library date h))))
+date_of-no_day day e =
+    date_of-none day (λ date h is.
+    let d = to_library date h in
+    let low = from_first d (omega (arith, ints, h.year_low)) in
+    false≢true (sym e ∙ ap is_day (sym is) ∙ is_day-within (epoch_day d) low (epoch_day_range d).1))
+
+-- and a date's number is a day's
+day_of_date : (date : CivilDate) → IsDate date → is_day (day_number date) ≡ true
+unfolding to_library
+day_of_date date h =
+    let d = to_library date h in
+    is_day-within (epoch_day d) (from_first d (omega (arith, ints, h.year_low))) (epoch_day_range d).1
+
+pub numbered-day : (y m d : ℕ) (z : ℤ) → numbered y m d ≡ Some z → is_day z ≡ true
+numbered-day y m d z e =
+    let found = cond_some (is_date y m d) (days_from_civil (pos y) m d) z e in
+    let is = found.0 in
+    let date : CivilDate = record { year = y; month = m; day = d } in
+    ap is_day (sym found.1)
+    ∙ day_of_date date
+    (record {
+      year_low = grind (arith, nat_tests);
+      year_high = grind (arith, nat_tests);
+      month_low = grind (arith, nat_tests);
+      month_high = grind (arith, nat_tests);
+      day_low = grind (arith, nat_tests);
+      day_high = grind (arith, nat_tests);
+    })
 
 -- a date of the library's from the year 1 on is the one of its day number
 pub date_of-known : (d : Date) (y : ℕ) → pos y ≡ d.year → 1 ≤ y → date_of (epoch_day d) ≡ Some (record { year = y; month = d.month; day = d.day })

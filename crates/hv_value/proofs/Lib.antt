@@ -1,3 +1,4 @@
+pub mod ConversionLemmas
 pub mod DateReading
 pub mod DateSteps
 pub mod DateText

@@ -1,7 +1,6 @@
 -- Conversion of a value to a type (Hive Language Manual, types and CAST; what it leaves open is this
 -- project's profile). What isn't a conversion counts as NULL.
-use Rattle.std.specs.Prelude.{ℕ, ◌-◌, ◌^◌, ◌==◌, if◌then◌else◌, Bool, true, false, not, ◌&&◌, ◌||◌, slice_index, List, length, take, drop, nat_lt, ℤ, pos, negsuc, neg_ℤ, Option, None, Some, option_map, option_and_then, codes}
-use Rattle.std.specs.Char.{is_ascii_digit}
+use Rattle.std.specs.Prelude.{ℕ, ◌-◌, ◌^◌, ◌==◌, if◌then◌else◌, Bool, true, false, not, ◌&&◌, ◌||◌, slice_index, List, map, length, take, drop, nat_lt, ℤ, pos, negsuc, neg_ℤ, Option, None, Some, option_map, option_and_then, codes}
 use Rattle.std.specs.Fmt.{signed_decimal}
 use Rattle.std.specs.Int.{int_wrap, w32}
 use Rattle.std.specs.List.{prefix_len, suffix_len, list_all}
@@ -15,9 +14,41 @@ use Rattle.hv_value.specs.declared.value.Value.{Value}
 use Rattle.hv_value.specs.declared.value.Value.TheOpen.{Value-F}
 use Rattle.hv_value.specs.declared.value.Value.TheVariants as value
 use Rattle.hv_value.specs.declared.value.Value.TheViews.{out-Value}
-use Rattle.hv_value.specs.Dates.{date_of, civil_text, day_of_text}
+use Rattle.hv_value.specs.Dates.{date_of, is_day, civil_text, day_of_text}
 use Rattle.hv_value.specs.Bytes.{space, plus_sign, minus_sign, point}
 use Rattle.hv_value.specs.Digits.{digit_count, numeral_value}
+
+-- ---- the table
+
+-- Which types convert to which. NULL converts to each type and each type to itself; arrays convert to
+-- their own type alone, but that an array of type NULL converts to every array.
+abbrev pub is_convertible : SqlType → SqlType → Bool
+is_convertible type.Null to = true
+is_convertible type.Boolean type.Boolean = true
+is_convertible type.Boolean type.Int = true
+is_convertible type.Boolean type.BigInt = true
+is_convertible type.Boolean type.Str = true
+is_convertible type.Int type.Boolean = true
+is_convertible type.Int type.Int = true
+is_convertible type.Int type.BigInt = true
+is_convertible type.Int type.Str = true
+is_convertible type.BigInt type.Boolean = true
+is_convertible type.BigInt type.Int = true
+is_convertible type.BigInt type.BigInt = true
+is_convertible type.BigInt type.Str = true
+is_convertible type.Str type.Int = true
+is_convertible type.Str type.BigInt = true
+is_convertible type.Str type.Str = true
+is_convertible type.Str type.Date = true
+is_convertible type.Date type.Str = true
+is_convertible type.Date type.Date = true
+is_convertible (type.ArrayOf elem.Null) (type.ArrayOf to) = true
+is_convertible (type.ArrayOf elem.Boolean) (type.ArrayOf elem.Boolean) = true
+is_convertible (type.ArrayOf elem.Int) (type.ArrayOf elem.Int) = true
+is_convertible (type.ArrayOf elem.BigInt) (type.ArrayOf elem.BigInt) = true
+is_convertible (type.ArrayOf elem.Str) (type.ArrayOf elem.Str) = true
+is_convertible (type.ArrayOf elem.Date) (type.ArrayOf elem.Date) = true
+is_convertible _ _ = false
 
 -- ---- reading an integer
 
@@ -37,7 +68,8 @@ trimmed bytes = without_front (without_end bytes)
 -- nothing, or a point with digits or none behind it
 abbrev pub is_fraction : List ℕ → Bool
 is_fraction bytes =
-    (length bytes == 0) || ((slice_index bytes 0 == point) && list_all is_ascii_digit (drop 1 bytes))
+    let behind = drop 1 bytes in
+    (length bytes == 0) || ((slice_index bytes 0 == point) && (digit_count behind == length behind))
 
 -- one or more digits, and behind them a fraction, which is dropped
 abbrev pub unsigned_of : List ℕ → Option ℕ
@@ -144,9 +176,18 @@ is_layer_of _ _ = false
 abbrev pub is_item_of : Elem → Value → Bool
 is_item_of e item = is_layer_of e (out-Value item)
 
+-- a DATE out of range counts as NULL within an array too
+abbrev pub is_in_range : Value-F Value → Bool
+is_in_range (Value-F.Day day) = is_day day
+is_in_range _ = true
+
+abbrev pub usable_item : Value → Value
+usable_item item = if is_in_range (out-Value item) then item else value.Null
+
 -- an array converts to its own type alone
 abbrev pub from_items : List Value → SqlType → Value
-from_items items (type.ArrayOf e) = if list_all (is_item_of e) items then value.Array items else value.Null
+from_items items (type.ArrayOf e) =
+    if list_all (is_item_of e) items then value.Array (map usable_item items) else value.Null
 from_items items _ = value.Null
 
 abbrev pub from_layer : Value-F Value → SqlType → Value
@@ -161,3 +202,23 @@ from_layer (Value-F.Array items) to = from_items items to
 -- the value as a value of the type
 unfoldable pub converted : Value → SqlType → Value
 converted v to = from_layer (out-Value v) to
+
+-- ---- values of a type
+
+-- NULL, or a value of the element type, a DATE in range
+abbrev pub is_item_in : Elem → Value → Bool
+is_item_in e item = is_item_of e item && is_in_range (out-Value item)
+
+abbrev pub is_layer_in : SqlType → Value-F Value → Bool
+is_layer_in to Value-F.Null = true
+is_layer_in type.Boolean (Value-F.Bool b) = true
+is_layer_in type.Int (Value-F.Int z) = true
+is_layer_in type.BigInt (Value-F.Big z) = true
+is_layer_in type.Str (Value-F.Str text) = true
+is_layer_in type.Date (Value-F.Day day) = is_day day
+is_layer_in (type.ArrayOf e) (Value-F.Array items) = list_all (is_item_in e) items
+is_layer_in _ _ = false
+
+-- NULL, or a value of the type, each DATE in range
+abbrev pub is_of : SqlType → Value → Bool
+is_of to v = is_layer_in to (out-Value v)

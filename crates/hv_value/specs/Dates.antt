@@ -1,6 +1,6 @@
 -- The dates of the years 1 to 9999 of the Gregorian calendar, which is taken back before its time
 -- (this project's profile).
-use Rattle.std.specs.Prelude.{ℕ, ◌+◌, ◌/◌, ◌%◌, ◌==◌, ◌&&◌, if◌then◌else◌, not, nat_le, length, take, drop, slice_index, Bool, List, [], ◌∷◌, map, find, ℤ, pos, Option, None, Some, codes}
+use Rattle.std.specs.Prelude.{ℕ, ◌+◌, ◌/◌, ◌%◌, ◌==◌, ◌&&◌, if◌then◌else◌, not, nat_le, length, take, drop, slice_index, Bool, List, [], ◌∷◌, map, find, ℤ, pos, negsuc, neg_ℤ, ◌+ℤ◌, ◌-ℤ◌, int_lt, Option, None, Some, option_map, codes}
 use Rattle.std.specs.List.{prefix_len, flat_map, range_with_len}
 use Rattle.std.specs.Ordering.{int_eq}
 use Rattle.jiff_core.specs.Calendar.{days_from_civil, days_in_month}
@@ -26,6 +26,43 @@ day_number date = days_from_civil (pos date.year) date.month date.day
 -- the date of a day number, where there is one
 unfoldable pub date_of : ℤ → Option CivilDate
 date_of day = find (λ date. int_eq (day_number date) day) dates
+
+-- ---- days
+
+-- a number of a day of these years, from 0001-01-01 to 9999-12-31
+abbrev pub is_day : ℤ → Bool
+is_day n = not (int_lt n (negsuc 719161)) && not (int_lt (pos 2932896) n)
+
+-- the number itself, where it is a day's
+abbrev pub day_if_known : ℤ → Option ℤ
+day_if_known n = if is_day n then Some n else None
+
+-- the day so many days later, where both are days
+abbrev pub days_later : ℤ → ℤ → Option ℤ
+days_later day days = if is_day day then day_if_known (day +ℤ days) else None
+
+-- `date_add`, `date_sub` and `datediff` of Hive's manual, on day numbers; what is no day gives nothing
+abbrev pub date_add : ℤ → ℤ → Option ℤ
+date_add day days = days_later day days
+
+abbrev pub date_sub : ℤ → ℤ → Option ℤ
+date_sub day days = days_later day (neg_ℤ days)
+
+-- how many days the first comes after the second, where both are days
+abbrev pub date_diff : ℤ → ℤ → Option ℤ
+date_diff end start = if is_day end && is_day start then Some (end -ℤ start) else None
+
+-- the parts of a day's date
+abbrev pub year_of : ℤ → Option ℤ
+year_of day = option_map (λ (date : CivilDate). pos date.year) (date_of day)
+
+abbrev pub month_of : ℤ → Option ℤ
+month_of day = option_map (λ (date : CivilDate). pos date.month) (date_of day)
+
+abbrev pub day_of_month : ℤ → Option ℤ
+day_of_month day = option_map (λ (date : CivilDate). pos date.day) (date_of day)
+
+-- ---- printing a date
 
 -- the last decimal digit
 abbrev pub last_digit : ℕ → ℕ

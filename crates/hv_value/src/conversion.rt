@@ -1,12 +1,13 @@
-ghost use Rattle.std.specs.Prelude.{◌≡◌, IfOk};
+ghost use Rattle.std.specs.Prelude.{◌≡◌, IfOk, IsTrue, map};
 ghost use Rattle.std.specs.List.{list_all};
 ghost use Rattle.std.specs.Int.{int_wrap, w32};
 ghost use Rattle.std.specs.Fmt.{signed_decimal};
 ghost use Rattle.hv_value.specs.Dates.{civil_text};
-ghost use Rattle.hv_value.specs.Conversion.{converted, from_bool, from_int, from_big, from_text, from_day, from_items, is_item_of};
+ghost use Rattle.hv_value.specs.Conversion.{converted, from_bool, from_int, from_big, from_text, from_day, from_items, is_item_of, usable_item, is_convertible, is_of};
+ghost use Rattle.hv_value.specs.declared.sql_type.SqlType.TheVariants.{ArrayOf};
 
-use crate::copies::duplicates;
 use crate::dates::{CivilDate, parse_date};
+use crate::days::is_day;
 use crate::printing::print_date;
 use crate::reading::{read_big, read_int};
 use crate::sql_type::{Elem, SqlType};
@@ -70,10 +71,19 @@ fn from_text(alloc: Global, text: &Text, to: &SqlType) -> Result<Value, NoMemory
     ensures { IfOk result (λ v. v ≡ from_text text.now to.now) }
 {
     match to {
-        SqlType::Int => Ok(read_int(text.bytes()).map_or(Value::Null, Value::Int)),
-        SqlType::BigInt => Ok(read_big(text.bytes()).map_or(Value::Null, Value::Big)),
+        SqlType::Int => match read_int(text.bytes()) {
+            Some(number) => Ok(Value::Int(number)),
+            None => Ok(Value::Null),
+        },
+        SqlType::BigInt => match read_big(text.bytes()) {
+            Some(number) => Ok(Value::Big(number)),
+            None => Ok(Value::Null),
+        },
         SqlType::Str => Ok(Value::Str(text.duplicate(alloc)?)),
-        SqlType::Date => Ok(parse_date(text.bytes()).map_or(Value::Null, Value::Day)),
+        SqlType::Date => match parse_date(text.bytes()) {
+            Some(day) => Ok(Value::Day(day)),
+            None => Ok(Value::Null),
+        },
         _ => Ok(Value::Null),
     }
 }
@@ -116,7 +126,32 @@ fn is_item_of(elem: &Elem, item: &Value) -> bool
 fn are_items_of(elem: &Elem, items: &[Value]) -> bool
     ensures { result ≡ list_all (is_item_of elem.now) items.now }
 {
-    items.iter().all(|item| is_item_of(elem, item))
+    for item in items {
+        if !is_item_of(elem, item) {
+            return false;
+        }
+    }
+    true
+}
+
+// A DATE out of range counts as NULL.
+fn usable_item(alloc: Global, item: &Value) -> Result<Value, NoMemory>
+    ensures { IfOk result (λ v. v ≡ usable_item item.now) }
+{
+    match item {
+        Value::Day(day) if !is_day(*day) => Ok(Value::Null),
+        _ => item.duplicate(alloc),
+    }
+}
+
+fn usable_items(alloc: Global, items: &[Value]) -> Result<List<Value>, NoMemory>
+    ensures { IfOk result (λ usable. usable ≡ map usable_item items.now) }
+{
+    let mut usable = Vec::with_capacity(alloc, items.len())?;
+    for item in items {
+        usable.push(usable_item(alloc, item)?)?;
+    }
+    Ok(List::from_vec(usable))
 }
 
 fn from_items(alloc: Global, items: &List<Value>, to: &SqlType) -> Result<Value, NoMemory>
@@ -124,9 +159,44 @@ fn from_items(alloc: Global, items: &List<Value>, to: &SqlType) -> Result<Value,
 {
     match to {
         SqlType::ArrayOf(elem) if are_items_of(elem, items.as_slice()) => {
-            Ok(Value::Array(duplicates(alloc, items.as_slice())?))
+            Ok(Value::Array(usable_items(alloc, items.as_slice())?))
         }
         _ => Ok(Value::Null),
+    }
+}
+
+fn is_convertible_item(from: &Elem, to: &Elem) -> bool
+    ensures { result ≡ is_convertible (ArrayOf from.now) (ArrayOf to.now) }
+{
+    match from {
+        Elem::Null => true,
+        Elem::Boolean => matches!(to, Elem::Boolean),
+        Elem::Int => matches!(to, Elem::Int),
+        Elem::BigInt => matches!(to, Elem::BigInt),
+        Elem::Str => matches!(to, Elem::Str),
+        Elem::Date => matches!(to, Elem::Date),
+    }
+}
+
+/// Whether values of the one type convert to the other.
+pub fn is_convertible(from: &SqlType, to: &SqlType) -> bool
+    ensures { result ≡ is_convertible from.now to.now }
+{
+    match from {
+        SqlType::Null => true,
+        SqlType::Boolean | SqlType::Int | SqlType::BigInt => matches!(
+            to,
+            SqlType::Boolean | SqlType::Int | SqlType::BigInt | SqlType::Str
+        ),
+        SqlType::Str => matches!(
+            to,
+            SqlType::Int | SqlType::BigInt | SqlType::Str | SqlType::Date
+        ),
+        SqlType::Date => matches!(to, SqlType::Str | SqlType::Date),
+        SqlType::ArrayOf(from) => match to {
+            SqlType::ArrayOf(to) => is_convertible_item(from, to),
+            _ => false,
+        },
     }
 }
 
@@ -145,3 +215,9 @@ pub fn convert(alloc: Global, value: &Value, to: &SqlType) -> Result<Value, NoMe
         Value::Array(items) => from_items(alloc, items, to),
     }
 }
+
+/// What a value converts to is a value of the type, or NULL.
+#[tactic(auto, using(crate::proofs::ConversionLemmas::conversions))]
+pub fn converted_is_of_its_type(value: &Value, to: &SqlType)
+    ensures { IsTrue (is_of to.now (converted value.now to.now)) }
+{}

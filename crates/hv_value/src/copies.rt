@@ -21,7 +21,7 @@ impl Duplicate for Value {
 }
 
 #[cycle(value_copies)]
-pub(crate) fn duplicates(alloc: Global, values: &[Value]) -> Result<List<Value>, NoMemory>
+fn duplicates(alloc: Global, values: &[Value]) -> Result<List<Value>, NoMemory>
     ensures { IfOk result (λ copies. copies ≡ values.now) }
 {
     let mut copies = Vec::with_capacity(alloc, values.len())?;

@@ -1,13 +1,13 @@
-ghost use Rattle.std.specs.Prelude.{◌≡◌, ◌≤◌, length};
+ghost use Rattle.std.specs.Prelude.{◌≡◌, ◌≤◌, length, is_some};
 ghost use Rattle.std.specs.List.{prefix_len};
-ghost use Rattle.jiff_core.specs.Date.{epoch_day};
-ghost use Rattle.hv_value.specs.Dates.{date_of, is_other_than_space, is_dashed, numbered, dashed_day, day_of_text};
+ghost use Rattle.hv_value.specs.Dates.{date_of, is_day, is_other_than_space, is_dashed, numbered, dashed_day, day_of_text};
 
+use crate::days::calendar_date;
 use crate::reading::{capped_value, digit_count};
 use jiff_core::civil::Date;
 
 /// A date of the years 1 to 9999 of the Gregorian calendar.
-#[derive(Clone, Copy, Debug, PartialEq, Eq)]
+#[derive(Clone, Copy)]
 pub struct CivilDate {
     pub year: u16,
     pub month: u8,
@@ -15,30 +15,21 @@ pub struct CivilDate {
 }
 
 impl CivilDate {
-    /// The date of a day number, which counts from 1970-01-01: None exactly where it is no date's
-    /// of the years 1 to 9999.
+    /// The date of a day number, which counts from 1970-01-01: None exactly where it is no day of
+    /// the years 1 to 9999.
     pub fn of(day: i32) -> Option<CivilDate>
-        ensures { result ≡ date_of day }
+        ensures date { result ≡ date_of day }
+        ensures found { is_some result ≡ is_day day }
     {
-        match Date::from_unix_epoch_day(i64::from(day)) {
-            Ok(date) => in_years(date),
-            Err(_) => None,
+        match calendar_date(day) {
+            Some(date) => Some(CivilDate {
+                year: date.year as u16,
+                month: date.month,
+                day: date.day,
+            }),
+            None => None,
         }
     }
-}
-
-// A date of the library's, which also has the years before 1.
-fn in_years(date: Date) -> Option<CivilDate>
-    ensures { result ≡ date_of (epoch_day date) }
-{
-    if date.year < 1 {
-        return None;
-    }
-    Some(CivilDate {
-        year: date.year as u16,
-        month: date.month,
-        day: date.day,
-    })
 }
 
 // How many bytes stand before the first space.

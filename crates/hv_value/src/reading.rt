@@ -1,6 +1,5 @@
 ghost use Rattle.std.specs.Prelude.{◌≡◌, ◌≤◌, ◌-◌, ◌^◌, length, drop, take, min, option_map, option_and_then, pos, neg_ℤ};
-ghost use Rattle.std.specs.Char.{is_ascii_digit};
-ghost use Rattle.std.specs.List.{prefix_len, suffix_len, list_all};
+ghost use Rattle.std.specs.List.{prefix_len, suffix_len};
 ghost use Rattle.hv_value.specs.Digits.{digit_count, numeral_value};
 ghost use Rattle.hv_value.specs.Conversion.{is_space, without_end, without_front, trimmed, is_fraction, unsigned_of, signed_of, integer_of, kept_if, is_big, big_of, int_of};
 
@@ -30,7 +29,8 @@ fn without_front(bytes: &[u8]) -> &[u8]
     &bytes[spaces_before(bytes)..]
 }
 
-fn trimmed(bytes: &[u8]) -> &[u8]
+/// The bytes without their outer spaces.
+pub fn trimmed(bytes: &[u8]) -> &[u8]
     ensures { result.now ≡ trimmed bytes.now }
 {
     without_front(without_end(bytes))
@@ -46,19 +46,14 @@ pub(crate) fn digit_count(bytes: &[u8]) -> usize
         .count()
 }
 
-fn all_digits(bytes: &[u8]) -> bool
-    ensures { result ≡ list_all is_ascii_digit bytes.now }
-{
-    bytes.iter().all(|byte| byte.is_ascii_digit())
-}
-
 fn is_fraction(bytes: &[u8]) -> bool
     ensures { result ≡ is_fraction bytes.now }
 {
     if bytes.is_empty() {
         return true;
     }
-    bytes[0] == b'.' && all_digits(&bytes[1..])
+    let digits = &bytes[1..];
+    bytes[0] == b'.' && digit_count(digits) == digits.len()
 }
 
 // The number that the digits write, or u64::MAX where it is larger.
