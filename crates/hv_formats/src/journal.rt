@@ -1,6 +1,6 @@
+use hv_bytes::FieldFault;
 use hv_journal::{
-    JournalFault, RecordFault, append, decode_entry, encode_entry, open_empty, read_records,
-    record_length,
+    JournalFault, append, decode_entry, encode_entry, open_empty, read_records, record_length,
 };
 use hv_shelf::{Fail as Planned, MemoryShelf, Op};
 use std::alloc::Global;
@@ -173,7 +173,7 @@ fn each_cause_both_ways(rt: HostRuntime) -> Result<(), Fail> {
 }
 
 fn is_damaged(alloc: Global, body: &[u8]) -> bool {
-    matches!(decode_entry(alloc, body), Err(RecordFault::Damaged))
+    matches!(decode_entry(alloc, body), Err(FieldFault::Damaged))
 }
 
 #[test]

@@ -1,4 +1,4 @@
-//! Values, row files and journals, against texts and bytes written by hand. These tests stand apart
+//! Row files and journals, against bytes written by hand. These tests stand apart
 //! from the crates that they test, since a crate with tests is proved twice.
 #![tactic(auto)]
 
@@ -6,5 +6,3 @@
 mod journal;
 #[cfg(test)]
 mod row_files;
-#[cfg(test)]
-mod values;

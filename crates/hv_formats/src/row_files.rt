@@ -36,19 +36,139 @@ fn damaged(rt: &impl Abort, alloc: Global, bytes: &[u8], at: u64) {
     }
 }
 
-/// With one byte changed the file is damaged at this offset.
-fn damaged_by(
+/// What `decode` is to say where bytes are a file.
+const FILE: u64 = u64::MAX;
+
+/// Of (from, to, least, most, said): where one of the bytes from..to is changed to a value of least..=most,
+/// the file is damaged at `said`, or still a file. Of a list the first that fits holds; each was worked out
+/// by hand from the layout.
+type Change = (usize, usize, u8, u8, u64);
+
+/// Only the last record may come later: the second one stands right behind the first. An INT and a DATE
+/// have one length.
+const TWO_ROWS_CHANGED: &[Change] = &[
+    (0, 4, 0, 255, 0),
+    // Read as deletes, of 28 bytes each: the second one's deleter is 0.
+    (4, 5, 1, 1, 45),
+    (4, 5, 0, 255, 4),
+    (5, 9, 0, 255, FILE),
+    (16, 17, 0, 0, 17),
+    (16, 17, 1, 1, 54),
+    (9, 17, 0, 255, 91),
+    (24, 25, 0, 0, 17),
+    (17, 37, 0, 255, 54),
+    (43, 44, 5, 5, FILE),
+    (44, 48, 0, 255, FILE),
+    (53, 54, 0, 127, FILE),
+    (37, 54, 0, 255, 17),
+    (61, 62, 0, 0, 54),
+    (73, 74, 0, 0, 54),
+    (54, 74, 0, 255, FILE),
+    (80, 81, 5, 5, FILE),
+    (81, 85, 0, 255, FILE),
+    (90, 91, 0, 127, FILE),
+    (74, 91, 0, 255, 54),
+];
+
+const EACH_KIND_CHANGED: &[Change] = &[
+    (0, 4, 0, 255, 0),
+    // Read as a delete, of 28 bytes, and bytes behind it.
+    (4, 5, 1, 1, 45),
+    (4, 5, 0, 255, 4),
+    (5, 9, 0, 255, FILE),
+    (16, 17, 0, 0, 17),
+    (9, 17, 0, 255, 83),
+    (17, 37, 0, 255, FILE),
+    // BOOLEAN false; a DATE in the place of the INT; INT; BIGINT.
+    (45, 46, 0, 0, FILE),
+    (46, 47, 5, 5, FILE),
+    (47, 51, 0, 255, FILE),
+    (52, 60, 0, 255, FILE),
+    // Other characters of two bytes.
+    (65, 66, 0xc2, 0xdf, FILE),
+    (66, 67, 0x80, 0xbf, FILE),
+    // An INT in the place of the DATE; later days.
+    (67, 68, 2, 2, FILE),
+    (69, 70, 0xf6, 0xff, FILE),
+    (70, 71, 0x07, 0xff, FILE),
+    (71, 72, 0xc7, 0xff, FILE),
+    // A DATE in the place of the INT in the array.
+    (78, 79, 5, 5, FILE),
+    (79, 83, 0, 255, FILE),
+    (37, 83, 0, 255, 17),
+];
+
+const ONE_DELETE_CHANGED: &[Change] = &[
+    (0, 4, 0, 255, 0),
+    // Read as inserts, the deleter's bytes are a length of 0, and no row is that short.
+    (4, 5, 0, 0, 17),
+    (4, 5, 0, 255, 4),
+    (5, 9, 0, 255, FILE),
+    (16, 17, 0, 0, 17),
+    (9, 17, 0, 255, 45),
+    (24, 25, 0, 0, 17),
+    (44, 45, 0, 0, 17),
+    (17, 45, 0, 255, FILE),
+];
+
+fn said(changes: &[Change], place: usize, byte: u8) -> u64 {
+    for (from, to, least, most, said) in changes {
+        if *from <= place && place < *to && *least <= byte && byte <= *most {
+            return *said;
+        }
+    }
+    FILE
+}
+
+/// What `decode` says: where the bytes are damaged, or that they are a file, which is written to them again.
+fn says(rt: &impl Abort, alloc: Global, bytes: &[u8]) -> Result<u64, Fail> {
+    match decode(alloc, bytes) {
+        Ok((deletes, bucket, recs)) => {
+            let written = encode(alloc, deletes, bucket, recs.as_slice())?;
+            assert_eq!(rt; written.as_slice(), bytes);
+            Ok(FILE)
+        }
+        Err(FileFault::Damaged { at }) => Ok(at),
+        Err(FileFault::NoMemory) => panic!(rt; "no memory"),
+    }
+}
+
+/// Each byte of the file in turn, changed to each other value.
+fn each_change(
     rt: &impl Abort,
     alloc: Global,
     bytes: &[u8],
-    place: usize,
-    byte: u8,
-    at: u64,
+    changes: &[Change],
 ) -> Result<(), Fail> {
-    assert!(rt; place < bytes.len());
     let mut changed = Vec::from_slice(alloc, bytes)?;
-    changed[place] = byte;
-    damaged(rt, alloc, changed.as_slice(), at);
+    for (place, old) in bytes.iter().enumerate() {
+        for byte in 0..=255_u8 {
+            if let Some(slot) = changed.get_mut(place) {
+                *slot = byte;
+            }
+            if byte != *old {
+                let found = says(rt, alloc, changed.as_slice())?;
+                let wanted = said(changes, place, byte);
+                assert!(rt; found == wanted, "{place} {byte}: {found}, not {wanted}");
+            }
+        }
+        if let Some(slot) = changed.get_mut(place) {
+            *slot = *old;
+        }
+    }
+    Ok(())
+}
+
+#[test]
+fn each_byte_changed(rt: HostRuntime) -> Result<(), Fail> {
+    let files = [
+        (TWO_ROWS, TWO_ROWS_CHANGED),
+        (EACH_KIND, EACH_KIND_CHANGED),
+        (ONE_DELETE, ONE_DELETE_CHANGED),
+    ];
+    for (bytes, changes) in files {
+        each_change(&rt, rt.alloc(), bytes, changes)?;
+    }
     Ok(())
 }
 
@@ -118,11 +238,6 @@ fn one_delete(rt: HostRuntime) -> Result<(), Fail> {
         panic!(&rt; "not one delete");
     };
     assert!(&rt; id.write == WriteId(1) && id.row == 5 && *by == WriteId(2));
-    // A deleter of 0, and a write id of 0.
-    damaged_by(&rt, alloc, ONE_DELETE, 44, 0, 17)?;
-    damaged_by(&rt, alloc, ONE_DELETE, 24, 0, 17)?;
-    // Read as inserts, the deleter's bytes are a length and a row of two bytes too few.
-    damaged_by(&rt, alloc, ONE_DELETE, 4, 0, 17)?;
     Ok(())
 }
 
@@ -143,38 +258,89 @@ fn cut_at_each_byte(rt: HostRuntime) -> Result<(), Fail> {
     Ok(())
 }
 
+/// A file of one row of one value, which these bytes spell, 100,000 at most.
+fn file_of(alloc: Global, value: &[u8]) -> Result<Vec<u8>, Fail> {
+    let mut file = Vec::from_slice(alloc, &TWO_ROWS[..16])?;
+    file.push(1)?;
+    file.extend_from_slice(&TWO_ROWS[17..37])?;
+    let length = value.len().min(100_000) as u32 + 2;
+    file.extend_from_slice(&length.to_be_bytes())?;
+    file.extend_from_slice(b"\0\x01")?;
+    file.extend_from_slice(value)?;
+    Ok(file)
+}
+
 #[test]
-fn damaged_heads_and_ends(rt: HostRuntime) -> Result<(), Fail> {
+fn each_value(rt: HostRuntime) -> Result<(), Fail> {
     let alloc = rt.alloc();
-    damaged_by(&rt, alloc, TWO_ROWS, 3, b'2', 0)?;
-    damaged_by(&rt, alloc, TWO_ROWS, 4, 2, 4)?;
-    // Three records, and one.
-    damaged_by(&rt, alloc, TWO_ROWS, 16, 3, 91)?;
-    damaged_by(&rt, alloc, TWO_ROWS, 16, 1, 54)?;
-    let mut longer = Vec::from_slice(alloc, TWO_ROWS)?;
-    longer.push(0)?;
-    damaged(&rt, alloc, longer.as_slice(), 91);
+    let values = [
+        (b"\0".as_slice(), FILE),
+        (b"\x01\0".as_slice(), FILE),
+        (b"\x01\x01".as_slice(), FILE),
+        (b"\x01\x02".as_slice(), 17),
+        (b"\x02\x80\0\0\0".as_slice(), FILE),
+        (b"\x02\x7f\xff\xff\xff".as_slice(), FILE),
+        (b"\x02\0\0\0".as_slice(), 17),
+        (b"\x03\x80\0\0\0\0\0\0\0".as_slice(), FILE),
+        (b"\x03\x7f\xff\xff\xff\xff\xff\xff\xff".as_slice(), FILE),
+        (b"\x03\0\0\0\0\0\0\0".as_slice(), 17),
+        (b"\x04\0\0\0\0".as_slice(), FILE),
+        (b"\x04\0\0\0\x04\xf0\x9f\x90\x9d".as_slice(), FILE),
+        (b"\x04\0\0\0\x02\xc0\x80".as_slice(), 17),
+        (b"\x04\0\0\0\x03\xed\xa0\x80".as_slice(), 17),
+        // 0001-01-01 and the day before it, 9999-12-31 and the day behind it.
+        (b"\x05\xff\xf5\x06\xc6".as_slice(), FILE),
+        (b"\x05\xff\xf5\x06\xc5".as_slice(), 17),
+        (b"\x05\0\x2c\xc0\xa0".as_slice(), FILE),
+        (b"\x05\0\x2c\xc0\xa1".as_slice(), 17),
+        (b"\x06\0\0\0\0".as_slice(), FILE),
+        (
+            b"\x06\0\0\0\x06\0\x01\x01\x02\0\0\0\x07\x03\0\0\0\0\0\0\0\x08\x04\0\0\0\x01a\x05\0\0\0\0".as_slice(),
+            FILE,
+        ),
+        (b"\x06\0\0\0\x01\x05\0\x2c\xc0\xa1".as_slice(), 17),
+        (b"\x06\0\0\0\x01\x06\0\0\0\0".as_slice(), 17),
+        (b"\x06\0\0\0\x02\0".as_slice(), 17),
+        (b"\x07".as_slice(), 17),
+        (b"\0\0".as_slice(), 17),
+    ];
+    for (value, wanted) in values {
+        let file = file_of(alloc, value)?;
+        let found = says(&rt, alloc, file.as_slice())?;
+        assert!(&rt; found == wanted, "{value:?}: {found}, not {wanted}");
+    }
+    Ok(())
+}
+
+/// A STRING of 65,531 bytes is a value of 65,536 bytes, the most that a row may have.
+#[test]
+fn longest_rows(rt: HostRuntime) -> Result<(), Fail> {
+    let alloc = rt.alloc();
+    for (length, wanted) in [(65_531_u32, FILE), (65_532, 17)] {
+        let mut value = vec![in alloc; 4]?;
+        value.extend_from_slice(&length.to_be_bytes())?;
+        for _ in 0..length {
+            value.push(b'a')?;
+        }
+        let file = file_of(alloc, value.as_slice())?;
+        let found = says(&rt, alloc, file.as_slice())?;
+        assert!(&rt; found == wanted, "{length}: {found}, not {wanted}");
+    }
     Ok(())
 }
 
 #[test]
-fn damaged_records(rt: HostRuntime) -> Result<(), Fail> {
+fn bytes_behind_and_order(rt: HostRuntime) -> Result<(), Fail> {
     let alloc = rt.alloc();
-    // A write id of 0; a length that is short, one that is long, and a count of values that is short.
-    damaged_by(&rt, alloc, TWO_ROWS, 24, 0, 17)?;
-    damaged_by(&rt, alloc, TWO_ROWS, 40, 12, 17)?;
-    damaged_by(&rt, alloc, TWO_ROWS, 40, 14, 17)?;
-    damaged_by(&rt, alloc, TWO_ROWS, 42, 1, 17)?;
-    // Tags: none, and an array's; and a text that isn't UTF-8.
-    damaged_by(&rt, alloc, TWO_ROWS, 43, 7, 17)?;
-    damaged_by(&rt, alloc, TWO_ROWS, 48, 6, 17)?;
-    damaged_by(&rt, alloc, TWO_ROWS, 53, 0xff, 17)?;
-    // The same row again, and a first record that comes behind the second.
-    damaged_by(&rt, alloc, TWO_ROWS, 73, 0, 54)?;
-    damaged_by(&rt, alloc, TWO_ROWS, 36, 2, 54)?;
-    // A BOOLEAN of 2; the day before the first; and an array in an array.
-    damaged_by(&rt, alloc, EACH_KIND, 45, 2, 17)?;
-    damaged_by(&rt, alloc, EACH_KIND, 71, 0xc5, 17)?;
-    damaged_by(&rt, alloc, EACH_KIND, 77, 6, 17)?;
+    for (file, at) in [(TWO_ROWS, 91), (EACH_KIND, 83), (ONE_DELETE, 45)] {
+        let mut longer = Vec::from_slice(alloc, file)?;
+        longer.push(0)?;
+        damaged(&rt, alloc, longer.as_slice(), at);
+    }
+    // The second record first.
+    let mut turned = Vec::from_slice(alloc, &TWO_ROWS[..17])?;
+    turned.extend_from_slice(&TWO_ROWS[54..])?;
+    turned.extend_from_slice(&TWO_ROWS[17..54])?;
+    damaged(&rt, alloc, turned.as_slice(), 54);
     Ok(())
 }

@@ -1,4 +1,4 @@
 pub mod Reading
-pub mod Gates
 pub mod Writing
+pub mod Gates
 pub mod Appending

@@ -1,11 +1,10 @@
 -- Reading an entry's fields from left to right: each function answers a value and the bytes behind it, or
 -- None where the bytes begin with no such value. Nothing above this crate cites these; the contracts of
 -- the public calls speak of spellings alone.
-use Rattle.std.specs.Prelude.{◌≡◌, ℕ, zero, suc, List, [], ◌∷◌, length, take, drop, Option, Some, None, Result, Ok, Err, nat_lt, ◌==◌, if◌then◌else◌}
-use Rattle.std.specs.Int.{w32, w64, from_be_bytes}
-use Rattle.std.specs.Str.{is_utf8}
+use Rattle.std.specs.Prelude.{ℕ, zero, suc, List, [], ◌∷◌, length, take, drop, Option, Some, None, nat_lt, ◌==◌, if◌then◌else◌}
 use Rattle.hv_base.specs.declared.ids.RowId.{RowId}
 use Rattle.hv_base.specs.declared.ids.Touch.{Touch}
+use Rattle.hv_bytes.specs.Reading.{◌>>=◌, four_at, eight_at, text_at, items_at}
 use Rattle.hv_history.specs.declared.entry.Entry.{Entry}
 use Rattle.hv_history.specs.declared.entry.Entry.TheVariants as entry
 use Rattle.hv_history.specs.declared.entry.Cause.{Cause}
@@ -15,74 +14,35 @@ use Rattle.hv_history.specs.declared.entry.JobCause.TheVariants as job_cause
 use Rattle.hv_history.specs.declared.entry.JobKind.{JobKind}
 use Rattle.hv_history.specs.declared.entry.JobKind.TheVariants as kind
 use Rattle.hv_history.specs.declared.entry.FilePlace.{FilePlace}
-use Rattle.hv_journal.specs.declared.fault.RecordFault.{RecordFault}
-use Rattle.hv_journal.specs.declared.fault.RecordFault.TheVariants as fault
-
-infixl 10 ◌>>=◌
-abbrev pub ◌>>=◌ : {A B : Type 0} → Option A → (A → Option B) → Option B
-None >>= f = None
-(Some x) >>= f = f x
-
--- what a function returned, seen by view, is what reading gives, unless memory ran out
-abbrev pub Fails : {Y : Type 0} → RecordFault → Option Y → Type 0
-Fails fault.Damaged read = read ≡ None
-Fails fault.NoMemory read = Unit {0}
-
-abbrev pub Gives : {X Y : Type 0} → (X → Y) → Result X RecordFault → Option Y → Type 0
-Gives view (Ok x) read = read ≡ Some (view x)
-Gives view (Err e) read = Fails e read
-
-unfoldable pub half_at : List ℕ → Option (ℕ × List ℕ)
-half_at bytes = if nat_lt (length bytes) 4 then None else Some (from_be_bytes w32 (take 4 bytes), drop 4 bytes)
-
-unfoldable pub word_at : List ℕ → Option (ℕ × List ℕ)
-word_at bytes = if nat_lt (length bytes) 8 then None else Some (from_be_bytes w64 (take 8 bytes), drop 8 bytes)
-
--- the first n bytes as a text
-abbrev pub utf8_at : ℕ → List ℕ → Option (List ℕ × List ℕ)
-utf8_at n bytes = if is_utf8 (take n bytes) then Some (take n bytes, drop n bytes) else None
-
-unfoldable pub text_at : List ℕ → Option (List ℕ × List ℕ)
-text_at bytes = do
-  n ← half_at bytes
-  if nat_lt (length n.1) n.0 then None else utf8_at n.0 n.1
 
 unfoldable pub touch_at : List ℕ → Option (Touch × List ℕ)
 touch_at bytes = do
-  table ← word_at bytes
+  table ← eight_at bytes
   partition ← text_at table.1
-  inserted ← word_at partition.1
-  deleted ← word_at inserted.1
+  inserted ← eight_at partition.1
+  deleted ← eight_at inserted.1
   Some (record { table = record { 0 = table.0 }; partition = partition.0; inserted = inserted.0; deleted = deleted.0 }, deleted.1)
-
--- this many touches
-unfoldable pub counted_at : ℕ → List ℕ → Option (List Touch × List ℕ)
-counted_at zero bytes = Some ([], bytes)
-counted_at (suc n) bytes = do
-  first ← touch_at bytes
-  others ← counted_at n first.1
-  Some (first.0 ∷ others.0, others.1)
 
 unfoldable pub touches_at : List ℕ → Option (List Touch × List ℕ)
 touches_at bytes = do
-  n ← half_at bytes
-  counted_at n.0 n.1
+  n ← four_at bytes
+  items_at touch_at n.0 n.1
 
 unfoldable pub row_at : List ℕ → Option (RowId × List ℕ)
 row_at bytes = do
-  write ← word_at bytes
-  statement ← half_at write.1
-  bucket ← half_at statement.1
-  row ← word_at bucket.1
+  write ← eight_at bytes
+  statement ← four_at write.1
+  bucket ← four_at statement.1
+  row ← eight_at bucket.1
   Some (record { write = record { 0 = write.0 }; statement = statement.0; bucket = bucket.0; row = row.0 }, row.1)
 
 unfoldable pub place_at : List ℕ → Option (FilePlace × List ℕ)
 place_at bytes = do
-  table ← word_at bytes
+  table ← eight_at bytes
   partition ← text_at table.1
   dir ← text_at partition.1
-  bucket ← half_at dir.1
-  at ← word_at bucket.1
+  bucket ← four_at dir.1
+  at ← eight_at bucket.1
   Some (record { table = record { 0 = table.0 }; partition = partition.0; dir = dir.0; bucket = bucket.0; at = at.0 }, at.1)
 
 unfoldable pub kind_at : List ℕ → Option (JobKind × List ℕ)
@@ -94,19 +54,19 @@ kind_at (suc (suc (suc b)) ∷ rest) = None
 
 unfoldable pub refused_at : List ℕ → Option (Cause × List ℕ)
 refused_at bytes = do
-  number ← half_at bytes
+  number ← four_at bytes
   Some (cause.Refused number.0, number.1)
 
 unfoldable pub conflict_at : List ℕ → Option (Cause × List ℕ)
 conflict_at bytes = do
-  by ← word_at bytes
-  table ← word_at by.1
+  by ← eight_at bytes
+  table ← eight_at by.1
   partition ← text_at table.1
   Some (cause.Conflict (record { 0 = by.0 }) (record { 0 = table.0 }) partition.0, partition.1)
 
 unfoldable pub request_at : List ℕ → Option (Cause × List ℕ)
 request_at bytes = do
-  by ← word_at bytes
+  by ← eight_at bytes
   Some (cause.Request (record { 0 = by.0 }), by.1)
 
 unfoldable pub twice_at : List ℕ → Option (Cause × List ℕ)
@@ -117,17 +77,17 @@ twice_at bytes = do
 
 unfoldable pub blocked_at : List ℕ → Option (Cause × List ℕ)
 blocked_at bytes = do
-  holder ← word_at bytes
+  holder ← eight_at bytes
   Some (cause.Blocked (record { 0 = holder.0 }), holder.1)
 
 unfoldable pub read_fault_at : List ℕ → Option (Cause × List ℕ)
 read_fault_at bytes = do
-  count ← word_at bytes
+  count ← eight_at bytes
   Some (cause.ReadFault count.0, count.1)
 
 unfoldable pub write_fault_at : List ℕ → Option (Cause × List ℕ)
 write_fault_at bytes = do
-  count ← word_at bytes
+  count ← eight_at bytes
   Some (cause.WriteFault count.0, count.1)
 
 unfoldable pub damaged_at : List ℕ → Option (Cause × List ℕ)
@@ -159,12 +119,12 @@ cause_at (tag ∷ rest) = cause_fields_at tag rest
 
 unfoldable pub job_read_fault_at : List ℕ → Option (JobCause × List ℕ)
 job_read_fault_at bytes = do
-  count ← word_at bytes
+  count ← eight_at bytes
   Some (job_cause.ReadFault count.0, count.1)
 
 unfoldable pub job_write_fault_at : List ℕ → Option (JobCause × List ℕ)
 job_write_fault_at bytes = do
-  count ← word_at bytes
+  count ← eight_at bytes
   Some (job_cause.WriteFault count.0, count.1)
 
 unfoldable pub job_damaged_at : List ℕ → Option (JobCause × List ℕ)
@@ -189,97 +149,97 @@ job_cause_at (tag ∷ rest) = job_cause_fields_at tag rest
 
 unfoldable pub boot_at : List ℕ → Option (Entry × List ℕ)
 boot_at bytes = do
-  run ← word_at bytes
+  run ← eight_at bytes
   Some (entry.Boot run.0, run.1)
 
 unfoldable pub opened_at : List ℕ → Option (Entry × List ℕ)
 opened_at bytes = do
-  txn ← word_at bytes
+  txn ← eight_at bytes
   session ← text_at txn.1
-  number ← word_at session.1
+  number ← eight_at session.1
   said ← text_at number.1
   Some (entry.Opened (record { 0 = txn.0 }) session.0 number.0 said.0, said.1)
 
 unfoldable pub start_at : List ℕ → Option (Entry × List ℕ)
 start_at bytes = do
-  txn ← word_at bytes
-  statement ← half_at txn.1
+  txn ← eight_at bytes
+  statement ← four_at txn.1
   Some (entry.Start (record { 0 = txn.0 }) statement.0, statement.1)
 
 unfoldable pub given_at : List ℕ → Option (Entry × List ℕ)
 given_at bytes = do
-  txn ← word_at bytes
-  table ← word_at txn.1
-  write ← word_at table.1
+  txn ← eight_at bytes
+  table ← eight_at txn.1
+  write ← eight_at table.1
   Some (entry.Given (record { 0 = txn.0 }) (record { 0 = table.0 }) (record { 0 = write.0 }), write.1)
 
 unfoldable pub commit_at : List ℕ → Option (Entry × List ℕ)
 commit_at bytes = do
-  txn ← word_at bytes
+  txn ← eight_at bytes
   wrote ← touches_at txn.1
   Some (entry.Commit (record { 0 = txn.0 }) wrote.0, wrote.1)
 
 unfoldable pub abort_at : List ℕ → Option (Entry × List ℕ)
 abort_at bytes = do
-  txn ← word_at bytes
+  txn ← eight_at bytes
   cause ← cause_at txn.1
   Some (entry.Abort (record { 0 = txn.0 }) cause.0, cause.1)
 
 unfoldable pub create_at : List ℕ → Option (Entry × List ℕ)
 create_at bytes = do
-  txn ← word_at bytes
-  table ← word_at txn.1
+  txn ← eight_at bytes
+  table ← eight_at txn.1
   Some (entry.Create (record { 0 = txn.0 }) (record { 0 = table.0 }), table.1)
 
 unfoldable pub drop_at : List ℕ → Option (Entry × List ℕ)
 drop_at bytes = do
-  txn ← word_at bytes
-  table ← word_at txn.1
+  txn ← eight_at bytes
+  table ← eight_at txn.1
   Some (entry.Drop (record { 0 = txn.0 }) (record { 0 = table.0 }), table.1)
 
 unfoldable pub asked_at : List ℕ → Option (Entry × List ℕ)
 asked_at bytes = do
-  job ← word_at bytes
-  table ← word_at job.1
+  job ← eight_at bytes
+  table ← eight_at job.1
   partition ← text_at table.1
   kind ← kind_at partition.1
-  by ← word_at kind.1
+  by ← eight_at kind.1
   Some (entry.Asked (record { 0 = job.0 }) (record { 0 = table.0 }) partition.0 kind.0 by.0, by.1)
 
 unfoldable pub picked_at : List ℕ → Option (Entry × List ℕ)
 picked_at bytes = do
-  job ← word_at bytes
-  watermark ← word_at job.1
+  job ← eight_at bytes
+  watermark ← eight_at job.1
   Some (entry.Picked (record { 0 = job.0 }) (record { 0 = watermark.0 }), watermark.1)
 
 unfoldable pub published_at : List ℕ → Option (Entry × List ℕ)
 published_at bytes = do
-  job ← word_at bytes
-  low ← word_at job.1
-  high ← word_at low.1
-  mark ← word_at high.1
+  job ← eight_at bytes
+  low ← eight_at job.1
+  high ← eight_at low.1
+  mark ← eight_at high.1
   Some (entry.Published (record { 0 = job.0 }) (record { 0 = low.0 }) (record { 0 = high.0 }) (record { 0 = mark.0 }), mark.1)
 
 unfoldable pub empty_at : List ℕ → Option (Entry × List ℕ)
 empty_at bytes = do
-  job ← word_at bytes
+  job ← eight_at bytes
   Some (entry.Empty (record { 0 = job.0 }), job.1)
 
 unfoldable pub cleaned_at : List ℕ → Option (Entry × List ℕ)
 cleaned_at bytes = do
-  job ← word_at bytes
+  job ← eight_at bytes
   Some (entry.Cleaned (record { 0 = job.0 }), job.1)
 
 unfoldable pub failed_at : List ℕ → Option (Entry × List ℕ)
 failed_at bytes = do
-  job ← word_at bytes
+  job ← eight_at bytes
   cause ← job_cause_at job.1
   Some (entry.Failed (record { 0 = job.0 }) cause.0, cause.1)
 
 unfoldable pub forgot_at : List ℕ → Option (Entry × List ℕ)
 forgot_at bytes = do
-  table ← word_at bytes
-  write ← word_at table.1
+  table ← eight_at bytes
+  write ← eight_at table.1
   Some (entry.Forgot (record { 0 = table.0 }) (record { 0 = write.0 }), write.1)
 
 -- the fields behind an entry's tag
@@ -314,7 +274,7 @@ whole_of bytes = do
 
 unfoldable pub record_at : List ℕ → Option (Entry × List ℕ)
 record_at bytes = do
-  n ← half_at bytes
+  n ← four_at bytes
   if nat_lt (length n.1) n.0 then None else (do
     e ← whole_of (take n.0 n.1)
     Some (e, drop n.0 n.1))

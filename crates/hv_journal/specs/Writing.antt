@@ -1,12 +1,7 @@
--- Appending bytes to a buffer that has room for them.
-use Rattle.std.specs.Prelude.{◌≡◌, ℕ, ◌+◌, ◌≤◌, List, ◌++◌, length, vec_len, vec_capacity}
-use Rattle.std.specs.Global.{Vec}
+-- What can be written of a touch.
+use Rattle.std.specs.Prelude.{◌<◌, ◌^◌, length}
+use Rattle.hv_base.specs.declared.ids.Touch.{Touch}
+use Rattle.hv_history.specs.Spelling.{touch_spelling}
 
-abbrev pub HasRoom : Vec ℕ → List ℕ → Type 0
-HasRoom out bytes = vec_len out + length bytes ≤ vec_capacity out
-
--- these bytes stand at the end now, and the buffer hasn't shrunk
-pub record Appends (old new : Vec ℕ) (bytes : List ℕ) : Type 0 where
-  pub items : new.items ≡ old.items ++ bytes
-  pub len : vec_len new ≡ vec_len old + length bytes
-  pub capacity : vec_capacity old ≤ vec_capacity new
+abbrev pub CanPutTouch : Touch → Type 0
+CanPutTouch t = length (touch_spelling t) < 2 ^ 32

@@ -3,8 +3,9 @@ ghost use Rattle.hv_history.specs.declared.entry.Entry.{Entry};
 ghost use Rattle.hv_history.specs.Journal.{IsJournal, Reads, IsBadAt, place_of};
 ghost use Rattle.hv_journal.specs.Gates.{IsClosed, Opens, IsFaultOf, IsFaultIn};
 
-use crate::fault::{JournalFault, RecordFault};
+use crate::fault::JournalFault;
 use crate::reading::records::read_record;
+use hv_bytes::FieldFault;
 use hv_history::Entry;
 use std::alloc::Global;
 
@@ -20,8 +21,8 @@ fn next_record(alloc: Global, rest: &[u8], at: u64) -> Result<Option<(Entry, &[u
         [0, ..] => Ok(None),
         [_, after @ ..] => match read_record(alloc, after) {
             Ok(found) => Ok(Some(found)),
-            Err(RecordFault::Damaged) => Err(JournalFault::BadJournal { at }),
-            Err(RecordFault::NoMemory) => Err(JournalFault::NoMemory),
+            Err(FieldFault::Damaged) => Err(JournalFault::BadJournal { at }),
+            Err(FieldFault::NoMemory) => Err(JournalFault::NoMemory),
         },
     }
 }

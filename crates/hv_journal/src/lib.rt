@@ -5,11 +5,12 @@ mod appending;
 mod fault;
 mod journal;
 mod laws;
+mod lists;
 mod reading;
 mod writing;
 
 pub use appending::{append, open_empty};
-pub use fault::{JournalFault, RecordFault};
+pub use fault::JournalFault;
 pub use journal::read_records;
 pub use laws::{one_book, one_spelling};
 pub use reading::records::decode_entry;

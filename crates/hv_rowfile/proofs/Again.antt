@@ -1,60 +1,30 @@
 -- What was spelled is read again, whatever stands behind it.
-use Rattle.std.proofs.Common.{◌≡◌, ℕ, zero, suc, ◌+◌, ◌^◌, ◌<◌, ◌≤◌, ◌==◌, Bool, true, false, List, [], ◌∷◌, ◌++◌, length, Option, Some, None, ℤ, refl, sym, ap, ◌∙◌, subst, append_assoc, arith, ltb, to_z-of_z}
+use Rattle.std.proofs.Common.{◌≡◌, ℕ, zero, suc, ◌^◌, ◌<◌, ◌≤◌, ◌==◌, Bool, true, false, List, [], ◌∷◌, ◌++◌, length, Option, Some, None, ℤ, refl, sym, ap, ◌∙◌, subst, append_assoc, arith, ltb, to_z-of_z}
 use Rattle.std.specs.Prelude.{FitsSigned, IsTrue}
 use Rattle.std.specs.List.{flat_map, AllByRecursion}
-use Rattle.std.specs.Int.{w16, w32, w64, from_be_bytes, cast_unsigned}
+use Rattle.std.specs.Int.{w32, w64, cast_unsigned}
 use Rattle.std.specs.Ordering.{is_lt}
 use Rattle.std.proofs.lemmas.Bool.{le-ltb}
 use Rattle.std.proofs.lemmas.List.{take_at, drop_at, length-append, append-nil}
-use Rattle.std.proofs.lemmas.Nat.{from_be_bytes-to_be_bytes_2, from_be_bytes-to_be_bytes_4, from_be_bytes-to_be_bytes_8}
 use Rattle.std.proofs.Math.Facts.{Fits-of_z}
 use lib.Dec.{eqb-suc-zero}
 use Rattle.hv_base.specs.declared.ids.RowId.{RowId}
+use Rattle.hv_bytes.specs.Spelling.{four_bytes, eight_bytes}
+use Rattle.hv_bytes.specs.Reading.{four_at, items_at}
+use Rattle.hv_bytes.proofs.Again.{two_again, four_again, eight_again, text_again}
+use Rattle.hv_bytes.proofs.ItemLemmas.{items_again, both}
 use Rattle.hv_value.specs.declared.row.Row.{Row}
+use Rattle.hv_value.specs.Dates.{is_day}
 use Rattle.hv_value.specs.declared.value.Value.{Value}
 use Rattle.hv_value.specs.declared.value.Value.TheOpen.{Value-F}
 use Rattle.hv_value.specs.declared.value.Value.TheVariants.{Array, rolls-Null, rolls-Bool, rolls-Int, rolls-Big, rolls-Str, rolls-Day, rolls-Array}
 use Rattle.hv_value.specs.declared.value.Value.TheViews.{out-Value, roll-Value, roll-out-Value}
 use Rattle.hv_rowfile.specs.declared.record.Rec.{Rec}
 use Rattle.hv_rowfile.specs.declared.record.Rec.TheVariants as rec
-use Rattle.hv_rowfile.specs.Layout.{two_bytes, four_bytes, eight_bytes, int_spelling, big_spelling, text_spelling, truth_byte, is_day, flat_spelling, element_spelling, layer_spelling, value_spelling, row_spelling, key_spelling, rec_spelling, FlatIsTaken, ElementIsTaken, LayerIsTaken, ValueIsTaken, RowIsTaken, KeyIsTaken, RecIsTaken, Follows, IsText, FlatFits, ElementFits, LayerFits, ValueFits, KeyFits, RecFits, IsNext}
-use Rattle.hv_rowfile.specs.Reading.{two_at, four_at, eight_at, int_at, big_at, text_at, truth_at, bool_value_at, int_value_at, big_value_at, text_value_at, day_value_at, element_at, elements_at, array_value_at, value_at, values_at, row_of, key_at, row_at, insert_at, delete_at, rec_at, follows, next_at}
-use Rattle.hv_rowfile.proofs.Lengths.{length-two, length-four, length-eight}
-use Rattle.hv_rowfile.proofs.Texts.{text_some}
-use Rattle.hv_rowfile.proofs.Counted.{counted_again}
-
-from_two : (n : ℕ) → n < 2 ^ 16 → from_be_bytes w16 (two_bytes n) ≡ n
-unfolding two_bytes
-from_two n lt = from_be_bytes-to_be_bytes_2 n lt
-
-from_four : (n : ℕ) → n < 2 ^ 32 → from_be_bytes w32 (four_bytes n) ≡ n
-unfolding four_bytes
-from_four n lt = from_be_bytes-to_be_bytes_4 n lt
-
-from_eight : (n : ℕ) → n < 2 ^ 64 → from_be_bytes w64 (eight_bytes n) ≡ n
-unfolding eight_bytes
-from_eight n lt = from_be_bytes-to_be_bytes_8 n lt
-
-pub two_again : (n : ℕ) (rest : List ℕ) → n < 2 ^ 16 → two_at (two_bytes n ++ rest) ≡ Some (n, rest)
-unfolding two_at
-two_again n rest lt =
-    let len = length-two n in
-    let long : ltb (length (two_bytes n ++ rest)) 2 ≡ false = le-ltb _ _ (omega (arith, length-append (two_bytes n) rest)) in
-    rw (long, take_at (two_bytes n) rest 2 len, drop_at (two_bytes n) rest 2 len, from_two n lt) refl
-
-pub four_again : (n : ℕ) (rest : List ℕ) → n < 2 ^ 32 → four_at (four_bytes n ++ rest) ≡ Some (n, rest)
-unfolding four_at
-four_again n rest lt =
-    let len = length-four n in
-    let long : ltb (length (four_bytes n ++ rest)) 4 ≡ false = le-ltb _ _ (omega (arith, length-append (four_bytes n) rest)) in
-    rw (long, take_at (four_bytes n) rest 4 len, drop_at (four_bytes n) rest 4 len, from_four n lt) refl
-
-pub eight_again : (n : ℕ) (rest : List ℕ) → n < 2 ^ 64 → eight_at (eight_bytes n ++ rest) ≡ Some (n, rest)
-unfolding eight_at
-eight_again n rest lt =
-    let len = length-eight n in
-    let long : ltb (length (eight_bytes n ++ rest)) 8 ≡ false = le-ltb _ _ (omega (arith, length-append (eight_bytes n) rest)) in
-    rw (long, take_at (eight_bytes n) rest 8 len, drop_at (eight_bytes n) rest 8 len, from_eight n lt) refl
+use Rattle.hv_rowfile.specs.Layout.{int_spelling, big_spelling, truth_byte, flat_spelling, element_spelling, layer_spelling, value_spelling, row_spelling, key_spelling, rec_spelling, FlatIsTaken, ElementIsTaken, LayerIsTaken, ValueIsTaken, RowIsTaken, KeyIsTaken, RecIsTaken, Follows, FlatFits, ElementFits, LayerFits, ValueFits, KeyFits, RecFits, IsNext}
+use Rattle.hv_rowfile.specs.Writing.{IsElement, IsValue}
+use Rattle.hv_rowfile.specs.Reading.{int_at, big_at, truth_at, bool_value_at, int_value_at, big_value_at, text_value_at, day_value_at, element_at, array_value_at, value_at, row_of, key_at, row_at, insert_at, delete_at, rec_at, follows, next_at}
+use Rattle.hv_rowfile.proofs.RowLemmas.{length-row}
 
 int_again : (n : ℤ) (rest : List ℕ) → FitsSigned w32 n → int_at (int_spelling n ++ rest) ≡ Some (n, rest)
 unfolding int_at
@@ -67,14 +37,6 @@ unfolding big_at
 big_again n rest h =
     let small = Fits-of_z {w = w64} {z = n} h in
     rw (eight_again (cast_unsigned w64 n) rest small.fits, to_z-of_z h) refl
-
-text_again : (t rest : List ℕ) → IsText t → text_at (text_spelling t ++ rest) ≡ Some (t, rest)
-unfolding text_spelling
-text_again t rest h =
-    let front = take_at t rest (length t) refl in
-    let read = four_again (length t) (t ++ rest) h.short in
-    let one = text_some ((four_bytes (length t) ++ t) ++ rest) (length t) (t ++ rest) (ap four_at (append_assoc (four_bytes (length t)) t rest) ∙ read) (omega (arith, length-append t rest)) (rw front h.utf8) in
-    one ∙ rw (front, drop_at t rest (length t) refl) refl
 
 pub truth_again : (b : Bool) (rest : List ℕ) → truth_at (truth_byte b ∷ rest) ≡ Some (b, rest)
 unfolding truth_at
@@ -104,9 +66,8 @@ element_again : (x : Value) (rest : List ℕ) → ElementIsTaken x → ElementFi
 unfolding element_spelling ElementIsTaken ElementFits
 element_again x rest t f = rolled x (roll-Value (out-Value x)) rest _ (sym (roll-out-Value x)) (flat_again (out-Value x) rest t f)
 
-elements_again : (items : List Value) (rest : List ℕ) → AllByRecursion ElementIsTaken items → AllByRecursion ElementFits items → elements_at (length items) (flat_map element_spelling items ++ rest) ≡ Some (items, rest)
-unfolding elements_at
-elements_again items rest t f = counted_again element_at element_spelling ElementIsTaken ElementFits element_again items rest t f
+elements_again : (items : List Value) (rest : List ℕ) → AllByRecursion ElementIsTaken items → AllByRecursion ElementFits items → items_at element_at (length items) (flat_map element_spelling items ++ rest) ≡ Some (items, rest)
+elements_again items rest t f = items_again element_at element_spelling IsElement (λ x behind h. element_again x behind h.0 h.1) items rest (both ElementIsTaken ElementFits items t f)
 
 array_again : (items : List Value) (rest : List ℕ) → AllByRecursion ElementIsTaken items → length items < 2 ^ 32 → AllByRecursion ElementFits items
     → array_value_at ((four_bytes (length items) ++ flat_map element_spelling items) ++ rest) ≡ Some (Array items, rest)
@@ -128,9 +89,8 @@ value_again : (x : Value) (rest : List ℕ) → ValueIsTaken x → ValueFits x �
 unfolding value_spelling ValueIsTaken ValueFits
 value_again x rest t f = rolled x (roll-Value (out-Value x)) rest _ (sym (roll-out-Value x)) (layer_again (out-Value x) rest t f)
 
-values_again : (values : List Value) (rest : List ℕ) → AllByRecursion ValueIsTaken values → AllByRecursion ValueFits values → values_at (length values) (flat_map value_spelling values ++ rest) ≡ Some (values, rest)
-unfolding values_at
-values_again values rest t f = counted_again value_at value_spelling ValueIsTaken ValueFits value_again values rest t f
+values_again : (values : List Value) (rest : List ℕ) → AllByRecursion ValueIsTaken values → AllByRecursion ValueFits values → items_at value_at (length values) (flat_map value_spelling values ++ rest) ≡ Some (values, rest)
+values_again values rest t f = items_again value_at value_spelling IsValue (λ x behind h. value_again x behind h.0 h.1) values rest (both ValueIsTaken ValueFits values t f)
 
 -- ---- rows and records
 
@@ -138,12 +98,8 @@ whole_again : (row : Row) → RowIsTaken row → AllByRecursion ValueFits row.va
 unfolding row_of row_spelling
 whole_again row t f =
     let body = flat_map value_spelling row.values in
-    let read : values_at (length row.values) body ≡ Some (row.values, []) = ap (values_at (length row.values)) (sym (append-nil body)) ∙ values_again row.values [] t.values f in
+    let read : items_at value_at (length row.values) body ≡ Some (row.values, []) = ap (items_at value_at (length row.values)) (sym (append-nil body)) ∙ values_again row.values [] t.values f in
     rw (two_again (length row.values) body (let c = t.count in omega arith), read) refl
-
-pub length-row : (row : Row) → length (row_spelling row) ≡ 2 + length (flat_map value_spelling row.values)
-unfolding row_spelling
-length-row row = length-append (two_bytes (length row.values)) (flat_map value_spelling row.values) ∙ omega (arith, length-two (length row.values))
 
 row_again : (row : Row) (rest : List ℕ) → RowIsTaken row → AllByRecursion ValueFits row.values → row_at ((four_bytes (length (row_spelling row)) ++ row_spelling row) ++ rest) ≡ Some (row, rest)
 unfolding row_at

@@ -6,28 +6,22 @@ use Rattle.std.specs.List.{flat_map, AllByRecursion}
 use Rattle.std.proofs.lemmas.List.{length-append, append-nil}
 use Rattle.std.proofs.lemmas.List.Concat.{flat_map-cons}
 use Rattle.hv_base.specs.declared.ids.RowId.{RowId}
+use Rattle.hv_bytes.specs.Spelling.{four_bytes, eight_bytes}
+use Rattle.hv_bytes.specs.Reading.{◌>>=◌, four_at, eight_at}
+use Rattle.hv_bytes.proofs.Lengths.{length-four}
+use Rattle.hv_bytes.proofs.Again.{four_again, eight_again}
+use Rattle.hv_bytes.proofs.Only.{read_one}
 use Rattle.hv_rowfile.specs.declared.record.Rec.{Rec}
 use Rattle.hv_rowfile.specs.declared.fault.FileFault.{FileFault}
 use Rattle.hv_rowfile.specs.declared.fault.FileFault.TheVariants as fault
-use Rattle.hv_rowfile.specs.Layout.{truth_byte, four_bytes, eight_bytes, rec_spelling, head_spelling, file_spelling, RecIsTaken, RecFits, RisesFrom, id_of, last_id, IsNext, Leads, HasNoNext, IsFile}
+use Rattle.hv_rowfile.specs.Layout.{truth_byte, rec_spelling, head_spelling, file_spelling, RecIsTaken, RecFits, RisesFrom, id_of, last_id, IsNext, Leads, HasNoNext, IsFile}
 use Rattle.hv_rowfile.specs.Faults.{IsHeadFault, IsNextFault, IsBodyFault, IsFaultIn}
-use Rattle.hv_rowfile.specs.Reading.{◌>>=◌, truth_at, four_at, eight_at, rec_at}
-use Rattle.hv_rowfile.proofs.Lengths.{length-four, length-eight}
-use Rattle.hv_rowfile.proofs.Again.{truth_again, four_again, eight_again, rec_again}
+use Rattle.hv_rowfile.specs.Reading.{truth_at, rec_at}
+use Rattle.hv_rowfile.proofs.Again.{truth_again, rec_again}
+use Rattle.hv_rowfile.proofs.RowLemmas.{length-head}
 
-abbrev found : {A : Type 0} → A → Option A
-found x = Some x
-
-same_found : {A : Type 0} (x y : A) → found x ≡ found y → x ≡ y
-same_found x y h = cc
-
-found_one : {A : Type 0} (e d : A) (x y : List ℕ) → found {A = A × List ℕ} (e, x) ≡ found {A = A × List ℕ} (d, y) → (e ≡ d) × (x ≡ y)
-found_one {A} e d x y h =
-    let same = same_found {A = A × List ℕ} (e, x) (d, y) h in
-    (ap (λ (p : A × List ℕ). p.0) same, ap (λ (p : A × List ℕ). p.1) same)
-
-rec_one : (deletes : Bool) (bucket : ℕ) (r s : Rec) (x y : List ℕ) → RecIsTaken deletes bucket r → RecFits r → RecIsTaken deletes bucket s → RecFits s → rec_spelling r ++ x ≡ rec_spelling s ++ y → (r ≡ s) × (x ≡ y)
-rec_one deletes bucket r s x y rt rf st sf same = found_one r s x y (sym (rec_again deletes bucket r x rt rf) ∙ ap (rec_at deletes bucket) same ∙ rec_again deletes bucket s y st sf)
+pub rec_one : (deletes : Bool) (bucket : ℕ) (r s : Rec) (x y : List ℕ) → RecIsTaken deletes bucket r → RecFits r → RecIsTaken deletes bucket s → RecFits s → rec_spelling r ++ x ≡ rec_spelling s ++ y → (r ≡ s) × (x ≡ y)
+rec_one deletes bucket r s x y rt rf st sf same = read_one r s x y (sym (rec_again deletes bucket r x rt rf) ∙ ap (rec_at deletes bucket) same ∙ rec_again deletes bucket s y st sf)
 
 -- ---- records in order
 
@@ -114,11 +108,7 @@ unfolding head_spelling
 head_again deletes bucket count rest small short =
     rw (truth_again deletes ((four_bytes bucket ++ eight_bytes count) ++ rest), append_assoc (four_bytes bucket) (eight_bytes count) rest, four_again bucket (eight_bytes count ++ rest) small, eight_again count rest short) refl
 
-length-head : (deletes : Bool) (bucket count : ℕ) → length (head_spelling deletes bucket count) ≡ 17
-unfolding head_spelling
-length-head deletes bucket count = omega (arith, length-append (four_bytes bucket) (eight_bytes count), length-four bucket, length-eight count)
-
-behind_mark : (x y : List ℕ) → codes "HVR1" ++ x ≡ codes "HVR1" ++ y → x ≡ y
+pub behind_mark : (x y : List ℕ) → codes "HVR1" ++ x ≡ codes "HVR1" ++ y → x ≡ y
 behind_mark x y e = cc
 
 -- a whole head is not wrong
@@ -162,8 +152,8 @@ body_fault bytes deletes bucket count body (fault.Damaged at) small short parts 
 abbrev head_is : Bool → ℕ → ℕ → Bool × (ℕ × ℕ)
 head_is deletes bucket count = (deletes, (bucket, count))
 
-head_one : (d e : Bool) (b c m n : ℕ) (x y : List ℕ) → b < 2 ^ 32 → c < 2 ^ 32 → m < 2 ^ 64 → n < 2 ^ 64 → head_spelling d b m ++ x ≡ head_spelling e c n ++ y → (head_is d b m ≡ head_is e c n) × (x ≡ y)
-head_one d e b c m n x y bs cs ms ns same = found_one {A = Bool × (ℕ × ℕ)} (head_is d b m) (head_is e c n) x y (sym (head_again d b m x bs ms) ∙ ap head_at same ∙ head_again e c n y cs ns)
+pub head_one : (d e : Bool) (b c m n : ℕ) (x y : List ℕ) → b < 2 ^ 32 → c < 2 ^ 32 → m < 2 ^ 64 → n < 2 ^ 64 → head_spelling d b m ++ x ≡ head_spelling e c n ++ y → (head_is d b m ≡ head_is e c n) × (x ≡ y)
+head_one d e b c m n x y bs cs ms ns same = read_one {A = Bool × (ℕ × ℕ)} (head_is d b m) (head_is e c n) x y (sym (head_again d b m x bs ms) ∙ ap head_at same ∙ head_again e c n y cs ns)
 
 -- no file begins another
 pub file_one : (d e : Bool) (b c : ℕ) (recs others : List Rec) (rest : List ℕ) → IsFile d b recs → IsFile e c others → file_spelling d b recs ++ rest ≡ file_spelling e c others → (rest ≡ []) × (d ≡ e) × (b ≡ c) × (recs ≡ others)
@@ -178,7 +168,7 @@ file_one d e b c recs others rest one other same =
     let more = same_recs d b recs others rest [] one.can_write.each one.fits taken other.fits count (head.1 ∙ sym (append-nil (flat_map rec_spelling others))) in
     (more.1, kind, bucket, more.0)
 
-file_not_behind : (bytes : List ℕ) (deletes : Bool) (bucket : ℕ) (recs : List Rec) → IsFile deletes bucket recs → bytes ≡ file_spelling deletes bucket recs → (e : FileFault) → IsFaultIn bytes e → e ≡ fault.NoMemory
+pub file_not_behind : (bytes : List ℕ) (deletes : Bool) (bucket : ℕ) (recs : List Rec) → IsFile deletes bucket recs → bytes ≡ file_spelling deletes bucket recs → (e : FileFault) → IsFaultIn bytes e → e ≡ fault.NoMemory
 unfolding file_spelling
 file_not_behind bytes deletes bucket recs file is fault.NoMemory bad = refl
 file_not_behind bytes deletes bucket recs file is (fault.Damaged at) (inl h) = absurd (good_head bytes deletes bucket (length recs) (flat_map rec_spelling recs) is (fault.Damaged at) (inl h))

@@ -1,9 +1,6 @@
-pub mod Numbers
-pub mod Lengths
-pub mod Texts
 pub mod Values
-pub mod Counted
-pub mod Items
+pub mod RowLemmas
 pub mod Again
 pub mod Only
 pub mod Books
+pub mod Damage

@@ -1,20 +1,12 @@
 -- From what reading gives to the clauses on spellings.
-use lib.Dec.{eqb-suc-zero}
-use Rattle.std.proofs.Common.{◌≡◌, ◌==◌, Bool, true, ◌∷◌, ℕ, ◌<◌, ◌≤◌, ◌^◌, List, [], ◌++◌, length, take, drop, Option, Some, Result, Ok, Err, refl, sym, ap, ◌∙◌, append_assoc, arith}
+use Rattle.std.proofs.Common.{◌≡◌, ℕ, ◌<◌, ◌≤◌, ◌^◌, List, [], ◌++◌, length, take, drop, sym, ap, ◌∙◌, append_assoc, arith}
 use Rattle.std.specs.List.{flat_map, AllByRecursion}
 use Rattle.std.proofs.lemmas.List.{take-append-drop, length-take, append-nil}
+use Rattle.hv_bytes.specs.Spelling.{two_bytes, four_bytes}
 use Rattle.hv_value.specs.declared.value.Value.{Value}
 use Rattle.hv_value.specs.declared.row.Row.{Row}
-use Rattle.hv_rowfile.specs.declared.fault.RecordFault.{RecordFault}
-use Rattle.hv_rowfile.specs.declared.fault.RecordFault.TheVariants as fault
-use Rattle.hv_rowfile.specs.Layout.{two_bytes, four_bytes, row_spelling, value_spelling, ValueIsTaken, RowIsTaken}
-use Rattle.hv_rowfile.specs.Reading.{Gives}
-use Rattle.hv_rowfile.proofs.Again.{length-row}
-
-pub gives_undamaged : {X Y : Type 0} (view : X → Y) (r : Result X RecordFault) (read : Option Y) (y : Y) → Gives view r read → read ≡ Some y → r ≡ Err fault.Damaged → ⊥
-gives_undamaged view (Ok x) read y given is bad = cc
-gives_undamaged view (Err fault.NoMemory) read y given is bad = cc
-gives_undamaged view (Err fault.Damaged) read y given is bad = cc
+use Rattle.hv_rowfile.specs.Layout.{row_spelling, value_spelling, ValueIsTaken, RowIsTaken}
+use Rattle.hv_rowfile.proofs.RowLemmas.{length-row}
 
 -- a length and that many bytes, which spell a row
 pub row_parts : (bytes : List ℕ) (n : ℕ) (rest : List ℕ) (row : Row) → n ≤ 65538 → bytes ≡ four_bytes n ++ rest → n ≤ length rest → take n rest ≡ row_spelling row → length row.values ≤ 65535 → AllByRecursion ValueIsTaken row.values
@@ -33,7 +25,3 @@ unfolding row_spelling
 row_whole bytes n behind values rest small parts count e none =
     let body = flat_map value_spelling values in
     (parts ∙ ap (λ (k : ℕ). two_bytes k ++ behind) (sym count) ∙ ap (λ (x : List ℕ). two_bytes (length values) ++ x) (e ∙ ap (λ (x : List ℕ). body ++ x) none ∙ append-nil body), omega arith)
-
-pub empty_of : (xs : List ℕ) (b : Bool) → b ≡ (length xs == 0) → b ≡ true → xs ≡ []
-empty_of [] b e t = refl
-empty_of (x ∷ xs) b e t = absurd (let no = eqb-suc-zero (length xs) in cc)

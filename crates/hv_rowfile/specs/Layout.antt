@@ -1,12 +1,13 @@
 -- How a row file is laid out in bytes (this project's profile). Numbers are big-endian, and signed ones in
 -- two's complement.
-use Rattle.std.specs.Prelude.{◌≡◌, ◌≢◌, ℕ, ◌+◌, ◌<◌, ◌≤◌, ◌^◌, ◌&&◌, ◌⊎◌, not, Bool, true, false, IsTrue, List, [], ◌∷◌, ◌++◌, length, Option, None, Some, ℤ, pos, negsuc, int_lt, codes, FitsSigned}
-use Rattle.std.specs.Int.{to_be_bytes, cast_unsigned, w16, w32, w64}
+use Rattle.std.specs.Prelude.{◌≡◌, ◌≢◌, ℕ, ◌+◌, ◌<◌, ◌≤◌, ◌^◌, ◌⊎◌, Bool, true, false, IsTrue, List, [], ◌∷◌, ◌++◌, length, Option, None, Some, ℤ, codes, FitsSigned}
+use Rattle.std.specs.Int.{cast_unsigned, w32, w64}
 use Rattle.std.specs.List.{flat_map, AllByRecursion}
-use Rattle.std.specs.Str.{IsUtf8}
 use Rattle.std.specs.declared.cmp.Ordering.TheVariants.{Less}
 use Rattle.hv_base.specs.declared.ids.RowId.{RowId}
 use Rattle.hv_base.specs.Identifiers.{row_id_cmp}
+use Rattle.hv_bytes.specs.Spelling.{two_bytes, four_bytes, eight_bytes, text_spelling, IsText}
+use Rattle.hv_value.specs.Dates.{is_day}
 use Rattle.hv_value.specs.declared.row.Row.{Row}
 use Rattle.hv_value.specs.declared.value.Value.{Value}
 use Rattle.hv_value.specs.declared.value.Value.TheOpen.{Value-F}
@@ -14,25 +15,13 @@ use Rattle.hv_value.specs.declared.value.Value.TheViews.{out-Value}
 use Rattle.hv_rowfile.specs.declared.record.Rec.{Rec}
 use Rattle.hv_rowfile.specs.declared.record.Rec.TheVariants as rec
 
--- ---- numbers and texts
-
-unfoldable pub two_bytes : ℕ → List ℕ
-two_bytes n = to_be_bytes w16 n
-
-unfoldable pub four_bytes : ℕ → List ℕ
-four_bytes n = to_be_bytes w32 n
-
-unfoldable pub eight_bytes : ℕ → List ℕ
-eight_bytes n = to_be_bytes w64 n
+-- ---- numbers with a sign, in two's complement
 
 abbrev pub int_spelling : ℤ → List ℕ
 int_spelling n = four_bytes (cast_unsigned w32 n)
 
 abbrev pub big_spelling : ℤ → List ℕ
 big_spelling n = eight_bytes (cast_unsigned w64 n)
-
-unfoldable pub text_spelling : List ℕ → List ℕ
-text_spelling text = four_bytes (length text) ++ text
 
 abbrev pub truth_byte : Bool → ℕ
 truth_byte false = 0
@@ -86,10 +75,6 @@ unfoldable pub file_spelling : Bool → ℕ → List Rec → List ℕ
 file_spelling deletes bucket recs = head_spelling deletes bucket (length recs) ++ flat_map rec_spelling recs
 
 -- ---- what a file takes
-
--- a day of the years 1 to 9999, counted from 1970-01-01
-abbrev pub is_day : ℤ → Bool
-is_day n = not (int_lt n (negsuc 719161)) && not (int_lt (pos 2932896) n)
 
 abbrev pub FlatIsTaken : Value-F Value → Type 0
 FlatIsTaken Value-F.Null = Unit {0}
@@ -151,10 +136,6 @@ pub record CanWrite (deletes : Bool) (bucket : ℕ) (recs : List Rec) : Type 0 w
 
 -- ---- What fits the fields: numbers within their widths, and texts in UTF-8. Of what the code's types hold
 -- only the lengths are in doubt.
-
-pub record IsText (text : List ℕ) : Type 0 where
-  pub short : length text < 2 ^ 32
-  pub utf8 : IsUtf8 text
 
 abbrev pub FlatFits : Value-F Value → Type 0
 FlatFits Value-F.Null = Unit {0}

@@ -1,42 +1,18 @@
 -- Reading fields from left to right: each function answers a value and the bytes behind it, or None where the
 -- bytes begin with no such value. The contracts of the public calls speak of spellings alone.
-use Rattle.std.specs.Prelude.{◌≡◌, ℕ, zero, suc, Bool, true, false, List, [], ◌∷◌, length, take, drop, Option, Some, None, Result, Ok, Err, nat_lt, ◌==◌, if◌then◌else◌, ℤ}
-use Rattle.std.specs.Int.{w16, w32, w64, from_be_bytes, cast_signed}
-use Rattle.std.specs.Str.{is_utf8}
+use Rattle.std.specs.Prelude.{ℕ, zero, suc, Bool, true, false, List, [], ◌∷◌, length, take, drop, Option, Some, None, nat_lt, ◌==◌, if◌then◌else◌, ℤ}
+use Rattle.std.specs.Int.{w32, w64, cast_signed}
 use Rattle.std.specs.Ordering.{is_lt}
 use Rattle.hv_base.specs.declared.ids.RowId.{RowId}
 use Rattle.hv_base.specs.Identifiers.{row_id_cmp}
+use Rattle.hv_bytes.specs.Reading.{◌>>=◌, two_at, four_at, eight_at, text_at, items_at}
+use Rattle.hv_value.specs.Dates.{is_day}
 use Rattle.hv_value.specs.declared.row.Row.{Row}
 use Rattle.hv_value.specs.declared.value.Value.{Value}
 use Rattle.hv_value.specs.declared.value.Value.TheVariants as value
 use Rattle.hv_rowfile.specs.declared.record.Rec.{Rec}
 use Rattle.hv_rowfile.specs.declared.record.Rec.TheVariants as rec
-use Rattle.hv_rowfile.specs.declared.fault.RecordFault.{RecordFault}
-use Rattle.hv_rowfile.specs.declared.fault.RecordFault.TheVariants as fault
-use Rattle.hv_rowfile.specs.Layout.{is_day, id_of}
-
-infixl 10 ◌>>=◌
-abbrev pub ◌>>=◌ : {A B : Type 0} → Option A → (A → Option B) → Option B
-None >>= f = None
-(Some x) >>= f = f x
-
--- what a function returned, seen by view, is what reading gives, unless memory ran out
-abbrev pub Fails : {Y : Type 0} → RecordFault → Option Y → Type 0
-Fails fault.Damaged read = read ≡ None
-Fails fault.NoMemory read = Unit {0}
-
-abbrev pub Gives : {X Y : Type 0} → (X → Y) → Result X RecordFault → Option Y → Type 0
-Gives view (Ok x) read = read ≡ Some (view x)
-Gives view (Err e) read = Fails e read
-
-unfoldable pub two_at : List ℕ → Option (ℕ × List ℕ)
-two_at bytes = if nat_lt (length bytes) 2 then None else Some (from_be_bytes w16 (take 2 bytes), drop 2 bytes)
-
-unfoldable pub four_at : List ℕ → Option (ℕ × List ℕ)
-four_at bytes = if nat_lt (length bytes) 4 then None else Some (from_be_bytes w32 (take 4 bytes), drop 4 bytes)
-
-unfoldable pub eight_at : List ℕ → Option (ℕ × List ℕ)
-eight_at bytes = if nat_lt (length bytes) 8 then None else Some (from_be_bytes w64 (take 8 bytes), drop 8 bytes)
+use Rattle.hv_rowfile.specs.Layout.{id_of}
 
 unfoldable pub int_at : List ℕ → Option (ℤ × List ℕ)
 int_at bytes = do
@@ -47,15 +23,6 @@ unfoldable pub big_at : List ℕ → Option (ℤ × List ℕ)
 big_at bytes = do
   n ← eight_at bytes
   Some (cast_signed w64 n.0, n.1)
-
--- the first n bytes as a text
-abbrev pub utf8_at : ℕ → List ℕ → Option (List ℕ × List ℕ)
-utf8_at n bytes = if is_utf8 (take n bytes) then Some (take n bytes, drop n bytes) else None
-
-unfoldable pub text_at : List ℕ → Option (List ℕ × List ℕ)
-text_at bytes = do
-  n ← four_at bytes
-  if nat_lt (length n.1) n.0 then None else utf8_at n.0 n.1
 
 unfoldable pub truth_at : List ℕ → Option (Bool × List ℕ)
 truth_at [] = None
@@ -104,18 +71,10 @@ unfoldable pub element_at : List ℕ → Option (Value × List ℕ)
 element_at [] = None
 element_at (tag ∷ rest) = flat_at tag rest
 
--- so many values, each read by `at`
-abbrev pub counted_at : (List ℕ → Option (Value × List ℕ)) → ℕ → List ℕ → Option (List Value × List ℕ)
-counted_at at zero bytes = Some ([], bytes)
-counted_at at (suc n) bytes = at bytes >>= λ first. counted_at at n first.1 >>= λ others. Some (first.0 ∷ others.0, others.1)
-
-unfoldable pub elements_at : ℕ → List ℕ → Option (List Value × List ℕ)
-elements_at n bytes = counted_at element_at n bytes
-
 unfoldable pub array_value_at : List ℕ → Option (Value × List ℕ)
 array_value_at bytes = do
   n ← four_at bytes
-  items ← elements_at n.0 n.1
+  items ← items_at element_at n.0 n.1
   Some (value.Array items.0, items.1)
 
 unfoldable pub value_at : List ℕ → Option (Value × List ℕ)
@@ -124,14 +83,11 @@ value_at (tag ∷ rest) = if tag == 6 then array_value_at rest else flat_at tag 
 
 -- ---- rows and records
 
-unfoldable pub values_at : ℕ → List ℕ → Option (List Value × List ℕ)
-values_at n bytes = counted_at value_at n bytes
-
 -- all of the bytes as one row
 unfoldable pub row_of : List ℕ → Option Row
 row_of bytes = do
   n ← two_at bytes
-  values ← values_at n.0 n.1
+  values ← items_at value_at n.0 n.1
   if length values.1 == 0 then Some (record { values = values.0 }) else None
 
 -- the identifier of a row of this bucket

@@ -1,45 +1,8 @@
 ghost use Rattle.std.specs.Prelude.{◌≡◌};
-ghost use Rattle.hv_rowfile.specs.declared.fault.RecordFault.TheVariants.{NoMemory as no_memory};
-ghost use Rattle.hv_rowfile.specs.declared.fault.FileFault.TheVariants.{NoMemory as file_no_memory};
+ghost use Rattle.hv_rowfile.specs.declared.fault.FileFault.TheVariants.{NoMemory as no_memory};
 
-use hv_base::NoMemory;
 use std::alloc::{AllocError, AllocFailed};
 use thiserror::Error;
-
-/// Why bytes gave no record, or no part of one.
-#[derive(Clone, Copy, Debug, PartialEq, Eq, Error)]
-pub enum RecordFault {
-    /// They begin with the spelling of none.
-    #[error("no record is spelled so")]
-    Damaged,
-    /// Memory could not be had.
-    #[error("out of memory")]
-    NoMemory,
-}
-
-impl From<NoMemory> for RecordFault {
-    ghost from_gives = { λ _ e. e ≡ no_memory };
-
-    fn from(_refused: NoMemory) -> RecordFault {
-        RecordFault::NoMemory
-    }
-}
-
-impl From<AllocError> for RecordFault {
-    ghost from_gives = { λ _ e. e ≡ no_memory };
-
-    fn from(_refused: AllocError) -> RecordFault {
-        RecordFault::NoMemory
-    }
-}
-
-impl<T: Drop> From<AllocFailed<T>> for RecordFault {
-    ghost from_gives = { λ _ e. e ≡ no_memory };
-
-    fn from(_refused: AllocFailed<T>) -> RecordFault {
-        RecordFault::NoMemory
-    }
-}
 
 /// Why a file was not read.
 #[derive(Clone, Copy, Debug, PartialEq, Eq, Error)]
@@ -53,8 +16,16 @@ pub enum FileFault {
     NoMemory,
 }
 
+impl From<AllocError> for FileFault {
+    ghost from_gives = { λ _ e. e ≡ no_memory };
+
+    fn from(_refused: AllocError) -> FileFault {
+        FileFault::NoMemory
+    }
+}
+
 impl<T: Drop> From<AllocFailed<T>> for FileFault {
-    ghost from_gives = { λ _ e. e ≡ file_no_memory };
+    ghost from_gives = { λ _ e. e ≡ no_memory };
 
     fn from(_refused: AllocFailed<T>) -> FileFault {
         FileFault::NoMemory

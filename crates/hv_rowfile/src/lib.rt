@@ -2,6 +2,7 @@
 #![tactic(auto)]
 
 mod fault;
+mod forms;
 mod laws;
 mod reading;
 mod record;

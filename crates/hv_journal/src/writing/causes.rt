@@ -1,9 +1,10 @@
 ghost use Rattle.std.specs.Prelude.{◌<◌, ◌^◌, length};
+ghost use Rattle.hv_bytes.specs.Writing.{HasRoom, Appends};
 ghost use Rattle.hv_history.specs.Spelling.{cause_spelling, job_cause_spelling, CauseHasSpelling, JobCauseHasSpelling};
-ghost use Rattle.hv_journal.specs.Writing.{HasRoom, Appends};
 
-use crate::writing::fields::{put_half, put_place, put_row, put_tag, put_text, put_word};
+use crate::writing::fields::{put_place, put_row};
 use hv_base::{RowId, TableId, Text, TxnId};
+use hv_bytes::{put_byte, put_text, put_u32, put_u64};
 use hv_history::{Cause, FilePlace, JobCause};
 
 #[tactic(auto, using(crate::proofs::Room::room))]
@@ -12,8 +13,8 @@ fn put_refused(out: &mut Vec<u8>, number: u32)
     ensures appended { Appends out.old out.new (cause_spelling (Cause.Refused number)) }
     ensures has { CauseHasSpelling (Cause.Refused number) }
 {
-    put_tag(out, 1);
-    put_half(out, number);
+    put_byte(out, 1);
+    put_u32(out, number);
 }
 
 #[tactic(auto, using(crate::proofs::Room::room))]
@@ -24,9 +25,9 @@ fn put_conflict(out: &mut Vec<u8>, with: TxnId, table: TableId, partition: &Text
         (cause_spelling (Cause.Conflict with table partition.now)) }
     ensures has { CauseHasSpelling (Cause.Conflict with table partition.now) }
 {
-    put_tag(out, 2);
-    put_word(out, with.0);
-    put_word(out, table.0);
+    put_byte(out, 2);
+    put_u64(out, with.0);
+    put_u64(out, table.0);
     put_text(out, partition);
 }
 
@@ -36,8 +37,8 @@ fn put_request(out: &mut Vec<u8>, by: TxnId)
     ensures appended { Appends out.old out.new (cause_spelling (Cause.Request by)) }
     ensures has { CauseHasSpelling (Cause.Request by) }
 {
-    put_tag(out, 3);
-    put_word(out, by.0);
+    put_byte(out, 3);
+    put_u64(out, by.0);
 }
 
 #[tactic(auto, using(crate::proofs::Room::room))]
@@ -47,7 +48,7 @@ fn put_twice(out: &mut Vec<u8>, partition: &Text, row: RowId)
     ensures appended { Appends out.old out.new (cause_spelling (Cause.Twice partition.now row)) }
     ensures has { CauseHasSpelling (Cause.Twice partition.now row) }
 {
-    put_tag(out, 5);
+    put_byte(out, 5);
     put_text(out, partition);
     put_row(out, row);
 }
@@ -58,8 +59,8 @@ fn put_blocked(out: &mut Vec<u8>, holder: TxnId)
     ensures appended { Appends out.old out.new (cause_spelling (Cause.Blocked holder)) }
     ensures has { CauseHasSpelling (Cause.Blocked holder) }
 {
-    put_tag(out, 6);
-    put_word(out, holder.0);
+    put_byte(out, 6);
+    put_u64(out, holder.0);
 }
 
 #[tactic(auto, using(crate::proofs::Room::room))]
@@ -68,8 +69,8 @@ fn put_read_fault(out: &mut Vec<u8>, count: u64)
     ensures appended { Appends out.old out.new (cause_spelling (Cause.ReadFault count)) }
     ensures has { CauseHasSpelling (Cause.ReadFault count) }
 {
-    put_tag(out, 7);
-    put_word(out, count);
+    put_byte(out, 7);
+    put_u64(out, count);
 }
 
 #[tactic(auto, using(crate::proofs::Room::room))]
@@ -78,8 +79,8 @@ fn put_write_fault(out: &mut Vec<u8>, count: u64)
     ensures appended { Appends out.old out.new (cause_spelling (Cause.WriteFault count)) }
     ensures has { CauseHasSpelling (Cause.WriteFault count) }
 {
-    put_tag(out, 8);
-    put_word(out, count);
+    put_byte(out, 8);
+    put_u64(out, count);
 }
 
 #[tactic(auto, using(crate::proofs::Room::room))]
@@ -89,7 +90,7 @@ fn put_damaged(out: &mut Vec<u8>, place: &FilePlace)
     ensures appended { Appends out.old out.new (cause_spelling (Cause.Damaged place.now)) }
     ensures has { CauseHasSpelling (Cause.Damaged place.now) }
 {
-    put_tag(out, 9);
+    put_byte(out, 9);
     put_place(out, place);
 }
 
@@ -107,16 +108,16 @@ pub fn put_cause(out: &mut Vec<u8>, cause: &Cause)
             partition,
         } => put_conflict(out, *with, *table, partition),
         Cause::Request { by } => put_request(out, *by),
-        Cause::Full => put_tag(out, 4),
+        Cause::Full => put_byte(out, 4),
         Cause::Twice { partition, row } => put_twice(out, partition, *row),
         Cause::Blocked { holder } => put_blocked(out, *holder),
         Cause::ReadFault { count } => put_read_fault(out, *count),
         Cause::WriteFault { count } => put_write_fault(out, *count),
         Cause::Damaged { place } => put_damaged(out, place),
-        Cause::RowLimit => put_tag(out, 10),
-        Cause::PartitionLimit => put_tag(out, 11),
-        Cause::Memory => put_tag(out, 12),
-        Cause::Lost => put_tag(out, 13),
+        Cause::RowLimit => put_byte(out, 10),
+        Cause::PartitionLimit => put_byte(out, 11),
+        Cause::Memory => put_byte(out, 12),
+        Cause::Lost => put_byte(out, 13),
     }
 }
 
@@ -126,8 +127,8 @@ fn put_job_read_fault(out: &mut Vec<u8>, count: u64)
     ensures appended { Appends out.old out.new (job_cause_spelling (JobCause.ReadFault count)) }
     ensures has { JobCauseHasSpelling (JobCause.ReadFault count) }
 {
-    put_tag(out, 7);
-    put_word(out, count);
+    put_byte(out, 7);
+    put_u64(out, count);
 }
 
 #[tactic(auto, using(crate::proofs::Room::room))]
@@ -136,8 +137,8 @@ fn put_job_write_fault(out: &mut Vec<u8>, count: u64)
     ensures appended { Appends out.old out.new (job_cause_spelling (JobCause.WriteFault count)) }
     ensures has { JobCauseHasSpelling (JobCause.WriteFault count) }
 {
-    put_tag(out, 8);
-    put_word(out, count);
+    put_byte(out, 8);
+    put_u64(out, count);
 }
 
 #[tactic(auto, using(crate::proofs::Room::room))]
@@ -147,7 +148,7 @@ fn put_job_damaged(out: &mut Vec<u8>, place: &FilePlace)
     ensures appended { Appends out.old out.new (job_cause_spelling (JobCause.Damaged place.now)) }
     ensures has { JobCauseHasSpelling (JobCause.Damaged place.now) }
 {
-    put_tag(out, 9);
+    put_byte(out, 9);
     put_place(out, place);
 }
 
@@ -161,8 +162,8 @@ pub fn put_job_cause(out: &mut Vec<u8>, cause: &JobCause)
         JobCause::ReadFault { count } => put_job_read_fault(out, *count),
         JobCause::WriteFault { count } => put_job_write_fault(out, *count),
         JobCause::Damaged { place } => put_job_damaged(out, place),
-        JobCause::Memory => put_tag(out, 12),
-        JobCause::Lost => put_tag(out, 13),
-        JobCause::Gone => put_tag(out, 14),
+        JobCause::Memory => put_byte(out, 12),
+        JobCause::Lost => put_byte(out, 13),
+        JobCause::Gone => put_byte(out, 14),
     }
 }

@@ -1,10 +1,11 @@
 ghost use Rattle.std.specs.Prelude.{◌<◌, ◌^◌, length};
+ghost use Rattle.hv_bytes.specs.Writing.{HasRoom, Appends};
 ghost use Rattle.hv_history.specs.Spelling.{entry_spelling, HasSpelling};
-ghost use Rattle.hv_journal.specs.Writing.{HasRoom, Appends};
 
 use crate::writing::causes::{put_cause, put_job_cause};
-use crate::writing::fields::{put_half, put_kind, put_tag, put_text, put_touches, put_word};
+use crate::writing::fields::{put_kind, put_touches};
 use hv_base::{JobId, List, TableId, Text, Touch, TxnId, WriteId};
+use hv_bytes::{put_byte, put_text, put_u32, put_u64};
 use hv_history::{Cause, Entry, JobCause, JobKind};
 
 #[tactic(auto, using(crate::proofs::Room::room))]
@@ -13,8 +14,8 @@ fn put_boot(out: &mut Vec<u8>, run: u64)
     ensures appended { Appends out.old out.new (entry_spelling (Entry.Boot run)) }
     ensures has { HasSpelling (Entry.Boot run) }
 {
-    put_tag(out, 1);
-    put_word(out, run);
+    put_byte(out, 1);
+    put_u64(out, run);
 }
 
 #[tactic(auto, using(crate::proofs::Room::room))]
@@ -27,10 +28,10 @@ fn put_opened(out: &mut Vec<u8>, txn: TxnId, session: &Text, number: u64, text: 
         (entry_spelling (Entry.Opened txn session.now number text.now)) }
     ensures has { HasSpelling (Entry.Opened txn session.now number text.now) }
 {
-    put_tag(out, 2);
-    put_word(out, txn.0);
+    put_byte(out, 2);
+    put_u64(out, txn.0);
     put_text(out, session);
-    put_word(out, number);
+    put_u64(out, number);
     put_text(out, text);
 }
 
@@ -40,9 +41,9 @@ fn put_start(out: &mut Vec<u8>, txn: TxnId, statement: u32)
     ensures appended { Appends out.old out.new (entry_spelling (Entry.Start txn statement)) }
     ensures has { HasSpelling (Entry.Start txn statement) }
 {
-    put_tag(out, 3);
-    put_word(out, txn.0);
-    put_half(out, statement);
+    put_byte(out, 3);
+    put_u64(out, txn.0);
+    put_u32(out, statement);
 }
 
 #[tactic(auto, using(crate::proofs::Room::room))]
@@ -51,10 +52,10 @@ fn put_given(out: &mut Vec<u8>, txn: TxnId, table: TableId, write: WriteId)
     ensures appended { Appends out.old out.new (entry_spelling (Entry.Given txn table write)) }
     ensures has { HasSpelling (Entry.Given txn table write) }
 {
-    put_tag(out, 4);
-    put_word(out, txn.0);
-    put_word(out, table.0);
-    put_word(out, write.0);
+    put_byte(out, 4);
+    put_u64(out, txn.0);
+    put_u64(out, table.0);
+    put_u64(out, write.0);
 }
 
 #[tactic(auto, using(crate::proofs::Room::room))]
@@ -64,8 +65,8 @@ fn put_commit(out: &mut Vec<u8>, txn: TxnId, wrote: &List<Touch>)
     ensures appended { Appends out.old out.new (entry_spelling (Entry.Commit txn wrote.now)) }
     ensures has { HasSpelling (Entry.Commit txn wrote.now) }
 {
-    put_tag(out, 5);
-    put_word(out, txn.0);
+    put_byte(out, 5);
+    put_u64(out, txn.0);
     put_touches(out, wrote);
 }
 
@@ -76,8 +77,8 @@ fn put_abort(out: &mut Vec<u8>, txn: TxnId, cause: &Cause)
     ensures appended { Appends out.old out.new (entry_spelling (Entry.Abort txn cause.now)) }
     ensures has { HasSpelling (Entry.Abort txn cause.now) }
 {
-    put_tag(out, 6);
-    put_word(out, txn.0);
+    put_byte(out, 6);
+    put_u64(out, txn.0);
     put_cause(out, cause);
 }
 
@@ -87,9 +88,9 @@ fn put_create(out: &mut Vec<u8>, txn: TxnId, table: TableId)
     ensures appended { Appends out.old out.new (entry_spelling (Entry.Create txn table)) }
     ensures has { HasSpelling (Entry.Create txn table) }
 {
-    put_tag(out, 7);
-    put_word(out, txn.0);
-    put_word(out, table.0);
+    put_byte(out, 7);
+    put_u64(out, txn.0);
+    put_u64(out, table.0);
 }
 
 #[tactic(auto, using(crate::proofs::Room::room))]
@@ -98,9 +99,9 @@ fn put_drop(out: &mut Vec<u8>, txn: TxnId, table: TableId)
     ensures appended { Appends out.old out.new (entry_spelling (Entry.Drop txn table)) }
     ensures has { HasSpelling (Entry.Drop txn table) }
 {
-    put_tag(out, 8);
-    put_word(out, txn.0);
-    put_word(out, table.0);
+    put_byte(out, 8);
+    put_u64(out, txn.0);
+    put_u64(out, table.0);
 }
 
 #[tactic(auto, using(crate::proofs::Room::room))]
@@ -120,12 +121,12 @@ fn put_asked(
         (entry_spelling (Entry.Asked job table partition.now kind by)) }
     ensures has { HasSpelling (Entry.Asked job table partition.now kind by) }
 {
-    put_tag(out, 9);
-    put_word(out, job.0);
-    put_word(out, table.0);
+    put_byte(out, 9);
+    put_u64(out, job.0);
+    put_u64(out, table.0);
     put_text(out, partition);
     put_kind(out, kind);
-    put_word(out, by);
+    put_u64(out, by);
 }
 
 #[tactic(auto, using(crate::proofs::Room::room))]
@@ -134,9 +135,9 @@ fn put_picked(out: &mut Vec<u8>, job: JobId, watermark: WriteId)
     ensures appended { Appends out.old out.new (entry_spelling (Entry.Picked job watermark)) }
     ensures has { HasSpelling (Entry.Picked job watermark) }
 {
-    put_tag(out, 10);
-    put_word(out, job.0);
-    put_word(out, watermark.0);
+    put_byte(out, 10);
+    put_u64(out, job.0);
+    put_u64(out, watermark.0);
 }
 
 #[tactic(auto, using(crate::proofs::Room::room))]
@@ -146,11 +147,11 @@ fn put_published(out: &mut Vec<u8>, job: JobId, low: WriteId, high: WriteId, mar
         (entry_spelling (Entry.Published job low high mark)) }
     ensures has { HasSpelling (Entry.Published job low high mark) }
 {
-    put_tag(out, 11);
-    put_word(out, job.0);
-    put_word(out, low.0);
-    put_word(out, high.0);
-    put_word(out, mark.0);
+    put_byte(out, 11);
+    put_u64(out, job.0);
+    put_u64(out, low.0);
+    put_u64(out, high.0);
+    put_u64(out, mark.0);
 }
 
 #[tactic(auto, using(crate::proofs::Room::room))]
@@ -159,8 +160,8 @@ fn put_empty(out: &mut Vec<u8>, job: JobId)
     ensures appended { Appends out.old out.new (entry_spelling (Entry.Empty job)) }
     ensures has { HasSpelling (Entry.Empty job) }
 {
-    put_tag(out, 12);
-    put_word(out, job.0);
+    put_byte(out, 12);
+    put_u64(out, job.0);
 }
 
 #[tactic(auto, using(crate::proofs::Room::room))]
@@ -169,8 +170,8 @@ fn put_cleaned(out: &mut Vec<u8>, job: JobId)
     ensures appended { Appends out.old out.new (entry_spelling (Entry.Cleaned job)) }
     ensures has { HasSpelling (Entry.Cleaned job) }
 {
-    put_tag(out, 13);
-    put_word(out, job.0);
+    put_byte(out, 13);
+    put_u64(out, job.0);
 }
 
 #[tactic(auto, using(crate::proofs::Room::room))]
@@ -180,8 +181,8 @@ fn put_failed(out: &mut Vec<u8>, job: JobId, cause: &JobCause)
     ensures appended { Appends out.old out.new (entry_spelling (Entry.Failed job cause.now)) }
     ensures has { HasSpelling (Entry.Failed job cause.now) }
 {
-    put_tag(out, 14);
-    put_word(out, job.0);
+    put_byte(out, 14);
+    put_u64(out, job.0);
     put_job_cause(out, cause);
 }
 
@@ -191,9 +192,9 @@ fn put_forgot(out: &mut Vec<u8>, table: TableId, write: WriteId)
     ensures appended { Appends out.old out.new (entry_spelling (Entry.Forgot table write)) }
     ensures has { HasSpelling (Entry.Forgot table write) }
 {
-    put_tag(out, 15);
-    put_word(out, table.0);
-    put_word(out, write.0);
+    put_byte(out, 15);
+    put_u64(out, table.0);
+    put_u64(out, write.0);
 }
 
 pub fn put_entry(out: &mut Vec<u8>, entry: &Entry)

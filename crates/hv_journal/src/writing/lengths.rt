@@ -1,36 +1,18 @@
 ghost use Rattle.std.specs.Prelude.{◌≡◌, ◌<◌, ◌^◌, length};
-ghost use Rattle.std.specs.List.{flat_map};
-ghost use Rattle.hv_history.specs.Spelling.{text, touch_spelling, touches_spelling, place_spelling, cause_spelling, job_cause_spelling, entry_spelling};
+ghost use Rattle.hv_history.specs.Spelling.{touch_spelling, touches_spelling, place_spelling, cause_spelling, job_cause_spelling, entry_spelling};
 ghost use Rattle.hv_history.specs.Journal.{record_of};
 
-use hv_base::{List, Text, Touch};
+use crate::lists::Touches;
+use hv_base::{List, Touch};
+use hv_bytes::{items_length, text_length};
 use hv_history::{Cause, Entry, FilePlace, JobCause};
 
-#[tactic(auto, using(crate::proofs::Room::room))]
-fn text_length(t: &Text) -> usize
-    requires { length t.now < 2 ^ 32 }
-    ensures { result ≡ length (text t.now) }
-{
-    4 + t.len()
-}
-
 #[tactic(auto, using(crate::proofs::Room::room), unfolding(hv_history::specs::Spelling::touch_spelling))]
-fn touch_length(t: &Touch) -> usize
+pub fn touch_length(t: &Touch) -> usize
     requires { length (touch_spelling t.now) < 2 ^ 32 }
     ensures { result ≡ length (touch_spelling t.now) }
 {
     24 + text_length(&t.partition)
-}
-
-fn each_length(touches: &[Touch]) -> usize
-    requires { length (flat_map touch_spelling touches.now) < 2 ^ 32 }
-    ensures { result ≡ length (flat_map touch_spelling touches.now) }
-{
-    let mut total = 0;
-    for touch in touches {
-        total += touch_length(touch);
-    }
-    total
 }
 
 #[tactic(auto, using(crate::proofs::Room::room), unfolding(hv_history::specs::Spelling::touches_spelling))]
@@ -38,7 +20,7 @@ fn touches_length(touches: &List<Touch>) -> usize
     requires { length (touches_spelling touches.now) < 2 ^ 32 }
     ensures { result ≡ length (touches_spelling touches.now) }
 {
-    4 + each_length(touches.as_slice())
+    4 + items_length::<Touch, Touches>(touches.as_slice())
 }
 
 #[tactic(auto, using(crate::proofs::Room::room), unfolding(hv_history::specs::Spelling::place_spelling))]

@@ -1,11 +1,11 @@
 ghost use Rattle.std.specs.Prelude.{◌<◌, ◌^◌, length};
+ghost use Rattle.hv_bytes.specs.Writing.{HasRoom, Appends};
 ghost use Rattle.hv_history.specs.Spelling.{entry_spelling};
 ghost use Rattle.hv_history.specs.Journal.{record_of, HasRecord};
-ghost use Rattle.hv_journal.specs.Writing.{HasRoom, Appends};
 
 use crate::writing::entries::put_entry;
-use crate::writing::fields::put_half;
 use crate::writing::lengths::body_length;
+use hv_bytes::put_u32;
 use hv_history::Entry;
 
 /// Appends the entry's record to a buffer that has room for it, and so needs no memory. The record's
@@ -17,6 +17,6 @@ pub fn encode_entry(out: &mut Vec<u8>, entry: &Entry)
     ensures appended { Appends out.old out.new (record_of entry.now) }
     ensures has { HasRecord entry.now }
 {
-    put_half(out, body_length(entry) as u32);
+    put_u32(out, body_length(entry) as u32);
     put_entry(out, entry);
 }

@@ -1,107 +1,137 @@
-ghost use Rattle.std.specs.Prelude.{◌<◌, ◌^◌, ◌∷◌, ◌++◌, [], length, FitsSigned, OnOk};
-ghost use Rattle.std.specs.Int.{w32, w64};
-ghost use Rattle.std.specs.List.{flat_map, AllByRecursion};
-ghost use Rattle.hv_rowfile.specs.Layout.{four_bytes, int_spelling, big_spelling, text_spelling, truth_byte, element_spelling, value_spelling, ElementIsTaken, ElementFits, ValueIsTaken, ValueFits, IsText};
-ghost use Rattle.hv_rowfile.specs.Writing.{Appends};
+ghost use Rattle.std.specs.Prelude.{◌≡◌, length};
+ghost use Rattle.hv_bytes.specs.Writing.{HasRoom, Appends};
+ghost use Rattle.hv_rowfile.specs.Layout.{element_spelling, value_spelling, ElementFits, ValueFits};
+ghost use Rattle.hv_rowfile.specs.Writing.{IsElement, IsValue, CanPutElement, CanPutValue};
 
-use crate::writing::fields::{put_big, put_bytes, put_four, put_int, put_text};
-use hv_base::{NoMemory, Text};
+use crate::forms::Elements;
+use hv_base::Text;
+use hv_bytes::{items_length, put_byte, put_items, put_text, put_u32, put_u64, text_length};
 use hv_value::Value;
 
-fn put_truth(out: &mut Vec<u8>, truth: bool) -> Result<(), NoMemory>
-    ensures { Appends (1 ∷ truth_byte truth ∷ []) out.old.items result out.new.items }
+/// How many bytes spell an element of an array.
+#[tactic(auto, using(crate::proofs::Values::lengths))]
+pub fn element_length(value: &Value) -> usize
+    requires { CanPutElement value.now }
+    ensures { result ≡ length (element_spelling value.now) }
 {
-    put_bytes(out, &[1, u8::from(truth)])
+    match value {
+        Value::Null => 1,
+        Value::Bool(_) => 2,
+        Value::Int(_) => 5,
+        Value::Big(_) => 9,
+        Value::Str(text) => 1 + text_length(text),
+        Value::Day(_) => 5,
+        Value::Array(_) => 0,
+    }
 }
 
-fn put_int_value(out: &mut Vec<u8>, tag: u8, n: &i32) -> Result<(), NoMemory>
-    ensures appended { Appends (tag ∷ int_spelling n.now) out.old.items result out.new.items }
-    ensures fits { OnOk result (FitsSigned w32 n.now) }
+/// How many bytes spell a value of a row.
+#[tactic(auto, using(crate::proofs::Values::lengths))]
+pub fn value_length(value: &Value) -> usize
+    requires { CanPutValue value.now }
+    ensures { result ≡ length (value_spelling value.now) }
 {
-    put_bytes(out, &[tag])?;
-    put_int(out, *n)
+    match value {
+        Value::Array(items) => 5 + items_length::<Value, Elements>(items.as_slice()),
+        _ => element_length(value),
+    }
 }
 
-fn put_big_value(out: &mut Vec<u8>, n: &i64) -> Result<(), NoMemory>
-    ensures appended { Appends (3 ∷ big_spelling n.now) out.old.items result out.new.items }
-    ensures fits { OnOk result (FitsSigned w64 n.now) }
+#[inline]
+#[tactic(auto, using(crate::proofs::Values::lengths, crate::proofs::Values::elements))]
+fn put_truth(out: &mut Vec<u8>, truth: bool)
+    requires { HasRoom out.old (element_spelling (Value.Bool truth)) }
+    ensures appended { Appends out.old out.new (element_spelling (Value.Bool truth)) }
+    ensures fits { ElementFits (Value.Bool truth) }
 {
-    put_bytes(out, &[3])?;
-    put_big(out, *n)
+    put_byte(out, 1);
+    put_byte(out, u8::from(truth));
 }
 
-fn put_text_value(out: &mut Vec<u8>, text: &Text) -> Result<(), NoMemory>
-    requires short { length text.now < 2 ^ 32 }
-    ensures appended { Appends (4 ∷ text_spelling text.now) out.old.items result out.new.items }
-    ensures fits { OnOk result (IsText text.now) }
+#[inline]
+#[tactic(auto, using(crate::proofs::Values::lengths, crate::proofs::Values::elements))]
+fn put_int(out: &mut Vec<u8>, n: &i32)
+    requires { HasRoom out.old (element_spelling (Value.Int n.now)) }
+    ensures appended { Appends out.old out.new (element_spelling (Value.Int n.now)) }
+    ensures fits { ElementFits (Value.Int n.now) }
 {
-    put_bytes(out, &[4])?;
-    put_text(out, text)
+    put_byte(out, 2);
+    put_u32(out, n.cast_unsigned());
+}
+
+#[inline]
+#[tactic(auto, using(crate::proofs::Values::lengths, crate::proofs::Values::elements))]
+fn put_big(out: &mut Vec<u8>, n: &i64)
+    requires { HasRoom out.old (element_spelling (Value.Big n.now)) }
+    ensures appended { Appends out.old out.new (element_spelling (Value.Big n.now)) }
+    ensures fits { ElementFits (Value.Big n.now) }
+{
+    put_byte(out, 3);
+    put_u64(out, n.cast_unsigned());
+}
+
+#[inline]
+#[tactic(auto, using(crate::proofs::Values::lengths, crate::proofs::Values::elements))]
+fn put_string(out: &mut Vec<u8>, text: &Text)
+    requires room { HasRoom out.old (element_spelling (Value.Str text.now)) }
+    requires can { CanPutElement (Value.Str text.now) }
+    ensures appended { Appends out.old out.new (element_spelling (Value.Str text.now)) }
+    ensures fits { ElementFits (Value.Str text.now) }
+{
+    put_byte(out, 4);
+    put_text(out, text);
+}
+
+#[inline]
+#[tactic(auto, using(crate::proofs::Values::lengths, crate::proofs::Values::elements))]
+fn put_day(out: &mut Vec<u8>, day: &i32)
+    requires { HasRoom out.old (element_spelling (Value.Day day.now)) }
+    ensures appended { Appends out.old out.new (element_spelling (Value.Day day.now)) }
+    ensures fits { ElementFits (Value.Day day.now) }
+{
+    put_byte(out, 5);
+    put_u32(out, day.cast_unsigned());
 }
 
 /// Writes a value that is no array.
-fn put_element(out: &mut Vec<u8>, value: &Value) -> Result<(), NoMemory>
-    requires short { length (element_spelling value.now) < 2 ^ 32 }
-    ensures appended { Appends (element_spelling value.now) out.old.items result out.new.items }
-    ensures fits { OnOk result (ElementFits value.now) }
+#[tactic(auto, using(crate::proofs::Values::lengths, crate::proofs::Values::elements))]
+pub fn put_element(out: &mut Vec<u8>, value: &Value)
+    requires room { HasRoom out.old (element_spelling value.now) }
+    requires can { CanPutElement value.now }
+    ensures appended { Appends out.old out.new (element_spelling value.now) }
+    ensures has { IsElement value.now }
 {
     match value {
-        Value::Null => put_bytes(out, &[0]),
+        Value::Null => put_byte(out, 0),
         Value::Bool(truth) => put_truth(out, *truth),
-        Value::Int(number) => put_int_value(out, 2, number),
-        Value::Big(number) => put_big_value(out, number),
-        Value::Str(text) => put_text_value(out, text),
-        Value::Day(day) => put_int_value(out, 5, day),
-        Value::Array(_) => put_bytes(out, &[]),
+        Value::Int(number) => put_int(out, number),
+        Value::Big(number) => put_big(out, number),
+        Value::Str(text) => put_string(out, text),
+        Value::Day(day) => put_day(out, day),
+        Value::Array(_) => {}
     }
 }
 
-fn put_elements(out: &mut Vec<u8>, items: &[Value]) -> Result<(), NoMemory>
-    requires short { length (flat_map element_spelling items.now) < 2 ^ 32 }
-    ensures appended { Appends (flat_map element_spelling items.now)
-        out.old.items result out.new.items }
-    ensures fits { OnOk result (AllByRecursion ElementFits items.now) }
+#[tactic(auto, using(crate::proofs::Values::lengths, crate::proofs::Values::elements))]
+fn put_array(out: &mut Vec<u8>, items: &[Value])
+    requires room { HasRoom out.old (value_spelling (Value.Array items.now)) }
+    requires can { CanPutValue (Value.Array items.now) }
+    ensures appended { Appends out.old out.new (value_spelling (Value.Array items.now)) }
+    ensures fits { ValueFits (Value.Array items.now) }
 {
-    for item in items {
-        put_element(out, item)?;
-    }
-    Ok(())
+    put_byte(out, 6);
+    put_u32(out, items.len() as u32);
+    put_items::<Value, Elements>(out, items);
 }
 
-fn put_array(out: &mut Vec<u8>, items: &[Value]) -> Result<(), NoMemory>
-    requires short { length (flat_map element_spelling items.now) < 2 ^ 32 }
-    requires count { length items.now < 2 ^ 32 }
-    ensures appended { Appends
-        (6 ∷ four_bytes (length items.now) ++ flat_map element_spelling items.now)
-        out.old.items result out.new.items }
-    ensures fits { OnOk result (AllByRecursion ElementFits items.now) }
-{
-    put_bytes(out, &[6])?;
-    put_four(out, items.len() as u32)?;
-    put_elements(out, items)
-}
-
-fn put_value(out: &mut Vec<u8>, value: &Value) -> Result<(), NoMemory>
-    requires short { length (value_spelling value.now) < 2 ^ 32 }
-    requires taken { ValueIsTaken value.now }
-    ensures appended { Appends (value_spelling value.now) out.old.items result out.new.items }
-    ensures fits { OnOk result (ValueFits value.now) }
+pub fn put_value(out: &mut Vec<u8>, value: &Value)
+    requires room { HasRoom out.old (value_spelling value.now) }
+    requires can { CanPutValue value.now }
+    ensures appended { Appends out.old out.new (value_spelling value.now) }
+    ensures has { IsValue value.now }
 {
     match value {
         Value::Array(items) => put_array(out, items.as_slice()),
         _ => put_element(out, value),
     }
-}
-
-pub fn put_values(out: &mut Vec<u8>, values: &[Value]) -> Result<(), NoMemory>
-    requires short { length (flat_map value_spelling values.now) < 2 ^ 32 }
-    requires taken { AllByRecursion ValueIsTaken values.now }
-    ensures appended { Appends (flat_map value_spelling values.now)
-        out.old.items result out.new.items }
-    ensures fits { OnOk result (AllByRecursion ValueFits values.now) }
-{
-    for value in values {
-        put_value(out, value)?;
-    }
-    Ok(())
 }

@@ -1,7 +1,7 @@
 use Rattle.std.proofs.Common.{ap, ◌∙◌}
 use Rattle.hv_journal.specs.Reading.{whole_of}
 use Rattle.hv_journal.proofs.Again.{whole_again}
-use Rattle.hv_journal.proofs.Only.{gives_only, gives_undamaged}
+use Rattle.hv_bytes.proofs.Only.{gives_only, gives_undamaged}
 use Rattle.hv_journal.proofs.reading.records.decode_entry.Goals as goal
 
 pub returns-clause-only : goal.returns-clause-only

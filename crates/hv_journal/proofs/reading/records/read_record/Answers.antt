@@ -2,7 +2,7 @@ use Rattle.std.proofs.Common.{ℕ, List, ap, ◌∙◌}
 use Rattle.hv_history.specs.declared.entry.Entry.{Entry}
 use Rattle.hv_journal.specs.Reading.{record_at}
 use Rattle.hv_journal.proofs.Again.{record_again}
-use Rattle.hv_journal.proofs.Only.{gives_undamaged}
+use Rattle.hv_bytes.proofs.Only.{gives_undamaged}
 use Rattle.hv_journal.proofs.reading.records.read_record.Goals as goal
 
 pub returns-clause-damaged : goal.returns-clause-damaged

@@ -2,7 +2,7 @@ use Rattle.std.proofs.Common.{ℕ, List, ap, ◌∙◌}
 use Rattle.hv_rowfile.specs.declared.record.Rec.{Rec}
 use Rattle.hv_rowfile.specs.Reading.{next_at}
 use Rattle.hv_rowfile.proofs.Again.{next_again}
-use Rattle.hv_rowfile.proofs.Only.{gives_undamaged}
+use Rattle.hv_bytes.proofs.Only.{gives_undamaged}
 use Rattle.hv_rowfile.proofs.reading.records.read_next.Goals as goal
 
 pub returns-clause-damaged : goal.returns-clause-damaged

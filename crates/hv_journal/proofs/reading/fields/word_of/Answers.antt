@@ -1,6 +1,0 @@
-use Rattle.std.proofs.Common.{rules, arith}
-use Rattle.hv_journal.proofs.Numbers.{word_front}
-use Rattle.hv_journal.proofs.reading.fields.word_of.Goals as goal
-
-pub returns-clause-found : goal.returns-clause-found
-returns-clause-found c = rw c.split_at.ensures.back (word_front c.args.bytes.now c.from_be_bytes-number.result (omega arith) (λ i. omega (arith, c.type_inv.bytes i)) (search rules))

@@ -1,9 +1,0 @@
-use Rattle.std.proofs.Common.{rules}
-use Rattle.hv_rowfile.proofs.Books.{head_parts}
-use Rattle.hv_rowfile.proofs.reading.files.head_of.Goals as goal
-
-pub returns-clause-found : goal.returns-clause-found
-returns-clause-found c =
-    let bucket = c.in-Ok-four_of.ensures.found in
-    let count = c.in-Ok-eight_of.ensures.found in
-    (bucket.0, count.0, head_parts c.args.bytes.now c.in-Some.rest.now c.in-Ok.rest.now c.in-Ok-four_of.rest.now c.in-Ok-eight_of.rest.now c.in-Ok.deletes c.in-Ok-four_of.bucket c.in-Ok-eight_of.count (search rules) c.in-Ok.ensures.found bucket.1 count.1)
