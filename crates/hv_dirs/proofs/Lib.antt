@@ -1,1 +1,5 @@
+pub mod ChoiceLemmas
+pub mod NameLemmas
 pub mod OwnNames
+pub mod ParsingLemmas
+pub mod SortingLemmas

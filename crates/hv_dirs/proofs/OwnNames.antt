@@ -9,17 +9,17 @@ use Rattle.hv_table.specs.Decimal.{fixed_digits}
 use Rattle.hv_table.proofs.DecimalLemmas.{fixed_digits-same, length-fixed_digits, AllDigits-fixed_digits}
 use Rattle.hv_dirs.specs.Names.{own_name, write_end}
 
-digits_ascii : (width number : ℕ) → IsAscii (fixed_digits width number)
+pub digits_ascii : (width number : ℕ) → IsAscii (fixed_digits width number)
 digits_ascii width number = IsAscii-from_digits (fixed_digits width number) (AllDigits-fixed_digits width number)
 
-delta_ascii : IsAscii (codes "delta_")
+pub delta_ascii : IsAscii (codes "delta_")
 delta_ascii = IsAscii-from_all (codes "delta_") (search rules)
 
-bar_ascii : IsAscii (codes "_")
+pub bar_ascii : IsAscii (codes "_")
 bar_ascii = IsAscii-from_all (codes "_") (search rules)
 
 -- the name behind its first word, and behind its first number
-abbrev behind : ℕ → ℕ → List ℕ
+abbrev pub behind : ℕ → ℕ → List ℕ
 behind write statement = codes "_" ++ (fixed_digits 7 write ++ (codes "_" ++ fixed_digits 4 statement))
 
 behind_ascii : (write statement : ℕ) → IsAscii (behind write statement)
@@ -31,12 +31,12 @@ behind_ascii write statement =
 assoc : (a b c d e f : List ℕ) → a ++ b ++ c ++ d ++ e ++ f ≡ a ++ (b ++ (c ++ (d ++ (e ++ f))))
 assoc a b c d e f = simp append_assoc
 
-own_name-parts : (write statement : ℕ) → own_name write statement ≡ codes "delta_" ++ (fixed_digits 7 write ++ behind write statement)
+pub own_name-parts : (write statement : ℕ) → own_name write statement ≡ codes "delta_" ++ (fixed_digits 7 write ++ behind write statement)
 unfolding own_name
 own_name-parts write statement =
     assoc (codes "delta_") (fixed_digits 7 write) (codes "_") (fixed_digits 7 write) (codes "_") (fixed_digits 4 statement)
 
-own_name-ascii : (write statement : ℕ) → IsAscii (own_name write statement)
+pub own_name-ascii : (write statement : ℕ) → IsAscii (own_name write statement)
 own_name-ascii write statement =
     subst IsAscii (sym (own_name-parts write statement))
     (IsAscii-append (codes "delta_") (fixed_digits 7 write ++ behind write statement) delta_ascii
@@ -46,7 +46,7 @@ pub own_name-utf8 : (write statement : ℕ) → IsUtf8 (own_name write statement
 own_name-utf8 write statement = IsUtf8-from_ascii _ (own_name-ascii write statement)
 
 -- what stands first in equal texts, where it is as long
-front-same : (a b c d : List ℕ) → length a ≡ length b → a ++ c ≡ b ++ d → a ≡ b
+pub front-same : (a b c d : List ℕ) → length a ≡ length b → a ++ c ≡ b ++ d → a ≡ b
 front-same a b c d long e =
     sym (take-append_seam a c) ∙ (λ i. take (long i) (e i)) ∙ take-append_seam b d
 

@@ -1,1 +1,4 @@
+pub mod Candidates
+pub mod Choice
 pub mod Names
+pub mod Sorting

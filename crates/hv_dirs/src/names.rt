@@ -1,44 +1,50 @@
 ghost use Rattle.std.specs.Prelude.{◌≡◌, ◌<◌, IfOk};
 ghost use Rattle.hv_dirs.specs.Names.{own_name, write_end, statement_end};
 
-use hv_base::{NoMemory, Text};
-use hv_table::Digits;
+use hv_base::{JobId, NoMemory, Text, WriteId};
 use std::alloc::Global;
+
+mod parsing;
+mod printing;
+
+pub use parsing::parse_name;
+pub use printing::print_name;
+
+/// The name of a directory of a partition. Write ids, jobs and the upper end of a range have at
+/// most seven digits and are counted from 1, statements have at most four and are counted from 0.
+#[derive(Debug, Drop)]
+pub enum DirName {
+    /// The rows that are left of the write ids up to `high`.
+    Base {
+        high: WriteId,
+    },
+    /// What one statement inserted, or deleted, under a write id.
+    Own {
+        deletes: bool,
+        write: WriteId,
+        statement: u32,
+    },
+    /// What the write ids from `low` to `high` inserted, or deleted.
+    Wide {
+        deletes: bool,
+        low: WriteId,
+        high: WriteId,
+    },
+    /// A directory that a job is at work on, with the name that it gets in the end.
+    Staged {
+        job: JobId,
+        name: Text,
+    },
+}
 
 /// The name of the directory that holds what a statement inserted under a write id, as in
 /// `delta_0000012_0000012_0000`.
-#[tactic(auto, unfolding(crate::specs::Names::own_name))]
 pub fn own_delta(alloc: Global, write: u64, statement: u32) -> Result<Text, NoMemory>
     requires write { write < write_end }
     requires statement { statement < statement_end }
     ensures name { IfOk result (λ name. name ≡ own_name write statement) }
 {
-    let number = Digits::<7>::print(write);
-    let mut bytes = Vec::from_slice(alloc, b"delta_")?;
-    bytes.extend_from_slice(&number)?;
-    bytes.extend_from_slice(b"_")?;
-    bytes.extend_from_slice(&number)?;
-    bytes.extend_from_slice(b"_")?;
-    bytes.extend_from_slice(&Digits::<4>::print(u64::from(statement)))?;
+    let mut bytes = Vec::new(alloc);
+    printing::push_own(&mut bytes, write, statement)?;
     Ok(Text::from_bytes(bytes))
-}
-
-#[cfg(test)]
-mod tests {
-    use super::*;
-    use std::test::Fail;
-
-    #[test]
-    fn as_hive_writes_them(rt: HostRuntime) -> Result<(), Fail> {
-        let alloc = rt.alloc();
-        assert_eq!(rt;
-            own_delta(alloc, 1, 0)?.as_str(),
-            "delta_0000001_0000001_0000"
-        );
-        assert_eq!(rt;
-            own_delta(alloc, 9_999_999, 9999)?.as_str(),
-            "delta_9999999_9999999_9999"
-        );
-        Ok(())
-    }
 }

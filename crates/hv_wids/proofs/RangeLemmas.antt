@@ -22,7 +22,7 @@ not_all_between test low (suc count) id at_least below fails =
           (not_all_between test (low + 1) count id (omega arith) (omega arith) fails)
     ]
 
-some_between : (test : ℕ → Bool) (low count id : ℕ) → low ≤ id → id < low + count → test id ≡ true → list_any test (range_with_len low count) ≡ true
+pub some_between : (test : ℕ → Bool) (low count id : ℕ) → low ≤ id → id < low + count → test id ≡ true → list_any test (range_with_len low count) ≡ true
 some_between test low zero id at_least below passes = absurd (omega arith)
 some_between test low (suc count) id at_least below passes =
     elim (cases_eq low id) [
@@ -31,7 +31,7 @@ some_between test low (suc count) id at_least below passes =
           (some_between test (low + 1) count id (omega arith) (omega arith) passes)
     ]
 
-none_between : (test : ℕ → Bool) (low count : ℕ) → ((id : ℕ) → low ≤ id → id < low + count → test id ≡ false) → list_any test (range_with_len low count) ≡ false
+pub none_between : (test : ℕ → Bool) (low count : ℕ) → ((id : ℕ) → low ≤ id → id < low + count → test id ≡ false) → list_any test (range_with_len low count) ≡ false
 none_between test low zero each = refl
 none_between test low (suc count) each =
     or_from (test low) (list_any test (range_with_len (low + 1) count)) (each low (omega arith) (omega arith))

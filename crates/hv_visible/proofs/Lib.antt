@@ -1,0 +1,13 @@
+pub mod ContentLemmas
+pub mod ListLemmas
+pub mod LooseLemmas
+pub mod MemberLemmas
+pub mod OrderLemmas
+pub mod ReachedLemmas
+pub mod ReaderLemmas
+pub mod RowLemmas
+pub mod SnapshotLemmas
+pub mod SortingLemmas
+pub mod TakenLemmas
+pub mod VisibleLemmas
+pub mod WorkedLemmas
