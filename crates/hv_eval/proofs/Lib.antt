@@ -1,0 +1,5 @@
+pub mod Layers
+pub mod IntegerLemmas
+pub mod Groups
+pub mod JoinedTexts
+pub mod Nodes

@@ -1,0 +1,22 @@
+use Rattle.std.proofs.Common.{◌≡◌, sym, ap, ◌∙◌, option_map}
+use Rattle.hv_typed.specs.Evaluation.{value_of}
+use Rattle.hv_eval.specs.Seen.{seen_value}
+use Rattle.hv_eval.specs.Walks.{chosen_value, optional_value, settled_value}
+use Rattle.hv_eval.proofs.Nodes.{value_of-case}
+use Rattle.hv_eval.proofs.look.+walk.Goals as goal
+
+pub value_without_memory-returns-in_ok-otherwise-in-Case : goal.value_without_memory-returns-in_ok-otherwise-in-Case
+value_without_memory-returns-in_ok-otherwise-in-Case t c =
+    let row = c.args.row.now in
+    let operand : option_map seen_value c.in_ok-operand-in-Case.operand ≡ optional_value c.in-Case.operand row = c.in_ok-operand-in-Case.ensures in
+    let found : option_map seen_value c.in_ok-found-in-Case.found
+    ≡ chosen_value c.as_slice-in-Case.result.now row (option_map seen_value c.in_ok-operand-in-Case.operand) = c.in_ok-found-in-Case.ensures in
+    let otherwise : option_map seen_value c.in_ok-otherwise-in-Case.otherwise ≡ optional_value c.in-Case.otherwise row = c.in_ok-otherwise-in-Case.ensures in
+    let slice : c.as_slice-in-Case.result.now ≡ c.in-Case.branches = c.as_slice-in-Case.ensures in
+    let settled : seen_value c.settled.result
+    ≡ settled_value (option_map seen_value c.in_ok-found-in-Case.found) (option_map seen_value c.in_ok-otherwise-in-Case.otherwise) = c.settled.ensures in
+    settled
+    ∙ (λ i. settled_value (found i) (otherwise i))
+    ∙ (λ i. settled_value (chosen_value (slice i) row (operand i)) (optional_value c.in-Case.otherwise row))
+    ∙ sym (value_of-case c.in-Case.kind c.in-Case.operand c.in-Case.branches c.in-Case.otherwise row)
+    ∙ sym (ap (λ e. value_of e row) c.in-Case.is)

@@ -1,0 +1,33 @@
+use Rattle.std.proofs.Common.{rules, arith, ◌≡◌, ◌++◌, subst, sym, ap, ◌∙◌, option_map}
+use Rattle.std.specs.Str.{IsUtf8}
+use Rattle.std.proofs.lemmas.Grind.{common_steps}
+use Rattle.std.proofs.lemmas.Str.{IsUtf8-append}
+use Rattle.hv_typed.specs.Evaluation.{value_of}
+use Rattle.hv_eval.specs.Seen.{held_value}
+use Rattle.hv_eval.specs.Walks.{chosen_value, optional_value, settled_value}
+use Rattle.hv_eval.proofs.Nodes.{value_of-case}
+use Rattle.hv_eval.proofs.JoinedTexts.{joined-more}
+use Rattle.hv_eval.proofs.walk.+memory.Goals as goal
+
+pub text_of_all-loop-expr-preserved : goal.text_of_all-loop-expr-preserved
+text_of_all-loop-expr-preserved t c =
+    let longer : c.extend_from_slice.new.self.items ≡ c.loop-expr.bytes.items ++ c.in-Some.text.now = search rules in (
+      grind (arith, common_steps, joined-more),
+      subst IsUtf8 (sym longer) (IsUtf8-append c.loop-expr.bytes.items c.in-Some.text.now c.loop-expr.invariant.1 c.bytes.ensures.utf8),
+    )
+
+pub held-returns-in_ok-otherwise-in-Case : goal.held-returns-in_ok-otherwise-in-Case
+held-returns-in_ok-otherwise-in-Case t c =
+    let row = c.args.row.now in
+    let operand : option_map held_value c.in_ok-operand-in-Case.operand ≡ optional_value c.in-Case.operand row = c.in_ok-operand-in-Case.ensures in
+    let found : option_map held_value c.in_ok-found-in-Case.found
+    ≡ chosen_value c.as_slice-in-Case.result.now row (option_map held_value c.in_ok-operand-in-Case.operand) = c.in_ok-found-in-Case.ensures in
+    let otherwise : option_map held_value c.in_ok-otherwise-in-Case.otherwise ≡ optional_value c.in-Case.otherwise row = c.in_ok-otherwise-in-Case.ensures in
+    let slice : c.as_slice-in-Case.result.now ≡ c.in-Case.branches = c.as_slice-in-Case.ensures in
+    let settled : held_value c.settled.result
+    ≡ settled_value (option_map held_value c.in_ok-found-in-Case.found) (option_map held_value c.in_ok-otherwise-in-Case.otherwise) = c.settled.ensures in
+    settled
+    ∙ (λ i. settled_value (found i) (otherwise i))
+    ∙ (λ i. settled_value (chosen_value (slice i) row (operand i)) (optional_value c.in-Case.otherwise row))
+    ∙ sym (value_of-case c.in-Case.kind c.in-Case.operand c.in-Case.branches c.in-Case.otherwise row)
+    ∙ sym (ap (λ e. value_of e row) c.in-Case.is)

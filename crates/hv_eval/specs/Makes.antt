@@ -1,0 +1,15 @@
+-- The functions of one operand that may make a text or an array, and so may take memory.
+use Rattle.std.specs.Prelude.{option_map}
+use Rattle.hv_value.specs.declared.sql_type.SqlType.{SqlType}
+use Rattle.hv_value.specs.declared.value.Value.{Value}
+use Rattle.hv_value.specs.Conversion.{converted}
+use Rattle.hv_text.specs.Characters.{lowered, raised, trimmed}
+use Rattle.hv_typed.specs.Values.{text_of, text_value}
+use Rattle.hv_eval.specs.declared.texts.Maker.{Maker}
+use Rattle.hv_eval.specs.declared.texts.Maker.TheVariants as maker
+
+abbrev pub made_value : Maker → SqlType → Value → Value
+made_value maker.Cast kind v = converted v kind
+made_value maker.Lower kind v = text_value (option_map lowered (text_of v))
+made_value maker.Upper kind v = text_value (option_map raised (text_of v))
+made_value maker.Trim kind v = text_value (option_map trimmed (text_of v))

@@ -1,0 +1,168 @@
+ghost use Rattle.std.specs.Prelude.{◌≡◌, option_map};
+ghost use Rattle.hv_typed.specs.Values.{truth_of, int_of, number_of, text_of, day_of, is_null, truth_value, taken, is_layer_of};
+ghost use Rattle.hv_value.specs.Conversion.{some_int, some_big, some_day};
+ghost use Rattle.hv_value.specs.declared.value.Value.TheVariants as value;
+ghost use Rattle.hv_value.specs.declared.value.Value.TheViews.{out-Value};
+ghost use Rattle.hv_eval.specs.Seen.{seen_value};
+
+use hv_base::{List, Text};
+use hv_value::{SqlType, Value, is_day};
+
+/// A value that stands somewhere else, or a scalar.
+#[derive(Clone, Copy)]
+pub enum Seen<'a> {
+    Null,
+    Bool(bool),
+    Int(i32),
+    Big(i64),
+    Str(&'a Text),
+    Day(i32),
+    Array(&'a List<Value>),
+}
+
+/// The value as it is seen. It takes no memory.
+#[tactic(auto, using(crate::proofs::Layers::layers))]
+pub fn view(value: &Value) -> Seen<'_>
+    ensures { seen_value result ≡ value.now }
+{
+    match value {
+        Value::Null => Seen::Null,
+        Value::Bool(truth) => Seen::Bool(*truth),
+        Value::Int(number) => Seen::Int(*number),
+        Value::Big(number) => Seen::Big(*number),
+        Value::Str(text) => Seen::Str(text),
+        Value::Day(day) => Seen::Day(*day),
+        Value::Array(items) => Seen::Array(items),
+    }
+}
+
+#[tactic(auto, using(crate::proofs::Layers::layers))]
+pub(crate) fn null<'a>() -> Seen<'a>
+    ensures { seen_value result ≡ value.Null }
+{
+    Seen::Null
+}
+
+fn is_of(kind: &SqlType, value: &Value) -> bool
+    ensures { result ≡ is_layer_of kind.now (out-Value value.now) }
+{
+    match value {
+        Value::Null => false,
+        Value::Bool(_) => matches!(kind, SqlType::Boolean),
+        Value::Int(_) => matches!(kind, SqlType::Int),
+        Value::Big(_) => matches!(kind, SqlType::BigInt),
+        Value::Str(_) => matches!(kind, SqlType::Str),
+        Value::Day(day) => matches!(kind, SqlType::Date) && is_day(*day),
+        Value::Array(_) => matches!(kind, SqlType::ArrayOf(_)),
+    }
+}
+
+// The value at a place of the type: NULL where it isn't of it.
+#[tactic(auto, unfolding(hv_typed::specs::Values::taken))]
+pub(crate) fn taken<'a>(kind: &SqlType, value: &'a Value) -> Seen<'a>
+    ensures { seen_value result ≡ taken kind.now value.now }
+{
+    if is_of(kind, value) {
+        view(value)
+    } else {
+        null()
+    }
+}
+
+#[tactic(auto, using(crate::proofs::Layers::layers))]
+pub(crate) fn truth(value: &Seen) -> Option<bool>
+    ensures { result ≡ truth_of (seen_value value.now) }
+{
+    match value {
+        Seen::Bool(truth) => Some(*truth),
+        _ => None,
+    }
+}
+
+#[tactic(auto, using(crate::proofs::Layers::layers))]
+pub(crate) fn int(value: &Seen) -> Option<i32>
+    ensures { result ≡ int_of (seen_value value.now) }
+{
+    match value {
+        Seen::Int(number) => Some(*number),
+        _ => None,
+    }
+}
+
+#[tactic(auto, using(crate::proofs::Layers::layers))]
+pub(crate) fn number(value: &Seen) -> Option<i64>
+    ensures { result ≡ number_of (seen_value value.now) }
+{
+    match value {
+        Seen::Int(number) => Some(i64::from(*number)),
+        Seen::Big(number) => Some(*number),
+        _ => None,
+    }
+}
+
+#[tactic(auto, using(crate::proofs::Layers::layers))]
+pub(crate) fn text<'a>(value: &Seen<'a>) -> Option<&'a Text>
+    ensures { option_map (λ text. text.now) result ≡ text_of (seen_value value.now) }
+{
+    match value {
+        Seen::Str(text) => Some(text),
+        _ => None,
+    }
+}
+
+#[tactic(auto, using(crate::proofs::Layers::layers))]
+pub(crate) fn day(value: &Seen) -> Option<i32>
+    ensures { result ≡ day_of (seen_value value.now) }
+{
+    match value {
+        Seen::Day(day) => Some(*day),
+        _ => None,
+    }
+}
+
+#[tactic(auto, using(crate::proofs::Layers::layers))]
+pub(crate) fn is_null(value: &Seen) -> bool
+    ensures { result ≡ is_null (seen_value value.now) }
+{
+    matches!(value, Seen::Null)
+}
+
+#[tactic(auto, using(crate::proofs::Layers::layers))]
+pub(crate) fn of_truth<'a>(truth: Option<bool>) -> Seen<'a>
+    ensures { seen_value result ≡ truth_value truth }
+{
+    match truth {
+        None => Seen::Null,
+        Some(truth) => Seen::Bool(truth),
+    }
+}
+
+#[tactic(auto, using(crate::proofs::Layers::layers))]
+pub(crate) fn of_int<'a>(number: Option<i32>) -> Seen<'a>
+    ensures { seen_value result ≡ some_int number }
+{
+    match number {
+        None => Seen::Null,
+        Some(number) => Seen::Int(number),
+    }
+}
+
+#[tactic(auto, using(crate::proofs::Layers::layers))]
+pub(crate) fn of_big<'a>(number: Option<i64>) -> Seen<'a>
+    ensures { seen_value result ≡ some_big number }
+{
+    match number {
+        None => Seen::Null,
+        Some(number) => Seen::Big(number),
+    }
+}
+
+#[tactic(auto, using(crate::proofs::Layers::layers))]
+pub(crate) fn of_day<'a>(day: Option<i32>) -> Seen<'a>
+    ensures { seen_value result ≡ some_day day }
+{
+    match day {
+        None => Seen::Null,
+        Some(day) => Seen::Day(day),
+    }
+}

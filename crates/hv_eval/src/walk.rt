@@ -1,0 +1,368 @@
+ghost use Rattle.std.specs.Prelude.{◌≡◌, IfOk, option_map};
+ghost use Rattle.hv_typed.specs.Values.{text_value};
+ghost use Rattle.hv_typed.specs.Functions.{all_of, any_of, equals_any, first_known, joined, many_value, one_value, two_value, three_value};
+ghost use Rattle.hv_typed.specs.Evaluation.{value_of, values_of, is_met};
+ghost use Rattle.hv_eval.specs.Walks.{chain_value, chosen_value, optional_value, settled_value};
+ghost use Rattle.hv_eval.specs.Seen.{seen_value, held_value};
+
+use crate::compare::equal;
+use crate::held::{Held, owned};
+use crate::integers::arithmetic;
+use crate::look::{column, in_value, is_met, no_rows, over_nothing, value_without_memory};
+use crate::seen::{Seen, is_null, null, of_truth, taken, text, truth};
+use crate::table::{both, either, one, three, two};
+use crate::texts::{make, part_from, rest_from};
+use hv_base::{Boxed, List, NoMemory, Text};
+use hv_typed::{Branch, Link, Many, One, Three, Two, TypedExpr};
+use hv_value::{Row, SqlType, Value};
+use std::alloc::Global;
+
+fn one_held<'a>(
+    alloc: Global,
+    function: One,
+    kind: &SqlType,
+    value: &Held,
+) -> Result<Held<'a>, NoMemory>
+    ensures { IfOk result (λ made. held_value made ≡ one_value function kind.now (held_value value.now)) }
+{
+    let value = value.seen();
+    match one(function, kind, &value) {
+        Ok(seen) => Ok(Held::Seen(seen)),
+        Err(maker) => Ok(Held::Made(make(alloc, maker, kind, &value)?)),
+    }
+}
+
+// Of operands that are lent, what is found among them is lent.
+fn two_lent<'a>(
+    alloc: Global,
+    function: Two,
+    kind: &SqlType,
+    left: &Seen<'a>,
+    right: &Seen<'a>,
+) -> Result<Held<'a>, NoMemory>
+    ensures { IfOk result (λ made. held_value made ≡ two_value function kind.now (seen_value left.now) (seen_value right.now)) }
+{
+    match two(function, kind, left, right) {
+        Some(seen) => Ok(Held::Seen(seen)),
+        None => Ok(Held::Made(rest_from(alloc, left, right)?)),
+    }
+}
+
+fn two_made(
+    alloc: Global,
+    function: Two,
+    kind: &SqlType,
+    left: &Seen,
+    right: &Seen,
+) -> Result<Value, NoMemory>
+    ensures { IfOk result (λ made. made ≡ two_value function kind.now (seen_value left.now) (seen_value right.now)) }
+{
+    match two(function, kind, left, right) {
+        Some(seen) => owned(alloc, &seen),
+        None => rest_from(alloc, left, right),
+    }
+}
+
+fn two_held<'a>(
+    alloc: Global,
+    function: Two,
+    kind: &SqlType,
+    left: &Held<'a>,
+    right: &Held<'a>,
+) -> Result<Held<'a>, NoMemory>
+    ensures { IfOk result (λ made. held_value made ≡ two_value function kind.now (held_value left.now) (held_value right.now)) }
+{
+    match (left, right) {
+        (Held::Seen(left), Held::Seen(right)) => two_lent(alloc, function, kind, left, right),
+        _ => {
+            let made = two_made(alloc, function, kind, &left.seen(), &right.seen())?;
+            Ok(Held::Made(made))
+        }
+    }
+}
+
+fn three_held<'a>(
+    alloc: Global,
+    function: Three,
+    first: &Held,
+    second: &Held,
+    third: &Held,
+) -> Result<Held<'a>, NoMemory>
+    ensures { IfOk result (λ made. held_value made ≡ three_value function (held_value first.now) (held_value second.now) (held_value third.now)) }
+{
+    let (first, second, third) = (first.seen(), second.seen(), third.seen());
+    match three(function, &first, &second, &third) {
+        Some(seen) => Ok(Held::Made(owned(alloc, &seen)?)),
+        None => Ok(Held::Made(part_from(alloc, &first, &second, &third)?)),
+    }
+}
+
+fn is_met_by(operand: &Option<Held>, condition: &Held) -> bool
+    ensures { result ≡ is_met (option_map held_value operand.now) (held_value condition.now) }
+{
+    match operand {
+        None => is_met(&None, &condition.seen()),
+        Some(operand) => is_met(&Some(operand.seen()), &condition.seen()),
+    }
+}
+
+// The value of the branch that was met, or else the other value, or NULL.
+#[tactic(auto, unfolding(crate::specs::Walks::settled_value))]
+fn settled<'a>(found: Option<Held<'a>>, otherwise: Option<Held<'a>>) -> Held<'a>
+    ensures { held_value result ≡ settled_value (option_map held_value found.entry) (option_map held_value otherwise.entry) }
+{
+    match found {
+        Some(value) => value,
+        None => match otherwise {
+            Some(value) => value,
+            None => Held::Seen(null()),
+        },
+    }
+}
+
+fn text_value(text: Option<Text>) -> Value
+    ensures { result ≡ text_value text }
+{
+    match text {
+        None => Value::Null,
+        Some(text) => Value::Str(text),
+    }
+}
+
+/// The value of the expression on the row; an aggregate is over no rows. What takes no memory is
+/// done without, and so is the whole where that does.
+pub fn eval(alloc: Global, expr: &TypedExpr, row: &Row) -> Result<Value, NoMemory>
+    ensures { IfOk result (λ value. value ≡ value_of expr.now row.now.values) }
+{
+    let values = row.values.as_slice();
+    match value_without_memory(expr, values) {
+        Some(seen) => owned(alloc, &seen),
+        None => held(alloc, expr, values)?.into_value(alloc),
+    }
+}
+
+#[cycle(memory)]
+#[tactic(auto, using(crate::proofs::Nodes::nodes), unfolding(hv_typed::specs::Functions::in_value))]
+fn held<'a>(alloc: Global, expr: &'a TypedExpr, row: &'a [Value]) -> Result<Held<'a>, NoMemory>
+    ensures { IfOk result (λ value. held_value value ≡ value_of expr.now row.now) }
+{
+    match expr {
+        TypedExpr::Column(place, kind) => Ok(Held::Seen(column(row, *place, kind))),
+        TypedExpr::Literal(value, kind) => Ok(Held::Seen(taken(kind, value))),
+        TypedExpr::One(function, kind, argument) => {
+            let argument = held(alloc, argument.get(), row)?;
+            one_held(alloc, *function, kind, &argument)
+        }
+        TypedExpr::Two(function, kind, left, right) => {
+            let left = held(alloc, left.get(), row)?;
+            let right = held(alloc, right.get(), row)?;
+            two_held(alloc, *function, kind, &left, &right)
+        }
+        TypedExpr::Three(function, _, first, second, third) => {
+            let first = held(alloc, first.get(), row)?;
+            let second = held(alloc, second.get(), row)?;
+            let third = held(alloc, third.get(), row)?;
+            three_held(alloc, *function, &first, &second, &third)
+        }
+        TypedExpr::Many(function, _, arguments) => {
+            many(alloc, *function, arguments.as_slice(), row)
+        }
+        TypedExpr::In {
+            value,
+            negated,
+            among,
+        } => {
+            let value = held(alloc, value.get(), row)?;
+            let found = equals_any(alloc, among.as_slice(), &value, row)?;
+            Ok(Held::Seen(in_value(*negated, found)))
+        }
+        TypedExpr::Chain(_, first, links) => {
+            let first = held(alloc, first.get(), row)?;
+            chain(alloc, links.as_slice(), first, row)
+        }
+        TypedExpr::Case {
+            operand,
+            branches,
+            otherwise,
+            ..
+        } => {
+            let operand = optional(alloc, operand, row)?;
+            let found = chosen(alloc, branches.as_slice(), &operand, row)?;
+            let otherwise = optional(alloc, otherwise, row)?;
+            Ok(settled(found, otherwise))
+        }
+        TypedExpr::CountRows => Ok(Held::Seen(no_rows())),
+        TypedExpr::Aggregate {
+            function,
+            distinct,
+            ..
+        } => Ok(Held::Seen(over_nothing(*function, *distinct))),
+    }
+}
+
+#[cycle(memory)]
+#[tactic(auto, unfolding(crate::specs::Walks::optional_value))]
+fn optional<'a>(
+    alloc: Global,
+    expr: &'a Option<Boxed<TypedExpr>>,
+    row: &'a [Value],
+) -> Result<Option<Held<'a>>, NoMemory>
+    ensures { IfOk result (λ found. option_map held_value found ≡ optional_value expr.now row.now) }
+{
+    match expr {
+        Some(expr) => {
+            let value = held(alloc, expr.get(), row)?;
+            Ok(Some(value))
+        }
+        None => Ok(None),
+    }
+}
+
+#[cycle(memory)]
+#[tactic(auto, unfolding(hv_typed::specs::Functions::many_value))]
+fn many<'a>(
+    alloc: Global,
+    function: Many,
+    arguments: &'a [TypedExpr],
+    row: &'a [Value],
+) -> Result<Held<'a>, NoMemory>
+    ensures { IfOk result (λ made. held_value made ≡ many_value function (values_of arguments.now row.now)) }
+{
+    match function {
+        Many::And => Ok(Held::Seen(of_truth(all(alloc, arguments, row)?))),
+        Many::Or => Ok(Held::Seen(of_truth(any(alloc, arguments, row)?))),
+        Many::Coalesce => first_known(alloc, arguments, row),
+        Many::Concat => Ok(Held::Made(text_value(text_of_all(alloc, arguments, row)?))),
+        Many::Array => Ok(Held::Made(Value::Array(items(alloc, arguments, row)?))),
+    }
+}
+
+#[cycle(memory)]
+fn all(alloc: Global, exprs: &[TypedExpr], row: &[Value]) -> Result<Option<bool>, NoMemory>
+    ensures { IfOk result (λ truth. truth ≡ all_of (values_of exprs.now row.now)) }
+{
+    let mut seen = Some(true);
+    for expr in exprs {
+        seen = both(seen, truth(&held(alloc, expr, row)?.seen()));
+        if seen == Some(false) {
+            return Ok(seen);
+        }
+    }
+    Ok(seen)
+}
+
+#[cycle(memory)]
+fn any(alloc: Global, exprs: &[TypedExpr], row: &[Value]) -> Result<Option<bool>, NoMemory>
+    ensures { IfOk result (λ truth. truth ≡ any_of (values_of exprs.now row.now)) }
+{
+    let mut seen = Some(false);
+    for expr in exprs {
+        seen = either(seen, truth(&held(alloc, expr, row)?.seen()));
+        if seen == Some(true) {
+            return Ok(seen);
+        }
+    }
+    Ok(seen)
+}
+
+#[cycle(memory)]
+fn equals_any(
+    alloc: Global,
+    exprs: &[TypedExpr],
+    value: &Held,
+    row: &[Value],
+) -> Result<Option<bool>, NoMemory>
+    ensures { IfOk result (λ truth. truth ≡ equals_any (held_value value.now) (values_of exprs.now row.now)) }
+{
+    let mut found = Some(false);
+    for expr in exprs {
+        found = either(found, equal(&value.seen(), &held(alloc, expr, row)?.seen()));
+        if found == Some(true) {
+            return Ok(found);
+        }
+    }
+    Ok(found)
+}
+
+#[cycle(memory)]
+fn first_known<'a>(
+    alloc: Global,
+    exprs: &'a [TypedExpr],
+    row: &'a [Value],
+) -> Result<Held<'a>, NoMemory>
+    ensures { IfOk result (λ made. held_value made ≡ first_known (values_of exprs.now row.now)) }
+{
+    for expr in exprs {
+        let value = held(alloc, expr, row)?;
+        if !is_null(&value.seen()) {
+            return Ok(value);
+        }
+    }
+    Ok(Held::Seen(null()))
+}
+
+// NULL as soon as an operand is.
+#[cycle(memory)]
+#[tactic(auto, using(crate::proofs::JoinedTexts::texts))]
+fn text_of_all(alloc: Global, exprs: &[TypedExpr], row: &[Value]) -> Result<Option<Text>, NoMemory>
+    ensures { IfOk result (λ text. text ≡ joined (values_of exprs.now row.now)) }
+{
+    let mut bytes = Vec::new(alloc);
+    for expr in exprs {
+        let value = held(alloc, expr, row)?;
+        match text(&value.seen()) {
+            Some(text) => bytes.extend_from_slice(text.bytes())?,
+            None => return Ok(None),
+        }
+    }
+    Ok(Some(Text::from_bytes(bytes)))
+}
+
+#[cycle(memory)]
+fn items(alloc: Global, exprs: &[TypedExpr], row: &[Value]) -> Result<List<Value>, NoMemory>
+    ensures { IfOk result (λ items. items ≡ values_of exprs.now row.now) }
+{
+    let mut items = Vec::with_capacity(alloc, exprs.len())?;
+    for expr in exprs {
+        items.push(held(alloc, expr, row)?.into_value(alloc)?)?;
+    }
+    Ok(List::from_vec(items))
+}
+
+#[cycle(memory)]
+#[tactic(auto, unfolding(crate::specs::Walks::chain_value))]
+fn chain<'a>(
+    alloc: Global,
+    links: &'a [Link],
+    first: Held<'a>,
+    row: &'a [Value],
+) -> Result<Held<'a>, NoMemory>
+    ensures { IfOk result (λ made. held_value made ≡ chain_value links.now row.now (held_value first.entry)) }
+{
+    let mut value = first;
+    for link in links {
+        let operand = held(alloc, &link.operand, row)?;
+        value = Held::Seen(arithmetic(link.operator, &value.seen(), &operand.seen()));
+    }
+    Ok(value)
+}
+
+#[cycle(memory)]
+#[tactic(auto, unfolding(crate::specs::Walks::chosen_value))]
+fn chosen<'a>(
+    alloc: Global,
+    branches: &'a [Branch],
+    operand: &Option<Held>,
+    row: &'a [Value],
+) -> Result<Option<Held<'a>>, NoMemory>
+    ensures { IfOk result (λ found. option_map held_value found ≡ chosen_value branches.now row.now (option_map held_value operand.now)) }
+{
+    for branch in branches {
+        let condition = held(alloc, &branch.condition, row)?;
+        if is_met_by(operand, &condition) {
+            let value = held(alloc, &branch.value, row)?;
+            return Ok(Some(value));
+        }
+    }
+    Ok(None)
+}

@@ -1,0 +1,4 @@
+pub mod Values
+pub mod Functions
+pub mod Groups
+pub mod Evaluation
