@@ -1,3 +1,4 @@
+pub mod ActLemmas
 pub mod CauseLemmas
 pub mod ListingLemmas
 pub mod NameLemmas

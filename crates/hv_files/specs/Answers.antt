@@ -12,8 +12,13 @@ use Rattle.hv_files.specs.declared.fault.FileFault.{FileFault}
 use Rattle.hv_files.specs.declared.fault.FileFault.TheVariants.{Device, NoMemory}
 
 abbrev pub shelf_fault_of : FileFault → ShelfFault
-shelf_fault_of Device = shelf.Failed
+shelf_fault_of (Device cause) = shelf.Failed
 shelf_fault_of NoMemory = shelf.NoMemory
+
+-- the system, or this store, refused the call
+abbrev pub IsDevice : FileFault → Type 0
+IsDevice (Device cause) = Unit {0}
+IsDevice NoMemory = ⊥
 
 abbrev pub answer_of : {T : Type 0} → Result T FileFault → Result T ShelfFault
 answer_of (Ok value) = Ok value
@@ -28,7 +33,7 @@ device_answer_of (Err fault) = Err (record {})
 abbrev pub counted_soft : Counts → Counts
 counted_soft counts =
     let faults = one_more counts.faults in
-    record {
+    record counts {
       faults = faults;
       hard = if faults == last_count then one_more counts.hard else counts.hard;
     }
@@ -36,4 +41,4 @@ counted_soft counts =
 -- one more fault, which is a hard one
 abbrev pub counted_hard : Counts → Counts
 counted_hard counts =
-    record { faults = one_more counts.faults; hard = one_more counts.hard }
+    record counts { faults = one_more counts.faults; hard = one_more counts.hard }

@@ -1,2 +1,4 @@
+pub mod Acts
 pub mod Answers
 pub mod Names
+pub mod Paths

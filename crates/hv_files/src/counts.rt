@@ -2,18 +2,32 @@ ghost use Rattle.std.specs.Prelude.{◌≡◌, IsErr, IsErrOf};
 ghost use Rattle.hv_shelf.specs.Causes.{SoftCause, HardCause};
 ghost use Rattle.hv_files.specs.Answers.{counted_soft, counted_hard, answer_of, device_answer_of};
 
-use crate::fault::FileFault;
+use crate::fault::{Cause, FileFault};
 use hv_base::{Failed, raise};
 use hv_shelf::ShelfFault;
 
 /// The counts of a store: all calls that failed, and those behind which it isn't to be used.
-#[derive(Clone, Copy, Debug)]
+#[derive(Drop)]
 pub struct Counts {
     pub faults: u64,
     pub hard: u64,
+    /// The cause of the last failure, if it was the system's.
+    pub cause: Option<Cause>,
 }
 
 impl Counts {
+    /// No call has failed.
+    pub fn new() -> Counts
+        ensures faults { result.faults ≡ 0 }
+        ensures hard { result.hard ≡ 0 }
+    {
+        Counts {
+            faults: 0,
+            hard: 0,
+            cause: None,
+        }
+    }
+
     /// A call on files failed: the hard count rises where the count of faults ends.
     fn raise_soft(&mut self)
         ensures counted { self.new ≡ counted_soft self.old }
@@ -41,11 +55,13 @@ impl Counts {
         ensures answer { result ≡ answer_of done }
         ensures cause { SoftCause (IsErrOf result ShelfFault.Failed)
             self.old.faults self.new.faults self.old.hard self.new.hard }
+        ensures stays { ¬ (IsErrOf result ShelfFault.Failed) → self.new.hard ≡ self.old.hard }
     {
         match done {
             Ok(value) => Ok(value),
             Err(FileFault::NoMemory) => Err(ShelfFault::NoMemory),
-            Err(FileFault::Device) => {
+            Err(FileFault::Device(cause)) => {
+                self.cause = Some(cause);
                 self.raise_soft();
                 Err(ShelfFault::Failed)
             }
@@ -57,11 +73,13 @@ impl Counts {
         ensures answer { result ≡ answer_of done }
         ensures cause { HardCause (IsErrOf result ShelfFault.Failed)
             self.old.faults self.new.faults self.old.hard self.new.hard }
+        ensures stays { ¬ (IsErrOf result ShelfFault.Failed) → self.new.hard ≡ self.old.hard }
     {
         match done {
             Ok(value) => Ok(value),
             Err(FileFault::NoMemory) => Err(ShelfFault::NoMemory),
-            Err(FileFault::Device) => {
+            Err(FileFault::Device(cause)) => {
+                self.cause = Some(cause);
                 self.raise_hard();
                 Err(ShelfFault::Failed)
             }
@@ -73,10 +91,12 @@ impl Counts {
         ensures answer { result ≡ device_answer_of done }
         ensures cause { SoftCause (IsErr result)
             self.old.faults self.new.faults self.old.hard self.new.hard }
+        ensures stays { ¬ (IsErr result) → self.new.hard ≡ self.old.hard }
     {
         match done {
             Ok(value) => Ok(value),
-            Err(_) => {
+            Err(fault) => {
+                self.cause = device_cause(fault);
                 self.raise_soft();
                 Err(Failed)
             }
@@ -88,13 +108,22 @@ impl Counts {
         ensures answer { result ≡ device_answer_of done }
         ensures cause { HardCause (IsErr result)
             self.old.faults self.new.faults self.old.hard self.new.hard }
+        ensures stays { ¬ (IsErr result) → self.new.hard ≡ self.old.hard }
     {
         match done {
             Ok(value) => Ok(value),
-            Err(_) => {
+            Err(fault) => {
+                self.cause = device_cause(fault);
                 self.raise_hard();
                 Err(Failed)
             }
         }
+    }
+}
+
+fn device_cause(fault: FileFault) -> Option<Cause> {
+    match fault {
+        FileFault::Device(cause) => Some(cause),
+        FileFault::NoMemory => None,
     }
 }

@@ -3,22 +3,56 @@ ghost use Rattle.std.specs.Prelude.{◌≡◌};
 use hv_base::NoMemory;
 use std::alloc::{AllocError, AllocFailed};
 use std::io;
+use std::io::ErrorKind;
+
+/// Why the system, or this store, refused a call on files.
+#[derive(Clone, Copy)]
+pub enum Cause {
+    /// The folder in which the store's folder is to stand isn't there.
+    NoParent,
+    /// Something else stands where a folder of the store is to be: a file, or a link.
+    NotAFolder,
+    /// Something else stands where a file of the store is to be: a folder, a link or a device.
+    NotAFile,
+    /// The system doesn't permit it, or the device can only be read.
+    NotPermitted,
+    /// Another run has the store open, or made it meanwhile.
+    InUse,
+    /// The device or a quota is full.
+    Full,
+    /// A standard stream of the program is closed, so that a file would take its place.
+    ClosedStream,
+    /// An earlier sync failed, so that no change is sure to be kept.
+    Unsynced,
+    /// Anything else.
+    Other,
+}
 
 /// Why a call on files was refused.
-#[derive(Clone, Copy, Debug, PartialEq, Eq)]
+#[derive(Clone, Copy)]
 pub enum FileFault {
-    /// The system failed, or has no such name.
-    Device,
+    Device(Cause),
     NoMemory,
 }
 
+/// The cause of an error of the system.
+pub fn cause_of(error: &io::Error) -> Cause {
+    match error.kind() {
+        ErrorKind::NotADirectory | ErrorKind::FilesystemLoop => Cause::NotAFolder,
+        ErrorKind::IsADirectory => Cause::NotAFile,
+        ErrorKind::PermissionDenied | ErrorKind::ReadOnlyFilesystem => Cause::NotPermitted,
+        ErrorKind::StorageFull | ErrorKind::QuotaExceeded => Cause::Full,
+        _ => Cause::Other,
+    }
+}
+
 impl From<io::Error> for FileFault {
-    ghost use Rattle.hv_files.specs.declared.fault.FileFault.TheVariants as fault;
+    ghost use Rattle.hv_files.specs.Answers.{IsDevice};
 
-    ghost from_gives = { λ _ e. e ≡ fault.Device };
+    ghost from_gives = { λ _ fault. IsDevice fault };
 
-    fn from(_error: io::Error) -> FileFault {
-        FileFault::Device
+    fn from(error: io::Error) -> FileFault {
+        FileFault::Device(cause_of(&error))
     }
 }
 

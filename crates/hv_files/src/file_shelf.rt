@@ -1,75 +1,91 @@
-ghost use Rattle.std.specs.Prelude.{None};
+ghost use Rattle.std.specs.Prelude.{◌≡◌, None, IfOk, IfSome, OnOk, IsErr, IsErrOf, string_bytes};
+ghost use Rattle.hv_shelf.specs.Causes.{SoftCause, HardCause};
+ghost use Rattle.hv_shelf.specs.Places.{dir_named};
+ghost use Rattle.hv_files.specs.Acts.{Puts};
+ghost use Rattle.hv_files.specs.Acts.Act.{Gives, Moves, TakesFolder};
+ghost use Rattle.hv_files.specs.Paths.{tables_path, file_path, working_path, path_of_dir, dir_of};
 
 use crate::counts::Counts;
-use crate::fault::FileFault;
-use crate::folder::{below, make_folder, sync_folder};
+use crate::fault::{Cause, FileFault};
+use crate::home::Home;
 use crate::journal::Journal;
+use crate::paths::tables_path;
+use crate::real::RealFiles;
+use crate::system::System;
 use crate::tree::Tree;
 use hv_base::{Failed, TableId, Text};
 use hv_shelf::{DirAt, Place, Shelf, ShelfFault};
 use std::alloc::Global;
-use std::fs::{File, OpenOptions};
-use std::path::Path;
+use std::fs::File;
 use std::rt::Files;
 
 /// A store over the files of one folder, of which one may be open at a time on a machine. It tells
-/// nothing. What a successful call has changed is on the device, but for writes to the journal, which
-/// are there behind the next sync.
+/// nothing. The folder is made with the first change. What a successful call has changed is on the
+/// device, but for writes to the journal, which are there behind the next sync.
 #[derive(Drop)]
-pub struct FileShelf<R> {
-    tree: Tree<R>,
+pub struct FileShelf<S> {
+    system: S,
+    home: Home,
+    tree: Tree,
     journal: Journal,
     counts: Counts,
-    /// Open for as long as the store is, since the system's lock on it goes with it.
-    lock: File,
 }
 
-impl<R: Files<File = File> + Drop> FileShelf<R> {
-    /// Opens the store in the folder at `path`, and makes both where they are missing; the folder
-    /// above must be there. `Failed` where another store has the folder open, too.
-    pub fn at(alloc: Global, rt: R, path: &str) -> Result<FileShelf<R>, ShelfFault> {
-        match open(alloc, rt, path) {
-            Ok(shelf) => Ok(shelf),
-            Err(FileFault::NoMemory) => Err(ShelfFault::NoMemory),
-            Err(FileFault::Device) => Err(ShelfFault::Failed),
-        }
+impl<R: Files<File = File> + Drop> FileShelf<RealFiles<R>> {
+    /// Opens the store in the folder at `path`, or looks whether it can be made there: the folder above
+    /// must be there. It is refused where another run has the store open, too.
+    pub fn at(alloc: Global, rt: R, path: &str) -> Result<FileShelf<RealFiles<R>>, FileFault>
+        ensures counts { IfOk result (λ s. (s.counts.faults ≡ 0) × (s.counts.hard ≡ 0)) }
+        ensures root { IfOk result (λ s. string_bytes s.tree.root ≡ tables_path path.now) }
+    {
+        FileShelf::over(alloc, RealFiles::new(rt), path)
     }
 }
 
-fn open<R: Files<File = File> + Drop>(
-    alloc: Global,
-    rt: R,
-    path: &str,
-) -> Result<FileShelf<R>, FileFault> {
-    make_folder(&rt, path)?;
-    if let Some(above) = Path::new(path).parent() {
-        let above = above.as_str();
-        sync_folder(&rt, if above.is_empty() { "." } else { above })?;
+impl<S: System + Drop> FileShelf<S> {
+    fn over(alloc: Global, mut system: S, path: &str) -> Result<FileShelf<S>, FileFault>
+        ensures counts { IfOk result (λ s. (s.counts.faults ≡ 0) × (s.counts.hard ≡ 0)) }
+        ensures root { IfOk result (λ s. string_bytes s.tree.root ≡ tables_path path.now) }
+    {
+        let (home, journal) = Home::open(alloc, &mut system, path)?;
+        let root = tables_path(alloc, path)?;
+        Ok(FileShelf {
+            system,
+            home,
+            tree: Tree::new(alloc, root),
+            journal,
+            counts: Counts::new(),
+        })
     }
-    let lock = open_file(&rt, below(alloc, path, "lock")?.as_str())?;
-    if lock.try_lock().is_err() {
-        return Err(FileFault::Device);
+
+    /// The cause of the last failure.
+    pub fn last_cause(&self) -> Option<Cause> {
+        self.counts.cause
     }
-    let journal = open_file(&rt, below(alloc, path, "journal")?.as_str())?;
-    let root = below(alloc, path, "tables")?;
-    make_folder(&rt, root.as_str())?;
-    sync_folder(&rt, path)?;
-    Ok(FileShelf {
-        tree: Tree::new(alloc, rt, root),
-        journal: Journal::new(journal),
-        counts: Counts { faults: 0, hard: 0 },
-        lock,
-    })
+
+    fn write(&mut self, at: u64, bytes: &[u8]) -> Result<(), FileFault>
+        ensures root { self.new.tree.root ≡ self.old.tree.root }
+        ensures counts { self.new.counts ≡ self.old.counts }
+    {
+        self.home.make(&mut self.system, &mut self.journal)?;
+        self.journal.write(at, bytes)
+    }
+
+    fn put_file(&mut self, place: &Place, bytes: &[u8]) -> Result<(), FileFault>
+        ensures acts { OnOk result (Puts (S.did self.new.system)
+            (working_path (string_bytes self.old.tree.root) place.now)
+            (file_path (string_bytes self.old.tree.root) place.now)
+            (path_of_dir (string_bytes self.old.tree.root) (dir_of place.now))
+            bytes.now) }
+        ensures root { self.new.tree.root ≡ self.old.tree.root }
+        ensures counts { self.new.counts ≡ self.old.counts }
+    {
+        self.home.make(&mut self.system, &mut self.journal)?;
+        self.tree.put(&mut self.system, place, bytes)
+    }
 }
 
-/// Opens a file to read and write it, and makes it where it is missing.
-fn open_file<R: Files<File = File>>(rt: &R, path: &str) -> Result<File, FileFault> {
-    let mut options = OpenOptions::new();
-    options.read(true).write(true).create(true);
-    Ok(options.open(rt, path)?)
-}
-
-impl<R: Files<File = File> + Drop> Shelf for FileShelf<R> {
+impl<S: System + Drop> Shelf for FileShelf<S> {
     ghost told = { λ _. None };
 
     ghost faults = { λ s. s.counts.faults };
@@ -87,7 +103,7 @@ impl<R: Files<File = File> + Drop> Shelf for FileShelf<R> {
     }
 
     fn journal_write(&mut self, at: u64, bytes: &[u8]) -> Result<(), ShelfFault> {
-        let done = self.journal.write(at, bytes);
+        let done = self.write(at, bytes);
         self.counts.hard(done)
     }
 
@@ -97,28 +113,64 @@ impl<R: Files<File = File> + Drop> Shelf for FileShelf<R> {
     }
 
     fn list(&mut self, alloc: Global, table: TableId) -> Result<Vec<Place>, ShelfFault> {
-        let done = self.tree.list(alloc, table);
+        let done = self.tree.list(&mut self.system, alloc, table);
         self.counts.soft(done)
     }
 
-    fn get(&mut self, alloc: Global, place: &Place) -> Result<Option<Vec<u8>>, ShelfFault> {
-        let done = self.tree.get(alloc, place);
+    fn get(&mut self, alloc: Global, place: &Place) -> Result<Option<Vec<u8>>, ShelfFault>
+        ensures cause { SoftCause (IsErrOf result ShelfFault.Failed) self.old.counts.faults
+            self.new.counts.faults self.old.counts.hard self.new.counts.hard }
+        ensures stays { ¬ (IsErrOf result ShelfFault.Failed)
+            → self.new.counts.hard ≡ self.old.counts.hard }
+        ensures acts { IfOk result (λ file. IfSome file (λ bytes. S.did self.new.system
+            (Gives (file_path (string_bytes self.old.tree.root) place.now) bytes.items))) }
+        ensures root { self.new.tree.root ≡ self.old.tree.root }
+    {
+        let done = self.tree.get(&mut self.system, alloc, place);
         self.counts.soft(done)
     }
 
-    fn put(&mut self, place: &Place, bytes: &[u8]) -> Result<(), ShelfFault> {
-        let done = self.tree.put(place, bytes);
+    fn put(&mut self, place: &Place, bytes: &[u8]) -> Result<(), ShelfFault>
+        ensures cause { SoftCause (IsErrOf result ShelfFault.Failed) self.old.counts.faults
+            self.new.counts.faults self.old.counts.hard self.new.counts.hard }
+        ensures stays { ¬ (IsErrOf result ShelfFault.Failed)
+            → self.new.counts.hard ≡ self.old.counts.hard }
+        ensures acts { OnOk result (Puts (S.did self.new.system)
+            (working_path (string_bytes self.old.tree.root) place.now)
+            (file_path (string_bytes self.old.tree.root) place.now)
+            (path_of_dir (string_bytes self.old.tree.root) (dir_of place.now))
+            bytes.now) }
+        ensures root { self.new.tree.root ≡ self.old.tree.root }
+    {
+        let done = self.put_file(place, bytes);
         self.counts.soft(done)
     }
 
-    fn rename(&mut self, from: &DirAt, to: &Text) -> Result<(), ShelfFault> {
-        let done = self.tree.rename(from, to);
+    fn rename(&mut self, from: &DirAt, to: &Text) -> Result<(), ShelfFault>
+        ensures cause { HardCause (IsErrOf result ShelfFault.Failed) self.old.counts.faults
+            self.new.counts.faults self.old.counts.hard self.new.counts.hard }
+        ensures stays { ¬ (IsErrOf result ShelfFault.Failed)
+            → self.new.counts.hard ≡ self.old.counts.hard }
+        ensures acts { OnOk result (S.did self.new.system
+            (Moves (path_of_dir (string_bytes self.old.tree.root) from.now)
+            (path_of_dir (string_bytes self.old.tree.root) (dir_named from.now to.now)))) }
+        ensures root { self.new.tree.root ≡ self.old.tree.root }
+    {
+        let done = self.tree.rename(&mut self.system, from, to);
         self.counts.hard(done)
     }
 
     /// Where memory runs out this fails, since it has no other answer for that.
-    fn remove(&mut self, dir: &DirAt) -> Result<(), Failed> {
-        let done = self.tree.remove(dir);
+    fn remove(&mut self, dir: &DirAt) -> Result<(), Failed>
+        ensures cause { SoftCause (IsErr result) self.old.counts.faults
+            self.new.counts.faults self.old.counts.hard self.new.counts.hard }
+        ensures stays { ¬ (IsErr result)
+            → self.new.counts.hard ≡ self.old.counts.hard }
+        ensures acts { OnOk result (S.did self.new.system
+            (TakesFolder (path_of_dir (string_bytes self.old.tree.root) dir.now))) }
+        ensures root { self.new.tree.root ≡ self.old.tree.root }
+    {
+        let done = self.tree.remove(&mut self.system, dir);
         self.counts.soft_device(done)
     }
 
@@ -130,6 +182,3 @@ impl<R: Files<File = File> + Drop> Shelf for FileShelf<R> {
         self.counts.hard
     }
 }
-
-#[cfg(test)]
-mod tests;

@@ -8,11 +8,18 @@
 mod counts;
 mod fault;
 mod file_shelf;
-mod folder;
+mod home;
 mod journal;
+mod known;
 mod laws;
 mod names;
+mod paths;
+mod real;
+mod system;
 mod tree;
 
+pub use fault::{Cause, FileFault};
 pub use file_shelf::FileShelf;
 pub use laws::{folders_differ, names_are_safe, names_differ};
+pub use real::RealFiles;
+pub use system::{Stand, System};

@@ -1,11 +1,12 @@
 ghost use Rattle.std.specs.Prelude.{◌≡◌, ◌<◌, ◌++◌, ◌^◌, ℕ, map, Some, IfOk, IfSome, OnOk, string_bytes};
+ghost use Rattle.hv_files.specs.Paths.{outer_folders};
 ghost use Rattle.hv_files.specs.Names.{is_marked, has_equals, piece_name, dir_name, padded, table_name, bucket_name, Names, folders_of, pieces_of, has_slash};
 
 use hv_base::{NoMemory, TableId};
 use std::alloc::Global;
 
 /// What a name in the folder of a table, or of a piece of a partition's text, stands for.
-#[derive(Clone, Copy, Debug, PartialEq, Eq)]
+#[derive(Clone, Copy)]
 pub enum Entry<'a> {
     /// A piece of a partition's text.
     Piece(&'a str),
@@ -29,6 +30,17 @@ fn has_equals(name: &str) -> bool
     ensures { result ≡ has_equals name.now }
 {
     name.as_bytes().iter().any(|byte| *byte == b'=')
+}
+
+/// Whether a name is one that this store gives: a piece of a partition's text, or a directory of
+/// Hive's kinds.
+pub fn is_ours(name: &str) -> bool {
+    has_equals(name)
+        || name.starts_with('%')
+        || name.starts_with('@')
+        || name.starts_with("delta_")
+        || name.starts_with("delete_delta_")
+        || name.starts_with("base_")
 }
 
 /// Whether a name would lead to another folder.
@@ -138,6 +150,21 @@ pub fn read_bucket(alloc: Global, name: &str) -> Result<Option<u32>, NoMemory>
     })
 }
 
+/// The names of the folders from the folder of all tables down to a partition's.
+pub fn outer_folders(
+    alloc: Global,
+    table: TableId,
+    partition: &str,
+) -> Result<Vec<String>, NoMemory>
+    ensures { IfOk result
+        (λ names. map string_bytes names.items ≡ outer_folders table.0 partition.now) }
+{
+    let mut names = Vec::new(alloc);
+    names.push(table_name(alloc, table)?)?;
+    push_pieces(alloc, &mut names, partition)?;
+    Ok(names)
+}
+
 /// The names of the folders from the folder of all tables down to a directory.
 pub fn folders_of(
     alloc: Global,
@@ -148,9 +175,7 @@ pub fn folders_of(
     ensures { IfOk result
         (λ names. map string_bytes names.items ≡ folders_of table.0 partition.now dir.now) }
 {
-    let mut names = Vec::new(alloc);
-    names.push(table_name(alloc, table)?)?;
-    push_pieces(alloc, &mut names, partition)?;
+    let mut names = outer_folders(alloc, table, partition)?;
     names.push(dir_name(alloc, dir)?)?;
     Ok(names)
 }
@@ -168,6 +193,3 @@ fn push_pieces(alloc: Global, names: &mut Vec<String>, text: &str) -> Result<(),
     }
     Ok(())
 }
-
-#[cfg(test)]
-mod tests;

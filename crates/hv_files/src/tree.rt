@@ -1,27 +1,29 @@
 //! The tree of files.
-ghost use Rattle.std.specs.Prelude.{◌≡◌, false, IfOk, OnOk, string_bytes};
+ghost use Rattle.std.specs.Prelude.{◌≡◌, ◌++◌, IfOk, IfSome, OnOk, string_bytes};
 ghost use Rattle.hv_shelf.specs.Disk.{IsListing};
-ghost use Rattle.hv_files.specs.Names.{folders_of, path_below, has_slash};
+ghost use Rattle.hv_files.specs.Acts.{Keeps, Puts};
+ghost use Rattle.hv_files.specs.Acts.Act.{Gives, Writes, Moves, TakesFolder};
+ghost use Rattle.hv_files.specs.Paths.{file_path, working_path, path_of_dir, dir_path};
 
-use crate::fault::FileFault;
-use crate::folder::{below, is_there, make_folder, names_in, sync_folder};
-use crate::names::{Entry, bucket_name, entry_of, folders_of, has_slash, read_bucket, table_name};
-use hv_base::{Duplicate, NoMemory, TableId, Text};
+use crate::fault::{Cause, FileFault};
+use crate::known::Known;
+use crate::names::{Entry, entry_of, folders_of, is_ours, outer_folders, read_bucket};
+use crate::paths::{
+    dir_path, file_path, partition_path, path_in, path_of_dir, table_path, working_path,
+};
+use crate::system::{Stand, System};
+use hv_base::{NoMemory, TableId, Text};
 use hv_shelf::{DirAt, Place};
 use std::alloc::Global;
 use std::collections::BTreeSet;
-use std::fs::{self, OpenFile};
-use std::io::{ErrorKind, Read, Write};
-use std::rt::Files;
 
 /// The files of all tables, below one folder. After a sync that failed no change is Ok again, since
 /// the system may then have dropped what it couldn't write.
 #[derive(Drop)]
-pub struct Tree<R> {
+pub struct Tree {
     alloc: Global,
-    rt: R,
-    root: String,
-    sound: bool,
+    pub root: String,
+    known: Known,
 }
 
 /// A folder in which pieces of a partition's text and directories of files may stand.
@@ -32,253 +34,280 @@ struct Inside {
     partition: Option<String>,
 }
 
-impl<R: Files> Tree<R> {
-    pub fn new(alloc: Global, rt: R, root: String) -> Tree<R> {
+impl Tree {
+    pub fn new(alloc: Global, root: String) -> Tree
+        ensures root { result.root ≡ root }
+    {
         Tree {
             alloc,
-            rt,
             root,
-            sound: true,
+            known: Known::new(alloc),
         }
-    }
-
-    /// Fails where a sync has failed.
-    fn test(&self) -> Result<(), FileFault> {
-        if self.sound {
-            Ok(())
-        } else {
-            Err(FileFault::Device)
-        }
-    }
-
-    fn sync(&mut self, folder: &str) -> Result<(), FileFault> {
-        let synced = sync_folder(&self.rt, folder);
-        self.sound &= synced.is_ok();
-        synced
-    }
-
-    /// The path of a partition's folder, and of the folder of a directory in it. A name with a slash
-    /// has none.
-    fn folders(
-        &self,
-        table: TableId,
-        partition: &Text,
-        dir: &Text,
-    ) -> Result<(String, String), FileFault>
-        ensures path { IfOk result (λ paths. string_bytes paths.1
-            ≡ path_below (string_bytes self.now.root) (folders_of table.0 partition.now dir.now)) }
-        ensures safe { OnOk result (has_slash dir.now ≡ false) }
-    {
-        if has_slash(dir.as_str()) {
-            return Err(FileFault::Device);
-        }
-        let names = folders_of(self.alloc, table, partition.as_str(), dir.as_str())?;
-        let mut outer = String::new(self.alloc);
-        let mut inner = self.root.clone()?;
-        for name in &names {
-            outer = inner;
-            inner = below(self.alloc, outer.as_str(), name.as_str())?;
-        }
-        Ok((outer, inner))
-    }
-
-    /// Makes the folders down to a directory, and syncs each in which one stands.
-    fn make_folders(&mut self, place: &Place) -> Result<(), FileFault> {
-        let (partition, dir) = (place.partition.as_str(), place.dir.as_str());
-        let names = folders_of(self.alloc, place.table, partition, dir)?;
-        let mut path = self.root.clone()?;
-        for name in &names {
-            let inner = below(self.alloc, path.as_str(), name.as_str())?;
-            make_folder(&self.rt, inner.as_str())?;
-            self.sync(path.as_str())?;
-            path = inner;
-        }
-        Ok(())
-    }
-
-    /// Writes a file that survives a stop once its folder is synced.
-    fn write_file(&mut self, path: &str, bytes: &[u8]) -> Result<(), FileFault> {
-        let mut file = fs::create(&self.rt, path)?;
-        file.write_all(bytes)?;
-        let synced = file.sync_all();
-        self.sound &= synced.is_ok();
-        synced?;
-        Ok(())
     }
 
     /// Creates or replaces one file: it is written beside, and renamed into place.
-    pub fn put(&mut self, place: &Place, bytes: &[u8]) -> Result<(), FileFault> {
-        self.test()?;
-        let (_, folder) = self.folders(place.table, &place.partition, &place.dir)?;
-        let name = bucket_name(self.alloc, place.bucket)?;
-        let file = below(self.alloc, folder.as_str(), name.as_str())?;
-        let beside = format!(in self.alloc; "{folder}/.{name}")?;
-        self.make_folders(place)?;
-        self.write_file(beside.as_str(), bytes)?;
-        fs::rename(&self.rt, beside.as_str(), file.as_str())?;
-        self.sync(folder.as_str())
+    pub fn put<S: System>(
+        &mut self,
+        system: &mut S,
+        place: &Place,
+        bytes: &[u8],
+    ) -> Result<(), FileFault>
+        ensures keeps { Keeps (S.did system.old) (S.did system.new) }
+        ensures done { OnOk result (Puts (S.did system.new)
+            (working_path (string_bytes self.old.root) place.now)
+            (file_path (string_bytes self.old.root) place.now)
+            (dir_path (string_bytes self.old.root) place.now.table.0 place.now.partition
+            place.now.dir)
+            bytes.now) }
+        ensures root { self.new.root ≡ self.old.root }
+    {
+        self.known.test()?;
+        let (alloc, root) = (self.alloc, self.root.as_str());
+        let folder = dir_path(alloc, root, place.table, &place.partition, &place.dir)?;
+        let beside = working_path(alloc, root, place)?;
+        let file = file_path(alloc, root, place)?;
+        let (partition, dir) = (place.partition.as_str(), place.dir.as_str());
+        let names = folders_of(alloc, place.table, partition, dir)?;
+        self.known
+            .make_folders(system, alloc, root, names.as_slice())?;
+        replace(system, beside.as_str(), file.as_str(), bytes)?;
+        self.known.sync(system, folder.as_str())
     }
 
     /// The bytes of the file at `place`.
-    pub fn get(&self, alloc: Global, place: &Place) -> Result<Option<Vec<u8>>, FileFault> {
-        let (_, folder) = self.folders(place.table, &place.partition, &place.dir)?;
-        let name = bucket_name(self.alloc, place.bucket)?;
-        let path = below(self.alloc, folder.as_str(), name.as_str())?;
-        let mut file = match fs::open(&self.rt, path.as_str()) {
-            Ok(file) => file,
-            Err(error) if error.kind() == ErrorKind::NotFound => return Ok(None),
-            Err(_) => return Err(FileFault::Device),
-        };
-        let mut bytes = Vec::new(alloc);
-        match file.read_to_end(&mut bytes) {
-            Ok(_) => Ok(Some(bytes)),
-            Err(error) if error.kind() == ErrorKind::OutOfMemory => Err(FileFault::NoMemory),
-            Err(_) => Err(FileFault::Device),
+    pub fn get<S: System>(
+        &mut self,
+        system: &mut S,
+        alloc: Global,
+        place: &Place,
+    ) -> Result<Option<Vec<u8>>, FileFault>
+        ensures keeps { Keeps (S.did system.old) (S.did system.new) }
+        ensures done { IfOk result (λ file. IfSome file (λ bytes.
+            S.did system.new (Gives (file_path (string_bytes self.old.root) place.now) bytes.items))) }
+        ensures root { self.new.root ≡ self.old.root }
+    {
+        let root = self.root.as_str();
+        let path = file_path(self.alloc, root, place)?;
+        let (partition, dir) = (place.partition.as_str(), place.dir.as_str());
+        let names = folders_of(self.alloc, place.table, partition, dir)?;
+        if self
+            .known
+            .is_reached(system, self.alloc, root, names.as_slice())?
+        {
+            system.read(alloc, path.as_str())
+        } else {
+            Ok(None)
         }
     }
 
-    /// Takes away all files of `dir`, and the folder where nothing else is in it.
-    pub fn remove(&mut self, dir: &DirAt) -> Result<(), FileFault> {
-        self.test()?;
-        let (outer, folder) = self.folders(dir.table, &dir.partition, &dir.dir)?;
-        if let Some(names) = names_in(self.alloc, &self.rt, folder.as_str())? {
-            for name in &names {
-                self.remove_file(folder.as_str(), name.as_str())?;
-            }
-            self.sync(folder.as_str())?;
-            let _ = fs::remove_dir(&self.rt, folder.as_str());
+    /// Takes away all files of `dir`, and the folder. It fails where something else is left in it.
+    pub fn remove<S: System>(&mut self, system: &mut S, dir: &DirAt) -> Result<(), FileFault>
+        ensures keeps { Keeps (S.did system.old) (S.did system.new) }
+        ensures done { OnOk result
+            (S.did system.new (TakesFolder (path_of_dir (string_bytes self.old.root) dir.now))) }
+        ensures root { self.new.root ≡ self.old.root }
+    {
+        self.known.test()?;
+        let (alloc, root) = (self.alloc, self.root.as_str());
+        let folder = path_of_dir(alloc, root, dir)?;
+        let outer = partition_path(alloc, root, dir.table, &dir.partition)?;
+        let names = outer_folders(alloc, dir.table, dir.partition.as_str())?;
+        if self
+            .known
+            .is_reached(system, alloc, root, names.as_slice())?
+        {
+            empty(system, alloc, &mut self.known, folder.as_str())?;
         }
-        self.sync_outer(outer.as_str())
-    }
-
-    /// Takes away a file, or what a put that failed has left beside one.
-    fn remove_file(&self, folder: &str, name: &str) -> Result<(), FileFault> {
-        let file = name.strip_prefix('.').unwrap_or(name);
-        if read_bucket(self.alloc, file)?.is_some() {
-            let path = below(self.alloc, folder, name)?;
-            fs::remove_file(&self.rt, path.as_str())?;
-        }
-        Ok(())
-    }
-
-    /// Syncs the folder of a partition, if there is one.
-    fn sync_outer(&mut self, outer: &str) -> Result<(), FileFault> {
-        if is_there(&self.rt, outer)? {
-            self.sync(outer)?;
-        }
-        Ok(())
+        system.remove_folder(folder.as_str())?;
+        self.known.forget(&folder);
+        self.known.sync_real(system, &outer)
     }
 
     /// Moves all files of `from` to the directory's name `to` in the same partition. It fails where a
     /// file stands under `to`.
-    pub fn rename(&mut self, from: &DirAt, to: &Text) -> Result<(), FileFault> {
-        self.test()?;
-        let (outer, old) = self.folders(from.table, &from.partition, &from.dir)?;
-        let (_, new) = self.folders(from.table, &from.partition, to)?;
-        match fs::rename(&self.rt, old.as_str(), new.as_str()) {
-            Err(error) if error.kind() != ErrorKind::NotFound => Err(FileFault::Device),
-            _ => self.sync_outer(outer.as_str()),
-        }
+    pub fn rename<S: System>(
+        &mut self,
+        system: &mut S,
+        from: &DirAt,
+        to: &Text,
+    ) -> Result<(), FileFault>
+        ensures keeps { Keeps (S.did system.old) (S.did system.new) }
+        ensures done { OnOk result (S.did system.new
+            (Moves (path_of_dir (string_bytes self.old.root) from.now)
+            (dir_path (string_bytes self.old.root) from.now.table.0 from.now.partition to.now))) }
+        ensures root { self.new.root ≡ self.old.root }
+    {
+        self.known.test()?;
+        let (alloc, root) = (self.alloc, self.root.as_str());
+        let old = path_of_dir(alloc, root, from)?;
+        let new = dir_path(alloc, root, from.table, &from.partition, to)?;
+        let outer = partition_path(alloc, root, from.table, &from.partition)?;
+        let (partition, dir) = (from.partition.as_str(), from.dir.as_str());
+        let names = folders_of(alloc, from.table, partition, dir)?;
+        self.known
+            .is_reached(system, alloc, root, names.as_slice())?;
+        system.rename(old.as_str(), new.as_str())?;
+        self.known.forget(&old);
+        self.known.sync_real(system, &outer)
     }
 
     /// The places of one table, rising.
-    pub fn list(&self, alloc: Global, table: TableId) -> Result<Vec<Place>, FileFault>
+    #[tactic(auto, using(crate::proofs::ActLemmas::keeps_on))]
+    pub fn list<S: System>(
+        &mut self,
+        system: &mut S,
+        alloc: Global,
+        table: TableId,
+    ) -> Result<Vec<Place>, FileFault>
         ensures rising { IfOk result (λ places. IsListing table places.items) }
+        ensures keeps { Keeps (S.did system.old) (S.did system.new) }
+        ensures root { self.new.root ≡ self.old.root }
     {
-        let name = table_name(self.alloc, table)?;
         let mut found = BTreeSet::new(self.alloc);
         let mut left = Vec::new(self.alloc);
-        left.push(Inside {
-            path: below(self.alloc, self.root.as_str(), name.as_str())?,
-            partition: None,
-        })?;
+        if self
+            .known
+            .is_reached(system, self.alloc, self.root.as_str(), &[])?
+        {
+            left.push(Inside {
+                path: table_path(self.alloc, self.root.as_str(), table)?,
+                partition: None,
+            })?;
+        }
         for _ in 0..u64::MAX {
             let Some(folder) = left.pop() else {
-                return Ok(listing_of(alloc, table, &found)?);
+                return Ok(listing_of(alloc, table, found)?);
             };
-            self.look_into(table, &folder, &mut left, &mut found)?;
+            self.known
+                .look_into(system, self.alloc, table, &folder, &mut left, &mut found)?;
         }
-        Err(FileFault::Device)
+        Err(FileFault::Device(Cause::Other))
     }
+}
 
+/// Writes a file beside its place, and moves it there in place of another file.
+fn replace<S: System>(
+    system: &mut S,
+    beside: &str,
+    file: &str,
+    bytes: &[u8],
+) -> Result<(), FileFault>
+    ensures keeps { Keeps (S.did system.old) (S.did system.new) }
+    ensures writes { OnOk result (S.did system.new (Writes beside.now bytes.now)) }
+    ensures moves { OnOk result (S.did system.new (Moves beside.now file.now)) }
+{
+    match system.stand(file)? {
+        Stand::Nothing | Stand::File => {}
+        _ => return Err(FileFault::Device(Cause::NotAFile)),
+    }
+    system.write_new(beside, bytes)?;
+    if system.rename(beside, file)? {
+        Ok(())
+    } else {
+        Err(FileFault::Device(Cause::Other))
+    }
+}
+
+/// Takes away the files of a folder, and what a put that failed has left beside them.
+#[tactic(auto, using(crate::proofs::ActLemmas::keeps_on))]
+fn empty<S: System>(
+    system: &mut S,
+    alloc: Global,
+    known: &mut Known,
+    folder: &str,
+) -> Result<(), FileFault>
+    ensures keeps { Keeps (S.did system.old) (S.did system.new) }
+{
+    let Some(names) = system.names_in(alloc, folder)? else {
+        return Ok(());
+    };
+    for name in &names {
+        let file = name.strip_prefix('.').unwrap_or(name.as_str());
+        if read_bucket(alloc, file)?.is_some() {
+            let path = path_in(alloc, folder, name.as_str())?;
+            system.remove_file(path.as_str())?;
+        }
+    }
+    known.sync(system, folder)
+}
+
+impl Known {
     /// Finds the files of the directories in a folder, and the folders of further pieces.
-    fn look_into(
-        &self,
+    #[tactic(auto, using(crate::proofs::ActLemmas::keeps_on))]
+    fn look_into<S: System>(
+        &mut self,
+        system: &mut S,
+        alloc: Global,
         table: TableId,
         folder: &Inside,
         left: &mut Vec<Inside>,
         found: &mut BTreeSet<Place>,
-    ) -> Result<(), FileFault> {
-        let Some(names) = names_in(self.alloc, &self.rt, folder.path.as_str())? else {
-            return Ok(());
-        };
+    ) -> Result<(), FileFault>
+        ensures keeps { Keeps (S.did system.old) (S.did system.new) }
+    {
+        let names = self.names_in(system, alloc, &folder.path, true)?;
         for name in &names {
-            let path = below(self.alloc, folder.path.as_str(), name.as_str())?;
+            let path = path_in(alloc, folder.path.as_str(), name.as_str())?;
             match entry_of(name.as_str()) {
                 Entry::Piece(piece) => left.push(Inside {
                     path,
-                    partition: Some(with_piece(self.alloc, folder, piece)?),
+                    partition: Some(with_piece(alloc, folder, piece)?),
                 })?,
-                Entry::Dir(dir) => self.list_dir(table, folder, dir, path.as_str(), found)?,
+                Entry::Dir(dir) => {
+                    let files = self.names_in(system, alloc, &path, is_ours(name.as_str()))?;
+                    push_places(alloc, table, folder, dir, files.as_slice(), found)?;
+                }
                 Entry::Other => {}
             }
         }
         Ok(())
     }
+}
 
-    /// Finds the files of one directory, whose folder is at `path`.
-    fn list_dir(
-        &self,
-        table: TableId,
-        folder: &Inside,
-        dir: &str,
-        path: &str,
-        found: &mut BTreeSet<Place>,
-    ) -> Result<(), FileFault> {
-        let partition = match &folder.partition {
-            None => "",
-            // The empty text has no folder of its own, so nothing was put here.
-            Some(text) if text.is_empty() => return Ok(()),
-            Some(text) => text.as_str(),
-        };
-        let Some(names) = names_in(self.alloc, &self.rt, path)? else {
-            return Ok(());
-        };
-        for name in &names {
-            if let Some(bucket) = read_bucket(self.alloc, name.as_str())? {
-                let place = Place {
-                    table,
-                    partition: Text::of(self.alloc, partition)?,
-                    dir: Text::of(self.alloc, dir)?,
-                    bucket,
-                };
-                found.insert(place)?;
-            }
+/// Finds the files of one directory, which has these names.
+fn push_places(
+    alloc: Global,
+    table: TableId,
+    folder: &Inside,
+    dir: &str,
+    names: &[String],
+    found: &mut BTreeSet<Place>,
+) -> Result<(), FileFault> {
+    let partition = match &folder.partition {
+        None => "",
+        // The empty text has no folder of its own, so nothing was put here.
+        Some(text) if text.is_empty() => return Ok(()),
+        Some(text) => text.as_str(),
+    };
+    for name in names {
+        if let Some(bucket) = read_bucket(alloc, name.as_str())? {
+            found.insert(Place {
+                table,
+                partition: Text::of(alloc, partition)?,
+                dir: Text::of(alloc, dir)?,
+                bucket,
+            })?;
         }
-        Ok(())
     }
+    Ok(())
 }
 
 /// The partition's text of a folder, with one more piece.
 fn with_piece(alloc: Global, folder: &Inside, piece: &str) -> Result<String, NoMemory> {
     match &folder.partition {
         None => Ok(String::from_str(alloc, piece)?),
-        Some(text) => below(alloc, text.as_str(), piece),
+        Some(text) => path_in(alloc, text.as_str(), piece),
     }
 }
 
 /// The places of a table among those found, rising.
-fn listing_of(
-    alloc: Global,
-    table: TableId,
-    found: &BTreeSet<Place>,
-) -> Result<Vec<Place>, NoMemory>
+fn listing_of(alloc: Global, table: TableId, found: BTreeSet<Place>) -> Result<Vec<Place>, NoMemory>
     ensures rising { IfOk result (λ places. IsListing table places.items) }
 {
     let mut places = Vec::new(alloc);
-    for place in found.iter() {
+    for place in found {
         if place.table == table {
-            places.push(place.duplicate(alloc)?)?;
+            places.push(place)?;
         }
     }
     Ok(places)

@@ -194,6 +194,3 @@ impl Shelf for MemoryShelf {
         self.plan.hard_count()
     }
 }
-
-#[cfg(test)]
-mod tests;
