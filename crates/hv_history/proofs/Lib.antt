@@ -1,5 +1,5 @@
 pub mod StateLaws
 pub mod NumberLemmas
-pub mod ChangeLemmas
 pub mod AnswerLemmas
-pub mod ReplayLemmas
+pub mod RefusalNames
+pub mod LastingLaws

@@ -1,31 +1,31 @@
 -- Lemmas on what is numbered: rows under a write id, and what stands at a number.
 use Rattle.std.proofs.Common.{◌≡◌, ℕ, zero, suc, ◌+◌, ◌<◌, ◌≤◌, Option, Some, None, List, [], ◌∷◌, ◌++◌, length, get_or, set, take, refl, sym, ap, ◌∙◌, arith}
-use Rattle.std.specs.Prelude.{slice_get, true, false, is_none}
+use Rattle.std.specs.Prelude.{slice_get, slice_set, slice_index_or, true, false, is_none}
 use Rattle.std.proofs.lemmas.List.{take_more, length-take-le, set-get_or, get_or_default}
 use Rattle.hv_value.specs.declared.row.Row.{Row}
 use Rattle.hv_logic.specs.declared.effect.Found.{Found}
-use Rattle.hv_history.specs.State.{Transaction, Ending, numbered, changed_at, numbered_from, while_open, unless_ended}
-use Rattle.hv_history.specs.Replay.{IsPlaceOf, IsOpenPlaceOf}
+use Rattle.hv_history.specs.State.{Transaction, Ending, numbered, changed, changed_at, numbered_from, while_open, unless_ended}
+use Rattle.hv_history.specs.Places.{IsPlaceOf, IsOpenPlaceOf}
 
 -- ---- rows under a write id
 
-abbrev found_at : ℕ → ℕ → Row → Found
-found_at write number row =
-    record { partition = []; id = record { write = record { 0 = write }; statement = 0; bucket = 0; row = number }; row = row }
+abbrev found_at : ℕ → ℕ → ℕ → Row → Found
+found_at write statement number row =
+    record { partition = []; id = record { write = record { 0 = write }; statement = statement; bucket = 0; row = number }; row = row }
 
-number_snoc : (write number : ℕ) (rows : List Row) (row : Row)
-    → numbered_from write number (rows ++ row ∷ []) ≡ numbered_from write number rows ++ found_at write (number + length rows) row ∷ []
-number_snoc write number [] row = let here : number ≡ number + 0 = omega arith in ap (λ n. found_at write n row ∷ []) here
-number_snoc write number (first ∷ rows) row =
+number_snoc : (write statement number : ℕ) (rows : List Row) (row : Row)
+    → numbered_from write statement number (rows ++ row ∷ []) ≡ numbered_from write statement number rows ++ found_at write statement (number + length rows) row ∷ []
+number_snoc write statement number [] row = let here : number ≡ number + 0 = omega arith in ap (λ n. found_at write statement n row ∷ []) here
+number_snoc write statement number (first ∷ rows) row =
     let later : number + 1 + length rows ≡ number + suc (length rows) = omega arith in
-    ap (λ xs. found_at write number first ∷ xs) (number_snoc write (number + 1) rows row ∙ ap (λ n. numbered_from write (number + 1) rows ++ found_at write n row ∷ []) later)
+    ap (λ xs. found_at write statement number first ∷ xs) (number_snoc write statement (number + 1) rows row ∙ ap (λ n. numbered_from write statement (number + 1) rows ++ found_at write statement n row ∷ []) later)
 
-pub number_more : (write : ℕ) (rows : List Row) (i : ℕ) (row : Row) → i < length rows → row ≡ get_or rows i row
-    → numbered_from write 0 (take (i + 1) rows) ≡ numbered_from write 0 (take i rows) ++ found_at write i row ∷ []
-number_more write rows i row p e =
+pub number_more : (write statement : ℕ) (rows : List Row) (i : ℕ) (row : Row) → i < length rows → row ≡ get_or rows i row
+    → numbered_from write statement 0 (take (i + 1) rows) ≡ numbered_from write statement 0 (take i rows) ++ found_at write statement i row ∷ []
+number_more write statement rows i row p e =
     let count : 0 + length (take i rows) ≡ i = omega (arith, length_taken) in
-    ap (numbered_from write 0) (take_more rows i row p ∙ ap (λ x. take i rows ++ x ∷ []) (sym e))
-    ∙ number_snoc write 0 (take i rows) row ∙ ap (λ n. numbered_from write 0 (take i rows) ++ found_at write n row ∷ []) count
+    ap (numbered_from write statement 0) (take_more rows i row p ∙ ap (λ x. take i rows ++ x ∷ []) (sym e))
+    ∙ number_snoc write statement 0 (take i rows) row ∙ ap (λ n. numbered_from write statement 0 (take i rows) ++ found_at write statement n row ∷ []) count
   where
     length_taken : length (take i rows) ≡ i
     length_taken = length-take-le i rows (omega arith)
@@ -80,6 +80,16 @@ module _ {A : Type 0} where
   numbered-some xs (suc n) place x e p is =
       let at : n ≡ place = omega arith in
       slice_get-some xs n x (omega arith) ∙ ap Some (ap (λ k. get_or xs k x) at ∙ sym is)
+
+-- ---- a write at the place of a number is the change of what has that number
+
+pub put_changed : {A : Type 0} (F : (A → A) → A → A) (f : A → A) (xs read : List A) (n at : ℕ) (x : A) → read ≡ xs
+    → ((f : A → A) (other : A) → changed (F f) read n ≡ slice_set read at (f (slice_index_or read at other)))
+    → x ≡ slice_index_or xs at x → slice_set xs at (f x) ≡ changed (F f) xs n
+put_changed F f xs read n at x e moves is =
+    ap (λ ys. slice_set ys at (f x)) (sym e)
+    ∙ ap (λ y. slice_set read at (f y)) (is ∙ ap (λ ys. slice_index_or ys at x) (sym e))
+    ∙ sym (moves f x) ∙ ap (λ ys. changed (F f) ys n) e
 
 -- ---- a transaction that has not ended
 

@@ -1,18 +1,22 @@
 -- Laws of the fold: how it goes on, what stays, and what changes a table's rows.
 use Rattle.std.proofs.Common.{◌≡◌, ℕ, zero, suc, ◌+◌, ◌<◌, Option, Some, None, List, [], ◌∷◌, ◌++◌, fold, refl, sym, ap, ◌∙◌, arith}
 use Rattle.std.specs.List.{slice_get, AllByRecursion}
-use Rattle.std.proofs.Common.{◌≢◌}
-use Rattle.std.specs.Option.{option_map, option_to_list}
+use Rattle.std.specs.declared.cmp.Ordering.{Ordering}
+use Rattle.std.specs.declared.cmp.Ordering.TheVariants.{Less, Equal}
+use Rattle.std.specs.Ordering.{nat_cmp, is_eq, ordering_then}
+use Rattle.std.specs.Cmp.{nat_cmp_is}
+use Rattle.std.specs.Prelude.{IsFalse}
+use Rattle.std.specs.Option.{option_map}
+use Rattle.hv_base.specs.Identifiers.{row_id_cmp}
 use Rattle.hv_base.specs.declared.ids.RowId.{RowId}
 use Rattle.hv_value.specs.declared.row.Row.{Row}
-use Rattle.hv_logic.specs.declared.catalog.TableInfo.{TableInfo}
 use Rattle.hv_logic.specs.declared.effect.Effect.{Effect}
 use Rattle.hv_logic.specs.declared.effect.Found.{Found}
-use Rattle.hv_logic.specs.Rows.{sorted}
+use Rattle.hv_logic.specs.Rows.{sorted, found_cmp}
 use Rattle.hv_history.specs.Answers.{answer, answer_in, ending_text}
 use Rattle.hv_history.specs.declared.entry.Entry.{Entry}
 use Rattle.hv_history.specs.declared.entry.Entry.TheVariants as entry
-use Rattle.hv_history.specs.State.{State, Transaction, Table, Ending, numbered, changed, changed_at, while_open, unless_ended, acted, after, state_of, nothing_yet, content, content_in, content_of, makes, new_table, owned, dropped, forgot, made_info, meaning, numbered_from, written_by, IsNoCommit, Carry, Differ}
+use Rattle.hv_history.specs.State.{State, Transaction, Table, Ending, numbered, changed, changed_at, while_open, unless_ended, acted, after, state_of, nothing_yet, content, content_in, content_of, made_by, owned, dropped, forgot, numbered_from, written_by, IsNoCommit, Carry, Differ}
 
 -- ---- the fold goes on by one entry
 
@@ -139,14 +143,6 @@ content-more : (xs ys : List Table) (n : ℕ) → AllByRecursion (λ (t : Table)
 content-more xs ys zero h = refl
 content-more xs ys (suc n) h = content-slice-more xs ys n h
 
-made-empty : (o : Option TableInfo) → AllByRecursion (λ (t : Table). t.writes ≡ []) (option_to_list (option_map new_table o))
-made-empty None = tt
-made-empty (Some info) = (refl, tt)
-
-makes-empty : (table : ℕ) (o : Option Transaction) → AllByRecursion (λ (t : Table). t.writes ≡ []) (makes table o)
-makes-empty table None = tt
-makes-empty table (Some t) = made-empty (made_info table (meaning t))
-
 pub rows-change_at_commits : (state : State) (event : Entry) (table : ℕ) → IsNoCommit event → content (after state event) table ≡ content state table
 unfolding acted
 rows-change_at_commits state (entry.Boot run) table h = refl
@@ -155,7 +151,7 @@ rows-change_at_commits state (entry.Start txn statement) table h = refl
 rows-change_at_commits state (entry.Given txn given write) table h = content-changed (owned txn.0) (λ t. refl) state.tables given.0 table
 rows-change_at_commits state (entry.Commit txn wrote) table h = absurd h
 rows-change_at_commits state (entry.Abort txn cause) table h = refl
-rows-change_at_commits state (entry.Create txn made) table h = content-more state.tables _ table (makes-empty made.0 (numbered state.transactions txn.0))
+rows-change_at_commits state (entry.Create txn made) table h = content-more state.tables (made_by made.0 (numbered state.transactions txn.0) ∷ []) table (refl, tt)
 rows-change_at_commits state (entry.Drop txn gone) table h = content-changed dropped (λ t. refl) state.tables gone.0 table
 rows-change_at_commits state (entry.Asked job asked partition kind by) table h = refl
 rows-change_at_commits state (entry.Picked job watermark) table h = refl
@@ -167,25 +163,40 @@ rows-change_at_commits state (entry.Forgot forgotten write) table h = content-ch
 
 -- ---- identifiers
 
-numbered-carry : (write number : ℕ) (rows : List Row) → Carry write (numbered_from write number rows)
-numbered-carry write number [] = tt
-numbered-carry write number (row ∷ rows) = (refl, numbered-carry write (number + 1) rows)
+numbered-carry : (write statement number : ℕ) (rows : List Row) → Carry write (numbered_from write statement number rows)
+numbered-carry write statement number [] = tt
+numbered-carry write statement number (row ∷ rows) = (refl, numbered-carry write statement (number + 1) rows)
 
--- a row numbered later has another identifier
-numbered-apart : (write number later : ℕ) (rows : List Row) (id : RowId) → id.row ≡ number → number < later
-    → AllByRecursion (λ (other : Found). id ≢ other.id) (numbered_from write later rows)
-numbered-apart write number later [] id e h = tt
-numbered-apart write number later (row ∷ rows) id e h = (
-  λ same. let there : id.row ≡ later = ap (λ (i : RowId). i.row) same in absurd (omega arith),
-  numbered-apart write number (later + 1) rows id e (omega arith),
-)
+abbrev numbered_id : ℕ → ℕ → ℕ → RowId
+numbered_id write statement number = record { write = record { 0 = write }; statement = statement; bucket = 0; row = number }
 
-numbered-differ : (write number : ℕ) (rows : List Row) → Differ (numbered_from write number rows)
-numbered-differ write number [] = tt
-numbered-differ write number (row ∷ rows) = (numbered-apart write number (number + 1) rows _ refl (omega arith), numbered-differ write (number + 1) rows)
+-- a row that is numbered later comes later
+pub numbered-rises : (write statement number later : ℕ) → number < later
+    → row_id_cmp (numbered_id write statement number) (numbered_id write statement later) ≡ Less
+unfolding row_id_cmp
+numbered-rises write statement number later below =
+    let writes : nat_cmp write write ≡ Equal = sym (nat_cmp_is write write Equal refl) in
+    let statements : nat_cmp statement statement ≡ Equal = sym (nat_cmp_is statement statement Equal refl) in
+    let rises : nat_cmp number later ≡ Less = sym (nat_cmp_is number later Less below) in
+    ap (λ (o : Ordering). ordering_then o (ordering_then (nat_cmp statement statement) (nat_cmp number later))) writes
+    ∙ ap (λ (o : Ordering). ordering_then o (nat_cmp number later)) statements ∙ rises
 
-pub inserts-carry : (write : ℕ) (effect : Effect) → Carry write (written_by write effect).inserts
-inserts-carry write effect = numbered-carry write 0 (sorted effect.inserts)
+abbrev numbered_row : ℕ → ℕ → ℕ → Row → Found
+numbered_row write statement number row = record { partition = []; id = numbered_id write statement number; row = row }
 
-pub inserts-differ : (write : ℕ) (effect : Effect) → Differ (written_by write effect).inserts
-inserts-differ write effect = numbered-differ write 0 (sorted effect.inserts)
+numbered-apart : (write statement number later : ℕ) (first : Row) (rows : List Row) → number < later
+    → AllByRecursion (λ (other : Found). IsFalse (is_eq (found_cmp (numbered_row write statement number first) other))) (numbered_from write statement later rows)
+numbered-apart write statement number later first [] h = tt
+numbered-apart write statement number later first (row ∷ rows) h =
+    (ap is_eq (numbered-rises write statement number later h), numbered-apart write statement number (later + 1) first rows (omega arith))
+
+numbered-differ : (write statement number : ℕ) (rows : List Row) → Differ (numbered_from write statement number rows)
+numbered-differ write statement number [] = tt
+numbered-differ write statement number (row ∷ rows) =
+    (numbered-apart write statement number (number + 1) row rows (omega arith), numbered-differ write statement (number + 1) rows)
+
+pub inserts-carry : (write statement : ℕ) (effect : Effect) → Carry write (written_by write statement effect).inserts
+inserts-carry write statement effect = numbered-carry write statement 0 (sorted effect.inserts)
+
+pub inserts-differ : (write statement : ℕ) (effect : Effect) → Differ (written_by write statement effect).inserts
+inserts-differ write statement effect = numbered-differ write statement 0 (sorted effect.inserts)

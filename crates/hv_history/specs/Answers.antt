@@ -5,6 +5,9 @@ use Rattle.std.specs.Option.{option_map}
 use Rattle.std.specs.Fmt.{decimal}
 use Rattle.hv_base.specs.declared.ids.Touch.{Touch}
 use Rattle.hv_base.specs.declared.ids.RowId.{RowId}
+use Rattle.hv_base.specs.declared.refusal.Refusal.{Refusal}
+use Rattle.hv_base.specs.declared.refusal.Refusal.TheVariants as refusal
+use Rattle.hv_base.specs.Refusals.{number, name}
 use Rattle.hv_value.specs.declared.row.Row.{Row}
 use Rattle.hv_value.specs.Printing.{printed}
 use Rattle.hv_logic.specs.declared.meaning.Meaning.{Meaning}
@@ -41,24 +44,29 @@ counts_line wrote =
 unfoldable pub ok_line : List ℕ
 ok_line = line (codes "OK")
 
-abbrev pub committed_text : Meaning → List Touch → List ℕ
-committed_text (Listing names rows) wrote = listing names rows
-committed_text (Change info effect) wrote = counts_line wrote
+abbrev pub committed_text : Option Meaning → List Touch → List ℕ
+committed_text (Some (Listing names rows)) wrote = listing names rows
+committed_text (Some (Change info effect)) wrote = counts_line wrote
 committed_text _ wrote = ok_line
 
 -- ---- a refusal prints FAILED, its number and its name
 
-abbrev pub refusal_name : ℕ → List ℕ
-refusal_name number =
-    if number == 10 then codes "NoTable"
-    else (if number == 11 then codes "NoColumn"
-    else (if number == 12 then codes "Ambiguous"
-    else (if number == 13 then codes "BadType"
-    else (if number == 14 then codes "BadCount"
-    else (if number == 15 then codes "NotGrouped"
-    else (if number == 16 then codes "FixedColumn"
-    else (if number == 17 then codes "MergeClauses"
-    else (if number == 18 then codes "TableExists" else codes "Limit"))))))))
+abbrev pub every_refusal : List Refusal
+every_refusal =
+    refusal.BadCharacter ∷ refusal.OpenString ∷ refusal.WideNumber ∷ refusal.Syntax ∷ refusal.Nesting
+    ∷ refusal.NoTable ∷ refusal.NoColumn ∷ refusal.Ambiguous ∷ refusal.BadType ∷ refusal.BadCount
+    ∷ refusal.NotGrouped ∷ refusal.FixedColumn ∷ refusal.MergeClauses ∷ refusal.TableExists ∷ refusal.Limit
+    ∷ refusal.Conflict ∷ refusal.Aborted ∷ refusal.JournalFull ∷ refusal.MergeTwice ∷ refusal.Blocked
+    ∷ refusal.ReadFault ∷ refusal.WriteFault ∷ refusal.NoMemory ∷ refusal.RowLimit ∷ refusal.PartitionLimit
+    ∷ refusal.Damaged ∷ []
+
+abbrev pub name_among : List Refusal → ℕ → List ℕ
+name_among [] n = []
+name_among (first ∷ more) n = if number first == n then name first else name_among more n
+
+-- the name of the refusal of that number
+unfoldable pub refusal_name : ℕ → List ℕ
+refusal_name n = name_among every_refusal n
 
 unfoldable pub failed_line : ℕ → List ℕ → List ℕ
 failed_line number text = line (codes "FAILED " ++ decimal number ++ codes " " ++ text)
@@ -70,7 +78,7 @@ after_space (b ∷ text) = codes " " ++ b ∷ text
 
 abbrev pub name_of : Option Table → List ℕ
 name_of None = []
-name_of (Some table) = table.info.name
+name_of (Some table) = table.info.shape.name
 
 abbrev pub name_at : Option Snapshot → ℕ → List ℕ
 name_at None table = []
@@ -87,7 +95,7 @@ abbrev pub place_text : FilePlace → List ℕ
 place_text place = place.dir ++ codes "/bucket_" ++ five_digits place.bucket
 
 unfoldable pub cause_text : Option Snapshot → Cause → List ℕ
-cause_text snapshot (cause.Refused number) = failed_line number (refusal_name number)
+cause_text snapshot (cause.Refused n) = failed_line n (refusal_name n)
 cause_text snapshot (cause.Conflict by table partition) =
     failed_line 30 (codes "Conflict with " ++ decimal by.0 ++ codes " on " ++ name_at snapshot table.0 ++ after_space partition)
 cause_text snapshot (cause.Request by) = failed_line 31 (codes "Aborted by " ++ decimal by.0)

@@ -4,11 +4,12 @@
 use Rattle.std.specs.Prelude.{◌≡◌, ◌≢◌, ℕ, suc, zero, ◌+◌, ◌<◌, ◌≤◌, ◌^◌, List, [], ◌∷◌, ◌++◌, length}
 use Rattle.std.specs.List.{flat_map}
 use Rattle.hv_history.specs.declared.entry.Entry.{Entry}
-use Rattle.hv_history.specs.Spelling.{half, entry_spelling, HasSpelling}
+use Rattle.hv_bytes.specs.Spelling.{four_bytes}
+use Rattle.hv_history.specs.Spelling.{entry_spelling, HasSpelling}
 
 -- a record: the length of its body, and the body
 unfoldable pub record_of : Entry → List ℕ
-record_of e = half (length (entry_spelling e)) ++ entry_spelling e
+record_of e = four_bytes (length (entry_spelling e)) ++ entry_spelling e
 
 -- what a record can keep
 pub record HasRecord (e : Entry) : Type 0 where

@@ -1,17 +1,19 @@
 -- Which entries fit a book, which are true, and which books are legal. Opening a store tests what fits; what is
 -- true of a store that somebody else wrote is a premise.
--- Source: Hive Transactions (a transaction's states, locks, first committer wins); the journal is this project's.
-use Rattle.std.specs.Prelude.{◌≡◌, ℕ, ◌+◌, ◌<◌, ◌==◌, ◌&&◌, ◌||◌, Bool, true, false, if◌then◌else◌, nat_lt, IsTrue, IsFalse, ◌⊎◌, is_some, is_none, Option, Some, None, IsSome, IsNone, IsSomeAnd, List, [], ◌∷◌, length}
+-- Source: Hive Transactions (a transaction's states, locks, first committer wins); the journal and its room are this
+-- project's.
+use Rattle.std.specs.Prelude.{◌≡◌, ◌≢◌, ℕ, ◌+◌, ◌<◌, ◌≤◌, ◌==◌, ◌&&◌, Bool, true, false, not, if◌then◌else◌, nat_lt, IsTrue, IsFalse, ◌⊎◌, is_some, is_none, Option, Some, None, IsSome, IsNone, IsSomeAnd, List, [], ◌∷◌, length, sum_by}
 use Rattle.std.specs.declared.cmp.Ordering.{Ordering}
 use Rattle.std.specs.declared.cmp.Ordering.TheVariants.{Less}
 use Rattle.std.specs.Ordering.{nat_cmp, on, then_cmp}
 use Rattle.std.specs.Cmp.Lexicographic.{slice_cmp, pointwise}
+use Rattle.std.specs.List.{flat_map, list_any, AllByRecursion}
 use Rattle.std.specs.Prelude.{nat_eq}
-use Rattle.std.specs.List.{list_any, AllByRecursion}
+use Rattle.hv_base.specs.Refusals as refusals
+use Rattle.hv_base.specs.declared.ids.Limits.{Limits}
 use Rattle.hv_base.specs.declared.ids.Touch.{Touch}
-use Rattle.hv_ast.specs.declared.query.From.{From}
-use Rattle.hv_ast.specs.declared.query.Source.{Source}
-use Rattle.hv_ast.specs.declared.query.Source.TheVariants.{Table as TableSource}
+use Rattle.hv_locks.specs.declared.table.Lock.{Lock}
+use Rattle.hv_locks.specs.Locking.{conflict}
 use Rattle.hv_ast.specs.declared.statement.Stmt.{Stmt}
 use Rattle.hv_ast.specs.declared.statement.Stmt.TheVariants as stmt
 use Rattle.hv_grammar.specs.Running.{Runs}
@@ -20,12 +22,12 @@ use Rattle.hv_logic.specs.declared.catalog.TableInfo.{TableInfo}
 use Rattle.hv_logic.specs.declared.effect.Effect.{Effect}
 use Rattle.hv_logic.specs.declared.meaning.Meaning.{Meaning}
 use Rattle.hv_logic.specs.declared.meaning.Meaning.TheVariants.{Refused, Listing, Change, Make, Plain, RowLimit}
-use Rattle.hv_logic.specs.Meaning.{named}
+use Rattle.hv_logic.specs.Names.{names_in}
 use Rattle.hv_history.specs.declared.entry.Entry.{Entry}
 use Rattle.hv_history.specs.declared.entry.Entry.TheVariants as entry
 use Rattle.hv_history.specs.declared.entry.Cause.{Cause}
 use Rattle.hv_history.specs.declared.entry.Cause.TheVariants as cause
-use Rattle.hv_history.specs.State.{State, Snapshot, Transaction, Ending, Committed, numbered, meaning, seen_tables, given_in, nothing_yet, after}
+use Rattle.hv_history.specs.State.{State, Job, Statement, Table, Snapshot, Transaction, Ending, Committed, numbered, meaning, opening_tree, given_in, nothing_yet, after}
 
 -- ---- a transaction's state
 
@@ -47,45 +49,34 @@ pub record IsWaiting (transaction : Transaction) : Type 0 where
   pub unended : IsTrue (is_open transaction)
   pub unstarted : IsFalse (is_started transaction)
 
--- ---- locks: a statement's lock set is a function of its text. Making a table takes its name for itself, and
--- every other statement shares the names of its tables.
+-- ---- locks: a statement's lock set is a function of its text, and a transaction's that of its statements
 
-pub record Lock : Type 0 where
-  pub name : List ℕ
-  pub exclusive : Bool
+abbrev pub locks_of_tree : Option Stmt → List Lock
+locks_of_tree None = []
+locks_of_tree (Some tree) = names_in tree
 
-abbrev pub source_locks : Source → List Lock
-source_locks (TableSource name alias) = record { name = name; exclusive = false } ∷ []
-source_locks _ = []
+abbrev pub locks_of : Transaction → List Lock
+locks_of transaction = flat_map (λ (statement : Statement). locks_of_tree (tree_of statement.text)) transaction.statements
 
-abbrev pub from_locks : Option (From Source) → List Lock
-from_locks None = []
-from_locks (Some from) = source_locks from.source
-
-abbrev pub locks_of_tree : Stmt → List Lock
-locks_of_tree (stmt.Query query) = from_locks query.select.from
-locks_of_tree (stmt.Insert insert) = record { name = insert.table; exclusive = false } ∷ []
-locks_of_tree (stmt.CreateTable create) = record { name = create.table; exclusive = true } ∷ []
-locks_of_tree _ = []
-
-abbrev pub locks_of : Option Stmt → List Lock
-locks_of None = []
-locks_of (Some tree) = locks_of_tree tree
-
--- two locks conflict where they are on one name and one is exclusive
-abbrev pub lock_conflicts : Lock → Lock → Bool
-lock_conflicts a b = pointwise nat_eq a.name b.name && (a.exclusive || b.exclusive)
+-- a lock conflicts with one of these
+abbrev pub conflicts_with_any : List Lock → Lock → Bool
+conflicts_with_any those lock = list_any (conflict lock) those
 
 abbrev pub locks_conflict : List Lock → List Lock → Bool
-locks_conflict these those = list_any (λ a. list_any (lock_conflicts a) those) these
+locks_conflict these those = list_any (conflicts_with_any those) these
 
 -- an open started transaction whose locks conflict with these
 abbrev pub holds_against : List Lock → Transaction → Bool
-holds_against locks transaction =
-    is_open transaction && is_started transaction && locks_conflict locks (locks_of (tree_of transaction.text))
+holds_against locks transaction = is_open transaction && is_started transaction && locks_conflict locks (locks_of transaction)
 
 abbrev pub IsUnlocked : State → Transaction → Type 0
-IsUnlocked state transaction = IsFalse (list_any (holds_against (locks_of (tree_of transaction.text))) state.transactions)
+IsUnlocked state transaction = IsFalse (list_any (holds_against (locks_of transaction)) state.transactions)
+
+-- the first of these transactions that holds locks against these, by its number, where the first one's is given
+abbrev pub first_holder : List Lock → ℕ → List Transaction → Option ℕ
+first_holder locks number [] = None
+first_holder locks number (transaction ∷ transactions) =
+    if holds_against locks transaction then Some number else first_holder locks (number + 1) transactions
 
 -- ---- conflicts: two commits conflict where both deleted rows in one partition of one table
 
@@ -100,6 +91,11 @@ abbrev pub commits_against : ℕ → List Touch → Option Ending → Bool
 commits_against place wrote (Some (Committed at those)) = nat_lt place at && touches_conflict wrote those
 commits_against place wrote _ = false
 
+-- the same, before a place
+abbrev pub commits_before : ℕ → ℕ → List Touch → Option Ending → Bool
+commits_before place end wrote (Some (Committed at those)) = nat_lt place at && (nat_lt at end && touches_conflict wrote those)
+commits_before place end wrote _ = false
+
 -- the place of a transaction's snapshot, or 0
 abbrev pub place_of_snapshot : Option Snapshot → ℕ
 place_of_snapshot None = 0
@@ -110,7 +106,34 @@ abbrev pub MeetsNoConflict : State → Transaction → List Touch → Type 0
 MeetsNoConflict state transaction wrote =
     IsFalse (list_any (λ (other : Transaction). commits_against (place_of_snapshot transaction.snapshot) wrote other.ending) state.transactions)
 
--- ---- what fits
+-- the limits of this project's profile
+abbrev pub profile : Limits
+profile = record { entries = 131072 }
+
+-- ---- room: an entry that asks for it fits where the load stays within the limit
+
+-- a job that was picked and has not ended
+abbrev pub is_working : Job → Bool
+is_working job = is_some job.watermark && (is_none job.published && (not job.is_empty && is_none job.failure))
+
+abbrev pub one_if : Bool → ℕ
+one_if b = if b then 1 else 0
+
+abbrev pub open_one : Transaction → ℕ
+open_one transaction = one_if (is_open transaction)
+
+abbrev pub working_one : Job → ℕ
+working_one job = one_if (is_working job)
+
+-- the entries, and the one that each open transaction and each working job still needs
+abbrev pub load : State → ℕ
+load state = state.entries + sum_by open_one state.transactions + sum_by working_one state.jobs
+
+-- an entry of this kind adds so much to the load
+abbrev pub HasRoom : Limits → State → ℕ → Type 0
+HasRoom limits state more = load state + more ≤ limits.entries
+
+-- ---- what fits: this rests on the entries before it alone, and on no meaning
 
 -- the text is a statement, of a form that runs
 abbrev pub IsStatement : List ℕ → Type 0
@@ -125,19 +148,30 @@ abbrev pub made_name : Option Stmt → List ℕ
 made_name (Some (stmt.CreateTable create)) = create.table
 made_name _ = []
 
-pub record OpenedFits (state : State) (txn : ℕ) (text : List ℕ) : Type 0 where
+-- a live table of that name
+abbrev pub is_named : List ℕ → Table → Bool
+is_named name table = table.is_live && pointwise nat_eq table.info.shape.name name
+
+pub record BootFits (limits : Limits) (state : State) (run : ℕ) : Type 0 where
+  pub next : run ≡ state.openings.count
+  pub room : HasRoom limits state 1
+
+pub record OpenedFits (limits : Limits) (state : State) (txn : ℕ) (text : List ℕ) : Type 0 where
   pub next : txn ≡ length state.transactions + 1
   pub statement : IsStatement text
+  pub room : HasRoom limits state 2
 
-pub record StartFits (state : State) (statement : ℕ) (transaction : Transaction) : Type 0 where
+pub record StartFits (limits : Limits) (state : State) (statement : ℕ) (transaction : Transaction) : Type 0 where
   pub waiting : IsWaiting transaction
   pub first : statement ≡ 0
   pub unlocked : IsUnlocked state transaction
+  pub room : HasRoom limits state 1
 
-pub record GivenFits (state : State) (table write : ℕ) (transaction : Transaction) : Type 0 where
+pub record GivenFits (limits : Limits) (state : State) (table write : ℕ) (transaction : Transaction) : Type 0 where
   pub running : IsRunning transaction
   pub live : IsSomeAnd (numbered state.tables table) (λ t. IsTrue t.is_live × (write ≡ length t.owners + 1))
   pub first : IsNone (given_in table transaction.given)
+  pub room : HasRoom limits state 1
 
 -- touches rise by table and partition
 abbrev pub touch_cmp : Touch → Touch → Ordering
@@ -163,38 +197,81 @@ pub record CommitFits (state : State) (wrote : List Touch) (transaction : Transa
   pub used : AllByRecursion (λ given. IsTrue (is_touched wrote given)) transaction.given
   pub clear : MeetsNoConflict state transaction wrote
 
+-- a Create is counted by Creates, whatever they made
 pub record CreateFits (state : State) (table : ℕ) (transaction : Transaction) : Type 0 where
   pub running : IsRunning transaction
-  pub create : IsTrue (is_create (tree_of transaction.text))
-  pub absent : IsNone (named (made_name (tree_of transaction.text)) (seen_tables state.tables))
+  pub create : IsTrue (is_create (opening_tree transaction))
+  pub absent : IsFalse (list_any (is_named (made_name (opening_tree transaction))) state.tables)
   pub next : table ≡ length state.tables + 1
 
--- an Abort's cause fits its transaction; conflicts, requests and blocked statements come later
-abbrev pub CauseFits : Cause → Transaction → Type 0
-CauseFits (cause.Refused number) transaction = IsRunning transaction
-CauseFits (cause.Twice partition row) transaction = IsRunning transaction
-CauseFits (cause.ReadFault count) transaction = IsRunning transaction
-CauseFits (cause.WriteFault count) transaction = IsRunning transaction
-CauseFits (cause.Damaged place) transaction = IsRunning transaction
-CauseFits cause.RowLimit transaction = IsRunning transaction
-CauseFits cause.PartitionLimit transaction = IsRunning transaction
-CauseFits cause.Full transaction = IsTrue (is_open transaction)
-CauseFits cause.Memory transaction = IsTrue (is_open transaction)
-CauseFits cause.Lost transaction = IsTrue (is_open transaction)
-CauseFits _ transaction = ⊥
+-- ---- an Abort's cause
+
+-- a commit behind that place that deleted rows in the partition of a table
+abbrev pub deletes_in : ℕ → List ℕ → Touch → Bool
+deletes_in table partition touch = (touch.table.0 == table) && (pointwise nat_eq touch.partition partition && nat_lt 0 touch.deleted)
+
+abbrev pub deleted_behind : ℕ → ℕ → List ℕ → Option Ending → Bool
+deleted_behind place table partition (Some (Committed at wrote)) = nat_lt place at && list_any (deletes_in table partition) wrote
+deleted_behind place table partition _ = false
+
+pub record ConflictFits (state : State) (by table : ℕ) (partition : List ℕ) (transaction : Transaction) : Type 0 where
+  pub running : IsRunning transaction
+  pub committed : Of state by (λ other. IsTrue (deleted_behind (place_of_snapshot transaction.snapshot) table partition other.ending))
+
+-- the text asks for the abort of that transaction
+abbrev pub asks_to_abort : ℕ → Option Stmt → Bool
+asks_to_abort txn (Some (stmt.AbortTransactions txns)) = list_any (λ other. other == txn) txns
+asks_to_abort txn _ = false
+
+pub record RequestFits (state : State) (txn by : ℕ) (transaction : Transaction) : Type 0 where
+  pub unended : IsTrue (is_open transaction)
+  pub other : by ≢ txn
+  pub asks : Of state by (λ asker. IsRunning asker × IsTrue (asks_to_abort txn (opening_tree asker)))
+
+pub record FullFits (limits : Limits) (state : State) (transaction : Transaction) : Type 0 where
+  pub unended : IsTrue (is_open transaction)
+  pub full : limits.entries < load state + 1
+
+pub record BlockedFits (state : State) (holder : ℕ) (transaction : Transaction) : Type 0 where
+  pub waiting : IsWaiting transaction
+  pub held : first_holder (locks_of transaction) 1 state.transactions ≡ Some holder
+
+-- each count of faults is kept once behind an opening
+pub record FaultFits (state : State) (count : ℕ) (transaction : Transaction) : Type 0 where
+  pub running : IsRunning transaction
+  pub fresh : IsFalse (list_any (λ other. other == count) state.openings.kept)
+
+pub record LostFits (state : State) (transaction : Transaction) : Type 0 where
+  pub unended : IsTrue (is_open transaction)
+  pub behind : IsTrue state.openings.only_lost
+
+abbrev pub CauseFits : Limits → State → ℕ → Cause → Transaction → Type 0
+CauseFits limits state txn (cause.Refused number) transaction = IsRunning transaction
+CauseFits limits state txn (cause.Conflict by table partition) transaction = ConflictFits state by.0 table.0 partition transaction
+CauseFits limits state txn (cause.Request by) transaction = RequestFits state txn by.0 transaction
+CauseFits limits state txn cause.Full transaction = FullFits limits state transaction
+CauseFits limits state txn (cause.Twice partition row) transaction = IsRunning transaction
+CauseFits limits state txn (cause.Blocked holder) transaction = BlockedFits state holder.0 transaction
+CauseFits limits state txn (cause.ReadFault count) transaction = FaultFits state count transaction
+CauseFits limits state txn (cause.WriteFault count) transaction = FaultFits state count transaction
+CauseFits limits state txn (cause.Damaged place) transaction = IsRunning transaction
+CauseFits limits state txn cause.RowLimit transaction = IsRunning transaction
+CauseFits limits state txn cause.PartitionLimit transaction = IsRunning transaction
+CauseFits limits state txn cause.Memory transaction = IsTrue (is_open transaction)
+CauseFits limits state txn cause.Lost transaction = LostFits state transaction
 
 -- the entry fits a book that leaves this state; those of compaction, of DROP TABLE and of forgetting come later
-abbrev pub Fits : State → Entry → Type 0
-Fits state (entry.Boot run) = run ≡ state.boots
-Fits state (entry.Opened txn session number text) = OpenedFits state txn.0 text
-Fits state (entry.Start txn statement) = Of state txn.0 (StartFits state statement)
-Fits state (entry.Given txn table write) = Of state txn.0 (GivenFits state table.0 write.0)
-Fits state (entry.Commit txn wrote) = Of state txn.0 (CommitFits state wrote)
-Fits state (entry.Abort txn cause) = Of state txn.0 (CauseFits cause)
-Fits state (entry.Create txn table) = Of state txn.0 (CreateFits state table.0)
-Fits state _ = ⊥
+abbrev pub Fits : Limits → State → Entry → Type 0
+Fits limits state (entry.Boot run) = BootFits limits state run
+Fits limits state (entry.Opened txn session number text) = OpenedFits limits state txn.0 text
+Fits limits state (entry.Start txn statement) = Of state txn.0 (StartFits limits state statement)
+Fits limits state (entry.Given txn table write) = Of state txn.0 (GivenFits limits state table.0 write.0)
+Fits limits state (entry.Commit txn wrote) = Of state txn.0 (CommitFits state wrote)
+Fits limits state (entry.Abort txn cause) = Of state txn.0 (CauseFits limits state txn.0 cause)
+Fits limits state (entry.Create txn table) = Of state txn.0 (CreateFits state table.0)
+Fits limits state _ = ⊥
 
--- ---- what is true
+-- ---- what is true: an entry says of its statement what it came to at its Start
 
 abbrev pub touches_of : TableInfo → Effect → List Touch
 touches_of info effect =
@@ -202,41 +279,77 @@ touches_of info effect =
     else record { table = info.table; partition = []; inserted = length effect.inserts; deleted = length effect.deletes } ∷ []
 
 -- these touches are what the statement means
-abbrev pub TouchesAreMeant : List Touch → Meaning → Type 0
-TouchesAreMeant wrote (Listing names rows) = wrote ≡ []
-TouchesAreMeant wrote (Change info effect) = wrote ≡ touches_of info effect
-TouchesAreMeant wrote Plain = wrote ≡ []
+abbrev pub TouchesAreMeant : List Touch → Option Meaning → Type 0
+TouchesAreMeant wrote (Some (Listing names rows)) = wrote ≡ []
+TouchesAreMeant wrote (Some (Change info effect)) = wrote ≡ touches_of info effect
+TouchesAreMeant wrote (Some Plain) = wrote ≡ []
 TouchesAreMeant wrote _ = ⊥
 
-abbrev pub IsMake : Meaning → Type 0
-IsMake (Make name columns) = Unit {0}
+abbrev pub IsMake : Option Meaning → Type 0
+IsMake (Some (Make shape)) = Unit {0}
 IsMake _ = ⊥
 
 -- the statement changes rows, and its transaction has no write id yet
-abbrev pub NeedsId : List (ℕ × ℕ) → Meaning → Type 0
-NeedsId [] (Change info effect) = Unit {0}
+abbrev pub NeedsId : List (ℕ × ℕ) → Option Meaning → Type 0
+NeedsId [] (Some (Change info effect)) = 0 < length effect.inserts + length effect.deletes
 NeedsId _ _ = ⊥
 
-abbrev pub CauseIsTrue : Cause → Transaction → Type 0
-CauseIsTrue (cause.Refused number) transaction = meaning transaction ≡ Refused number
-CauseIsTrue cause.Full transaction = IsFalse (is_started transaction) ⊎ NeedsId transaction.given (meaning transaction)
-CauseIsTrue (cause.Twice partition row) transaction = ⊥
-CauseIsTrue cause.RowLimit transaction = meaning transaction ≡ RowLimit
-CauseIsTrue cause.PartitionLimit transaction = ⊥
-CauseIsTrue _ transaction = Unit {0}
+-- the first of these touches that conflicts with one of those
+abbrev pub first_shared : List Touch → List Touch → Option Touch
+first_shared [] those = None
+first_shared (touch ∷ wrote) those = if list_any (touch_conflicts touch) those then Some touch else first_shared wrote those
 
--- what the entry says of its statement is what the text means at its snapshot
-abbrev pub IsMeant : State → Entry → Type 0
-IsMeant state (entry.Commit txn wrote) = Of state txn.0 (λ transaction. TouchesAreMeant wrote (meaning transaction))
-IsMeant state (entry.Create txn table) = Of state txn.0 (λ transaction. IsMake (meaning transaction))
-IsMeant state (entry.Abort txn cause) = Of state txn.0 (CauseIsTrue cause)
-IsMeant state _ = Unit {0}
+-- the first conflicting commit behind the snapshot is the one that is named, and so is the first place that they share
+pub record IsFirstConflict (state : State) (place : ℕ) (wrote : List Touch) (by : ℕ) (table : ℕ) (partition : List ℕ) : Type 0 where
+  pub other : Transaction
+  pub named : numbered state.transactions by ≡ Some other
+  pub at : ℕ
+  pub those : List Touch
+  pub commit : other.ending ≡ Some (Committed at those)
+  pub behind : place < at
+  pub shared : Touch
+  pub is_first : first_shared wrote those ≡ Some shared
+  pub table_is : table ≡ shared.table.0
+  pub partition_is : partition ≡ shared.partition
+  pub earliest : IsFalse (list_any (λ (t : Transaction). commits_before place at wrote t.ending) state.transactions)
 
--- ---- legal books: each entry fits and is true behind the ones before it
+abbrev pub ConflictIsTrue : State → ℕ → ℕ → List ℕ → Transaction → Option Meaning → Type 0
+ConflictIsTrue state by table partition transaction (Some (Change info effect)) =
+    IsFirstConflict state (place_of_snapshot transaction.snapshot) (touches_of info effect) by table partition
+ConflictIsTrue state by table partition transaction _ = ⊥
 
-abbrev pub IsLegalFrom : State → List Entry → Type 0
-IsLegalFrom state [] = Unit {0}
-IsLegalFrom state (event ∷ book) = Fits state event × IsMeant state event × IsLegalFrom (after state event) book
+abbrev pub IsRefusedAs : ℕ → Option Meaning → Type 0
+IsRefusedAs number (Some (Refused other)) = number ≡ refusals.number other
+IsRefusedAs number _ = ⊥
 
-abbrev pub IsLegal : List Entry → Type 0
-IsLegal book = IsLegalFrom nothing_yet book
+abbrev pub CauseIsTrue : State → Cause → Transaction → Type 0
+CauseIsTrue state (cause.Refused number) transaction = IsRefusedAs number (meaning transaction)
+CauseIsTrue state (cause.Conflict by table partition) transaction = ConflictIsTrue state by.0 table.0 partition transaction (meaning transaction)
+CauseIsTrue state cause.Full transaction = IsFalse (is_started transaction) ⊎ NeedsId transaction.given (meaning transaction)
+CauseIsTrue state (cause.Twice partition row) transaction = ⊥
+CauseIsTrue state cause.RowLimit transaction = meaning transaction ≡ Some RowLimit
+CauseIsTrue state cause.PartitionLimit transaction = ⊥
+CauseIsTrue state _ transaction = Unit {0}
+
+abbrev pub IsTruthful : State → Entry → Type 0
+IsTruthful state (entry.Commit txn wrote) = Of state txn.0 (λ transaction. TouchesAreMeant wrote (meaning transaction))
+IsTruthful state (entry.Create txn table) = Of state txn.0 (λ transaction. IsMake (meaning transaction))
+IsTruthful state (entry.Abort txn cause) = Of state txn.0 (CauseIsTrue state cause)
+IsTruthful state _ = Unit {0}
+
+-- ---- legal books: each entry fits, and each is true, behind the ones before it
+
+abbrev pub AllFit : Limits → State → List Entry → Type 0
+AllFit limits state [] = Unit {0}
+AllFit limits state (event ∷ book) = Fits limits state event × AllFit limits (after state event) book
+
+abbrev pub AllTruthful : State → List Entry → Type 0
+AllTruthful state [] = Unit {0}
+AllTruthful state (event ∷ book) = IsTruthful state event × AllTruthful (after state event) book
+
+pub record IsLegalFrom (limits : Limits) (state : State) (book : List Entry) : Type 0 where
+  pub fit : AllFit limits state book
+  pub truthful : AllTruthful state book
+
+abbrev pub IsLegal : Limits → List Entry → Type 0
+IsLegal limits book = IsLegalFrom limits nothing_yet book

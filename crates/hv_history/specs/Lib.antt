@@ -4,5 +4,5 @@ pub mod State
 pub mod Answers
 pub mod Legal
 pub mod Book
-pub mod Replay
-pub mod Following
+pub mod Places
+pub mod Lasting

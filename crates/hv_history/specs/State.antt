@@ -1,27 +1,34 @@
 -- What a book means: one fold over its entries, from the left. An entry changes the state by what it says and
 -- by the state before it, and by nothing else.
 -- Source: the Hive manual, Hive Transactions, and Hive Transactions: Basic Design.
-use Rattle.std.specs.Prelude.{◌≡◌, ◌≢◌, ℕ, zero, suc, ◌+◌, ◌==◌, Bool, true, false, if◌then◌else◌, not, Option, Some, None, List, [], ◌∷◌, ◌++◌, map, filter, fold, slice_get}
+use Rattle.std.specs.Prelude.{◌≡◌, ℕ, zero, suc, ◌+◌, ◌==◌, Bool, true, false, if◌then◌else◌, not, IsFalse, Option, Some, None, List, [], ◌∷◌, ◌++◌, map, filter, fold, slice_get}
 use Rattle.std.specs.Ordering.{is_eq}
 use Rattle.std.specs.List.{flat_map, list_any, AllByRecursion}
 use Rattle.std.specs.Option.{option_map, option_to_list}
+use Rattle.hv_base.specs.declared.ids.Touch.{Touch}
 use Rattle.hv_ast.specs.declared.statement.Stmt.{Stmt}
+use Rattle.hv_ast.specs.declared.statement.Stmt.TheVariants as stmt
 use Rattle.hv_grammar.specs.Texts.{tree_of}
 use Rattle.hv_value.specs.declared.row.Row.{Row}
+use Rattle.hv_logic.specs.declared.catalog.Shape.{Shape}
 use Rattle.hv_logic.specs.declared.catalog.TableInfo.{TableInfo}
 use Rattle.hv_logic.specs.declared.effect.Effect.{Effect}
 use Rattle.hv_logic.specs.declared.effect.Found.{Found}
 use Rattle.hv_logic.specs.declared.meaning.Meaning.{Meaning}
 use Rattle.hv_logic.specs.declared.seen.Seen.{Seen}
-use Rattle.hv_logic.specs.declared.meaning.Meaning.TheVariants.{Change, Make, Unbuilt}
-use Rattle.hv_logic.specs.Meaning.{meaning_of}
+use Rattle.hv_logic.specs.declared.meaning.Meaning.TheVariants.{Change}
+use Rattle.hv_logic.specs.Meaning.{plain_shape, shape_of, meaning_of}
 use Rattle.hv_logic.specs.Sorting.{sorted_by}
 use Rattle.hv_logic.specs.Rows.{sorted, found_cmp}
 use Rattle.hv_history.specs.declared.entry.Entry.{Entry}
 use Rattle.hv_history.specs.declared.entry.Entry.TheVariants as entry
 use Rattle.hv_history.specs.declared.entry.JobKind.{JobKind}
+use Rattle.hv_history.specs.declared.entry.Cause.{Cause}
+use Rattle.hv_history.specs.declared.entry.Cause.TheVariants as cause
 use Rattle.hv_history.specs.declared.entry.JobCause.{JobCause}
+use Rattle.hv_history.specs.declared.entry.JobCause.TheVariants as job_cause
 pub use Rattle.hv_history.specs.declared.state.Written.{Written}
+pub use Rattle.hv_history.specs.declared.state.Statement.{Statement}
 pub use Rattle.hv_history.specs.declared.state.Table.{Table}
 pub use Rattle.hv_history.specs.declared.state.Snapshot.{Snapshot}
 pub use Rattle.hv_history.specs.declared.state.Ending.{Ending}
@@ -40,17 +47,28 @@ pub record Job : Type 0 where
   pub is_cleaned : Bool
   pub failure : Option JobCause
 
--- The number of entries, the number of openings, and everything that the entries made: the transaction, table
--- or job of number n stands at place n - 1.
+-- The openings of the store: how many there were, where the last one's Boot stands, whether only Losts came behind it,
+-- and which counts of faults were kept since.
+pub record Openings : Type 0 where
+  pub count : ℕ
+  pub last : Option ℕ
+  pub only_lost : Bool
+  pub kept : List ℕ
+
+-- The number of entries, the openings, and everything that the entries made, one for each Opened, Create and Asked: the
+-- transaction, table or job of number n stands at place n - 1.
 pub record State : Type 0 where
   pub entries : ℕ
-  pub boots : ℕ
+  pub openings : Openings
   pub transactions : List Transaction
   pub tables : List Table
   pub jobs : List Job
 
+abbrev pub no_openings : Openings
+no_openings = record { count = 0; last = None; only_lost = false; kept = [] }
+
 abbrev pub nothing_yet : State
-nothing_yet = record { entries = 0; boots = 0; transactions = []; tables = []; jobs = [] }
+nothing_yet = record { entries = 0; openings = no_openings; transactions = []; tables = []; jobs = [] }
 
 -- the one of that number, from 1
 abbrev pub numbered : {A : Type 0} → List A → ℕ → Option A
@@ -84,36 +102,73 @@ seen_table table = record { info = table.info; rows = content_of table.writes }
 abbrev pub seen_tables : List Table → List Seen
 seen_tables tables = map seen_table (filter (λ (table : Table). table.is_live) tables)
 
--- ---- the meaning of a transaction's statement, over its snapshot
+-- ---- what a statement comes to in a state; one of a form that isn't built, and a text that is no statement, have no
+-- meaning
 
-abbrev pub meaning_at : Option Snapshot → Option Stmt → Meaning
-meaning_at None tree = Unbuilt
-meaning_at (Some snapshot) None = Unbuilt
-meaning_at (Some snapshot) (Some tree) = meaning_of (seen_tables snapshot.tables) tree
+abbrev pub means : State → Option Stmt → Option Meaning
+means state None = None
+means state (Some tree) = meaning_of (seen_tables state.tables) tree
 
-unfoldable pub meaning : Transaction → Meaning
-meaning transaction = meaning_at transaction.snapshot (tree_of transaction.text)
+unfoldable pub meaning_in : State → List ℕ → Option Meaning
+meaning_in state text = means state (tree_of text)
 
--- ---- the effect of a transaction: its inserted rows in row order, numbered from 0, with its write id
+-- ---- the effect of a statement: its inserted rows in row order, numbered from 0, with the write id and the number of
+-- the statement in its transaction
 
-abbrev pub numbered_from : ℕ → ℕ → List Row → List Found
-numbered_from write number [] = []
-numbered_from write number (row ∷ rows) =
-    record { partition = []; id = record { write = record { 0 = write }; statement = 0; bucket = 0; row = number }; row = row }
-    ∷ numbered_from write (number + 1) rows
+abbrev pub numbered_from : ℕ → ℕ → ℕ → List Row → List Found
+numbered_from write statement number [] = []
+numbered_from write statement number (row ∷ rows) =
+    record {
+      partition = [];
+      id = record { write = record { 0 = write }; statement = statement; bucket = 0; row = number };
+      row = row;
+    } ∷ numbered_from write statement (number + 1) rows
 
-abbrev pub written_by : ℕ → Effect → Written
-written_by write effect = record { write = write; inserts = numbered_from write 0 (sorted effect.inserts); deletes = effect.deletes }
+abbrev pub written_by : ℕ → ℕ → Effect → Written
+written_by write statement effect =
+    record {
+      write = write;
+      statement = statement;
+      inserts = numbered_from write statement 0 (sorted effect.inserts);
+      deletes = effect.deletes;
+    }
 
 -- the write id that a transaction was given in a table
 abbrev pub given_in : ℕ → List (ℕ × ℕ) → Option ℕ
 given_in table [] = None
 given_in table (given ∷ more) = if given.0 == table then Some given.1 else given_in table more
 
--- what a commit writes to its table, if anything
-abbrev pub commits_to : Meaning → List (ℕ × ℕ) → Option (ℕ × Written)
-commits_to (Change info effect) given = option_map (λ write. (info.table.0, written_by write effect)) (given_in info.table.0 given)
-commits_to _ given = None
+-- what a statement of this meaning and number writes to its table, under the ids of its transaction
+abbrev pub writes_of : Option Meaning → ℕ → List (ℕ × ℕ) → List (ℕ × Written)
+writes_of (Some (Change info effect)) statement given =
+    option_to_list (option_map (λ write. (info.table.0, written_by write statement effect)) (given_in info.table.0 given))
+writes_of _ statement given = []
+
+-- ---- a transaction's statements
+
+-- the statement of that number in a transaction: the one that opened it is number 0
+abbrev pub statement_of : Transaction → ℕ → Option Statement
+statement_of transaction number = slice_get transaction.statements number
+
+abbrev pub statement_meaning : Option Statement → Option Meaning
+statement_meaning None = None
+statement_meaning (Some statement) = statement.meaning
+
+-- what the statement that opened it came to at its Start
+abbrev pub meaning : Transaction → Option Meaning
+meaning transaction = statement_meaning (statement_of transaction 0)
+
+abbrev pub statement_tree : Option Statement → Option Stmt
+statement_tree None = None
+statement_tree (Some statement) = tree_of statement.text
+
+-- the tree of the text that opened it
+abbrev pub opening_tree : Transaction → Option Stmt
+opening_tree transaction = statement_tree (statement_of transaction 0)
+
+-- all that its statements wrote, each behind the number of its table
+abbrev pub all_written : Transaction → List (ℕ × Written)
+all_written transaction = flat_map (λ (statement : Statement). statement.wrote) transaction.statements
 
 -- ---- one entry
 
@@ -122,19 +177,48 @@ abbrev pub first_of : {A : Type 0} → Option A → A → Option A
 first_of None now = Some now
 first_of (Some before) now = Some before
 
+abbrev pub first_known : {A : Type 0} → Option A → Option A → Option A
+first_known None now = now
+first_known (Some before) now = Some before
+
 abbrev pub opened : List ℕ → ℕ → List ℕ → Transaction
 opened session number text =
-    record { session = session; number = number; text = text; snapshot = None; given = []; ending = None }
+    record {
+      session = session;
+      statements = record { number = number; text = text; meaning = None; wrote = [] } ∷ [];
+      snapshot = None;
+      given = [];
+      ending = None;
+    }
 
-abbrev pub started : State → Transaction → Transaction
-started state transaction =
-    record transaction { snapshot = first_of transaction.snapshot (record { place = state.entries; tables = state.tables }) }
+-- a statement means from its Start on what it comes to there
+abbrev pub meant_in : State → Statement → Statement
+meant_in state statement = record statement { meaning = first_known statement.meaning (meaning_in state statement.text) }
+
+abbrev pub started : State → ℕ → Transaction → Transaction
+started state number transaction =
+    record transaction {
+      statements = changed_at (meant_in state) transaction.statements number;
+      snapshot = first_of transaction.snapshot (record { place = state.entries; tables = state.tables });
+    }
 
 abbrev pub given_id : ℕ → ℕ → Transaction → Transaction
 given_id table write transaction = record transaction { given = transaction.given ++ (table, write) ∷ [] }
 
+-- a statement has written what it means
+abbrev pub wrote_as : List (ℕ × ℕ) → ℕ → Statement → Statement
+wrote_as given number statement = record statement { wrote = writes_of statement.meaning number given }
+
+abbrev pub did : ℕ → Transaction → Transaction
+did number transaction =
+    record transaction { statements = changed_at (wrote_as transaction.given number) transaction.statements number }
+
 abbrev pub ended : Ending → Transaction → Transaction
 ended ending transaction = record transaction { ending = Some ending }
+
+-- a commit is the end of the statement that opened the transaction, which writes what it means
+abbrev pub committed : ℕ → List Touch → Transaction → Transaction
+committed place wrote transaction = ended (Committed place wrote) (did 0 transaction)
 
 -- a transaction that has ended changes no more
 abbrev pub unless_ended : Option Ending → Transaction → Transaction → Transaction
@@ -150,27 +234,29 @@ owned txn table = record table { owners = table.owners ++ txn ∷ [] }
 abbrev pub written_to : Written → Table → Table
 written_to written table = record table { writes = table.writes ++ written ∷ [] }
 
--- the tables behind the commit of this transaction
-abbrev pub tables_behind : Option (ℕ × Written) → List Table → List Table
-tables_behind None tables = tables
-tables_behind (Some written) tables = changed (written_to written.1) tables written.0
+-- the tables behind these writes, one after another
+abbrev pub tables_behind : List (ℕ × Written) → List Table → List Table
+tables_behind [] tables = tables
+tables_behind (written ∷ more) tables = tables_behind more (changed (written_to written.1) tables written.0)
 
-abbrev pub commits : Option Transaction → Option (ℕ × Written)
-commits None = None
-commits (Some transaction) = commits_to (meaning transaction) transaction.given
-
--- the description of the table that a transaction makes
-abbrev pub made_info : ℕ → Meaning → Option TableInfo
-made_info table (Make name columns) =
-    Some (record { table = record { 0 = table }; name = name; columns = columns; parts = []; bucketed = []; buckets = 0 })
-made_info table _ = None
+abbrev pub commits : Option Transaction → List (ℕ × Written)
+commits None = []
+commits (Some transaction) = all_written (did 0 transaction)
 
 abbrev pub new_table : TableInfo → Table
 new_table info = record { info = info; is_live = true; owners = []; writes = []; forgotten = [] }
 
-abbrev pub makes : ℕ → Option Transaction → List Table
-makes table None = []
-makes table (Some transaction) = option_to_list (option_map new_table (made_info table (meaning transaction)))
+-- a Create makes a table of the shape that its text gives, and so there are as many tables as Creates
+abbrev pub created_shape : Option Stmt → Shape
+created_shape (Some (stmt.CreateTable create)) = shape_of create
+created_shape _ = plain_shape [] []
+
+abbrev pub made_shape : Option Transaction → Shape
+made_shape None = plain_shape [] []
+made_shape (Some transaction) = created_shape (opening_tree transaction)
+
+abbrev pub made_by : ℕ → Option Transaction → Table
+made_by table transaction = new_table (record { table = record { 0 = table }; shape = made_shape transaction })
 
 abbrev pub dropped : Table → Table
 dropped table = record table { is_live = false }
@@ -197,22 +283,50 @@ with_transaction f state txn = record state { transactions = changed (while_open
 abbrev pub with_job : (Job → Job) → State → ℕ → State
 with_job f state job = record state { jobs = changed f state.jobs job }
 
--- what an entry does to the state, but for the number of entries
+-- ---- the openings
+
+abbrev pub not_lost : Openings → Openings
+not_lost openings = record openings { only_lost = false }
+
+abbrev pub keeping : ℕ → Openings → Openings
+keeping count openings = record openings { only_lost = false; kept = openings.kept ++ count ∷ [] }
+
+abbrev pub aborting : Cause → Openings → Openings
+aborting cause.Lost openings = openings
+aborting (cause.ReadFault count) openings = keeping count openings
+aborting (cause.WriteFault count) openings = keeping count openings
+aborting _ openings = not_lost openings
+
+abbrev pub failing : JobCause → Openings → Openings
+failing (job_cause.ReadFault count) openings = keeping count openings
+failing (job_cause.WriteFault count) openings = keeping count openings
+failing _ openings = not_lost openings
+
+-- the openings behind an entry that stands at this place
+abbrev pub openings_behind : ℕ → Entry → Openings → Openings
+openings_behind place (entry.Boot run) openings =
+    record { count = openings.count + 1; last = Some place; only_lost = true; kept = [] }
+openings_behind place (entry.Abort txn cause) openings = aborting cause openings
+openings_behind place (entry.Failed job cause) openings = failing cause openings
+openings_behind place _ openings = not_lost openings
+
+-- ---- what an entry does to all but the number of entries and the openings
+
 unfoldable pub acted : State → Entry → State
-acted state (entry.Boot run) = record state { boots = state.boots + 1 }
+acted state (entry.Boot run) = state
 acted state (entry.Opened txn session number text) =
     record state { transactions = state.transactions ++ opened session number text ∷ [] }
-acted state (entry.Start txn statement) = with_transaction (started state) state txn.0
+acted state (entry.Start txn statement) = with_transaction (started state statement) state txn.0
 acted state (entry.Given txn table write) =
     record (with_transaction (given_id table.0 write.0) state txn.0) { tables = changed (owned txn.0) state.tables table.0 }
 acted state (entry.Commit txn wrote) =
-    record (with_transaction (ended (Committed state.entries wrote)) state txn.0) {
+    record (with_transaction (committed state.entries wrote) state txn.0) {
       tables = tables_behind (commits (numbered state.transactions txn.0)) state.tables;
     }
 acted state (entry.Abort txn cause) = with_transaction (ended (Aborted state.entries cause)) state txn.0
 acted state (entry.Create txn table) =
     record (with_transaction (ended (Made state.entries table.0)) state txn.0) {
-      tables = state.tables ++ makes table.0 (numbered state.transactions txn.0);
+      tables = state.tables ++ made_by table.0 (numbered state.transactions txn.0) ∷ [];
     }
 acted state (entry.Drop txn table) =
     record (with_transaction (ended (Dropped state.entries table.0)) state txn.0) { tables = changed dropped state.tables table.0 }
@@ -227,7 +341,7 @@ acted state (entry.Failed job cause) = with_job (λ (j : Job). record j { failur
 acted state (entry.Forgot table write) = record state { tables = changed (forgot write.0) state.tables table.0 }
 
 abbrev pub after : State → Entry → State
-after state event = record (acted state event) { entries = state.entries + 1 }
+after state event = record (acted state event) { entries = state.entries + 1; openings = openings_behind state.entries event state.openings }
 
 -- the state that a book leaves
 abbrev pub state_of : List Entry → State
@@ -252,7 +366,7 @@ IsNoCommit _ = Unit {0}
 abbrev pub Carry : ℕ → List Found → Type 0
 Carry write rows = AllByRecursion (λ (found : Found). found.id.write.0 ≡ write) rows
 
--- no two of these rows have one identifier
+-- no two of these rows are one by partition and identifier: rows are numbered anew in each partition and bucket
 abbrev pub Differ : List Found → Type 0
 Differ [] = Unit {0}
-Differ (found ∷ rows) = AllByRecursion (λ (other : Found). found.id ≢ other.id) rows × Differ rows
+Differ (found ∷ rows) = AllByRecursion (λ (other : Found). IsFalse (is_eq (found_cmp found other))) rows × Differ rows

@@ -1,17 +1,10 @@
 ghost use Rattle.std.specs.Prelude.{◌≡◌, ◌++◌, ◌∷◌, [], if◌then◌else◌, IfOk, OnOk, map, sum_by};
 ghost use Rattle.std.specs.List.{join_with_byte};
-ghost use Rattle.std.specs.Option.{option_copied};
-ghost use Rattle.hv_grammar.specs.Texts.{tree_of};
 ghost use Rattle.hv_value.specs.Printing.{printed};
 ghost use Rattle.hv_base.specs.declared.ids.Touch.{Touch};
-ghost use Rattle.hv_history.specs.Answers.{tab, row_line, listing, counts_line, ok_line, committed_text, ending_text, answer_of};
+ghost use Rattle.hv_history.specs.Answers.{tab, row_line, listing, counts_line, ok_line};
 
-use crate::causes::cause_text;
-use crate::commits::meaning;
-use crate::state::{Ending, Transaction};
-use hv_ast::Stmt;
-use hv_base::{List, NoMemory, Text, Touch};
-use hv_logic::Meaning;
+use hv_base::{NoMemory, Text, Touch};
 use hv_value::{Row, Value, print_value};
 use std::alloc::Global;
 
@@ -109,57 +102,4 @@ pub fn ok_line(alloc: Global) -> Result<Vec<u8>, NoMemory>
     ensures { IfOk result (λ text. text.items ≡ ok_line) }
 {
     Ok(Vec::from_slice(alloc, b"OK\n")?)
-}
-
-/// What a statement of this meaning prints when it has committed.
-pub fn committed_text(
-    alloc: Global,
-    meaning: &Meaning,
-    wrote: &[Touch],
-) -> Result<Vec<u8>, NoMemory>
-    ensures { IfOk result (λ text. text.items ≡ committed_text meaning.now wrote.now) }
-{
-    match meaning {
-        Meaning::Listing(names, rows) => listing(alloc, names.as_slice(), rows.as_slice()),
-        Meaning::Change(_, _) => counts_line(alloc, wrote),
-        _ => ok_line(alloc),
-    }
-}
-
-fn ending_text(
-    alloc: Global,
-    transaction: &Transaction,
-    tree: Option<&Stmt>,
-    ending: &Ending,
-) -> Result<Vec<u8>, NoMemory>
-    requires { option_copied tree ≡ tree_of transaction.now.text }
-    ensures { IfOk result (λ text. text.items ≡ ending_text transaction.now ending.now) }
-{
-    match ending {
-        Ending::Committed(_, wrote) => {
-            let meaning = meaning(alloc, transaction, tree)?;
-            committed_text(alloc, &meaning, wrote.as_slice())
-        }
-        Ending::Aborted(_, cause) => cause_text(alloc, &transaction.snapshot, cause),
-        Ending::Made(_, _) => ok_line(alloc),
-        Ending::Dropped(_, _) => ok_line(alloc),
-    }
-}
-
-/// What is printed for a transaction, None while it is open. `tree` is that of its text.
-pub fn answer_of(
-    alloc: Global,
-    transaction: &Transaction,
-    tree: Option<&Stmt>,
-) -> Result<Option<List<u8>>, NoMemory>
-    requires { option_copied tree ≡ tree_of transaction.now.text }
-    ensures { IfOk result (λ text. text ≡ answer_of transaction.now) }
-{
-    match &transaction.ending {
-        Some(ending) => {
-            let text = ending_text(alloc, transaction, tree, ending)?;
-            Ok(Some(List::from_vec(text)))
-        }
-        None => Ok(None),
-    }
 }

@@ -5,24 +5,16 @@ ghost use Rattle.hv_history.specs.Answers.{refusal_name, failed_line, after_spac
 use crate::entry::{Cause, FilePlace};
 use crate::numbers::numbered;
 use crate::state::Snapshot;
-use hv_base::{NoMemory, RowId, Text};
+use hv_base::{NoMemory, Refusal, RowId, Text};
 use std::alloc::Global;
 
-/// The name of a refusal.
+/// The name of the refusal of a number, empty where there is none.
 pub fn refusal_name(number: u32) -> &'static str
     ensures { result.now ≡ refusal_name number }
 {
-    match number {
-        10 => "NoTable",
-        11 => "NoColumn",
-        12 => "Ambiguous",
-        13 => "BadType",
-        14 => "BadCount",
-        15 => "NotGrouped",
-        16 => "FixedColumn",
-        17 => "MergeClauses",
-        18 => "TableExists",
-        _ => "Limit",
+    match Refusal::of_number(number) {
+        Some(refusal) => refusal.name(),
+        None => "",
     }
 }
 
@@ -50,7 +42,7 @@ fn name_at(snapshot: &Option<Snapshot>, table: u64) -> &str
 {
     match snapshot {
         Some(snapshot) => match numbered(snapshot.tables.as_slice(), table) {
-            Some(table) => table.info.name.as_str(),
+            Some(table) => table.info.shape.name.as_str(),
             None => "",
         },
         None => "",

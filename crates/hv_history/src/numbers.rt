@@ -1,7 +1,7 @@
 ghost use Rattle.std.specs.Prelude.{◌≡◌};
 ghost use Rattle.std.specs.Option.{option_copied};
 ghost use Rattle.hv_history.specs.State.{numbered};
-ghost use Rattle.hv_history.specs.Replay.{IsPlaceOf, IsOpenPlaceOf};
+ghost use Rattle.hv_history.specs.Places.{IsPlaceOf, IsOpenPlaceOf};
 
 use crate::state::Transaction;
 

@@ -1,10 +1,9 @@
 -- A file is called damaged where no commit's file stands.
-use Rattle.std.proofs.Common.{◌≡◌, ℕ, ◌+◌, ◌<◌, ◌≤◌, Bool, true, false, Option, Some, None, Result, Ok, Err, List, is_some, refl, sym, ap, ◌∙◌, subst, arith}
-use Rattle.std.specs.Prelude.{IfErr, IsErrAnd, MatchResult}
+use Rattle.std.proofs.Common.{◌≡◌, ℕ, ◌+◌, ◌<◌, Bool, true, false, Option, Some, None, Result, Ok, Err, List, is_some, refl, sym, ap, ◌∙◌, subst, arith}
+use Rattle.std.specs.Prelude.{IfErr}
 use Rattle.std.specs.FinMap as files
 use Rattle.std.specs.Option.{option_map}
 use Rattle.std.specs.List.{list_any}
-use Rattle.std.specs.Global.{Vec}
 use Rattle.hv_base.specs.declared.ids.TableId.{TableId}
 use Rattle.hv_base.specs.Told.{Tells}
 use Rattle.hv_shelf.specs.declared.place.Place.{Place}
@@ -14,21 +13,17 @@ use Rattle.hv_ast.specs.declared.statement.Stmt.{Stmt}
 use Rattle.hv_logic.specs.declared.catalog.TableInfo.{TableInfo}
 use Rattle.hv_logic.specs.declared.effect.Found.{Found}
 use Rattle.hv_rowfile.specs.declared.record.Rec.{Rec}
-use Rattle.hv_rowfile.specs.declared.fault.FileFault.{FileFault}
 use Rattle.hv_rowfile.specs.declared.fault.FileFault.TheVariants as file
 use Rattle.hv_rowfile.specs.Layout.{file_spelling, IsFile}
 use Rattle.hv_history.specs.declared.state.Written.{Written}
 use Rattle.hv_stands.specs.Files.{records_of, file_of, own_place}
 use Rattle.hv_stands.specs.Reading.{table_named, written_with}
-use Rattle.hv_stands.specs.Sound.{AreInserts}
-use Rattle.hv_house.specs.declared.fault.HouseFault.{HouseFault}
 use Rattle.hv_house.specs.declared.fault.RowFault.{RowFault}
-use Rattle.hv_house.specs.declared.fault.RowFault.TheVariants as row_fault
 use Rattle.hv_house.specs.declared.house.House.{House}
 use Rattle.hv_house.specs.declared.known.Known.{Known}
 use Rattle.hv_house.specs.Faults.{IsDamage}
 use Rattle.hv_house.specs.Meaning.{known_by_name, pair_of, IsSpoiled}
-use Rattle.hv_house.specs.Rows.{IsCommitFile, HasCommits, ReadsUpTo, LacksFile, LacksCommits}
+use Rattle.hv_house.specs.Rows.{IsCommitFile, ReadsUpTo, LacksFile, LacksCommits}
 use Rattle.hv_house.proofs.FileRows.{listed, unfolded}
 
 -- damage is passed on

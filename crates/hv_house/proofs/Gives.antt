@@ -7,8 +7,7 @@ use Rattle.hv_logic.specs.declared.catalog.TableInfo.{TableInfo}
 use Rattle.hv_dirs.specs.Names.{write_end}
 use Rattle.std.specs.Option.{option_map}
 use Rattle.hv_history.specs.State.{numbered, changed}
-use Rattle.hv_history.proofs.ChangeLemmas.{put_changed}
-use Rattle.hv_history.proofs.NumberLemmas.{numbered-some, place-some}
+use Rattle.hv_history.proofs.NumberLemmas.{numbered-some, place-some, put_changed}
 use Rattle.hv_house.specs.declared.known.Known.{Known}
 use Rattle.hv_house.specs.House.{next_write, with_next, known_of_name, HasNumbers}
 use Rattle.hv_house.specs.Meaning.{known_by_name, pair_of}
@@ -48,7 +47,7 @@ small-named : (name : List ℕ) (tables : List Known) → AllByRecursion HasNumb
 unfolding AllSmall
 small-named name [] all = tt
 small-named name (known ∷ tables) all =
-    small-by (pointwise nat_eq known.info.name name) known (known_of_name name tables) all.0 (small-named name tables all.1)
+    small-by (pointwise nat_eq known.info.shape.name name) known (known_of_name name tables) all.0 (small-named name tables all.1)
 
 small-by-name : (o : Option (List ℕ)) (tables : List Known) → AllByRecursion HasNumbers tables → AllSmall (known_by_name o tables)
 unfolding AllSmall

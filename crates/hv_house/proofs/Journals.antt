@@ -1,5 +1,5 @@
 -- The journal behind a noted entry.
-use Rattle.std.proofs.Common.{◌≡◌, ℕ, ◌+◌, ◌*◌, ◌<◌, ◌≤◌, Option, Some, None, List, [], ◌∷◌, ◌++◌, length, sym, ap, ◌∙◌, subst, arith}
+use Rattle.std.proofs.Common.{◌≡◌, ℕ, ◌+◌, ◌*◌, ◌<◌, ◌≤◌, Option, Some, None, List, [], ◌∷◌, ◌++◌, length, refl, sym, ap, ◌∙◌, subst, arith}
 use Rattle.std.proofs.lemmas.List.{length-append}
 use Rattle.hv_base.specs.Told.{Tells, Moves}
 use Rattle.hv_shelf.specs.Disk.{Store}
@@ -57,7 +57,7 @@ noted told event before now kept short room entries place holds opened tree = re
 -- the history of an opening alone
 boot_sound : IsSound (state_of (Boot 0 ∷ []))
 unfolding acted
-boot_sound = record { ended = tt; tables = record { live = tt; in_order = tt; plain = tt; few = tt; written = tt } }
+boot_sound = record { ended = tt; no_jobs = refl; tables = record { live = tt; in_order = tt; plain = tt; few = tt; written = tt } }
 
 booted_knows : {D : Type 0} (house : House D) → house.opened ≡ 0 → house.tables.items ≡ [] → Knows (state_of (Boot 0 ∷ [])) house
 unfolding acted

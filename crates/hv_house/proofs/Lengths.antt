@@ -6,17 +6,17 @@ use Rattle.hv_base.specs.declared.ids.TableId.{TableId}
 use Rattle.hv_base.specs.declared.ids.WriteId.{WriteId}
 use Rattle.hv_history.specs.declared.entry.Entry.TheVariants as entry
 use Rattle.hv_history.specs.Spelling.{entry_spelling}
-use Rattle.hv_journal.proofs.Lengths.{length-half, length-word, length-text}
+use Rattle.hv_bytes.proofs.Lengths.{length-four, length-eight, length-text}
 
 pub short_opened : (txn : TxnId) (session : List ℕ) (number : ℕ) (said : List ℕ) → length session ≤ 32 → length said ≤ 32768
     → length (entry_spelling (entry.Opened txn session number said)) ≤ 65536
-short_opened txn session number said named short = grind (arith, length-append, length-half, length-word, length-text)
+short_opened txn session number said named short = grind (arith, length-append, length-four, length-eight, length-text)
 
 pub short_start : (txn : TxnId) (statement : ℕ) → length (entry_spelling (entry.Start txn statement)) ≤ 65536
-short_start txn statement = grind (arith, length-append, length-half, length-word)
+short_start txn statement = grind (arith, length-append, length-four, length-eight)
 
 pub short_given : (txn : TxnId) (table : TableId) (write : WriteId) → length (entry_spelling (entry.Given txn table write)) ≤ 65536
-short_given txn table write = grind (arith, length-append, length-word)
+short_given txn table write = grind (arith, length-append, length-eight)
 
 pub short_create : (txn : TxnId) (table : TableId) → length (entry_spelling (entry.Create txn table)) ≤ 65536
-short_create txn table = grind (arith, length-append, length-word)
+short_create txn table = grind (arith, length-append, length-eight)

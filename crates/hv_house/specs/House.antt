@@ -7,7 +7,7 @@ use Rattle.hv_history.specs.declared.entry.Entry.{Entry}
 use Rattle.hv_history.specs.declared.state.Table.{Table}
 use Rattle.hv_history.specs.State.{State, state_of}
 use Rattle.hv_history.specs.Journal.{place_of}
-use Rattle.hv_history.specs.Legal.{IsLegal}
+use Rattle.hv_history.specs.Legal.{IsLegal, profile}
 use Rattle.hv_journal.specs.Appending.{Holds, HoldsOneMore, KeepsTree}
 use Rattle.hv_dirs.specs.Names.{write_end}
 use Rattle.hv_stands.specs.Files.{Stands}
@@ -47,7 +47,7 @@ HasNumbers known = known.given + 1 < write_end
 abbrev pub known_of_name : List ℕ → List Known → Option Known
 known_of_name name [] = None
 known_of_name name (known ∷ tables) =
-    if pointwise nat_eq known.info.name name then Some known else known_of_name name tables
+    if pointwise nat_eq known.info.shape.name name then Some known else known_of_name name tables
 
 abbrev pub entries_of : {D : Type 0} → House D → List Entry
 entries_of house = house.book.entries
@@ -82,15 +82,11 @@ pub record IsBegun {D : Type 0} (told : D → Option Store) (book : List Entry) 
 -- a legal book whose files stand in the store
 pub record IsFaithful (book : List Entry) (store : Store) : Type 0 where
   pub stands : Stands (state_of book) store.tree
-  pub legal : IsLegal book
+  pub legal : IsLegal profile book
 
 -- the store, where it tells, has the files of this book
 abbrev pub Shows : {D : Type 0} → (D → Option Store) → House D → List Entry → Type 0
 Shows told house book = Tells (told house.shelf) (IsFaithful book)
-
--- it is told afterwards where it was before, and nowhere else
-abbrev pub StaysTold : {A : Type 0} → Option A → Option A → Type 0
-StaysTold before now = Moves (λ _ _. Unit {0}) before now
 
 -- an entry was noted: in the journal and behind the book
 pub record IsNoted {D : Type 0} (told : D → Option Store) (event : Entry) (before now : House D) : Type 0 where

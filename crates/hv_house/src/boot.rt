@@ -1,10 +1,10 @@
 ghost use Rattle.std.specs.Prelude.{◌≡◌, ◌≤◌, ◌∷◌, [], length, IfOk, OnOk, IfErr, IsErrOf};
-ghost use Rattle.hv_base.specs.Told.{Tells, Moves};
+ghost use Rattle.hv_base.specs.Told.{Tells, Moves, StaysTold};
 ghost use Rattle.hv_history.specs.declared.entry.Entry.TheVariants.{Boot};
 ghost use Rattle.hv_journal.specs.Appending.{KeepsTree, StaysShort};
 ghost use Rattle.hv_house.specs.Faults.{StoreCause};
 ghost use Rattle.hv_house.specs.declared.fault.HouseFault.TheVariants.{Store};
-ghost use Rattle.hv_house.specs.House.{entries_of, StaysTold, IsKept, IsReady, IsHalted};
+ghost use Rattle.hv_house.specs.House.{entries_of, IsKept, IsReady, IsHalted};
 ghost use Rattle.hv_house.specs.Booting.{boot_fault, IsFresh, IsBooted, IsBootFault, IsBootStore, BootFails, LeavesEmpty, IsUnwritten, SparesHistory};
 
 use crate::fault::HouseFault;
@@ -55,7 +55,7 @@ impl<D: Shelf + Drop> House<D> {
     }
 
     /// Makes the journal one of no entry, where it is empty, and notes the opening.
-    #[tactic(auto, using(crate::proofs::Stays::stays_same, crate::proofs::Stays::stays_of, crate::proofs::Stays::stays_stays))]
+    #[tactic(auto, using(hv_base::proofs::ToldLemmas::stays_same, crate::proofs::Stays::stays_of, hv_base::proofs::ToldLemmas::stays_stays))]
     fn begin(&mut self) -> Result<(), BootFault>
         requires fresh { IsFresh self.old }
         ensures booted { OnOk result (IsBooted D.told self.old self.new) }

@@ -1,7 +1,7 @@
 ghost use Rattle.std.specs.Prelude.{◌≡◌, ◌<◌, ◌≤◌, ◌+◌, ◌-◌, ◌++◌, false, Option, None, Some, List, IfOk, OnOk, IfErr, IfSome, IfNone, IsErrOf, option_map};
 ghost use Rattle.std.specs.FinMap as tree;
 ghost use Rattle.std.specs.List.{AllByRecursion};
-ghost use Rattle.hv_base.specs.Told.{Tells, Moves};
+ghost use Rattle.hv_base.specs.Told.{Tells, Moves, StaysTold};
 ghost use Rattle.hv_shelf.specs.Disk.{HasFile, places_of};
 ghost use Rattle.hv_rowfile.specs.Layout.{CanWrite, IsFile};
 ghost use Rattle.hv_history.specs.declared.state.Written.{Written};
@@ -9,7 +9,7 @@ ghost use Rattle.hv_dirs.specs.Names.{write_end};
 ghost use Rattle.hv_stands.specs.Files.{own_place, records_of, file_of};
 ghost use Rattle.hv_stands.specs.Reading.{inserted_rows, rows_from};
 ghost use Rattle.hv_house.specs.Faults.{StoreCause, StoreFails, IsStoreFault, IsShort, IsShortDamage, IsDamage};
-ghost use Rattle.hv_house.specs.House.{StaysTold, IsAsked, IsBeside, KeepsJournal};
+ghost use Rattle.hv_house.specs.House.{IsAsked, IsBeside, KeepsJournal};
 ghost use Rattle.hv_house.specs.Rows.{found_of, found_in, IsCommitFile, AddsRows, HasCommits, LacksFile, LacksCommits};
 ghost use Rattle.hv_house.specs.declared.fault.HouseFault.TheVariants.{Store};
 ghost use Rattle.hv_house.specs.declared.fault.RowFault.{RowFault};
@@ -187,7 +187,7 @@ impl<D: Shelf> House<D> {
     }
 
     /// Puts the file of what a transaction inserts.
-    #[tactic(auto, using(crate::proofs::Stays::stays_same))]
+    #[tactic(auto, using(hv_base::proofs::ToldLemmas::stays_same))]
     pub fn put_written(
         &mut self,
         alloc: Global,

@@ -1,7 +1,7 @@
 ghost use Rattle.std.specs.Prelude.{◌≡◌, ◌<◌, ◌≤◌, ◌+◌, ◌++◌, ◌∷◌, [], length, None, Some, IfOk, OnOk, IfErr, IsErrOf, option_map};
 ghost use Rattle.std.specs.List.{AllByRecursion};
 ghost use Rattle.hv_history.specs.State.{numbered, changed};
-ghost use Rattle.hv_base.specs.Told.{Moves};
+ghost use Rattle.hv_base.specs.Told.{Moves, StaysTold};
 ghost use Rattle.hv_history.specs.declared.entry.Entry.TheVariants as entries;
 ghost use Rattle.hv_history.specs.Spelling.{entry_spelling};
 ghost use Rattle.hv_history.specs.Journal.{record_of};
@@ -10,7 +10,7 @@ ghost use Rattle.hv_grammar.specs.Texts.{tree_of};
 ghost use Rattle.hv_journal.specs.Appending.{Holds, KeepsTree};
 ghost use Rattle.hv_house.specs.declared.fault.HouseFault.TheVariants.{Store};
 ghost use Rattle.hv_house.specs.Faults.{StoreCause};
-ghost use Rattle.hv_house.specs.House.{entries_of, entry_limit, book_limit, HasNumbers, next_write, with_next, StaysTold, IsKept, IsNoted, IsHalted};
+ghost use Rattle.hv_house.specs.House.{entries_of, entry_limit, book_limit, HasNumbers, next_write, with_next, IsKept, IsNoted, IsHalted};
 
 use crate::fault::HouseFault;
 use crate::known::Known;
@@ -208,7 +208,7 @@ impl<D: Shelf> House<D> {
     }
 
     /// Makes the table that this describes.
-    #[tactic(auto, using(crate::proofs::Lengths::short_create, crate::proofs::Stays::stays_same))]
+    #[tactic(auto, using(crate::proofs::Lengths::short_create, hv_base::proofs::ToldLemmas::stays_same))]
     pub fn create(&mut self, txn: TxnId, info: TableInfo) -> Result<(), HouseFault>
         requires kept { IsKept D.told self.old }
         requires room { length (entries_of self.old) < book_limit }

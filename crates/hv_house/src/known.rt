@@ -17,7 +17,7 @@ pub fn find<'a>(name: &Text, tables: &'a [Known]) -> Option<&'a Known>
     ensures { option_copied result ≡ known_of_name name.now tables.now }
 {
     for known in tables {
-        if known.info.name == *name {
+        if known.info.shape.name == *name {
             return Some(known);
         }
     }

@@ -1,11 +1,13 @@
-ghost use Rattle.std.specs.Prelude.{◌≡◌, ◌<◌, false, [], List, IfOk, IfErr, option_map};
+ghost use Rattle.std.specs.Prelude.{◌≡◌, ◌<◌, false, [], Some, List, IfOk, IfErr, option_map};
 ghost use Rattle.std.specs.Option.{option_copied};
 ghost use Rattle.std.specs.List.{AllByRecursion};
 ghost use Rattle.hv_base.specs.Told.{Tells};
+ghost use Rattle.hv_ast.specs.Built.{IsBuilt, FromOneTable};
 ghost use Rattle.hv_logic.specs.Meaning.{meaning_of};
+ghost use Rattle.hv_logic.specs.Names.{query_names};
 ghost use Rattle.hv_logic.specs.declared.seen.Seen.{Seen};
 ghost use Rattle.hv_dirs.specs.Names.{write_end};
-ghost use Rattle.hv_stands.specs.Reading.{from_name, table_named, reads_rows};
+ghost use Rattle.hv_stands.specs.Reading.{first_name, table_named, reads_rows};
 ghost use Rattle.hv_house.specs.Faults.{StoreCause, StoreFails, IsShortDamage, IsDamage};
 ghost use Rattle.hv_house.specs.House.{HasNumbers, IsAsked};
 ghost use Rattle.hv_house.specs.Rows.{LacksCommits};
@@ -14,33 +16,36 @@ ghost use Rattle.hv_house.specs.Meaning.{known_by_name, pair_of, AreRead, IsSeen
 use crate::fault::RowFault;
 use crate::house::House;
 use crate::known::{Known, find};
-use hv_ast::{From, Source, Stmt};
+use hv_ast::{Query, Source, Stmt};
 use hv_base::{Duplicate, List, NoMemory, TableId, Text};
 use hv_logic::{Found, Meaning, Seen, TableInfo, meaning_of};
 use hv_shelf::Shelf;
 use std::alloc::Global;
 
-fn table_in(from: &Option<From>) -> Option<&Text>
-    ensures { option_copied result ≡ from_name from.now }
+/// The table of a query of one table.
+fn table_in(query: &Query) -> Option<&Text>
+    requires one { FromOneTable query.now.select.from }
+    ensures { option_copied result ≡ first_name (query_names query.now) }
 {
-    match from {
+    match &query.select.from {
         Some(from) => match &from.source {
             Source::Table(name, _) => Some(name),
-            Source::Query(_, _) => None,
+            Source::Query(_, _) => unreachable!(),
         },
-        None => None,
+        None => unreachable!(),
     }
 }
 
-/// The table that a statement names.
+/// The table that a statement of a form that is built names.
 fn table_named(tree: &Stmt) -> Option<&Text>
+    requires built { IsBuilt tree.now }
     ensures { option_copied result ≡ table_named tree.now }
 {
     match tree {
-        Stmt::Query(query) => table_in(&query.select.from),
+        Stmt::Query(query) => table_in(query),
         Stmt::Insert(insert) => Some(&insert.table),
         Stmt::CreateTable(create) => Some(&create.table),
-        _ => None,
+        _ => unreachable!(),
     }
 }
 
@@ -57,6 +62,7 @@ fn known_in(
     tree: &Stmt,
     tables: &[Known],
 ) -> Result<Option<(TableInfo, u64)>, NoMemory>
+    requires built { IsBuilt tree.now }
     ensures { IfOk result (λ known. known ≡ option_map pair_of (known_by_name (table_named tree.now) tables.now)) }
 {
     let Some(name) = table_named(tree) else {
@@ -97,6 +103,7 @@ impl<D: Shelf> House<D> {
 
     /// The table that a statement names, with its rows where they matter.
     fn seen(&mut self, alloc: Global, tree: &Stmt) -> Result<Vec<Seen>, RowFault>
+        requires built { IsBuilt tree.now }
         requires numbers { AllByRecursion HasNumbers self.old.tables.items }
         ensures asked { IsAsked D.told self.old self.new }
         ensures short { IfErr result IsShortDamage }
@@ -114,19 +121,23 @@ impl<D: Shelf> House<D> {
         Ok(seen)
     }
 
-    /// What a statement comes to over the rows in the store.
+    /// What a statement of a form that is built comes to over the rows in the store.
     pub fn meaning(&mut self, alloc: Global, tree: &Stmt) -> Result<Meaning, RowFault>
+        requires built { IsBuilt tree.now }
         requires numbers { AllByRecursion HasNumbers self.old.tables.items }
         ensures asked { IsAsked D.told self.old self.new }
         ensures short { IfErr result IsShortDamage }
         ensures meant { IfOk result (λ meaning. (seen : List Seen) × IsSeen D.told self.old tree.now seen
-            × (meaning ≡ meaning_of seen tree.now)) }
+            × (meaning_of seen tree.now ≡ Some meaning)) }
         ensures damage { IfErr result (λ fault. IsDamage fault
             → IsSpoiled D.told self.old tree.now) }
         ensures cause { StoreCause (D.faults self.old.shelf) (D.faults self.new.shelf)
             (StoreFails result) }
     {
         let seen = self.seen(alloc, tree)?;
-        Ok(meaning_of(alloc, &seen, tree)?)
+        match meaning_of(alloc, &seen, tree)? {
+            Some(meaning) => Ok(meaning),
+            None => unreachable!(),
+        }
     }
 }

@@ -1,3 +1,4 @@
 pub mod SortingLaws
 pub mod SizeLemmas
 pub mod Steps
+pub mod NameLemmas

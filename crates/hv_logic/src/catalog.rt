@@ -15,8 +15,7 @@ pub struct Column {
 /// A table as its creating statement describes it. A row's values are those of `columns` and then
 /// those of the partition columns `parts`.
 #[derive(Debug, Drop)]
-pub struct TableInfo {
-    pub table: TableId,
+pub struct Shape {
     pub name: Text,
     pub columns: List<Column>,
     pub parts: List<Column>,
@@ -24,6 +23,13 @@ pub struct TableInfo {
     pub bucketed: List<u32>,
     /// The number of buckets, 0 without CLUSTERED BY.
     pub buckets: u32,
+}
+
+/// A table: its id, and its shape.
+#[derive(Debug, Drop)]
+pub struct TableInfo {
+    pub table: TableId,
+    pub shape: Shape,
 }
 
 /// The live tables at a place of the book, by id.
@@ -41,11 +47,10 @@ impl Duplicate for Column {
     }
 }
 
-impl Duplicate for TableInfo {
-    fn duplicate(&self, alloc: Global) -> Result<TableInfo, NoMemory> {
+impl Duplicate for Shape {
+    fn duplicate(&self, alloc: Global) -> Result<Shape, NoMemory> {
         let bucketed = Vec::from_slice(alloc, self.bucketed.as_slice())?;
-        Ok(TableInfo {
-            table: self.table,
+        Ok(Shape {
             name: self.name.duplicate(alloc)?,
             columns: self.columns.duplicate(alloc)?,
             parts: self.parts.duplicate(alloc)?,
@@ -55,7 +60,16 @@ impl Duplicate for TableInfo {
     }
 }
 
-impl TableInfo {
+impl Duplicate for TableInfo {
+    fn duplicate(&self, alloc: Global) -> Result<TableInfo, NoMemory> {
+        Ok(TableInfo {
+            table: self.table,
+            shape: self.shape.duplicate(alloc)?,
+        })
+    }
+}
+
+impl Shape {
     /// The names of its columns, in their order.
     pub fn column_names(&self, alloc: Global) -> Result<List<Text>, NoMemory>
         ensures { IfOk result (λ names. names ≡ column_names self.now) }

@@ -33,3 +33,12 @@ impl Duplicate for Found {
         })
     }
 }
+
+impl Duplicate for Effect {
+    fn duplicate(&self, alloc: Global) -> Result<Effect, NoMemory> {
+        Ok(Effect {
+            inserts: self.inserts.duplicate(alloc)?,
+            deletes: self.deletes.duplicate(alloc)?,
+        })
+    }
+}

@@ -1,7 +1,7 @@
 ghost use Rattle.std.specs.Prelude.{◌≡◌, IfOk, map};
 ghost use Rattle.hv_logic.specs.Meaning.{literal_value, value_of, values_in, row_in, all_counted, inserts_of};
 
-use crate::catalog::{Column, TableInfo};
+use crate::catalog::{Column, Shape};
 use crate::effect::Effect;
 use hv_ast::{Expr, Literal};
 use hv_base::{Duplicate, List, NoMemory};
@@ -69,12 +69,12 @@ pub fn all_counted(count: usize, rows: &[List<Expr>]) -> bool
     true
 }
 
-/// What an INSERT of these rows does to the table.
-pub fn inserts_of(alloc: Global, info: &TableInfo, rows: &[List<Expr>]) -> Result<Effect, NoMemory>
-    ensures { IfOk result (λ effect. effect ≡ inserts_of info.now rows.now) }
+/// What an INSERT of these rows does to a table of this shape.
+pub fn inserts_of(alloc: Global, shape: &Shape, rows: &[List<Expr>]) -> Result<Effect, NoMemory>
+    ensures { IfOk result (λ effect. effect ≡ inserts_of shape.now rows.now) }
 {
     Ok(Effect {
-        inserts: rows_in(alloc, info.columns.as_slice(), rows)?,
+        inserts: rows_in(alloc, shape.columns.as_slice(), rows)?,
         deletes: List::empty(alloc),
     })
 }

@@ -12,7 +12,7 @@ mod sort;
 mod statement;
 mod types;
 
-pub use catalog::{Catalog, Column, TableInfo};
+pub use catalog::{Catalog, Column, Shape, TableInfo};
 pub use effect::{Effect, Found, TableRows};
 pub use found::{compare_found, sort_found};
 pub use insert::{all_counted, inserts_of, row_in};
@@ -20,5 +20,5 @@ pub use meaning::Meaning;
 pub use seen::Seen;
 pub use sizes::{all_fit, row_fits};
 pub use sort::sort_rows;
-pub use statement::{meaning_of, named, rows_of};
+pub use statement::{meaning_of, named, rows_of, shape_of};
 pub use types::{defined_columns, named_type};

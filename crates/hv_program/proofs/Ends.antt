@@ -1,18 +1,18 @@
 -- What serving a script's statements leaves, by its status.
-use Rattle.std.proofs.Common.{◌≡◌, ℕ, zero, suc, ◌≤◌, Bool, true, false, Result, Ok, Err, IfOk, IfErr, Option, Some, None, List, [], ◌∷◌, ◌++◌, length, refl, sym, ap, ◌∙◌, subst, arith, inl, inr}
+use Rattle.std.proofs.Common.{◌≡◌, ℕ, zero, suc, ◌≤◌, Bool, true, false, Result, Ok, Err, IfOk, IfErr, Option, Some, None, List, [], ◌∷◌, ◌++◌, length, refl, sym, ap, ◌∙◌, subst, arith, inl, inr, lit≤}
 use Rattle.std.specs.FinMap as tree
-use Rattle.hv_base.specs.Told.{Tells, Moves}
+use Rattle.hv_base.specs.Told.{Tells, Moves, StaysTold}
 use Rattle.hv_shelf.specs.declared.place.Place.{Place}
 use Rattle.hv_shelf.specs.Disk.{Tree, Store}
 use Rattle.hv_history.specs.declared.entry.Entry.{Entry}
 use Rattle.hv_history.specs.declared.entry.Entry.TheVariants.{Boot}
 use Rattle.hv_history.specs.declared.state.Table.{Table}
 use Rattle.hv_history.specs.State.{state_of, numbered, acted}
-use Rattle.hv_history.specs.Legal.{IsLegal}
+use Rattle.hv_history.specs.Legal.{IsLegal, profile}
 use Rattle.hv_history.specs.Journal.{Reads}
 use Rattle.hv_journal.specs.Appending.{Holds, KeepsTree}
 use Rattle.hv_stands.specs.Files.{Stands, made_in, made_at}
-use Rattle.hv_house.specs.House.{IsFaithful, StaysTold}
+use Rattle.hv_house.specs.House.{IsFaithful}
 use Rattle.hv_house.specs.declared.boot.BootFault.{BootFault}
 use Rattle.hv_house.specs.declared.boot.BootFault.TheVariants as boot
 use Rattle.hv_house.specs.Booting.{LeavesEmpty, IsUnwritten}
@@ -47,8 +47,8 @@ opening-stands files none = record {
   each = λ place. none place ∙ sym (ap (λ (tables : List Table). made_at tables place) no_tables ∙ nothing_made place);
 }
 
-opening-legal : IsLegal (Boot 0 ∷ [])
-opening-legal = (refl, tt, tt)
+opening-legal : IsLegal profile (Boot 0 ∷ [])
+opening-legal = record { fit = (record { next = refl; room = lit≤ tt }, tt); truthful = (tt, tt) }
 
 opening-faithful : (start : List Entry) (store begun : Store) → start ≡ Boot 0 ∷ [] → begun.tree ≡ store.tree → IsEmptyStore store → IsFaithful start begun
 opening-faithful start store begun e same empty =
@@ -57,7 +57,7 @@ opening-faithful start store begun e same empty =
 
 -- ---- what is left by a result
 
-book-of : (start book : List Entry) (texts : List (List ℕ)) → start ≡ opening_book → IsLegal book → (more : List Entry) → book ≡ start ++ more
+book-of : (start book : List Entry) (texts : List (List ℕ)) → start ≡ opening_book → IsLegal profile book → (more : List Entry) → book ≡ start ++ more
     → GoesOneByOne start book 1 texts → IsBookOf texts book
 book-of start book texts e legal more grown one = record {
   legal = legal;

@@ -2,11 +2,9 @@
 use Rattle.std.proofs.Common.{◌≡◌, ℕ, ◌+◌, ◌-◌, ◌<◌, ◌≤◌, List, ◌++◌, length, take, drop, min, Option, sym, ap, ◌∙◌, subst, arith, length-append, length-drop}
 use Rattle.std.proofs.lemmas.List.{length-take, append-nil}
 use Rattle.hv_base.specs.Source.{GivesAll, GivesFront}
-use Rattle.hv_base.specs.Told.{Moves}
-use Rattle.hv_base.proofs.ToldLemmas.{Moves-weaken}
-use Rattle.hv_house.specs.House.{StaysTold}
+use Rattle.hv_base.specs.Told.{Moves, StaysTold}
+use Rattle.hv_base.proofs.ToldLemmas.{Moves-weaken, stays_by}
 use Rattle.hv_program.specs.Reading.{TakesUpTo}
-use Rattle.hv_program.proofs.Turns.{StaysTold-moved}
 
 -- how long the part of the buffer is that a read is given
 pub length-asked : (out chunk : List ℕ) (most room : ℕ) → length out ≡ length (take most chunk) → most ≡ min room 65536 →
@@ -36,4 +34,4 @@ TakesUpTo-most most bytes a b reached = Moves-weaken (GivesFront bytes) (TakesUp
     (λ x y p. record { taken = p; ended = λ less. absurd (omega arith) }) a b
 
 pub StaysTold-failed : (P : List ℕ → List ℕ → Type 0) (a b c : Option (List ℕ)) → Moves P a b → c ≡ b → StaysTold a c
-StaysTold-failed P a b c given same = subst (λ w. StaysTold a w) (sym same) (StaysTold-moved P a b given)
+StaysTold-failed P a b c given same = subst (λ w. StaysTold a w) (sym same) (stays_by P a b given)

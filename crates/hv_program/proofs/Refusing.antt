@@ -11,7 +11,7 @@ use Rattle.hv_script.specs.declared.words.Command.{Command}
 use Rattle.hv_script.specs.Items.{items_of}
 use Rattle.hv_script.specs.declared.script.ScriptFault.{ScriptFault}
 use Rattle.hv_script.specs.declared.script.ScriptFault.TheVariants.{Refused}
-use Rattle.hv_script.specs.Script.{IsReading, earlier, front, high_line, item_line, limit_line, line_at, refused_line}
+use Rattle.hv_script.specs.Script.{IsReading, broken_line, earlier, front, item_line, limit_line, line_at, refused_line}
 use Rattle.hv_program.specs.declared.stop.Stop.{Stop}
 use Rattle.hv_program.specs.declared.stop.Stop.TheVariants as stop
 use Rattle.hv_program.specs.Stops.{status_of_stop}
@@ -277,8 +277,8 @@ refused-front bytes left long =
     let limit : limit_line (bytes ++ left) ≡ limit_line bytes =
     long-limit (bytes ++ left) more_long
     ∙ ap (λ (t : List ℕ). Some (1 + count_by (λ b. b == 10) t)) same ∙ sym (long-limit bytes long) in
-    ap (λ (o : Option ℕ). earlier (earlier (high_line 1 (front (bytes ++ left))) o) (item_line 0 (items_of (front (bytes ++ left))))) limit
-    ∙ ap (λ (t : List ℕ). earlier (earlier (high_line 1 t) (limit_line bytes)) (item_line 0 (items_of t))) same
+    ap (λ (o : Option ℕ). earlier (earlier (broken_line (front (bytes ++ left))) o) (item_line 0 (items_of (front (bytes ++ left))))) limit
+    ∙ ap (λ (t : List ℕ). earlier (earlier (broken_line t) (limit_line bytes)) (item_line 0 (items_of t))) same
 
 refused-same : (bytes script left : List ℕ) → TakesUpTo 16777217 bytes script left → refused_line script ≡ refused_line bytes
 refused-same bytes script left takes = by (nat_lt (length bytes) 16777217) refl

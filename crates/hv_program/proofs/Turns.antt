@@ -1,12 +1,11 @@
 -- One statement more.
 use Rattle.std.proofs.Common.{◌≡◌, ℕ, zero, suc, ◌+◌, ◌<◌, ◌≤◌, Bool, false, ◌||◌, Option, Some, None, Result, Ok, Err, IfErr, IsErrAnd, List, [], ◌∷◌, ◌++◌, length, get_or, take, drop, refl, sym, ap, ◌∙◌, subst, arith, append_assoc}
 use Rattle.std.proofs.lemmas.List.{append-nil, take_more, length-take-le}
-use Rattle.hv_base.specs.Told.{Tells, Moves}
+use Rattle.hv_base.specs.Told.{Tells, Moves, StaysTold}
 use Rattle.hv_base.specs.Sink.{Gains, GainsPart}
-use Rattle.hv_base.proofs.ToldLemmas.{Moves-then, Moves-weaken, Moves-same}
+use Rattle.hv_base.proofs.ToldLemmas.{Moves-then, Moves-same}
 use Rattle.hv_shelf.specs.Disk.{Store}
 use Rattle.hv_house.specs.Booting.{SparesHistory}
-use Rattle.hv_house.specs.House.{StaysTold}
 use Rattle.hv_history.specs.declared.entry.Entry.{Entry}
 use Rattle.hv_session.specs.Answered.{IsAnswered}
 use Rattle.hv_program.specs.Output.{IsReply, IsOutput}
@@ -17,7 +16,7 @@ use Rattle.hv_house.specs.House.{entries_of}
 use Rattle.hv_session.specs.Halting.{IsHalfway, HasStopped}
 use Rattle.hv_house.specs.declared.fault.HouseFault.TheVariants as fault
 use Rattle.hv_history.specs.Journal.{Reads}
-use Rattle.hv_history.specs.Legal.{IsLegal}
+use Rattle.hv_history.specs.Legal.{IsLegal, profile}
 use Rattle.hv_program.specs.declared.stop.Stop.{Stop}
 use Rattle.hv_program.specs.declared.stop.Stop.TheVariants as stop
 use Rattle.hv_program.specs.Stops.{stop_of}
@@ -31,15 +30,6 @@ AreShort-at (text ∷ texts) zero d h below = h.0
 AreShort-at (text ∷ texts) (suc i) d h below = AreShort-at texts i d h.1 (omega arith)
 
 -- ---- what stays told
-
-pub StaysTold-same : {A : Type 0} (a : Option A) → StaysTold a a
-StaysTold-same a = Moves-same (λ _ _. Unit {0}) (λ _. tt) a
-
-pub StaysTold-then : {A : Type 0} (a b c : Option A) → StaysTold a b → StaysTold b c → StaysTold a c
-StaysTold-then a b c = Moves-then (λ _ _. Unit {0}) (λ _ _. Unit {0}) (λ _ _. Unit {0}) (λ _ _ _ _ _. tt) a b c
-
-pub StaysTold-moved : {A : Type 0} (P : A → A → Type 0) (a b : Option A) → Moves P a b → StaysTold a b
-StaysTold-moved P a b = Moves-weaken P (λ _ _. Unit {0}) (λ _ _ _. tt) a b
 
 pub StaysTold-is : {A : Type 0} (a b c : Option A) → StaysTold a b → c ≡ b → StaysTold a c
 StaysTold-is a b c stays same = subst (StaysTold a) (sym same) stays
@@ -161,7 +151,7 @@ Prints-cut start before now texts front behind a b c refused number text reply t
     }
 
 Prints-stopped : {D : Type 0} (told : D → Option Store) (why : HouseFault) (start : List Entry) (before now : House D) (texts front behind : List (List ℕ)) (a b : Option (List ℕ)) (refused : Bool) (number : ℕ) (text : List ℕ)
-    → number ≡ 1 + length front → texts ≡ front ++ text ∷ behind → IsLegal (entries_of before)
+    → number ≡ 1 + length front → texts ≡ front ++ text ∷ behind → IsLegal profile (entries_of before)
     → Prints start (entries_of before) front a b refused → HasStopped told why before now number text
     → StopsIn start (entries_of now) texts a b
 Prints-stopped told why start before now texts front behind a b refused number text at are legal h stopped =

@@ -2,12 +2,12 @@
 use Rattle.std.proofs.Common.{◌≡◌, ℕ, ◌+◌, ◌<◌, ◌≤◌, Bool, true, false, ◌||◌, cond, nat_lt, nat_le, IsTrue, IsSome, Option, Some, None, List, [], ◌∷◌, ◌++◌, length, map, refl, sym, ap, ◌∙◌, subst, arith, ◌⊎◌, inl, inr}
 use Rattle.std.proofs.lemmas.List.{append-nil}
 use Rattle.std.proofs.lemmas.Bool.{ltb-false, leb-false, or_parts}
-use Rattle.hv_base.specs.Told.{Moves}
+use Rattle.hv_base.proofs.ToldLemmas.{stays_same}
+use Rattle.hv_base.specs.Told.{Moves, StaysTold}
 use Rattle.hv_shelf.specs.Disk.{Store}
 use Rattle.hv_script.specs.declared.items.Item.{Item}
 use Rattle.hv_script.specs.Items.{items_of, first_of}
-use Rattle.hv_script.specs.Script.{begins_directive, earlier, front, high_line, item_line, is_refused, limit_line, refused_line, texts_of}
-use Rattle.hv_house.specs.House.{StaysTold}
+use Rattle.hv_script.specs.Script.{begins_directive, broken_line, earlier, front, item_line, is_refused, limit_line, refused_line, texts_of}
 use Rattle.hv_base.specs.Sink.{GainsPart}
 use Rattle.hv_base.specs.Told.{Tells}
 use Rattle.hv_script.specs.Words.{command_of}
@@ -22,7 +22,6 @@ use Rattle.hv_program.specs.Results.{IsEmptyStore}
 use Rattle.hv_program.specs.Headline.{IsWhole, IsLineOf, IsCutLine, IsUnread, IsAfter, Headline}
 use Rattle.hv_program.specs.Serving.{ServedOf, Serves, IsSaid, IsSaidOrNot}
 use Rattle.hv_program.proofs.Ends.{tells-still}
-use Rattle.hv_program.proofs.Turns.{StaysTold-same}
 
 -- ---- a script that isn't refused
 
@@ -70,8 +69,8 @@ pub record IsTaken (script : List ℕ) : Type 0 where
 
 pub taken : (script : List ℕ) → refused_line script ≡ None → IsTaken script
 taken script e =
-    let outer = earlier-none (earlier (high_line 1 (front script)) (limit_line script)) (item_line 0 (items_of (front script))) e in
-    let inner = earlier-none (high_line 1 (front script)) (limit_line script) outer.0 in
+    let outer = earlier-none (earlier (broken_line (front script)) (limit_line script)) (item_line 0 (items_of (front script))) e in
+    let inner = earlier-none (broken_line (front script)) (limit_line script) outer.0 in
     let fine = items-fine 0 (items_of (front script)) outer.1 (omega arith) in
     let few : 0 + length (texts_of script) ≤ 10000 = fine.few in
     record { whole = limit script inner.1; few = omega arith; short = fine.short }
@@ -214,7 +213,7 @@ pub Headline-words : (words : List (List ℕ)) (source sink sink' : Option (List
     → command_of words ≡ None → StaysTold sink sink' → IsSaid 2 words_line sink sink' faults faults' status
     → Headline words (record { source = source; sink = sink; store = told }) (record { source = source; sink = sink'; store = told }) status
 Headline-words words source sink sink' told faults faults' status none heard said =
-    Headline-by words source source sink sink' told told status (StaysTold-same source) heard (StaysTold-same told)
+    Headline-by words source source sink sink' told told status (stays_same source) heard (stays_same told)
     (λ script left written now store store' at_source at_left at_sink at_now at_store at_after empty.
     after-line words script left written now store store' status 2 words_line sink sink' faults faults' (inl (none, refl))
     (after-two words script left written now store store') (one_content told store store' at_store at_after) at_sink at_now said)
@@ -223,7 +222,7 @@ pub Headline-unread : (words : List (List ℕ)) (source source' sink : Option (L
     → StaysTold source source' → status ≡ status_of_stop why → IsTrue (is_one_of (3 ∷ 7 ∷ []) (status_of_stop why))
     → Headline words (record { source = source; sink = sink; store = told }) (record { source = source'; sink = sink; store = told }) status
 Headline-unread words source source' sink told status why read e h =
-    Headline-by words source source' sink sink told told status read (StaysTold-same sink) (StaysTold-same told)
+    Headline-by words source source' sink sink told told status read (stays_same sink) (stays_same told)
     (λ script left written now store store' at_source at_left at_sink at_now at_store at_after empty.
     after-unread words script left written now store store' status (three-or-seven why status h e)
     (record { wrote = one_content sink written now at_sink at_now; store_same = one_content told store store' at_store at_after }))
@@ -232,7 +231,7 @@ pub Headline-memory : (words : List (List ℕ)) (source source' sink : Option (L
     → StaysTold source source' → status ≡ 7
     → Headline words (record { source = source; sink = sink; store = told }) (record { source = source'; sink = sink; store = told }) status
 Headline-memory words source source' sink told status read e =
-    Headline-by words source source' sink sink told told status read (StaysTold-same sink) (StaysTold-same told)
+    Headline-by words source source' sink sink told told status read (stays_same sink) (stays_same told)
     (λ script left written now store store' at_source at_left at_sink at_now at_store at_after empty.
     after-memory words script left written now store store' status e
     (record { wrote = one_content sink written now at_sink at_now; store_same = one_content told store store' at_store at_after }))
@@ -245,7 +244,7 @@ pub Headline-refused : (words : List (List ℕ)) (source source' sink sink' : Op
     → StaysTold source source' → StaysTold sink sink' → IsSaidOrNot 8 (script_line line) sink sink' faults faults' status
     → Headline words (record { source = source; sink = sink; store = told }) (record { source = source'; sink = sink'; store = told }) status
 Headline-refused words source source' sink sink' told faults faults' status line some refused read heard said =
-    Headline-by words source source' sink sink' told told status read heard (StaysTold-same told)
+    Headline-by words source source' sink sink' told told status read heard (stays_same told)
     (λ script left written now store store' at_source at_left at_sink at_now at_store at_after empty.
     after-said words script left written now store store' status 8 (script_line line) sink sink' faults faults'
     (inr (some, (line, tells-here (λ s. refused_line s ≡ Some line) source script at_source refused, refl)))

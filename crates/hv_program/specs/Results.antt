@@ -8,7 +8,7 @@ use Rattle.hv_shelf.specs.Disk.{Store}
 use Rattle.hv_history.specs.declared.entry.Entry.{Entry}
 use Rattle.hv_history.specs.declared.entry.Entry.TheVariants.{Boot}
 use Rattle.hv_history.specs.State.{state_of}
-use Rattle.hv_history.specs.Legal.{IsLegal}
+use Rattle.hv_history.specs.Legal.{IsLegal, profile}
 use Rattle.hv_history.specs.Journal.{Reads, IsJournal}
 use Rattle.hv_journal.specs.Appending.{ReadsOneMore}
 use Rattle.hv_stands.specs.Files.{Stands}
@@ -23,7 +23,7 @@ pub record IsEmptyStore (store : Store) : Type 0 where
 
 -- a book of these statements: it is legal, begins with the opening, and has the entries of each, one after another
 pub record IsBookOf (texts : List (List ℕ)) (book : List Entry) : Type 0 where
-  pub legal : IsLegal book
+  pub legal : IsLegal profile book
   pub begins : (more : List Entry) × (book ≡ Boot 0 ∷ more)
   pub one_by_one : GoesOneByOne opening_book book 1 texts
 

@@ -5,7 +5,7 @@ use Rattle.hv_base.specs.Told.{Tells, Moves}
 use Rattle.hv_base.specs.Sink.{Gains, GainsPart}
 use Rattle.hv_shelf.specs.Disk.{Store}
 use Rattle.hv_history.specs.declared.entry.Entry.{Entry}
-use Rattle.hv_history.specs.Legal.{IsLegal}
+use Rattle.hv_history.specs.Legal.{IsLegal, profile}
 use Rattle.hv_history.specs.Journal.{Reads}
 use Rattle.hv_house.specs.declared.fault.HouseFault.TheVariants as fault
 use Rattle.hv_house.specs.House.{Leaves, IsFaithful}
@@ -59,7 +59,7 @@ pub record StopsIn (book book' : List Entry) (texts : List (List ℕ)) (before n
   pub done : List Entry
   pub one_by_one : GoesOneByOne book done 1 front
   pub grows : (more : List Entry) × (done ≡ book ++ more)
-  pub legal : IsLegal done
+  pub legal : IsLegal profile done
   pub halfway : IsHalfway done book' (length front + 1) text
   pub output : List ℕ
   pub refused : Bool

@@ -1,6 +1,6 @@
 ghost use Rattle.std.specs.Prelude.{◌≡◌, ◌≤◌, [], ◌∷◌, length, map};
 ghost use Rattle.std.specs.String.{string_bytes};
-ghost use Rattle.hv_house.specs.House.{StaysTold};
+ghost use Rattle.hv_base.specs.Told.{StaysTold};
 ghost use Rattle.hv_house.specs.Booting.{SparesHistory};
 ghost use Rattle.hv_program.specs.Headline.{Headline};
 ghost use Rattle.hv_program.specs.Lines.{script_line, journal_line};

@@ -1,7 +1,6 @@
 ghost use Rattle.std.specs.Prelude.{◌≡◌, ◌≤◌, [], ◌∷◌, length, IfOk, IfErr, IsTrue};
 ghost use Rattle.hv_base.specs.Faults.{Rose};
-ghost use Rattle.hv_base.specs.Told.{Moves};
-ghost use Rattle.hv_house.specs.House.{StaysTold};
+ghost use Rattle.hv_base.specs.Told.{Moves, StaysTold};
 ghost use Rattle.hv_program.specs.Reading.{TakesUpTo};
 ghost use Rattle.hv_program.specs.Refused.{is_one_of};
 ghost use Rattle.hv_program.specs.Stops.{status_of_stop};

@@ -1,6 +1,6 @@
 ghost use Rattle.std.specs.Prelude.{◌≤◌, ◌+◌, ◌*◌, [], ◌∷◌, length, IfOk, IfErr, IsTrue};
-ghost use Rattle.hv_base.specs.Told.{Tells};
-ghost use Rattle.hv_house.specs.House.{entries_of, book_limit, IsReady, Shows, StaysTold};
+ghost use Rattle.hv_base.specs.Told.{Tells, StaysTold};
+ghost use Rattle.hv_house.specs.House.{entries_of, book_limit, IsReady, Shows};
 ghost use Rattle.hv_program.specs.Refused.{is_one_of};
 ghost use Rattle.hv_program.specs.Running.{AreShort, Prints, Halts};
 ghost use Rattle.hv_program.specs.Stops.{status_of_stop, Blames};

@@ -2,16 +2,20 @@
 use Rattle.std.proofs.Common.{◌≡◌, ℕ, zero, suc, ◌+◌, ◌<◌, List, [], ◌∷◌, ◌++◌, length, map, fold, refl, ap, ◌∙◌, arith}
 use Rattle.std.specs.List.{slice_get, AllByRecursion}
 use Rattle.std.specs.Option.{option_map}
+use Rattle.std.specs.Prelude.{◌≤◌, sum_by}
 use Rattle.std.proofs.lemmas.List.{length-append}
+use Rattle.std.proofs.lemmas.List.Sums.{sum_by-cons}
 use Rattle.hv_history.specs.declared.entry.Entry.{Entry}
 use Rattle.hv_history.specs.declared.state.Table.{Table}
 use Rattle.hv_history.specs.declared.state.Written.{Written}
 use Rattle.hv_history.specs.State.{State, after, state_of, nothing_yet, numbered, changed, changed_at, owned, written_to}
-use Rattle.hv_history.specs.Legal.{IsLegalFrom}
+use Rattle.hv_history.specs.declared.state.Transaction.{Transaction}
+use Rattle.hv_history.specs.Legal.{one_if, open_one, working_one, AllFit, AllTruthful, IsLegalFrom, IsLegal, profile}
 use Rattle.hv_dirs.specs.Names.{write_end}
-use Rattle.hv_stands.specs.Sound.{HasFewOwners}
+use Rattle.hv_stands.specs.Sound.{HasEnded, HasFewOwners, IsSound}
+use Rattle.hv_stands.specs.Endings.{HasSpace}
 use Rattle.hv_stands.specs.Laws.{tables_inserted}
-use Rattle.hv_house.specs.House.{known_of, with_next, HasNumbers}
+use Rattle.hv_house.specs.House.{known_of, with_next, HasNumbers, book_limit}
 
 -- ---- entries are counted
 
@@ -22,14 +26,34 @@ counted-from s (e ∷ book) = counted-from (after s e) book ∙ omega arith
 pub entries-counted : (book : List Entry) → (state_of book).entries ≡ length book
 entries-counted book = counted-from nothing_yet book ∙ omega arith
 
+-- ---- a book whose transactions have ended has room by its length
+
+none-open : (ts : List Transaction) → AllByRecursion HasEnded ts → sum_by open_one ts ≡ 0
+none-open [] h = refl
+none-open (t ∷ ts) h =
+    let none : open_one t ≡ 0 = ap one_if h.0 in
+    omega (arith, sum_by-cons open_one t ts, none, none-open ts h.1)
+
+pub space-left : (book : List Entry) → IsSound (state_of book) → length book + 4 ≤ book_limit → HasSpace book
+space-left book sound few =
+    let idle : sum_by working_one (state_of book).jobs ≡ 0 = ap (sum_by working_one) sound.no_jobs in
+    omega (arith, entries-counted book, none-open (state_of book).transactions sound.ended, idle, few)
+
 -- ---- legal books go on
 
-legal-from : (s : State) (book more : List Entry) → IsLegalFrom s book → IsLegalFrom (fold after s book) more → IsLegalFrom s (book ++ more)
-legal-from s [] more legal next = next
-legal-from s (e ∷ book) more legal next = (legal.0, legal.1, legal-from (after s e) book more legal.2 next)
+fit-from : (s : State) (book more : List Entry) → AllFit profile s book → AllFit profile (fold after s book) more → AllFit profile s (book ++ more)
+fit-from s [] more fit next = next
+fit-from s (e ∷ book) more fit next = (fit.0, fit-from (after s e) book more fit.1 next)
 
-pub legal-goes-on : (book more : List Entry) → IsLegalFrom nothing_yet book → IsLegalFrom (state_of book) more → IsLegalFrom nothing_yet (book ++ more)
-legal-goes-on book more legal next = legal-from nothing_yet book more legal next
+truthful-from : (s : State) (book more : List Entry) → AllTruthful s book → AllTruthful (fold after s book) more → AllTruthful s (book ++ more)
+truthful-from s [] more truthful next = next
+truthful-from s (e ∷ book) more truthful next = (truthful.0, truthful-from (after s e) book more truthful.1 next)
+
+pub legal-goes-on : (book more : List Entry) → IsLegal profile book → IsLegalFrom profile (state_of book) more → IsLegal profile (book ++ more)
+legal-goes-on book more legal next = record {
+  fit = fit-from nothing_yet book more legal.fit next.fit;
+  truthful = truthful-from nothing_yet book more legal.truthful next.truthful;
+}
 
 -- ---- what is known of tables
 

@@ -34,7 +34,7 @@ use Rattle.hv_house.specs.declared.fault.HouseFault.{HouseFault}
 -- ---- what the end of a started statement says, with what was asked before it
 
 pub finished-seen : {D : Type 0} (told : D → Option Store) (before asked now : House D) (txn : TxnId) (tree : Stmt) (m : Meaning) (result : Result Reply HouseFault)
-    → IsAsked told before asked → (seen : List Seen) × IsSeen told before tree seen × (m ≡ meaning_of seen tree)
+    → IsAsked told before asked → (seen : List Seen) × IsSeen told before tree seen × (meaning_of seen tree ≡ Some m)
     → IfOk result (λ reply. EndsAs told asked now txn m reply.text reply.refused)
     → IfOk result (λ reply. IsFinished told before now txn tree reply.text reply.refused)
 finished-seen told before asked now txn tree m (Ok reply) only meant ends =
@@ -43,7 +43,9 @@ finished-seen told before asked now txn tree m (Ok reply) only meant ends =
       only_asked = only;
       seen = meant.0;
       sees = meant.1;
-      ends = subst (λ (n : Meaning). EndsAs told asked now txn n reply.text reply.refused) meant.2 ends;
+      meaning = m;
+      means = meant.2;
+      ends = ends;
     })
 finished-seen told before asked now txn tree m (Err fault) only meant ends = tt
 
@@ -62,7 +64,7 @@ pub inserted : {D : Type 0} (told : D → Option Store) (before given put now : 
     → option_map next_write (numbered before.tables.items info.table.0) ≡ Some write.0
     → IsNoted told (entry.Given txn info.table write) before given → given.opened ≡ before.opened
     → given.tables.items ≡ changed with_next before.tables.items info.table.0
-    → written ≡ written_by write.0 effect
+    → written ≡ written_by write.0 0 effect
     → IsBeside given put → IsFile false 0 (records_of written.inserts)
     → Moves (HasFile (own_place info.table.0 written.write) (file_of written)) (told given.shelf) (told put.shelf)
     → IsNoted told (entry.Commit txn wrote) put now → now.opened ≡ put.opened → now.tables ≡ put.tables
@@ -70,7 +72,7 @@ pub inserted : {D : Type 0} (told : D → Option Store) (before given put now : 
 inserted told before given put now txn info effect known write written wrote found next noted opened tables is beside file moves committed opened_now tables_now =
     let number : Some (known.given + 1) ≡ Some write.0 = sym (ap (option_map next_write) found) ∙ next in
     let same : known.given + 1 ≡ write.0 = cc in
-    let whole : written ≡ next_written known effect = is ∙ ap (λ (n : ℕ). written_by n effect) (sym same) in
+    let whole : written ≡ next_written known effect = is ∙ ap (λ (n : ℕ). written_by n 0 effect) (sym same) in
     let id : write ≡ record { 0 = (next_written known effect).write } = λ i. record { 0 = (sym same) i } in
     let place = own_place info.table.0 (next_written known effect).write in
     let bytes = file_of (next_written known effect) in

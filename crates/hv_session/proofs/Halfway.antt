@@ -1,6 +1,7 @@
 -- What was noted of a statement where the run stopped in it, and what the journal holds then.
-use Rattle.std.proofs.Common.{◌≡◌, ℕ, ◌+◌, IsTrue, IsSomeAnd, Option, Some, None, Result, Ok, Err, List, [], ◌∷◌, ◌++◌, length, refl, sym, ap, ◌∙◌, subst, append_assoc, ◌⊎◌, inl, inr}
+use Rattle.std.proofs.Common.{◌≡◌, ℕ, ◌+◌, ◌≤◌, Option, Some, None, Result, Ok, Err, List, [], ◌∷◌, ◌++◌, length, refl, sym, ap, ◌∙◌, subst, append_assoc, ◌⊎◌, inl, inr}
 use Rattle.std.specs.Prelude.{IfErr}
+use Rattle.std.proofs.lemmas.List.{append-nil}
 use Rattle.std.specs.Option.{option_map}
 use Rattle.hv_base.specs.declared.ids.TxnId.{TxnId}
 use Rattle.hv_base.specs.declared.ids.TableId.{TableId}
@@ -14,20 +15,23 @@ use Rattle.hv_history.specs.declared.entry.Entry.TheVariants as entry
 use Rattle.hv_history.specs.declared.state.Table.{Table}
 use Rattle.hv_history.specs.Journal.{Reads}
 use Rattle.hv_history.specs.State.{State, state_of, numbered}
-use Rattle.hv_history.specs.Legal.{IsLegalFrom, GivenFits}
+use Rattle.hv_history.specs.declared.state.Transaction.{Transaction}
+use Rattle.hv_history.specs.Legal.{IsLegalFrom, GivenFits, profile}
+use Rattle.hv_logic.specs.declared.meaning.Meaning.{Meaning}
 use Rattle.hv_journal.specs.Appending.{Holds, HoldsOneMore}
-use Rattle.hv_stands.specs.Sound.{IsSound, IsLive}
-use Rattle.hv_stands.specs.Endings.{statement_entries}
-use Rattle.hv_stands.proofs.Endings.{running, behind_start, of-last, begins-legal}
-use Rattle.hv_stands.proofs.Soundness.{all-numbered}
+use Rattle.hv_stands.specs.Sound.{IsSound}
+use Rattle.hv_stands.specs.Endings.{HasSpace, main_session, next_number, opening, statement_entries}
+use Rattle.hv_stands.specs.Laws.{meant}
+use Rattle.hv_stands.proofs.Endings.{running, behind_opened, behind_start, of-last, legal-last, legal-none, opens-legal, begins-legal}
+use Rattle.hv_stands.proofs.Inserts.{given-fits}
 use Rattle.hv_house.specs.declared.fault.HouseFault.{HouseFault}
 use Rattle.hv_house.specs.declared.fault.HouseFault.TheVariants as fault
 use Rattle.hv_house.specs.declared.house.House.{House}
 use Rattle.hv_house.specs.declared.known.Known.{Known}
-use Rattle.hv_house.specs.House.{entries_of, known_of, next_write, IsKept, IsReady, IsNoted, IsAsked, IsBeside, IsHalted, Leaves, KeepsJournal}
+use Rattle.hv_house.specs.House.{entries_of, known_of, next_write, book_limit, IsKept, IsReady, IsNoted, IsAsked, IsBeside, IsHalted, Leaves, KeepsJournal}
 use Rattle.hv_session.specs.Started.{IsStarted}
 use Rattle.hv_session.specs.Halting.{next_txn, GivesId, IsUnended, HasStopped}
-use Rattle.hv_session.proofs.Books.{numbered-map}
+use Rattle.hv_session.proofs.Books.{numbered-map, space-left}
 
 -- ---- the journal
 
@@ -110,15 +114,6 @@ module _ {D : Type 0} (told : D → Option Store) where
 
 -- ---- what was noted of it is legal
 
-given-fits : (s : State) (number : ℕ) (text : List ℕ) (id : ℕ) (table : Table) → IsSound s → numbered s.tables id ≡ Some table
-    → GivenFits (behind_start s number text) id (length table.owners + 1) (running s number text [] None)
-given-fits s number text id table sound at = record {
-  running = record { unended = refl; started = refl };
-  live = subst (λ (o : Option Table). IsSomeAnd o (λ (t : Table). IsTrue t.is_live × (length table.owners + 1 ≡ length t.owners + 1))) (sym at)
-      (all-numbered IsLive s.tables id table at sound.tables.live, refl);
-  first = refl;
-}
-
 -- a table that is known is one of the book's
 record IsTableOf (s : State) (id : ℕ) (known : Known) : Type 0 where
   table : Table
@@ -131,35 +126,48 @@ table-of s id known (Some table) at e =
     let same : known_of table ≡ known = cc in
     record { table = table; here = at; given = ap (λ (k : Known). k.given) (sym same) }
 
-given-legal : (book : List Entry) (number : ℕ) (text : List ℕ) (tree : Stmt) (table : TableId) (known : Known) → IsSound (state_of book) → Runs text tree
-    → IsTableOf (state_of book) table.0 known
-    → IsLegalFrom (state_of book) (statement_entries book number text (entry.Given (next_txn book) table (record { 0 = known.given + 1 }) ∷ []))
-given-legal book number text tree table known sound is here =
+given-legal : (book : List Entry) (number : ℕ) (text : List ℕ) (tree : Stmt) (table : TableId) (known : Known) → IsSound (state_of book) → HasSpace book
+    → Runs text tree → IsTableOf (state_of book) table.0 known
+    → IsLegalFrom profile (state_of book) (statement_entries book number text (entry.Given (next_txn book) table (record { 0 = known.given + 1 }) ∷ []))
+given-legal book number text tree table known sound space is here =
     let s : State = state_of book in
-    begins-legal s number text tree (entry.Given (next_txn book) table (record { 0 = known.given + 1 }) ∷ []) sound is (
-      of-last s (s.entries + 1 + 1) s.tables (running s number text [] None) (GivenFits (behind_start s number text) table.0 (known.given + 1))
-          (subst (λ (n : ℕ). GivenFits (behind_start s number text) table.0 (n + 1) (running s number text [] None)) (sym here.given)
-          (given-fits s number text table.0 here.table sound here.here)),
-      tt,
-      tt,
-    )
+    let m : Option Meaning = meant book tree in
+    let t : Transaction = running s number text m [] [] None in
+    begins-legal s number text tree m (entry.Given (next_txn book) table (record { 0 = known.given + 1 }) ∷ []) sound space is refl
+    (legal-last (behind_start s number text m) (entry.Given (next_txn book) table (record { 0 = known.given + 1 }))
+    (of-last s (s.entries + 1 + 1) s.tables t (GivenFits profile (behind_start s number text m) table.0 (known.given + 1))
+    (subst (λ (n : ℕ). GivenFits profile (behind_start s number text m) table.0 (n + 1) t) (sym here.given)
+    (given-fits s number text m table.0 here.table sound space here.here)))
+    tt)
+
+-- ---- its opening alone was noted
+
+pub opening-legal : (book : List Entry) (number : ℕ) (text : List ℕ) (tree : Stmt) → HasSpace book → Runs text tree
+    → IsLegalFrom profile (state_of book) (opening book number text ∷ [])
+opening-legal book number text tree space is =
+    opens-legal (state_of book) number text tree [] space is (legal-none (behind_opened (state_of book) number text))
 
 -- ---- where the run stopped
 
 module _ {D : Type 0} (told : D → Option Store) (number : ℕ) (text : List ℕ) where
   -- it had started
   pub unended-stopped : (before started now : House D) (tree : Stmt) (txn : TxnId) (why : HouseFault) → IsReady told before
-      → Runs text tree → IsStarted told before started number text txn
+      → length (entries_of before) + 4 ≤ book_limit → Runs text tree → IsStarted told before started number text txn
       → IsUnended told why started now txn → HasStopped told why before now number text
-  unended-stopped before started now tree txn why ready is begun unended = by unended.noted
+  unended-stopped before started now tree txn why ready room is begun unended = by unended.noted
     where
+      space : HasSpace (entries_of before)
+      space = space-left (entries_of before) ready.sound room
+
       by : (entries_of now ≡ entries_of started) ⊎ GivesId started now txn → HasStopped told why before now number text
       by (inl e) = record {
         halfway = record {
           added = statement_entries (entries_of before) number text [];
           book = e ∙ begun.entries;
           beginning = inr (inr (inl refl));
-          legal = begins-legal (state_of (entries_of before)) number text tree [] ready.sound is tt;
+          legal =
+              begins-legal (state_of (entries_of before)) number text tree (meant (entries_of before) tree) [] ready.sound space is refl
+              (legal-none (behind_start (state_of (entries_of before)) number text (meant (entries_of before) tree)));
         };
         leaves = unended.leaves;
       }
@@ -182,13 +190,80 @@ module _ {D : Type 0} (told : D → Option Store) (number : ℕ) (text : List �
                   ∙ append_assoc (entries_of before) (statement_entries (entries_of before) number text [])
                   (entry.Given (next_txn (entries_of before)) gives.table write ∷ []);
               beginning = inr (inr (inr (gives.table, write, refl)));
-              legal = given-legal (entries_of before) number text tree gives.table gives.known ready.sound is here;
+              legal = given-legal (entries_of before) number text tree gives.table gives.known ready.sound space is here;
             };
             leaves = unended.leaves;
           }
 
   pub run-stopped : {T : Type 0} (before started now : House D) (tree : Stmt) (txn : TxnId) (result : Result T HouseFault) → IsReady told before
-      → Runs text tree → IsStarted told before started number text txn
+      → length (entries_of before) + 4 ≤ book_limit → Runs text tree → IsStarted told before started number text txn
       → IfErr result (λ why. IsUnended told why started now txn) → IfErr result (λ why. HasStopped told why before now number text)
-  run-stopped before started now tree txn (Ok x) ready is begun unended = tt
-  run-stopped before started now tree txn (Err why) ready is begun unended = unended-stopped before started now tree txn why ready is begun unended
+  run-stopped before started now tree txn (Ok x) ready room is begun unended = tt
+  run-stopped before started now tree txn (Err why) ready room is begun unended = unended-stopped before started now tree txn why ready room is begun unended
+
+  -- ---- it was not begun, or not started
+
+  noted-opening : (before now : House D) (session : List ℕ) → IsReady told before → session ≡ main_session
+      → IsNoted told (entry.Opened (record { 0 = before.opened + 1 }) session number text) before now
+      → entries_of now ≡ entries_of before ++ opening (entries_of before) number text ∷ []
+  noted-opening before now session ready named noted =
+      noted.entries
+      ∙ ap (λ (n : ℕ). entries_of before ++ entry.Opened (record { 0 = n + 1 }) session number text ∷ []) ready.knows.opened
+      ∙ ap (λ (s : List ℕ). entries_of before ++ entry.Opened (record { 0 = next_number (entries_of before) }) s number text ∷ []) named
+
+  stopped-opened : (before opened now : House D) (session : List ℕ) (tree : Stmt) (why : HouseFault) → IsReady told before
+      → length (entries_of before) + 4 ≤ book_limit → Runs text tree → session ≡ main_session
+      → IsNoted told (entry.Opened (record { 0 = before.opened + 1 }) session number text) before opened
+      → IsHalted told why opened now → HasStopped told why before now number text
+  stopped-opened before opened now session tree why ready room is named noted halted = record {
+    halfway = record {
+      added = opening (entries_of before) number text ∷ [];
+      book = halted.entries ∙ noted-opening before opened session ready named noted;
+      beginning = inr (inl refl);
+      legal = opening-legal (entries_of before) number text tree (space-left (entries_of before) ready.sound room) is;
+    };
+    leaves = subst (Leaves why (told now.shelf)) (sym halted.entries) halted.leaves;
+  }
+
+  stopped-unopened : (before now : House D) (why : HouseFault) → IsHalted told why before now → HasStopped told why before now number text
+  stopped-unopened before now why halted = record {
+    halfway = record {
+      added = [];
+      book = halted.entries ∙ sym (append-nil (entries_of before));
+      beginning = inl refl;
+      legal = legal-none (state_of (entries_of before));
+    };
+    leaves = subst (Leaves why (told now.shelf)) (sym halted.entries) halted.leaves;
+  }
+
+  pub start-stopped : {T : Type 0} (before opened now : House D) (session : List ℕ) (tree : Stmt) (why same : HouseFault) (result : Result T HouseFault)
+      → result ≡ Err same → same ≡ why → IsReady told before → length (entries_of before) + 4 ≤ book_limit → Runs text tree → session ≡ main_session
+      → IsNoted told (entry.Opened (record { 0 = before.opened + 1 }) session number text) before opened
+      → IsHalted told why opened now → IfErr result (λ fault. HasStopped told fault before now number text)
+  start-stopped {T = T} before opened now session tree why same result is e ready room runs named noted halted =
+      subst (λ (r : Result T HouseFault). IfErr r (λ fault. HasStopped told fault before now number text)) (sym is)
+      (subst (λ (w : HouseFault). HasStopped told w before now number text) (sym e)
+      (stopped-opened before opened now session tree why ready room runs named noted halted))
+
+  pub open-stopped : {T : Type 0} (before now : House D) (why same : HouseFault) (result : Result T HouseFault)
+      → result ≡ Err same → same ≡ why → IsHalted told why before now → IfErr result (λ fault. HasStopped told fault before now number text)
+  open-stopped {T = T} before now why same result is e halted =
+      subst (λ (r : Result T HouseFault). IfErr r (λ fault. HasStopped told fault before now number text)) (sym is)
+      (subst (λ (w : HouseFault). HasStopped told w before now number text) (sym e) (stopped-unopened before now why halted))
+
+  -- nothing was noted of it
+  pub stopped-before : (before : House D) (why : HouseFault) → IsReady told before → HasStopped told why before before number text
+  stopped-before before why ready = record {
+    halfway = record {
+      added = [];
+      book = sym (append-nil (entries_of before));
+      beginning = inl refl;
+      legal = legal-none (state_of (entries_of before));
+    };
+    leaves = leaves-book why (told before.shelf) (entries_of before) ready.kept.reads;
+  }
+
+  pub nothing-stopped : {T : Type 0} (before : House D) (why : HouseFault) (result : Result T HouseFault) → result ≡ Err why → IsReady told before
+      → IfErr result (λ fault. HasStopped told fault before before number text)
+  nothing-stopped {T = T} before why result is ready =
+      subst (λ (r : Result T HouseFault). IfErr r (λ fault. HasStopped told fault before before number text)) (sym is) (stopped-before before why ready)

@@ -1,12 +1,11 @@
 -- A statement from its text to its reply.
-use Rattle.std.proofs.Common.{ℕ, ◌+◌, ◌≤◌, Option, Result, Ok, Err, List, length, refl, inl, inr}
+use Rattle.std.proofs.Common.{ℕ, ◌+◌, ◌≤◌, Option, Result, Ok, Err, List, length, refl, sym, inl, inr}
 use Rattle.std.specs.Prelude.{IfOk}
 use Rattle.std.specs.List.{AllByRecursion}
 use Rattle.hv_base.specs.declared.ids.TxnId.{TxnId}
 use Rattle.hv_shelf.specs.Disk.{Store}
 use Rattle.hv_ast.specs.declared.statement.Stmt.{Stmt}
 use Rattle.hv_grammar.specs.Running.{Runs}
-use Rattle.hv_logic.specs.Meaning.{meaning_of}
 use Rattle.hv_house.specs.declared.house.House.{House}
 use Rattle.hv_house.specs.declared.fault.HouseFault.{HouseFault}
 use Rattle.hv_house.specs.House.{entries_of, HasNumbers, book_limit, IsReady, IsAsked}
@@ -28,9 +27,9 @@ run-numbers told before started number text tree txn ready is room begun =
 pub run-can : {D : Type 0} (told : D → Option Store) (before started : House D) (number : ℕ) (text : List ℕ) (tree : Stmt) (txn : TxnId)
     → IsReady told before → Runs text tree → length (entries_of before) + 4 ≤ book_limit → IsStarted told before started number text txn
     → CanFinish told started tree
-run-can told before started number text tree txn ready is room begun asked seen only sees =
+run-can told before started number text tree txn ready is room begun asked seen m only sees means =
     can-end told before started asked asked number text tree txn
-    (record { ready = ready; is = is; few = room; started = begun; asked = only }) seen sees (meaning_of seen tree) refl
+    (record { ready = ready; is = is; few = room; started = begun; asked = only }) seen sees m (sym means)
 
 pub run-ran : {D : Type 0} (told : D → Option Store) (before started now : House D) (number : ℕ) (text : List ℕ) (tree : Stmt) (txn : TxnId) (result : Result Reply HouseFault)
     → IsReady told before → Runs text tree → length (entries_of before) + 4 ≤ book_limit → IsStarted told before started number text txn
@@ -38,7 +37,7 @@ pub run-ran : {D : Type 0} (told : D → Option Store) (before started now : Hou
     → IfOk result (λ reply. HasRun told before now number text reply.text reply.refused)
 run-ran told before started now number text tree txn (Ok reply) ready is room begun (inl seen) =
     ended told before started seen.asked now number text tree txn
-    (record { ready = ready; is = is; few = room; started = begun; asked = seen.only_asked }) seen.seen seen.sees (meaning_of seen.seen tree) refl
+    (record { ready = ready; is = is; few = room; started = begun; asked = seen.only_asked }) seen.seen seen.sees seen.meaning (sym seen.means)
     reply.text reply.refused seen.ends
 run-ran told before started now number text tree txn (Ok reply) ready is room begun (inr broken) =
     damaged told before started broken.asked now number text tree txn

@@ -2,7 +2,6 @@ pub mod Shorts
 pub mod Books
 pub mod Stores
 pub mod Seeing
-pub mod Built
 pub mod Idle
 pub mod Halfway
 pub mod Running

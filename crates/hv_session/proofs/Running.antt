@@ -7,6 +7,7 @@ use Rattle.std.proofs.lemmas.List.{length-append}
 use Rattle.hv_base.specs.declared.ids.TxnId.{TxnId}
 use Rattle.hv_base.specs.declared.ids.TableId.{TableId}
 use Rattle.hv_base.specs.declared.ids.Touch.{Touch}
+use Rattle.hv_base.specs.Refusals as refusals
 use Rattle.hv_base.specs.Told.{Moves}
 use Rattle.hv_shelf.specs.Disk.{Store}
 use Rattle.hv_ast.specs.declared.statement.Stmt.{Stmt}
@@ -14,12 +15,12 @@ use Rattle.hv_grammar.specs.Running.{Runs}
 use Rattle.hv_journal.specs.Appending.{KeepsTree}
 use Rattle.hv_value.specs.declared.row.Row.{Row}
 use Rattle.hv_rowfile.specs.Layout.{IsFile}
-use Rattle.hv_logic.specs.declared.catalog.Column.{Column}
+use Rattle.hv_logic.specs.declared.catalog.Shape.{Shape}
 use Rattle.hv_logic.specs.declared.catalog.TableInfo.{TableInfo}
 use Rattle.hv_logic.specs.declared.effect.Effect.{Effect}
 use Rattle.hv_logic.specs.declared.seen.Seen.{Seen}
 use Rattle.hv_logic.specs.declared.meaning.Meaning.{Meaning}
-use Rattle.hv_logic.specs.declared.meaning.Meaning.TheVariants.{Refused, Listing, Change, Make, Plain, RowLimit, Unbuilt}
+use Rattle.hv_logic.specs.declared.meaning.Meaning.TheVariants.{Refused, Listing, Change, Make, Plain, RowLimit}
 use Rattle.hv_logic.specs.Meaning.{meaning_of}
 use Rattle.hv_history.specs.declared.entry.Entry.{Entry}
 use Rattle.hv_history.specs.declared.entry.Entry.TheVariants as entry
@@ -33,7 +34,7 @@ use Rattle.hv_history.specs.Answers.{listing, counts_line, ok_line, cause_text}
 use Rattle.hv_dirs.specs.Names.{write_end}
 use Rattle.hv_stands.specs.Files.{Stands, own_place, file_of, records_of}
 use Rattle.hv_stands.specs.Sound.{IsSound, AreSound, AreInserts}
-use Rattle.hv_stands.specs.Endings.{next_number, statement_entries, Goes}
+use Rattle.hv_stands.specs.Endings.{next_number, statement_entries, HasSpace, Goes}
 use Rattle.hv_stands.specs.Laws.{meant, committing, IsCauseOf, made_table, next_table, inserting, tables_inserted}
 use Rattle.hv_stands.proofs.Forms.{made-columns-plain}
 use Rattle.hv_stands.proofs.Written.{inserts-written}
@@ -52,15 +53,15 @@ use Rattle.hv_session.specs.Started.{IsStarted}
 use Rattle.hv_session.specs.Ends.{IsDone, Commits, Refuses, PutsFile, Inserts, KnownOf, next_written, ChangesRows, next_id, Makes, EndsAs, CanEnd}
 use Rattle.hv_session.specs.Halting.{IsEnding, next_txn}
 use Rattle.hv_session.specs.Answered.{WentThrough, AddsAtMost, HasRun}
-use Rattle.hv_session.proofs.Books.{entries-counted, legal-goes-on, map-append, length-map, numbered-map, known-inserted, numbers-known}
+use Rattle.hv_session.proofs.Books.{entries-counted, space-left, legal-goes-on, map-append, length-map, numbered-map, known-inserted, numbers-known}
 use Rattle.hv_session.proofs.Seeing.{Lists, meant-or-listing, meant-told, unspoiled}
-use Rattle.hv_session.proofs.Built.{MeansSomething, built-means}
+use Rattle.hv_stands.proofs.BuiltMeanings.{MeansSomething, built-means}
 use Rattle.hv_session.proofs.Idle.{Leaves, idle-leaves}
 use Rattle.hv_session.proofs.Stores.{became, untold, tells-none, tells-some, told-some, still-stands, keeps-keeps, keeps-puts, Any, any-of}
 
 leaves : (book added : List Entry) (number : ℕ) (text reply : List ℕ) (refused : Bool) (tables : List Table)
     → Goes book added number text reply refused tables → Leaves book added tables
-leaves book added number text reply refused tables goes = record { tables_are = goes.tables_are; count = goes.count; ended = goes.ended }
+leaves book added number text reply refused tables goes = record { tables_are = goes.tables_are; jobs = goes.jobs; count = goes.count; ended = goes.ended }
 
 module _ {D : Type 0} (told : D → Option Store) (h0 h3 h4 h5 : House D) (number : ℕ) (text : List ℕ) (tree : Stmt) (txn : TxnId) where
   abbrev book : List Entry
@@ -98,6 +99,9 @@ module _ {D : Type 0} (told : D → Option Store) (h0 h3 h4 h5 : House D) (numbe
     pub numbers : AllByRecursion HasNumbers h4.tables.items
     numbers = subst (AllByRecursion HasNumbers) (sym tables-known) (numbers-known (state_of book).entries (state_of book).tables small given.ready.sound.tables.few)
 
+    space : HasSpace book
+    space = space-left book given.ready.sound given.few
+
     -- ---- the house behind the statement
 
     ready-behind : (ends : List Entry) (tables : List Table) → IsKept told h5 → entries_of h5 ≡ entries_of h4 ++ ends
@@ -114,6 +118,7 @@ module _ {D : Type 0} (told : D → Option Store) (h0 h3 h4 h5 : House D) (numbe
         } in
         let whole : IsSound (state_of (book ++ added)) = record {
           ended = left.ended given.ready.sound.ended;
+          no_jobs = left.jobs ∙ given.ready.sound.no_jobs;
           tables = subst (AreSound (state_of (book ++ added)).entries) (sym left.tables_are)
               (soundness-later ((state_of book).entries + 1) (state_of (book ++ added)).entries tables sound more);
         } in
@@ -224,12 +229,12 @@ module _ {D : Type 0} (told : D → Option Store) (h0 h3 h4 h5 : House D) (numbe
         let then = became KeepsTree (told h0.shelf) (told h3.shelf) s given.started.tree e in
         let stands = still-stands (state_of book) (state_of book) s.tree then.now.tree refl then.made faithful.stands in
         let known : h3.tables.items ≡ map known_of (state_of book).tables = ap (λ ts. ts.items) given.started.tables ∙ given.ready.knows.tables in
-        meant-told told h3 book tree given.ready.sound then.now then.tells stands (omega (arith, small)) seen known sees
+        meant-told told h3 book tree given.ready.sound given.is.built then.now then.tells stands (omega (arith, small)) seen known sees
 
     means : (seen : List Seen) → IsSeen told h3 tree seen → (meaning_of seen tree ≡ meant book tree) ⊎ Lists (meaning_of seen tree)
     means seen sees =
         let known : h3.tables.items ≡ map known_of (state_of book).tables = ap (λ ts. ts.items) given.started.tables ∙ given.ready.knows.tables in
-        meant-or-listing told h3 book tree given.ready.sound seen known sees
+        meant-or-listing told h3 book tree given.ready.sound given.is.built seen known sees
 
     -- ---- the ways that it ends
 
@@ -257,7 +262,7 @@ module _ {D : Type 0} (told : D → Option Store) (h0 h3 h4 h5 : House D) (numbe
     refuses why text_now refused refuse true_cause ending =
         let event = entry.Abort (record { 0 = next_number book }) why in
         let noted : IsNoted told event h4 h5 = subst (λ (t : TxnId). IsNoted told (entry.Abort t why) h4 h5) txn-is refuse.noted.noted in
-        let goes = refusals-end book number text tree why given.ready.sound given.is true_cause in
+        let goes = refusals-end book number text tree why given.ready.sound space given.is true_cause in
         let ran : Ran (event ∷ []) (cause_text None why) true =
         noted-ran event (cause_text None why) true (state_of book).tables noted refuse.noted.opened (same-known h5 refuse.noted.tables)
         (leaves book (statement_entries book number text (event ∷ [])) number text (cause_text None why) true (state_of book).tables goes) same-sound ending
@@ -269,28 +274,28 @@ module _ {D : Type 0} (told : D → Option Store) (h0 h3 h4 h5 : House D) (numbe
     next-id-is : next_id h4 ≡ record { 0 = next_table book }
     next-id-is = ap (λ (n : ℕ). record { 0 = n + 1 }) (ap length tables-known ∙ length-map known_of (state_of book).tables)
 
-    makes : (name : List ℕ) (columns : List Column) (text_now : List ℕ) (refused : Bool) → Makes told h4 h5 txn name columns → IsDone ok_line text_now refused
-        → meant book tree ≡ Make name columns
+    makes : (shape : Shape) (text_now : List ℕ) (refused : Bool) → Makes told h4 h5 txn shape → IsDone ok_line text_now refused
+        → meant book tree ≡ Some (Make shape)
         → Ran (entry.Create (record { 0 = next_number book }) (record { 0 = next_table book }) ∷ []) text_now refused
-    makes name columns text_now refused make done is =
+    makes shape text_now refused make done is =
         let event = entry.Create (record { 0 = next_number book }) (record { 0 = next_table book }) in
-        let tables = (state_of book).tables ++ made_table (next_table book) name columns ∷ [] in
+        let tables = (state_of book).tables ++ made_table (next_table book) shape ∷ [] in
         let noted : IsNoted told event h4 h5 =
         subst (λ (t : TxnId). IsNoted told (entry.Create t (record { 0 = next_table book })) h4 h5) txn-is
         (subst (λ (i : TableId). IsNoted told (entry.Create txn i) h4 h5) next-id-is make.noted) in
-        let goes = tables-made book number text tree name columns given.ready.sound given.is is in
-        let plain = made-columns-plain book tree name columns given.is.built is in
-        let sound = tables-made-sound ((state_of book).entries + 1) (state_of book).tables name columns same-sound plain in
+        let goes = tables-made book number text tree shape given.ready.sound space given.is is in
+        let plain = made-columns-plain book tree shape given.is.built is in
+        let sound = tables-made-sound ((state_of book).entries + 1) (state_of book).tables shape same-sound plain in
         let known : h5.tables.items ≡ map known_of tables =
         make.tables
-        ∙ ap (λ (i : TableId). h4.tables.items ++ record { info = record { table = i; name = name; columns = columns; parts = []; bucketed = []; buckets = 0 }; given = 0 } ∷ []) next-id-is
-        ∙ ap (λ (ks : List Known). ks ++ known_of (made_table (next_table book) name columns) ∷ []) tables-known
-        ∙ sym (map-append known_of (state_of book).tables (made_table (next_table book) name columns ∷ [])) in
+        ∙ ap (λ (i : TableId). h4.tables.items ++ record { info = record { table = i; shape = shape }; given = 0 } ∷ []) next-id-is
+        ∙ ap (λ (ks : List Known). ks ++ known_of (made_table (next_table book) shape) ∷ []) tables-known
+        ∙ sym (map-append known_of (state_of book).tables (made_table (next_table book) shape ∷ [])) in
         let ran : Ran (event ∷ []) ok_line false =
         noted-ran event ok_line false tables noted make.opened known
         (leaves book (statement_entries book number text (event ∷ [])) number text ok_line false tables goes) sound (λ s e faithful. inr (inr (inl (record { 0 = next_table book }, refl))))
         (λ s e faithful.
-        (goes, made-files-stand (state_of book) (state_of (book ++ statement_entries book number text (event ∷ []))) s.tree name columns faithful.stands goes.tables_are)) in
+        (goes, made-files-stand (state_of book) (state_of (book ++ statement_entries book number text (event ∷ []))) s.tree shape faithful.stands goes.tables_are)) in
         subst (λ (b : Bool). Ran (event ∷ []) text_now b) (sym done.accepted)
         (subst (λ (r : List ℕ). Ran (event ∷ []) r false) (sym done.text_is) ran)
 
@@ -303,7 +308,7 @@ module _ {D : Type 0} (told : D → Option Store) (h0 h3 h4 h5 : House D) (numbe
         ∙ numbered-map known_of (state_of book).tables info.table.0 ∙ ap (option_map known_of) at in
         cc
 
-    module _ (info : TableInfo) (effect : Effect) (table : Table) (is : meant book tree ≡ Change info effect)
+    module _ (info : TableInfo) (effect : Effect) (table : Table) (is : meant book tree ≡ Some (Change info effect))
         (at : numbered (state_of book).tables info.table.0 ≡ Some table) where
       write : ℕ
       write = length table.owners + 1
@@ -338,7 +343,7 @@ module _ {D : Type 0} (told : D → Option Store) (h0 h3 h4 h5 : House D) (numbe
           → Ran insert_ends (counts_line (inserting info effect ∷ [])) false
       unfolding insert_ends tables_then
       inserted some ins =
-          let goes = rows-inserted book number text tree info effect table given.ready.sound given.is is some at in
+          let goes = rows-inserted book number text tree info effect table given.ready.sound space given.is is some at in
           let noted : entries_of h5 ≡ entries_of h4 ++ insert_ends =
           ins.entries
           ∙ ap (λ (t : TxnId). entries_of h4 ++ entry.Given t info.table (record { 0 = length table.owners + 1 }) ∷ entry.Commit t (inserting info effect ∷ []) ∷ []) txn-is in
@@ -366,7 +371,7 @@ module _ {D : Type 0} (told : D → Option Store) (h0 h3 h4 h5 : House D) (numbe
                 (insert-stands s now.now faithful now.made goes);
           }
 
-    changes : (info : TableInfo) (effect : Effect) (text_now : List ℕ) (refused : Bool) → meant book tree ≡ Change info effect → 0 < length effect.inserts
+    changes : (info : TableInfo) (effect : Effect) (text_now : List ℕ) (refused : Bool) → meant book tree ≡ Some (Change info effect) → 0 < length effect.inserts
         → ChangesRows told h4 h5 txn info effect text_now refused → HasRun told h0 h5 number text text_now refused
     changes info effect text_now refused is some change =
         let there = changed-table book tree info effect given.ready.sound is in
@@ -378,18 +383,18 @@ module _ {D : Type 0} (told : D → Option Store) (h0 h3 h4 h5 : House D) (numbe
 
     -- ---- by its meaning
 
-    abbrev NoListing : Meaning → Type 0
-    NoListing (Listing names rows) = ⊥
+    abbrev NoListing : Option Meaning → Type 0
+    NoListing (Some (Listing names rows)) = ⊥
     NoListing _ = Unit {0}
 
-    meant-of : (seen : List Seen) → IsSeen told h3 tree seen → (m : Meaning) → m ≡ meaning_of seen tree → NoListing m → meant book tree ≡ m
+    meant-of : (seen : List Seen) → IsSeen told h3 tree seen → (m : Meaning) → Some m ≡ meaning_of seen tree → NoListing (Some m) → meant book tree ≡ Some m
     meant-of seen sees m is unlisted = by (means seen sees)
       where
-        by : (meaning_of seen tree ≡ meant book tree) ⊎ Lists (meaning_of seen tree) → meant book tree ≡ m
+        by : (meaning_of seen tree ≡ meant book tree) ⊎ Lists (meaning_of seen tree) → meant book tree ≡ Some m
         by (inl e) = sym e ∙ sym is
         by (inr l) = absurd (subst NoListing (is ∙ l.2) unlisted)
 
-    nothing : (m : Meaning) → meant book tree ≡ m → (MeansSomething m → ⊥) → ⊥
+    nothing : (m : Meaning) → meant book tree ≡ Some m → (MeansSomething (Some m) → ⊥) → ⊥
     nothing m is empty = empty (subst MeansSomething is (built-means (seen_tables (state_of book).tables) tree given.is.built))
 
     no-rows : (effect : Effect) → length effect.inserts ≡ 0 → effect.inserts ≡ []
@@ -411,27 +416,27 @@ module _ {D : Type 0} (told : D → Option Store) (h0 h3 h4 h5 : House D) (numbe
     refuse-run why text_now refused refuse true_cause ending =
         has-run (entry.Abort (record { 0 = next_number book }) why ∷ []) text_now refused (refuses why text_now refused refuse true_cause ending)
 
-    pub ended : (seen : List Seen) → IsSeen told h3 tree seen → (m : Meaning) → m ≡ meaning_of seen tree → (text_now : List ℕ) (refused : Bool)
+    pub ended : (seen : List Seen) → IsSeen told h3 tree seen → (m : Meaning) → Some m ≡ meaning_of seen tree → (text_now : List ℕ) (refused : Bool)
         → EndsAs told h4 h5 txn m text_now refused → HasRun told h0 h5 number text text_now refused
     ended seen sees (Listing names rows) is text_now refused ends =
         idle-run (listing names rows) text_now refused ends.0 ends.1
-        (λ s e faithful. queries-end book number text tree names rows given.ready.sound given.is (sym (means-told seen sees s e faithful) ∙ sym is))
+        (λ s e faithful. queries-end book number text tree names rows given.ready.sound space given.is (sym (means-told seen sees s e faithful) ∙ sym is))
     ended seen sees (Change info effect) is text_now refused (inl none) =
         idle-run (counts_line []) text_now refused none.1 none.2
-        (λ s e faithful. nothing-inserted book number text tree info effect given.ready.sound given.is (meant-of seen sees (Change info effect) is tt) (no-rows effect none.0))
+        (λ s e faithful. nothing-inserted book number text tree info effect given.ready.sound space given.is (meant-of seen sees (Change info effect) is tt) (no-rows effect none.0))
     ended seen sees (Change info effect) is text_now refused (inr some) =
         changes info effect text_now refused (meant-of seen sees (Change info effect) is tt) some.0 some.1
-    ended seen sees (Make name columns) is text_now refused ends =
+    ended seen sees (Make shape) is text_now refused ends =
         has-run (entry.Create (record { 0 = next_number book }) (record { 0 = next_table book }) ∷ []) text_now refused
-        (makes name columns text_now refused ends.0 ends.1 (meant-of seen sees (Make name columns) is tt))
+        (makes shape text_now refused ends.0 ends.1 (meant-of seen sees (Make shape) is tt))
     ended seen sees (Refused why) is text_now refused ends =
-        refuse-run (cause.Refused why) text_now refused ends (meant-of seen sees (Refused why) is tt) (λ s e faithful. inr (inr (inr (inl (why, refl)))))
+        refuse-run (cause.Refused (refusals.number why)) text_now refused ends
+        (subst (λ (o : Option Meaning). IsCauseOf o (cause.Refused (refusals.number why))) (sym (meant-of seen sees (Refused why) is tt)) refl)
+        (λ s e faithful. inr (inr (inr (inl (refusals.number why, refl)))))
     ended seen sees RowLimit is text_now refused ends =
         refuse-run cause.RowLimit text_now refused ends (meant-of seen sees RowLimit is tt) (λ s e faithful. inr (inr (inr (inr refl))))
     ended seen sees Plain is text_now refused ends =
         idle-run ok_line text_now refused ends.0 ends.1 (λ s e faithful. absurd (nothing Plain (meant-of seen sees Plain is tt) (λ h. h)))
-    ended seen sees Unbuilt is text_now refused ends =
-        idle-run ok_line text_now refused ends.0 ends.1 (λ s e faithful. absurd (nothing Unbuilt (meant-of seen sees Unbuilt is tt) (λ h. h)))
 
     -- a file is damaged: the store doesn't show the book's files
     no-damage : IsSpoiled told h3 tree → (s : Store) → told h0.shelf ≡ Some s → IsFaithful book s → ⊥
@@ -439,7 +444,7 @@ module _ {D : Type 0} (told : D → Option Store) (h0 h3 h4 h5 : House D) (numbe
         let then = became KeepsTree (told h0.shelf) (told h3.shelf) s given.started.tree e in
         let stands = still-stands (state_of book) (state_of book) s.tree then.now.tree refl then.made faithful.stands in
         let known : h3.tables.items ≡ map known_of (state_of book).tables = ap (λ ts. ts.items) given.started.tables ∙ given.ready.knows.tables in
-        unspoiled told h3 book tree given.ready.sound then.now then.tells stands (omega (arith, small)) known spoiled
+        unspoiled told h3 book tree given.ready.sound given.is.built then.now then.tells stands (omega (arith, small)) known spoiled
 
     pub damaged : IsSpoiled told h3 tree → (place : FilePlace) (text_now : List ℕ) (refused : Bool) → Refuses told h4 h5 txn (cause.Damaged place) text_now refused
         → HasRun told h0 h5 number text text_now refused
@@ -447,7 +452,7 @@ module _ {D : Type 0} (told : D → Option Store) (h0 h3 h4 h5 : House D) (numbe
         refuse-run (cause.Damaged place) text_now refused refuse tt (λ s e faithful. absurd (no-damage spoiled s e faithful))
 
     -- what a change rests on is there
-    pub can-end : (seen : List Seen) → IsSeen told h3 tree seen → (m : Meaning) → m ≡ meaning_of seen tree → CanEnd h4 m
+    pub can-end : (seen : List Seen) → IsSeen told h3 tree seen → (m : Meaning) → Some m ≡ meaning_of seen tree → CanEnd h4 m
     can-end seen sees (Change info effect) is =
         let means_this = meant-of seen sees (Change info effect) is tt in
         let there = changed-table book tree info effect given.ready.sound means_this in
@@ -457,8 +462,7 @@ module _ {D : Type 0} (told : D → Option Store) (h0 h3 h4 h5 : House D) (numbe
         let can = inserts-written book tree info effect (length there.0.owners + 1) given.ready.sound means_this (omega arith) in
         (known_of there.0, found, can.0)
     can-end seen sees (Listing names rows) is = tt
-    can-end seen sees (Make name columns) is = tt
+    can-end seen sees (Make shape) is = tt
     can-end seen sees (Refused why) is = tt
     can-end seen sees RowLimit is = tt
     can-end seen sees Plain is = tt
-    can-end seen sees Unbuilt is = tt

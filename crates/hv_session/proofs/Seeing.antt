@@ -10,6 +10,7 @@ use Rattle.hv_ast.specs.declared.query.From.{From}
 use Rattle.hv_ast.specs.declared.query.Source.{Source}
 use Rattle.hv_ast.specs.declared.query.Source.TheVariants as source
 use Rattle.hv_ast.specs.declared.statement.Stmt.{Stmt}
+use Rattle.hv_ast.specs.Built.{IsBuilt}
 use Rattle.hv_ast.specs.declared.statement.Stmt.TheVariants as stmt
 use Rattle.hv_value.specs.declared.row.Row.{Row}
 use Rattle.hv_logic.specs.declared.effect.Found.{Found}
@@ -25,9 +26,10 @@ use Rattle.hv_history.specs.State.{state_of, numbered}
 use Rattle.hv_dirs.specs.Names.{write_end}
 use Rattle.hv_stands.specs.Files.{Stands, own_place, file_of}
 use Rattle.hv_stands.specs.Sound.{IsSound, HasFewOwners, HasSoundWrites, AreInserts}
-use Rattle.hv_stands.specs.Reading.{source_name, from_name, table_named, reads_rows, table_of_name, inserted_rows, rows_read, seen_of, seen_by_name, written_with}
+use Rattle.hv_stands.specs.Reading.{table_named, reads_rows, table_of_name, inserted_rows, rows_read, seen_of, seen_by_name, written_with}
 use Rattle.hv_stands.specs.Laws.{meant}
 use Rattle.hv_stands.proofs.ReadRows.{reading-enough, rows-from}
+use Rattle.hv_stands.proofs.Named.{IsOf, IsFrom, named-from}
 use Rattle.hv_stands.proofs.Tables.{named-numbered}
 use Rattle.hv_stands.proofs.Soundness.{all-numbered}
 use Rattle.hv_stands.proofs.StandingFiles.{file-at, written-with}
@@ -47,7 +49,7 @@ known-by false table known found e = e
 known-named : (name : List ℕ) (tables : List Table) → known_of_name name (map known_of tables) ≡ option_map known_of (table_of_name name tables)
 known-named name [] = refl
 known-named name (table ∷ tables) =
-    known-by (pointwise nat_eq table.info.name name) table (known_of_name name (map known_of tables)) (table_of_name name tables) (known-named name tables)
+    known-by (pointwise nat_eq table.info.shape.name name) table (known_of_name name (map known_of tables)) (table_of_name name tables) (known-named name tables)
 
 abbrev pub table_by_name : Option (List ℕ) → List Table → Option Table
 table_by_name None tables = None
@@ -67,10 +69,10 @@ found-by : (b : Bool) (first table : Table) (rest : Option Table) (P : Table →
 found-by true first table rest P here there e = let same : first ≡ table = cc in subst P same (here refl)
 found-by false first table rest P here there e = there e
 
-has-name : (name : List ℕ) (tables : List Table) (table : Table) → table_of_name name tables ≡ Some table → pointwise nat_eq table.info.name name ≡ true
+has-name : (name : List ℕ) (tables : List Table) (table : Table) → table_of_name name tables ≡ Some table → pointwise nat_eq table.info.shape.name name ≡ true
 has-name name [] table e = cc
 has-name name (first ∷ tables) table e =
-    found-by (pointwise nat_eq first.info.name name) first table (table_of_name name tables) (λ (t : Table). pointwise nat_eq t.info.name name ≡ true)
+    found-by (pointwise nat_eq first.info.shape.name name) first table (table_of_name name tables) (λ (t : Table). pointwise nat_eq t.info.shape.name name ≡ true)
     (λ h. h) (λ h. has-name name tables table h) e
 
 -- ---- rows
@@ -85,26 +87,26 @@ seen-whole : (tree : Stmt) (table : Table) (rows : List Found) → rows ≡ rows
 seen-whole tree table rows e = ap (λ (rs : List Found). record { info = table.info; rows = rs } ∷ []) e
 
 -- a query of one table that is there lists it
-abbrev pub Lists : Meaning → Type 0
-Lists meaning = (names : List (List ℕ)) × (rows : List Row) × (meaning ≡ Listing names rows)
+abbrev pub Lists : Option Meaning → Type 0
+Lists meaning = (names : List (List ℕ)) × (rows : List Row) × (meaning ≡ Some (Listing names rows))
 
-listed-source : (from : Source) (name : List ℕ) (seen : Seen) → source_name from ≡ Some name → pointwise nat_eq seen.info.name name ≡ true
+listed-source : (from : Source) (name : List ℕ) (seen : Seen) → IsOf from name → pointwise nat_eq seen.info.shape.name name ≡ true
     → Lists (queried_source from (seen ∷ []))
 listed-source (source.Table n alias) name seen is has =
-    let same : n ≡ name = cc in
-    let test : pointwise nat_eq seen.info.name n ≡ true = ap (pointwise nat_eq seen.info.name) same ∙ has in
-    (column_names seen.info, sorted (map (λ (found : Found). found.row) seen.rows), ap (λ (b : Bool). scanned (cond b (Some seen) None)) test)
-listed-source other name seen is has = cc
+    let test : pointwise nat_eq seen.info.shape.name n ≡ true = ap (pointwise nat_eq seen.info.shape.name) is ∙ has in
+    (column_names seen.info.shape, sorted (map (λ (found : Found). found.row) seen.rows), ap (λ (b : Bool). Some (scanned (cond b (Some seen) None))) test)
+listed-source other name seen is has = absurd is
 
-listed-from : (from : Option (From Source)) (name : List ℕ) (seen : Seen) → from_name from ≡ Some name → pointwise nat_eq seen.info.name name ≡ true
+listed-from : (from : Option (From Source)) (name : List ℕ) (seen : Seen) → IsFrom from name → pointwise nat_eq seen.info.shape.name name ≡ true
     → Lists (queried_from from (seen ∷ []))
-listed-from None name seen is has = cc
+listed-from None name seen is has = absurd is
 listed-from (Some from) name seen is has = listed-source from.source name seen is has
 
-listed : (tree : Stmt) (name : List ℕ) (seen : Seen) → reads_rows tree ≡ true → table_named tree ≡ Some name → pointwise nat_eq seen.info.name name ≡ true
-    → Lists (meaning_of (seen ∷ []) tree)
-listed (stmt.Query query) name seen reads is has = listed-from query.select.from name seen is has
-listed other name seen reads is has = cc
+listed : (tree : Stmt) (name : List ℕ) (seen : Seen) → IsBuilt tree → reads_rows tree ≡ true → table_named tree ≡ Some name
+    → pointwise nat_eq seen.info.shape.name name ≡ true → Lists (meaning_of (seen ∷ []) tree)
+listed (stmt.Query query) name seen built reads is has =
+    listed-from query.select.from name seen (named-from query.select.from _ name built.select.from is) has
+listed other name seen built reads is has = cc
 
 -- the table found by a name, and the name
 found-name : (o : Option (List ℕ)) (tables : List Table) (table : Table) → table_by_name o tables ≡ Some table
@@ -121,7 +123,7 @@ either-way : (b : Bool) → (b ≡ true) ⊎ (b ≡ false)
 either-way true = inl refl
 either-way false = inr refl
 
-module _ {D : Type 0} (told : D → Option Store) (house : House D) (book : List Entry) (tree : Stmt) (sound : IsSound (state_of book)) where
+module _ {D : Type 0} (told : D → Option Store) (house : House D) (book : List Entry) (tree : Stmt) (sound : IsSound (state_of book)) (built : IsBuilt tree) where
   -- over the table that is seen, with its rows where they matter, the statement means what it means
   enough : (seen : List Seen) (o : Option Table) → o ≡ table_by_name (table_named tree) (state_of book).tables → seen ≡ seen_of tree o
       → meaning_of seen tree ≡ meant book tree
@@ -141,7 +143,7 @@ module _ {D : Type 0} (told : D → Option Store) (house : House D) (book : List
   reader None seen reads at is = inl (enough seen None at is)
   reader (Some table) seen reads at is =
       let name = found-name (table_named tree) (state_of book).tables table (sym at) in
-      let one = listed tree name.0 (record { info = table.info; rows = is.0 }) reads name.1 (has-name name.0 (state_of book).tables table name.2) in
+      let one = listed tree name.0 (record { info = table.info; rows = is.0 }) built reads name.1 (has-name name.0 (state_of book).tables table name.2) in
       inr (one.0, one.1, ap (λ (xs : List Seen). meaning_of xs tree) is.1 ∙ one.2)
 
   seen-of-known : (seen : List Seen) → house.tables.items ≡ map known_of (state_of book).tables → IsSeen told house tree seen

@@ -9,26 +9,27 @@ use Rattle.hv_history.specs.declared.entry.Entry.TheVariants as entry
 use Rattle.hv_history.specs.declared.entry.Cause.TheVariants as cause
 use Rattle.hv_history.specs.declared.entry.FilePlace.{FilePlace}
 use Rattle.hv_history.specs.Spelling.{touch_spelling, place_spelling, entry_spelling}
-use Rattle.hv_journal.proofs.Lengths.{length-half, length-word, length-text, length-touches}
+use Rattle.hv_bytes.proofs.Lengths.{length-four, length-eight, length-text}
+use Rattle.hv_journal.proofs.Lengths.{length-touches}
 
 pub short_idle : (txn : TxnId) → length (entry_spelling (entry.Commit txn [])) ≤ 65536
-short_idle txn = grind (arith, length-append, length-word, length-touches)
+short_idle txn = grind (arith, length-append, length-eight, length-touches)
 
 pub short_refused : (txn : TxnId) (number : ℕ) → length (entry_spelling (entry.Abort txn (cause.Refused number))) ≤ 65536
-short_refused txn number = grind (arith, length-append, length-word, length-half)
+short_refused txn number = grind (arith, length-append, length-eight, length-four)
 
 pub short_limit : (txn : TxnId) → length (entry_spelling (entry.Abort txn cause.RowLimit)) ≤ 65536
-short_limit txn = grind (arith, length-append, length-word)
+short_limit txn = grind (arith, length-append, length-eight)
 
 pub short_insert : (txn : TxnId) (table : TableId) (inserted deleted : ℕ)
     → length (entry_spelling (entry.Commit txn (record { table = table; partition = []; inserted = inserted; deleted = deleted } ∷ []))) ≤ 65536
 unfolding touch_spelling
-short_insert txn table inserted deleted = grind (arith, length-append, length-word, length-text, length-touches)
+short_insert txn table inserted deleted = grind (arith, length-append, length-eight, length-text, length-touches)
 
 pub short_damage : (txn : TxnId) (place : FilePlace) → length place.partition + length place.dir ≤ 1000
     → length (entry_spelling (entry.Abort txn (cause.Damaged place))) ≤ 65536
 unfolding place_spelling
-short_damage txn place short = grind (arith, length-append, length-word, length-half, length-text)
+short_damage txn place short = grind (arith, length-append, length-eight, length-four, length-text)
 
 pub short_touch : (txn : TxnId) (wrote : List Touch) (table : TableId) (inserted : ℕ)
     → wrote ≡ record { table = table; partition = []; inserted = inserted; deleted = 0 } ∷ []

@@ -4,10 +4,11 @@ use Rattle.std.specs.FinMap as tree
 use Rattle.hv_base.specs.declared.ids.TxnId.{TxnId}
 use Rattle.hv_base.specs.declared.ids.TableId.{TableId}
 use Rattle.hv_base.specs.declared.ids.Touch.{Touch}
+use Rattle.hv_base.specs.Refusals as refusals
 use Rattle.hv_base.specs.Told.{Moves}
 use Rattle.hv_shelf.specs.declared.place.Place.{Place}
 use Rattle.hv_shelf.specs.Disk.{Store}
-use Rattle.hv_logic.specs.declared.catalog.Column.{Column}
+use Rattle.hv_logic.specs.declared.catalog.Shape.{Shape}
 use Rattle.hv_logic.specs.declared.catalog.TableInfo.{TableInfo}
 use Rattle.hv_logic.specs.declared.effect.Effect.{Effect}
 use Rattle.hv_logic.specs.declared.meaning.Meaning.{Meaning}
@@ -64,7 +65,7 @@ abbrev pub KnownOf : {D : Type 0} → House D → TableInfo → Known → Type 0
 KnownOf house info known = numbered house.tables.items info.table.0 ≡ Some known
 
 abbrev pub next_written : Known → Effect → Written
-next_written known effect = written_by (known.given + 1) effect
+next_written known effect = written_by (known.given + 1) 0 effect
 
 abbrev pub ChangesRows : {D : Type 0} → (D → Option Store) → House D → House D → TxnId → TableInfo → Effect → List ℕ → Bool → Type 0
 ChangesRows told before now txn info effect text refused =
@@ -78,23 +79,20 @@ ChangesBy told before now txn info effect count text refused =
     ((count ≡ 0) × Commits told before now txn [] × IsDone (counts_line []) text refused)
     ⊎ ((0 < count) × ChangesRows told before now txn info effect text refused)
 
-abbrev pub made_info : TableId → List ℕ → List Column → TableInfo
-made_info table name columns = record { table = table; name = name; columns = columns; parts = []; bucketed = []; buckets = 0 }
-
 abbrev pub next_id : {D : Type 0} → House D → TableId
 next_id house = record { 0 = length house.tables.items + 1 }
 
-pub record Makes {D : Type 0} (told : D → Option Store) (before now : House D) (txn : TxnId) (name : List ℕ) (columns : List Column) : Type 0 where
+pub record Makes {D : Type 0} (told : D → Option Store) (before now : House D) (txn : TxnId) (shape : Shape) : Type 0 where
   pub noted : IsNoted told (entry.Create txn (next_id before)) before now
   pub opened : now.opened ≡ before.opened
-  pub tables : now.tables.items ≡ before.tables.items ++ record { info = made_info (next_id before) name columns; given = 0 } ∷ []
+  pub tables : now.tables.items ≡ before.tables.items ++ record { info = record { table = next_id before; shape = shape }; given = 0 } ∷ []
 
 -- a statement of this meaning ends so
 abbrev pub EndsAs : {D : Type 0} → (D → Option Store) → House D → House D → TxnId → Meaning → List ℕ → Bool → Type 0
 EndsAs told before now txn (Listing names rows) text refused = Commits told before now txn [] × IsDone (listing names rows) text refused
 EndsAs told before now txn (Change info effect) text refused = ChangesBy told before now txn info effect (length effect.inserts) text refused
-EndsAs told before now txn (Make name columns) text refused = Makes told before now txn name columns × IsDone ok_line text refused
-EndsAs told before now txn (Refused number) text refused = Refuses told before now txn (cause.Refused number) text refused
+EndsAs told before now txn (Make shape) text refused = Makes told before now txn shape × IsDone ok_line text refused
+EndsAs told before now txn (Refused why) text refused = Refuses told before now txn (cause.Refused (refusals.number why)) text refused
 EndsAs told before now txn RowLimit text refused = Refuses told before now txn cause.RowLimit text refused
 EndsAs told before now txn _ text refused = Commits told before now txn [] × IsDone ok_line text refused
 

@@ -9,7 +9,7 @@ use Rattle.hv_history.specs.declared.entry.Entry.{Entry}
 use Rattle.hv_history.specs.declared.entry.Entry.TheVariants as entry
 use Rattle.hv_history.specs.declared.entry.Cause.TheVariants as cause
 use Rattle.hv_history.specs.State.{state_of, numbered}
-use Rattle.hv_history.specs.Legal.{IsLegalFrom}
+use Rattle.hv_history.specs.Legal.{IsLegalFrom, profile}
 use Rattle.hv_stands.specs.Endings.{next_number, opening, statement_entries}
 use Rattle.hv_house.specs.declared.fault.HouseFault.{HouseFault}
 use Rattle.hv_house.specs.declared.house.House.{House}
@@ -44,7 +44,7 @@ pub record IsHalfway (before now : List Entry) (number : ℕ) (text : List ℕ) 
   pub added : List Entry
   pub book : now ≡ before ++ added
   pub beginning : IsBeginning before number text added
-  pub legal : IsLegalFrom (state_of before) added
+  pub legal : IsLegalFrom profile (state_of before) added
 
 -- the next write id of a table was noted for the transaction
 pub record GivesId {D : Type 0} (before now : House D) (txn : TxnId) : Type 0 where

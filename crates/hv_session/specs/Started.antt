@@ -1,5 +1,5 @@
 -- A statement that has started.
-use Rattle.std.specs.Prelude.{◌≡◌, ◌⊎◌, ℕ, ◌+◌, Bool, Option, List, [], ◌++◌}
+use Rattle.std.specs.Prelude.{◌≡◌, ◌⊎◌, ℕ, ◌+◌, Bool, Option, Some, List, [], ◌++◌}
 use Rattle.hv_base.specs.declared.ids.TxnId.{TxnId}
 use Rattle.hv_base.specs.Told.{Moves}
 use Rattle.hv_shelf.specs.Disk.{Store}
@@ -7,6 +7,7 @@ use Rattle.hv_journal.specs.Appending.{KeepsTree}
 use Rattle.hv_stands.specs.Endings.{next_number, statement_entries}
 use Rattle.hv_ast.specs.declared.statement.Stmt.{Stmt}
 use Rattle.hv_logic.specs.declared.seen.Seen.{Seen}
+use Rattle.hv_logic.specs.declared.meaning.Meaning.{Meaning}
 use Rattle.hv_logic.specs.Meaning.{meaning_of}
 use Rattle.hv_history.specs.declared.entry.FilePlace.{FilePlace}
 use Rattle.hv_history.specs.declared.entry.Cause.TheVariants.{Damaged}
@@ -27,7 +28,8 @@ pub record IsStarted {D : Type 0} (told : D → Option Store) (before now : Hous
 -- what the statement may come to can be ended
 abbrev pub CanFinish : {D : Type 0} → (D → Option Store) → House D → Stmt → Type 0
 CanFinish {D = D} told house tree =
-    (asked : House D) (seen : List Seen) → IsAsked told house asked → IsSeen told house tree seen → CanEnd asked (meaning_of seen tree)
+    (asked : House D) (seen : List Seen) (meaning : Meaning) → IsAsked told house asked → IsSeen told house tree seen
+    → meaning_of seen tree ≡ Some meaning → CanEnd asked meaning
 
 -- it ended by what it means over what was seen, or for a damaged file
 pub record EndsSeen {D : Type 0} (told : D → Option Store) (before now : House D) (txn : TxnId) (tree : Stmt) (text : List ℕ) (refused : Bool) : Type 0 where
@@ -35,7 +37,9 @@ pub record EndsSeen {D : Type 0} (told : D → Option Store) (before now : House
   pub only_asked : IsAsked told before asked
   pub seen : List Seen
   pub sees : IsSeen told before tree seen
-  pub ends : EndsAs told asked now txn (meaning_of seen tree) text refused
+  pub meaning : Meaning
+  pub means : meaning_of seen tree ≡ Some meaning
+  pub ends : EndsAs told asked now txn meaning text refused
 
 pub record EndsDamaged {D : Type 0} (told : D → Option Store) (before now : House D) (txn : TxnId) (tree : Stmt) (text : List ℕ) (refused : Bool) : Type 0 where
   pub asked : House D

@@ -1,11 +1,12 @@
 ghost use Rattle.std.specs.Prelude.{◌≡◌, ◌<◌, ◌≤◌, ◌+◌, [], ◌∷◌, length, true, false, None, Some, IfOk, IfErr, IsErrOf};
 ghost use Rattle.std.specs.List.{AllByRecursion};
+ghost use Rattle.hv_base.specs.Told.{StaysTold};
 ghost use Rattle.hv_history.specs.declared.entry.Entry.TheVariants as entries;
 ghost use Rattle.hv_history.specs.Spelling.{entry_spelling};
 ghost use Rattle.hv_history.specs.Answers.{listing, counts_line, ok_line, cause_text};
 ghost use Rattle.hv_house.specs.declared.fault.HouseFault.TheVariants.{Store};
 ghost use Rattle.hv_house.specs.Faults.{StoreCause};
-ghost use Rattle.hv_house.specs.House.{entries_of, book_limit, entry_limit, HasNumbers, IsKept, StaysTold, IsHalted};
+ghost use Rattle.hv_house.specs.House.{entries_of, book_limit, entry_limit, HasNumbers, IsKept, IsHalted};
 ghost use Rattle.hv_stands.specs.Laws.{inserting};
 ghost use Rattle.hv_session.specs.Ends.{IsDone, Commits, Refuses, Makes, ChangesBy, ChangesRows, CanChange, CanEnd, EndsAs};
 ghost use Rattle.hv_session.specs.Halting.{IsUnended};
@@ -14,7 +15,7 @@ use crate::reply::Reply;
 use hv_base::{List, NoMemory, TableId, Text, Touch, TxnId};
 use hv_history::{Cause, cause_text, counts_line, listing, ok_line, written_by};
 use hv_house::{House, HouseFault};
-use hv_logic::{Column, Effect, Meaning, TableInfo};
+use hv_logic::{Effect, Meaning, Shape, TableInfo};
 use hv_shelf::Shelf;
 use hv_value::Row;
 use std::alloc::Global;
@@ -78,12 +79,11 @@ fn make<D: Shelf>(
     alloc: Global,
     house: &mut House<D>,
     txn: TxnId,
-    name: Text,
-    columns: List<Column>,
+    shape: Shape,
 ) -> Result<Reply, HouseFault>
     requires kept { IsKept D.told house.old }
     requires room { length (entries_of house.old) < book_limit }
-    ensures made { IfOk result (λ reply. Makes D.told house.old house.new txn name columns
+    ensures made { IfOk result (λ reply. Makes D.told house.old house.new txn shape
         × IsDone ok_line reply.text reply.refused) }
     ensures tells { StaysTold (D.told house.old.shelf) (D.told house.new.shelf) }
     ensures halted { IfErr result (λ fault. IsHalted D.told fault house.old house.new) }
@@ -93,11 +93,7 @@ fn make<D: Shelf>(
     let text = ok_line(alloc)?;
     let info = TableInfo {
         table: TableId(house.tables.len() as u64 + 1),
-        name,
-        columns,
-        parts: List::empty(alloc),
-        bucketed: List::empty(alloc),
-        buckets: 0,
+        shape,
     };
     house.create(txn, info)?;
     Ok(done(text))
@@ -142,7 +138,7 @@ fn change<D: Shelf>(
     let wrote = touches(alloc, info.table, effect.inserts.len() as u64)?;
     let text = counts_line(alloc, wrote.as_slice())?;
     let write = house.give(txn, info.table)?;
-    let written = written_by(alloc, write.0, effect)?;
+    let written = written_by(alloc, write.0, 0, effect)?;
     house.put_written(alloc, info.table, &written)?;
     house.commit(txn, wrote)?;
     Ok(done(text))
@@ -199,10 +195,13 @@ pub fn end<D: Shelf>(
             idle(alloc, house, txn, text)
         }
         Meaning::Change(info, effect) => change_by(alloc, house, txn, info, effect),
-        Meaning::Make(name, columns) => make(alloc, house, txn, name, columns),
-        Meaning::Refused(number) => refuse(alloc, house, txn, Cause::Refused { number }),
+        Meaning::Make(shape) => make(alloc, house, txn, shape),
+        Meaning::Refused(refusal) => {
+            let number = refusal.number();
+            refuse(alloc, house, txn, Cause::Refused { number })
+        }
         Meaning::RowLimit => refuse(alloc, house, txn, Cause::RowLimit),
-        Meaning::Plain | Meaning::Unbuilt => {
+        Meaning::Plain => {
             let text = ok_line(alloc)?;
             idle(alloc, house, txn, text)
         }

@@ -1,8 +1,9 @@
-ghost use Rattle.std.specs.Prelude.{List, ℕ, IfOk};
+ghost use Rattle.std.specs.Prelude.{◌≡◌, List, ℕ, IfOk};
+ghost use Rattle.hv_history.specs.Answers.{failed_line};
 ghost use Rattle.hv_reading.specs.Faults.{IsRefusalOf};
-ghost use Rattle.hv_session.specs.Faults.{IsFaultLine};
+ghost use Rattle.hv_session.specs.Faults.{IsFaultLine, placed_line};
 
-use hv_base::{List, NoMemory};
+use hv_base::{List, NoMemory, Refusal};
 use hv_reading::TextFault;
 use std::alloc::Global;
 
@@ -13,19 +14,37 @@ pub struct Reply {
     pub refused: bool,
 }
 
+/// The line of a refusal of this number, and what it names.
+#[tactic(auto, unfolding(hv_history::specs::Answers::failed_line))]
+fn failed_line(alloc: Global, number: u32, text: &str) -> Result<Vec<u8>, NoMemory>
+    ensures { IfOk result (λ line. line.items ≡ failed_line number text.now) }
+{
+    let line = format!(in alloc; "FAILED {number} {text}\n")?;
+    Ok(line.into_bytes())
+}
+
+/// The line of a refusal at a place of the text.
+#[tactic(auto, unfolding(crate::specs::Faults::placed_line))]
+fn placed_line(alloc: Global, refusal: Refusal, at: u64) -> Result<Vec<u8>, NoMemory>
+    ensures { IfOk result (λ line. line.items ≡ placed_line refusal at) }
+{
+    let name = refusal.name();
+    let text = format!(in alloc; "{name} at {at}")?;
+    failed_line(alloc, refusal.number(), text.as_str())
+}
+
 /// The line of a text that is refused.
 #[tactic(auto, unfolding(crate::specs::Faults::fault_line))]
 pub fn fault_line(alloc: Global, fault: TextFault) -> Result<Vec<u8>, NoMemory>
     ensures line { IfOk result (λ line. (text : List ℕ) → IsRefusalOf fault text
         → IsFaultLine text line.items) }
 {
-    let line = match fault {
-        TextFault::BadCharacter { at } => format!(in alloc; "FAILED 1 BadCharacter at {at}\n")?,
-        TextFault::OpenString { at } => format!(in alloc; "FAILED 2 OpenString at {at}\n")?,
-        TextFault::WideNumber { at } => format!(in alloc; "FAILED 3 WideNumber at {at}\n")?,
-        TextFault::Syntax => format!(in alloc; "FAILED 4 Syntax\n")?,
-        TextFault::Nesting { at } => format!(in alloc; "FAILED 5 Nesting at {at}\n")?,
-        TextFault::NoMemory => return Err(NoMemory),
-    };
-    Ok(line.into_bytes())
+    match fault {
+        TextFault::BadCharacter { at } => placed_line(alloc, Refusal::BadCharacter, at),
+        TextFault::OpenString { at } => placed_line(alloc, Refusal::OpenString, at),
+        TextFault::WideNumber { at } => placed_line(alloc, Refusal::WideNumber, at),
+        TextFault::Syntax => failed_line(alloc, Refusal::Syntax.number(), Refusal::Syntax.name()),
+        TextFault::Nesting { at } => placed_line(alloc, Refusal::Nesting, at),
+        TextFault::NoMemory => Err(NoMemory),
+    }
 }

@@ -1,10 +1,11 @@
 ghost use Rattle.std.specs.Prelude.{◌≡◌, ◌<◌, ◌≤◌, ◌+◌, ℕ, List, length, true, IfOk, IfErr, IsErrOf};
 ghost use Rattle.std.specs.List.{AllByRecursion};
-ghost use Rattle.hv_base.specs.Told.{Tells};
+ghost use Rattle.hv_base.specs.Told.{Tells, StaysTold};
+ghost use Rattle.hv_ast.specs.Built.{IsBuilt};
 ghost use Rattle.hv_grammar.specs.Running.{Runs};
 ghost use Rattle.hv_house.specs.declared.fault.HouseFault.TheVariants.{Store};
 ghost use Rattle.hv_house.specs.Faults.{StoreCause};
-ghost use Rattle.hv_house.specs.House.{entries_of, book_limit, HasNumbers, IsKept, IsReady, Shows, StaysTold};
+ghost use Rattle.hv_house.specs.House.{entries_of, book_limit, HasNumbers, IsKept, IsReady, Shows};
 ghost use Rattle.hv_session.specs.Answered.{IsAnswered, AddsAtMost, HasRun};
 ghost use Rattle.hv_reading.specs.Faults.{IsRefusalOf};
 ghost use Rattle.hv_stands.specs.Endings.{main_session};
@@ -14,7 +15,7 @@ ghost use Rattle.hv_session.specs.Halting.{IsUnended, HasStopped};
 
 use crate::ending::{end, refuse};
 use crate::reply::{Reply, fault_line};
-use hv_ast::Stmt;
+use hv_ast::{Stmt, discard};
 use hv_base::{Duplicate, List, NoMemory, Text, TxnId};
 use hv_history::Cause;
 use hv_house::{House, HouseFault, RowFault};
@@ -63,6 +64,7 @@ fn finish<D: Shelf>(
     tree: &Stmt,
 ) -> Result<Reply, HouseFault>
     requires kept { IsKept D.told house.old }
+    requires built { IsBuilt tree.now }
     requires room { length (entries_of house.old) + 1 < book_limit }
     requires numbers { AllByRecursion HasNumbers house.old.tables.items }
     requires can { CanFinish D.told house.old tree.now }
@@ -94,7 +96,7 @@ fn run<D: Shelf>(
     requires ready { IsReady D.told house.old }
     requires named { session ≡ main_session }
     requires tree { Runs text tree.now }
-    requires same { kept ≡ tree.now }
+    requires kept { Runs text kept }
     requires room { length (entries_of house.old) + 4 ≤ book_limit }
     requires short { length text ≤ 32768 }
     ensures ran { IfOk result (λ reply. HasRun D.told house.old house.new number text
@@ -109,7 +111,8 @@ fn run<D: Shelf>(
     finish(alloc, house, txn, tree)
 }
 
-/// Copies the text and the tree, and runs them.
+/// Copies the text, reads it once more for the book's tree, and runs it. Since the text runs, only
+/// memory may lack at the second reading.
 fn run_copies<D: Shelf>(
     alloc: Global,
     house: &mut House<D>,
@@ -131,11 +134,11 @@ fn run_copies<D: Shelf>(
 {
     let copy = text.duplicate(alloc)?;
     let session = session_name(alloc)?;
-    let kept = tree.duplicate(alloc)?;
-    run(alloc, house, session, number, copy, tree, kept)
+    match read_statement(alloc, text) {
+        Ok(kept) => run(alloc, house, session, number, copy, tree, kept),
+        Err(_) => Err(HouseFault::NoMemory),
+    }
 }
-
-fn discard<T: Drop>(_value: T) {}
 
 /// The same with a tree that is not needed any more.
 fn run_owned<D: Shelf>(

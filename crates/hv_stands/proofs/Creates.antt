@@ -1,61 +1,87 @@
 -- What makes a table.
-use Rattle.std.proofs.Common.{◌≡◌, ℕ, ◌+◌, false, IsTrue, IsNone, Option, Some, None, List, [], ◌∷◌, ◌++◌, length, refl, sym, ap, ◌∙◌, subst}
+use Rattle.std.proofs.Common.{◌≡◌, ℕ, ◌+◌, ◌&&◌, ◌||◌, nat_eq, Bool, true, false, cond, IsFalse, IsTrue, IsNone, Option, Some, None, List, [], ◌∷◌, ◌++◌, map, filter, length, refl, sym, ap, ◌∙◌, subst}
+use Rattle.std.specs.Cmp.Lexicographic.{pointwise}
+use Rattle.std.specs.List.{list_any}
 use Rattle.hv_ast.specs.declared.statement.Stmt.{Stmt}
 use Rattle.hv_grammar.specs.Texts.{tree_of}
-use Rattle.hv_logic.specs.declared.catalog.Column.{Column}
+use Rattle.hv_logic.specs.declared.catalog.Shape.{Shape}
+use Rattle.hv_logic.specs.declared.seen.Seen.{Seen}
 use Rattle.hv_logic.specs.declared.meaning.Meaning.{Meaning}
 use Rattle.hv_logic.specs.declared.meaning.Meaning.TheVariants.{Make}
-use Rattle.hv_logic.specs.Meaning.{meaning_of, named}
+use Rattle.hv_logic.specs.Meaning.{named}
 use Rattle.hv_history.specs.declared.entry.Entry.TheVariants as entry
+use Rattle.hv_history.specs.declared.state.Table.{Table}
 use Rattle.hv_history.specs.declared.state.Transaction.{Transaction}
 use Rattle.hv_history.specs.declared.state.Ending.TheVariants.{Made}
-use Rattle.hv_history.specs.State.{State, numbered, acted, after, state_of, meaning, makes, made_info, new_table, seen_tables}
-use Rattle.hv_history.specs.Legal.{IsLegalFrom, CreateFits, IsMake, is_create, made_name}
-use Rattle.hv_stands.specs.Laws.{TablesAreMade, made_table}
+use Rattle.hv_history.specs.State.{State, numbered, acted, after, state_of, not_lost, meaning, made_by, made_shape, created_shape, seen_table, seen_tables}
+use Rattle.hv_history.specs.Legal.{IsLegalFrom, CreateFits, IsMake, is_create, is_named, made_name, profile}
 use Rattle.hv_history.specs.Answers.{ok_line}
-use Rattle.std.specs.Option.{option_map, option_to_list}
-use Rattle.hv_stands.proofs.Meanings.{makes-new}
-use Rattle.hv_stands.proofs.Endings.{with_last, next_of, running, behind_start, of-last, changed-last, numbered-last, meaning-running, goes}
+use Rattle.hv_stands.specs.Laws.{TablesAreMade, made_table}
+use Rattle.hv_stands.proofs.Meanings.{IsNew, makes-new}
+use Rattle.hv_stands.proofs.Endings.{with_last, next_of, running, behind_start, of-last, changed-last, numbered-last, legal-last, goes}
 
-made-behind : (s : State) (number : ℕ) (text : List ℕ) (table : ℕ) (m : Meaning) → meaning (running s number text [] None) ≡ m
-    → after (behind_start s number text) (entry.Create (record { 0 = next_of s }) (record { 0 = table }))
-    ≡ with_last s (s.entries + 1 + 1 + 1) (s.tables ++ option_to_list (option_map new_table (made_info table m)))
-    (running s number text [] (Some (Made (s.entries + 1 + 1) table)))
+-- ---- a name that no live table has
+
+absent-name : (same : Bool) (seen : Seen) (o : Option Seen) (later : Bool) → (IsNone o → later ≡ false)
+    → IsNone (cond same (Some seen) o) → same || later ≡ false
+absent-name true seen o later h none = cc
+absent-name false seen o later h none = h none
+
+absent-step : (live : Bool) (name : List ℕ) (table : Table) (tables : List Table) (later : Bool)
+    → (IsNone (named name (map seen_table tables)) → later ≡ false)
+    → IsNone (named name (map seen_table (cond live (table ∷ tables) tables)))
+    → live && pointwise nat_eq table.info.shape.name name || later ≡ false
+absent-step true name table tables later h none =
+    absent-name (pointwise nat_eq table.info.shape.name name) (seen_table table) (named name (map seen_table tables)) later h none
+absent-step false name table tables later h none = h none
+
+absent-named : (name : List ℕ) (tables : List Table) → IsNone (named name (seen_tables tables)) → IsFalse (list_any (is_named name) tables)
+absent-named name [] none = refl
+absent-named name (table ∷ tables) none =
+    absent-step table.is_live name table (filter (λ (t : Table). t.is_live) tables) (list_any (is_named name) tables) (absent-named name tables) none
+
+-- ---- the table that is made
+
+made-behind : (s : State) (number : ℕ) (text : List ℕ) (m : Option Meaning) (table : ℕ) (shape : Shape) → created_shape (tree_of text) ≡ shape
+    → after (behind_start s number text m) (entry.Create (record { 0 = next_of s }) (record { 0 = table }))
+    ≡ with_last s (s.entries + 1 + 1 + 1) (s.tables ++ made_table table shape ∷ [])
+    (running s number text m [] [] (Some (Made (s.entries + 1 + 1) table)))
 unfolding acted
-made-behind s number text table m means =
+made-behind s number text m table shape made =
     ap (λ (ts : List Transaction). record {
       entries = s.entries + 1 + 1 + 1;
-      boots = s.boots;
+      openings = not_lost s.openings;
       transactions = ts;
-      tables = s.tables ++ makes table (numbered (s.transactions ++ running s number text [] None ∷ []) (next_of s));
+      tables = s.tables ++ made_by table (numbered (s.transactions ++ running s number text m [] [] None ∷ []) (next_of s)) ∷ [];
       jobs = s.jobs;
-    }) (changed-last _ s.transactions (running s number text [] None))
-    ∙ ap (λ (o : Option Transaction). with_last s (s.entries + 1 + 1 + 1) (s.tables ++ makes table o) (running s number text [] (Some (Made (s.entries + 1 + 1) table))))
-    (numbered-last s.transactions (running s number text [] None))
-    ∙ ap (λ (n : Meaning). with_last s (s.entries + 1 + 1 + 1) (s.tables ++ option_to_list (option_map new_table (made_info table n))) (running s number text [] (Some (Made (s.entries + 1 + 1) table)))) means
+    }) (changed-last _ s.transactions (running s number text m [] [] None))
+    ∙ ap (λ (o : Option Transaction). with_last s (s.entries + 1 + 1 + 1) (s.tables ++ made_by table o ∷ []) (running s number text m [] [] (Some (Made (s.entries + 1 + 1) table))))
+    (numbered-last s.transactions (running s number text m [] [] None))
+    ∙ ap (λ (made : Shape). with_last s (s.entries + 1 + 1 + 1) (s.tables ++ made_table table made ∷ []) (running s number text m [] [] (Some (Made (s.entries + 1 + 1) table)))) made
 
-made-legal : (s : State) (number : ℕ) (text : List ℕ) (tree : Stmt) (name : List ℕ) (columns : List Column) → tree_of text ≡ Some tree
-    → meaning_of (seen_tables s.tables) tree ≡ Make name columns → meaning (running s number text [] None) ≡ Make name columns
-    → IsLegalFrom (behind_start s number text) (entry.Create (record { 0 = next_of s }) (record { 0 = length s.tables + 1 }) ∷ [])
-made-legal s number text tree name columns is means now =
-    let new : IsTrue (is_create (Some tree)) × IsNone (named (made_name (Some tree)) (seen_tables s.tables)) =
-    makes-new tree (seen_tables s.tables) name columns means in (
-      of-last s (s.entries + 1 + 1) s.tables (running s number text [] None) (CreateFits (behind_start s number text) (length s.tables + 1))
-          (record {
-            running = record { unended = refl; started = refl };
-            create = subst (λ (o : Option Stmt). IsTrue (is_create o)) (sym is) new.0;
-            absent = subst (λ (o : Option Stmt). IsNone (named (made_name o) (seen_tables s.tables))) (sym is) new.1;
-            next = refl;
-          }),
-      of-last s (s.entries + 1 + 1) s.tables (running s number text [] None) (λ (t : Transaction). IsMake (meaning t)) (subst IsMake (sym now) tt),
-      tt,
-    )
+made-legal : (s : State) (number : ℕ) (text : List ℕ) (tree : Stmt) (shape : Shape) → tree_of text ≡ Some tree
+    → IsNew tree (seen_tables s.tables) shape
+    → IsLegalFrom profile (behind_start s number text (Some (Make shape)))
+    (entry.Create (record { 0 = next_of s }) (record { 0 = length s.tables + 1 }) ∷ [])
+made-legal s number text tree shape is new =
+    let t : Transaction = running s number text (Some (Make shape)) [] [] None in
+    let here : State = behind_start s number text (Some (Make shape)) in
+    let none : IsFalse (list_any (is_named (made_name (Some tree))) s.tables) = absent-named (made_name (Some tree)) s.tables new.absent in
+    legal-last here (entry.Create (record { 0 = next_of s }) (record { 0 = length s.tables + 1 }))
+    (of-last s (s.entries + 1 + 1) s.tables t (CreateFits here (length s.tables + 1))
+    (record {
+      running = record { unended = refl; started = refl };
+      create = subst (λ (o : Option Stmt). IsTrue (is_create o)) (sym is) new.create;
+      absent = subst (λ (o : Option Stmt). IsFalse (list_any (is_named (made_name o)) s.tables)) (sym is) none;
+      next = refl;
+    }))
+    (of-last s (s.entries + 1 + 1) s.tables t (λ (other : Transaction). IsMake (meaning other)) tt)
 
 pub tables-made : TablesAreMade
-tables-made book number text tree name columns sound is means =
+tables-made book number text tree shape sound space is means =
     let s : State = state_of book in
-    let now : meaning (running s number text [] None) ≡ Make name columns = meaning-running s number text [] None tree (Make name columns) is.read means in
-    goes book number text tree (entry.Create (record { 0 = next_of s }) (record { 0 = length s.tables + 1 }) ∷ []) (s.entries + 1 + 1 + 1)
-    (s.tables ++ made_table (length s.tables + 1) name columns ∷ []) [] (Made (s.entries + 1 + 1) (length s.tables + 1)) ok_line false sound is
-    (made-behind s number text (length s.tables + 1) (Make name columns) now)
-    (made-legal s number text tree name columns is.read means now) refl refl
+    let new : IsNew tree (seen_tables s.tables) shape = makes-new tree (seen_tables s.tables) shape means in
+    goes book number text tree (Some (Make shape)) (entry.Create (record { 0 = next_of s }) (record { 0 = length s.tables + 1 }) ∷ []) (s.entries + 1 + 1 + 1)
+    (s.tables ++ made_table (length s.tables + 1) shape ∷ []) [] [] (Made (s.entries + 1 + 1) (length s.tables + 1)) ok_line false sound space is means
+    (made-behind s number text (Some (Make shape)) (length s.tables + 1) shape (ap created_shape is.read ∙ new.shape_is))
+    (made-legal s number text tree shape is.read new) refl refl

@@ -3,7 +3,7 @@ use Rattle.std.proofs.Common.{◌≡◌, ℕ, zero, suc, ◌+◌, ◌<◌, ◌==
 use Rattle.std.proofs.Math.Dec.{eqb-suc-zero}
 use Rattle.std.specs.Cmp.Lexicographic.{pointwise}
 use Rattle.std.specs.List.{list_any, AllByRecursion}
-use Rattle.std.specs.Option.{option_map}
+use Rattle.std.specs.Option.{option_map, option_to_list}
 use Rattle.hv_base.specs.declared.ids.Touch.{Touch}
 use Rattle.hv_value.specs.declared.row.Row.{Row}
 use Rattle.hv_logic.specs.declared.catalog.TableInfo.{TableInfo}
@@ -15,13 +15,14 @@ use Rattle.hv_history.specs.declared.entry.Entry.TheVariants as entry
 use Rattle.hv_history.specs.declared.state.Table.{Table}
 use Rattle.hv_history.specs.declared.state.Transaction.{Transaction}
 use Rattle.hv_history.specs.declared.state.Ending.TheVariants.{Committed}
-use Rattle.hv_history.specs.State.{State, numbered, changed, acted, after, state_of, meaning, seen_tables, owned, written_by, tables_behind, given_in}
+use Rattle.hv_history.specs.declared.state.Written.{Written}
+use Rattle.hv_history.specs.State.{State, numbered, changed, acted, after, state_of, not_lost, meaning, seen_tables, owned, written_by, writes_of, tables_behind, given_in}
 use Rattle.hv_history.specs.Answers.{counts_line, committed_text}
-use Rattle.hv_history.specs.Legal.{IsLegalFrom, GivenFits, CommitFits, touches_of, touch_conflicts, touches_conflict, TouchesAreMeant}
+use Rattle.hv_history.specs.Legal.{IsLegalFrom, GivenFits, CommitFits, touches_of, touch_conflicts, touches_conflict, TouchesAreMeant, HasRoom, profile}
 use Rattle.hv_stands.specs.Sound.{IsSound, IsLive}
 use Rattle.hv_stands.specs.Laws.{RowsAreInserted, NothingIsInserted, inserting, tables_inserted}
 use Rattle.hv_stands.proofs.Meanings.{deletes-nothing}
-use Rattle.hv_stands.proofs.Endings.{with_last, next_of, running, behind_start, of-last, changed-last, meaning-running, legal-step, goes}
+use Rattle.hv_stands.proofs.Endings.{with_last, next_of, running, behind_start, of-last, changed-last, legal-step, legal-last, room-started, goes}
 use Rattle.hv_stands.proofs.Queries.{committed-behind, and-false, meets-none, nothing-goes}
 
 -- ---- its touches
@@ -53,9 +54,9 @@ touches-none info effect some none =
     touched = record { table = info.table; partition = []; inserted = length effect.inserts; deleted = length effect.deletes } ∷ []
 
 pub nothing-inserted : NothingIsInserted
-nothing-inserted book number text tree info effect sound is means none =
-    nothing-goes book number text tree (Change info effect) sound is means
-    (touches-none info effect none (deletes-nothing tree (seen_tables (state_of book).tables) info effect means)) refl
+nothing-inserted book number text tree info effect sound space is means none =
+    nothing-goes book number text tree (Some (Change info effect)) sound space is means
+    (touches-none info effect none (deletes-nothing tree (seen_tables (state_of book).tables) info effect means))
 
 -- ---- the write id
 
@@ -67,26 +68,28 @@ all-numbered P (y ∷ xs) (suc zero) x h e =
     subst P same h.0
 all-numbered P (y ∷ xs) (suc (suc n)) x h e = all-numbered P xs (suc n) x h.1 e
 
-given-behind : (s : State) (number : ℕ) (text : List ℕ) (info : TableInfo) (write : ℕ)
-    → after (behind_start s number text) (entry.Given (record { 0 = next_of s }) info.table (record { 0 = write }))
-    ≡ with_last s (s.entries + 1 + 1 + 1) (changed (owned (next_of s)) s.tables info.table.0) (running s number text ((info.table.0, write) ∷ []) None)
+given-behind : (s : State) (number : ℕ) (text : List ℕ) (m : Option Meaning) (info : TableInfo) (write : ℕ)
+    → after (behind_start s number text m) (entry.Given (record { 0 = next_of s }) info.table (record { 0 = write }))
+    ≡ with_last s (s.entries + 1 + 1 + 1) (changed (owned (next_of s)) s.tables info.table.0) (running s number text m [] ((info.table.0, write) ∷ []) None)
 unfolding acted
-given-behind s number text info write =
+given-behind s number text m info write =
     ap (λ (ts : List Transaction). record {
       entries = s.entries + 1 + 1 + 1;
-      boots = s.boots;
+      openings = not_lost s.openings;
       transactions = ts;
       tables = changed (owned (next_of s)) s.tables info.table.0;
       jobs = s.jobs;
-    }) (changed-last _ s.transactions (running s number text [] None))
+    }) (changed-last _ s.transactions (running s number text m [] [] None))
 
-given-fits : (s : State) (number : ℕ) (text : List ℕ) (info : TableInfo) (table : Table) → IsSound s → numbered s.tables info.table.0 ≡ Some table
-    → GivenFits (behind_start s number text) info.table.0 (length table.owners + 1) (running s number text [] None)
-given-fits s number text info table sound at = record {
+pub given-fits : (s : State) (number : ℕ) (text : List ℕ) (m : Option Meaning) (id : ℕ) (table : Table) → IsSound s → HasRoom profile s 4
+    → numbered s.tables id ≡ Some table
+    → GivenFits profile (behind_start s number text m) id (length table.owners + 1) (running s number text m [] [] None)
+given-fits s number text m id table sound space at = record {
   running = record { unended = refl; started = refl };
   live = subst (λ (o : Option Table). IsSomeAnd o (λ (t : Table). IsTrue t.is_live × (length table.owners + 1 ≡ length t.owners + 1))) (sym at)
-      (all-numbered IsLive s.tables info.table.0 table sound.tables.live at, refl);
+      (all-numbered IsLive s.tables id table sound.tables.live at, refl);
   first = refl;
+  room = room-started s number text m space;
 }
 
 -- ---- the commit
@@ -104,10 +107,10 @@ inserts-apart info effect those = ap (λ b. b || false) (by those)
         (and-false ((info.table.0 == b.table.0) && pointwise nat_eq [] b.partition))
         ∙ by those
 
-commit-fits : (s : State) (number : ℕ) (text : List ℕ) (info : TableInfo) (effect : Effect) (write : ℕ) → 0 < length effect.inserts
-    → CommitFits (with_last s (s.entries + 1 + 1 + 1) (changed (owned (next_of s)) s.tables info.table.0) (running s number text ((info.table.0, write) ∷ []) None))
-    (inserting info effect ∷ []) (running s number text ((info.table.0, write) ∷ []) None)
-commit-fits s number text info effect write some = record {
+commit-fits : (s : State) (number : ℕ) (text : List ℕ) (m : Option Meaning) (info : TableInfo) (effect : Effect) (write : ℕ) → 0 < length effect.inserts
+    → CommitFits (with_last s (s.entries + 1 + 1 + 1) (changed (owned (next_of s)) s.tables info.table.0) (running s number text m [] ((info.table.0, write) ∷ []) None))
+    (inserting info effect ∷ []) (running s number text m [] ((info.table.0, write) ∷ []) None)
+commit-fits s number text m info effect write some = record {
   running = record { unended = refl; started = refl };
   rise = tt;
   own = (
@@ -119,60 +122,63 @@ commit-fits s number text info effect write some = record {
   );
   used = (ap (λ b. b || false) (eq-eqb info.table.0 info.table.0 refl), tt);
   clear = meets-none (s.entries + 1) (inserting info effect ∷ []) (inserts-apart info effect)
-      (s.transactions ++ running s number text ((info.table.0, write) ∷ []) None ∷ []);
+      (s.transactions ++ running s number text m [] ((info.table.0, write) ∷ []) None ∷ []);
 }
 
-inserted-legal : (s : State) (number : ℕ) (text : List ℕ) (info : TableInfo) (effect : Effect) (table : Table) → IsSound s
+inserted-legal : (s : State) (number : ℕ) (text : List ℕ) (info : TableInfo) (effect : Effect) (table : Table) → IsSound s → HasRoom profile s 4
     → numbered s.tables info.table.0 ≡ Some table → 0 < length effect.inserts → effect.deletes ≡ []
-    → meaning (running s number text ((info.table.0, length table.owners + 1) ∷ []) None) ≡ Change info effect
-    → IsLegalFrom (behind_start s number text)
+    → IsLegalFrom profile (behind_start s number text (Some (Change info effect)))
     (entry.Given (record { 0 = next_of s }) info.table (record { 0 = length table.owners + 1 })
     ∷ entry.Commit (record { 0 = next_of s }) (inserting info effect ∷ []) ∷ [])
-inserted-legal s number text info effect table sound at some none now =
+inserted-legal s number text info effect table sound space at some none =
+    let m : Option Meaning = Some (Change info effect) in
     let write : ℕ = length table.owners + 1 in
-    let t : Transaction = running s number text ((info.table.0, write) ∷ []) None in
+    let t : Transaction = running s number text m [] ((info.table.0, write) ∷ []) None in
     let tables : List Table = changed (owned (next_of s)) s.tables info.table.0 in
     let next : State = with_last s (s.entries + 1 + 1 + 1) tables t in
-    legal-step (behind_start s number text) next (entry.Given (record { 0 = next_of s }) info.table (record { 0 = write }))
-    (entry.Commit (record { 0 = next_of s }) (inserting info effect ∷ []) ∷ []) (given-behind s number text info write)
-    (of-last s (s.entries + 1 + 1) s.tables (running s number text [] None) (GivenFits (behind_start s number text) info.table.0 write)
-    (given-fits s number text info table sound at))
-    tt (
-      of-last s (s.entries + 1 + 1 + 1) tables t (CommitFits next (inserting info effect ∷ [])) (commit-fits s number text info effect write some),
-      of-last s (s.entries + 1 + 1 + 1) tables t (λ (other : Transaction). TouchesAreMeant (inserting info effect ∷ []) (meaning other))
-          (subst (TouchesAreMeant (inserting info effect ∷ [])) (sym now) (touches-some info effect some none)),
-      tt,
-    )
+    legal-step (behind_start s number text m) next (entry.Given (record { 0 = next_of s }) info.table (record { 0 = write }))
+    (entry.Commit (record { 0 = next_of s }) (inserting info effect ∷ []) ∷ []) (given-behind s number text m info write)
+    (of-last s (s.entries + 1 + 1) s.tables (running s number text m [] [] None) (GivenFits profile (behind_start s number text m) info.table.0 write)
+    (given-fits s number text m info.table.0 table sound space at))
+    tt
+    (legal-last next (entry.Commit (record { 0 = next_of s }) (inserting info effect ∷ []))
+    (of-last s (s.entries + 1 + 1 + 1) tables t (CommitFits next (inserting info effect ∷ [])) (commit-fits s number text m info effect write some))
+    (of-last s (s.entries + 1 + 1 + 1) tables t (λ (other : Transaction). TouchesAreMeant (inserting info effect ∷ []) (meaning other))
+    (touches-some info effect some none)))
+
+-- what its commit writes
+inserted-writes : (info : TableInfo) (effect : Effect) (write : ℕ)
+    → writes_of (Some (Change info effect)) 0 ((info.table.0, write) ∷ []) ≡ (info.table.0, written_by write 0 effect) ∷ []
+inserted-writes info effect write =
+    ap (λ (o : Option ℕ). option_to_list (option_map (λ (w : ℕ). (info.table.0, written_by w 0 effect)) o)) (found-given info.table.0 write)
 
 inserted-behind : (s : State) (number : ℕ) (text : List ℕ) (info : TableInfo) (effect : Effect) (write : ℕ)
-    → meaning (running s number text ((info.table.0, write) ∷ []) None) ≡ Change info effect
-    → after (after (behind_start s number text) (entry.Given (record { 0 = next_of s }) info.table (record { 0 = write })))
+    → after (after (behind_start s number text (Some (Change info effect))) (entry.Given (record { 0 = next_of s }) info.table (record { 0 = write })))
     (entry.Commit (record { 0 = next_of s }) (inserting info effect ∷ []))
-    ≡ with_last s (s.entries + 1 + 1 + 1 + 1) (tables_inserted s.tables (next_of s) info.table.0 (written_by write effect))
-    (running s number text ((info.table.0, write) ∷ []) (Some (Committed (s.entries + 1 + 1 + 1) (inserting info effect ∷ []))))
-inserted-behind s number text info effect write now =
+    ≡ with_last s (s.entries + 1 + 1 + 1 + 1) (tables_inserted s.tables (next_of s) info.table.0 (written_by write 0 effect))
+    (running s number text (Some (Change info effect)) (writes_of (Some (Change info effect)) 0 ((info.table.0, write) ∷ [])) ((info.table.0, write) ∷ [])
+    (Some (Committed (s.entries + 1 + 1 + 1) (inserting info effect ∷ []))))
+inserted-behind s number text info effect write =
+    let m : Option Meaning = Some (Change info effect) in
     let wrote : List Touch = inserting info effect ∷ [] in
+    let given : List (ℕ × ℕ) = (info.table.0, write) ∷ [] in
     let tables : List Table = changed (owned (next_of s)) s.tables info.table.0 in
-    ap (λ (n : State). after n (entry.Commit (record { 0 = next_of s }) wrote)) (given-behind s number text info write)
-    ∙ committed-behind s number text (s.entries + 1 + 1 + 1) tables ((info.table.0, write) ∷ []) wrote (Change info effect) now
-    ∙ ap (λ (o : Option ℕ). with_last s (s.entries + 1 + 1 + 1 + 1)
-    (tables_behind (option_map (λ (w : ℕ). (info.table.0, written_by w effect)) o) tables)
-    (running s number text ((info.table.0, write) ∷ []) (Some (Committed (s.entries + 1 + 1 + 1) wrote)))) (found-given info.table.0 write)
+    ap (λ (n : State). after n (entry.Commit (record { 0 = next_of s }) wrote)) (given-behind s number text m info write)
+    ∙ committed-behind s number text m (s.entries + 1 + 1 + 1) tables given wrote
+    ∙ ap (λ (ws : List (ℕ × Written)). with_last s (s.entries + 1 + 1 + 1 + 1) (tables_behind ws tables)
+    (running s number text m (writes_of m 0 given) given (Some (Committed (s.entries + 1 + 1 + 1) wrote)))) (inserted-writes info effect write)
 
 pub rows-inserted : RowsAreInserted
-rows-inserted book number text tree info effect table sound is means some at =
+rows-inserted book number text tree info effect table sound space is means some at =
     let s : State = state_of book in
+    let m : Option Meaning = Some (Change info effect) in
     let write : ℕ = length table.owners + 1 in
     let wrote : List Touch = inserting info effect ∷ [] in
     let given : List (ℕ × ℕ) = (info.table.0, write) ∷ [] in
-    let now : meaning (running s number text given None) ≡ Change info effect =
-    meaning-running s number text given None tree (Change info effect) is.read means in
-    goes book number text tree
+    goes book number text tree m
     (entry.Given (record { 0 = next_of s }) info.table (record { 0 = write }) ∷ entry.Commit (record { 0 = next_of s }) wrote ∷ [])
-    (s.entries + 1 + 1 + 1 + 1) (tables_inserted s.tables (next_of s) info.table.0 (written_by write effect)) given
-    (Committed (s.entries + 1 + 1 + 1) wrote) (counts_line wrote) false sound is
-    (inserted-behind s number text info effect write now)
-    (inserted-legal s number text info effect table sound at some (deletes-nothing tree (seen_tables s.tables) info effect means) now)
-    (ap (λ (n : Meaning). committed_text n wrote)
-    (meaning-running s number text given (Some (Committed (s.entries + 1 + 1 + 1) wrote)) tree (Change info effect) is.read means))
-    refl
+    (s.entries + 1 + 1 + 1 + 1) (tables_inserted s.tables (next_of s) info.table.0 (written_by write 0 effect)) (writes_of m 0 given) given
+    (Committed (s.entries + 1 + 1 + 1) wrote) (counts_line wrote) false sound space is means
+    (inserted-behind s number text info effect write)
+    (inserted-legal s number text info effect table sound space at some (deletes-nothing tree (seen_tables s.tables) info effect means))
+    refl refl

@@ -10,3 +10,5 @@ pub mod Soundness
 pub mod Tables
 pub mod StandingFiles
 pub mod ReadRows
+pub mod Named
+pub mod BuiltMeanings

@@ -1,43 +1,65 @@
 -- What commits: a query, with no touches.
-use Rattle.std.proofs.Common.{◌≡◌, ℕ, ◌+◌, ◌&&◌, ◌||◌, Bool, true, false, nat_lt, IsFalse, Option, Some, None, List, [], ◌∷◌, ◌++◌, refl, sym, ap, ◌∙◌, subst}
+use Rattle.std.proofs.Common.{◌≡◌, ℕ, ◌+◌, ◌&&◌, ◌||◌, Bool, true, false, nat_lt, IsFalse, Option, Some, None, List, [], ◌∷◌, ◌++◌, refl, sym, ap, ◌∙◌}
 use Rattle.std.specs.List.{list_any}
+use Rattle.std.proofs.lemmas.List.{append-nil}
 use Rattle.hv_base.specs.declared.ids.Touch.{Touch}
 use Rattle.hv_ast.specs.declared.statement.Stmt.{Stmt}
 use Rattle.hv_grammar.specs.Running.{Runs}
 use Rattle.hv_logic.specs.declared.meaning.Meaning.{Meaning}
-use Rattle.hv_logic.specs.declared.meaning.Meaning.TheVariants.{Listing}
+use Rattle.hv_logic.specs.declared.meaning.Meaning.TheVariants.{Refused, Listing, Change, Make, Plain, RowLimit}
 use Rattle.hv_history.specs.declared.entry.Entry.{Entry}
 use Rattle.hv_history.specs.declared.entry.Entry.TheVariants as entry
 use Rattle.hv_history.specs.declared.state.Table.{Table}
 use Rattle.hv_history.specs.declared.state.Transaction.{Transaction}
 use Rattle.hv_history.specs.declared.state.Ending.{Ending}
 use Rattle.hv_history.specs.declared.state.Ending.TheVariants.{Committed, Aborted, Made, Dropped}
-use Rattle.hv_history.specs.State.{State, numbered, acted, after, state_of, meaning, commits, commits_to, tables_behind}
+use Rattle.hv_history.specs.declared.state.Written.{Written}
+use Rattle.hv_history.specs.State.{State, numbered, acted, after, state_of, not_lost, meaning, writes_of, commits, tables_behind}
 use Rattle.hv_history.specs.Answers.{committed_text}
-use Rattle.hv_history.specs.Legal.{IsLegalFrom, CommitFits, TouchesAreMeant, touches_conflict, commits_against}
+use Rattle.hv_history.specs.Legal.{IsLegalFrom, CommitFits, TouchesAreMeant, touches_conflict, commits_against, profile}
 use Rattle.hv_stands.specs.Sound.{IsSound}
-use Rattle.hv_stands.specs.Endings.{statement_entries, Goes}
+use Rattle.hv_stands.specs.Endings.{HasSpace, statement_entries, Goes}
 use Rattle.hv_stands.specs.Laws.{QueriesEnd, committing, meant}
-use Rattle.hv_stands.proofs.Endings.{with_last, next_of, running, behind_start, of-last, changed-last, numbered-last, meaning-running, goes}
+use Rattle.hv_stands.proofs.Endings.{with_last, next_of, running, behind_start, of-last, changed-last, numbered-last, legal-last, goes}
 
 -- ---- a commit
 
-pub committed-behind : (s : State) (number : ℕ) (text : List ℕ) (entries : ℕ) (tables : List Table) (given : List (ℕ × ℕ)) (wrote : List Touch) (m : Meaning)
-    → meaning (running s number text given None) ≡ m
-    → after (with_last s entries tables (running s number text given None)) (entry.Commit (record { 0 = next_of s }) wrote)
-    ≡ with_last s (entries + 1) (tables_behind (commits_to m given) tables) (running s number text given (Some (Committed entries wrote)))
+pub committed-behind : (s : State) (number : ℕ) (text : List ℕ) (m : Option Meaning) (entries : ℕ) (tables : List Table) (given : List (ℕ × ℕ)) (wrote : List Touch)
+    → after (with_last s entries tables (running s number text m [] given None)) (entry.Commit (record { 0 = next_of s }) wrote)
+    ≡ with_last s (entries + 1) (tables_behind (writes_of m 0 given) tables)
+    (running s number text m (writes_of m 0 given) given (Some (Committed entries wrote)))
 unfolding acted
-committed-behind s number text entries tables given wrote m means =
+committed-behind s number text m entries tables given wrote =
     ap (λ (ts : List Transaction). record {
       entries = entries + 1;
-      boots = s.boots;
+      openings = not_lost s.openings;
       transactions = ts;
-      tables = tables_behind (commits (numbered (s.transactions ++ running s number text given None ∷ []) (next_of s))) tables;
+      tables = tables_behind (commits (numbered (s.transactions ++ running s number text m [] given None ∷ []) (next_of s))) tables;
       jobs = s.jobs;
-    }) (changed-last _ s.transactions (running s number text given None))
-    ∙ ap (λ (o : Option Transaction). with_last s (entries + 1) (tables_behind (commits o) tables) (running s number text given (Some (Committed entries wrote))))
-    (numbered-last s.transactions (running s number text given None))
-    ∙ ap (λ (n : Meaning). with_last s (entries + 1) (tables_behind (commits_to n given) tables) (running s number text given (Some (Committed entries wrote)))) means
+    }) (changed-last _ s.transactions (running s number text m [] given None))
+    ∙ ap (λ (o : Option Transaction). with_last s (entries + 1) (tables_behind (commits o) tables)
+    (running s number text m (writes_of m 0 given) given (Some (Committed entries wrote))))
+    (numbered-last s.transactions (running s number text m [] given None))
+    ∙ ap (λ (ws : List (ℕ × Written)). with_last s (entries + 1) (tables_behind ws tables)
+    (running s number text m (writes_of m 0 given) given (Some (Committed entries wrote)))) (append-nil (writes_of m 0 given))
+
+-- without a write id nothing is written
+pub writes-none : (m : Option Meaning) → writes_of m 0 [] ≡ []
+writes-none None = refl
+writes-none (Some (Refused why)) = refl
+writes-none (Some (Listing names rows)) = refl
+writes-none (Some (Change info effect)) = refl
+writes-none (Some (Make shape)) = refl
+writes-none (Some Plain) = refl
+writes-none (Some RowLimit) = refl
+
+pub idle-behind : (s : State) (number : ℕ) (text : List ℕ) (m : Option Meaning)
+    → after (behind_start s number text m) (entry.Commit (record { 0 = next_of s }) [])
+    ≡ with_last s (s.entries + 1 + 1 + 1) s.tables (running s number text m (writes_of m 0 []) [] (Some (Committed (s.entries + 1 + 1) [])))
+idle-behind s number text m =
+    committed-behind s number text m (s.entries + 1 + 1) s.tables [] []
+    ∙ ap (λ (ws : List (ℕ × Written)). with_last s (s.entries + 1 + 1 + 1) (tables_behind ws s.tables)
+    (running s number text m (writes_of m 0 []) [] (Some (Committed (s.entries + 1 + 1) [])))) (writes-none m)
 
 pub and-false : (b : Bool) → b && false ≡ false
 and-false true = refl
@@ -60,34 +82,28 @@ meets-none place wrote apart (t ∷ ts) =
 
 -- ---- a statement that writes nothing
 
-nothing-legal : (s : State) (number : ℕ) (text : List ℕ) (m : Meaning) → meaning (running s number text [] None) ≡ m
-    → TouchesAreMeant [] m → IsLegalFrom (behind_start s number text) (entry.Commit (record { 0 = next_of s }) [] ∷ [])
-nothing-legal s number text m means none = (
-  of-last s (s.entries + 1 + 1) s.tables (running s number text [] None) (CommitFits (behind_start s number text) [])
-      (record {
-        running = record { unended = refl; started = refl };
-        rise = tt;
-        own = tt;
-        used = tt;
-        clear = meets-none (s.entries + 1) [] (λ those. refl) (behind_start s number text).transactions;
-      }),
-  of-last s (s.entries + 1 + 1) s.tables (running s number text [] None) (λ (t : Transaction). TouchesAreMeant [] (meaning t))
-      (subst (TouchesAreMeant []) (sym means) none),
-  tt,
-)
+nothing-legal : (s : State) (number : ℕ) (text : List ℕ) (m : Option Meaning) → TouchesAreMeant [] m
+    → IsLegalFrom profile (behind_start s number text m) (entry.Commit (record { 0 = next_of s }) [] ∷ [])
+nothing-legal s number text m none =
+    let t : Transaction = running s number text m [] [] None in
+    legal-last (behind_start s number text m) (entry.Commit (record { 0 = next_of s }) [])
+    (of-last s (s.entries + 1 + 1) s.tables t (CommitFits (behind_start s number text m) [])
+    (record {
+      running = record { unended = refl; started = refl };
+      rise = tt;
+      own = tt;
+      used = tt;
+      clear = meets-none (s.entries + 1) [] (λ those. refl) (behind_start s number text m).transactions;
+    }))
+    (of-last s (s.entries + 1 + 1) s.tables t (λ (other : Transaction). TouchesAreMeant [] (meaning other)) none)
 
-pub nothing-goes : (book : List Entry) (number : ℕ) (text : List ℕ) (tree : Stmt) (m : Meaning)
-    → IsSound (state_of book) → Runs text tree → meant book tree ≡ m → TouchesAreMeant [] m → commits_to m [] ≡ None
+pub nothing-goes : (book : List Entry) (number : ℕ) (text : List ℕ) (tree : Stmt) (m : Option Meaning)
+    → IsSound (state_of book) → HasSpace book → Runs text tree → meant book tree ≡ m → TouchesAreMeant [] m
     → Goes book (statement_entries book number text (committing book [] ∷ [])) number text (committed_text m []) false (state_of book).tables
-nothing-goes book number text tree m sound is means none writes =
+nothing-goes book number text tree m sound space is means none =
     let s : State = state_of book in
-    let now : meaning (running s number text [] None) ≡ m = meaning-running s number text [] None tree m is.read means in
-    goes book number text tree _ _ _ [] (Committed (s.entries + 1 + 1) []) _ false sound is
-    (committed-behind s number text (s.entries + 1 + 1) s.tables [] [] m now
-    ∙ ap (λ o. with_last s (s.entries + 1 + 1 + 1) (tables_behind o s.tables) (running s number text [] (Some (Committed (s.entries + 1 + 1) [])))) writes)
-    (nothing-legal s number text m now none)
-    (ap (λ (n : Meaning). committed_text n []) (meaning-running s number text [] (Some (Committed (s.entries + 1 + 1) [])) tree m is.read means))
-    refl
+    goes book number text tree m (committing book [] ∷ []) (s.entries + 1 + 1 + 1) s.tables (writes_of m 0 []) [] (Committed (s.entries + 1 + 1) [])
+    (committed_text m []) false sound space is means (idle-behind s number text m) (nothing-legal s number text m none) refl refl
 
 pub queries-end : QueriesEnd
-queries-end book number text tree names rows sound is means = nothing-goes book number text tree (Listing names rows) sound is means refl refl
+queries-end book number text tree names rows sound space is means = nothing-goes book number text tree (Some (Listing names rows)) sound space is means refl

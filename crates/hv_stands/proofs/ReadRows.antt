@@ -5,7 +5,9 @@ use Rattle.std.proofs.lemmas.Bool.{eqb-false}
 use Rattle.std.specs.Cmp.Lexicographic.{pointwise}
 use Rattle.std.specs.Ordering.{is_eq}
 use Rattle.std.specs.List.{flat_map, list_any, slice_get, AllByRecursion}
-use Rattle.hv_ast.specs.declared.change.Insert.{Insert}
+use Rattle.hv_locks.specs.declared.table.Lock.{Lock}
+use Rattle.hv_ast.specs.declared.change.Rows.{Rows}
+use Rattle.hv_ast.specs.declared.change.Rows.TheVariants as source_rows
 use Rattle.hv_ast.specs.declared.query.Source.{Source}
 use Rattle.hv_ast.specs.declared.query.Source.TheVariants.{Table as TableSource}
 use Rattle.hv_ast.specs.declared.query.From.{From}
@@ -17,7 +19,8 @@ use Rattle.hv_value.specs.OrderLaws.{row_cmp_total, row_cmp-IsAntisymmetric}
 use Rattle.hv_logic.specs.declared.effect.Found.{Found}
 use Rattle.hv_logic.specs.declared.seen.Seen.{Seen}
 use Rattle.hv_logic.specs.declared.meaning.Meaning.TheVariants.{Listing}
-use Rattle.hv_logic.specs.Meaning.{meaning_of, named, scanned, queried_source, queried_from, created_beside, inserted_into, column_names}
+use Rattle.hv_logic.specs.Names.{source_names, names_of_join, names_in_maybe, names_of_union}
+use Rattle.hv_logic.specs.Meaning.{meaning_of, named, scanned, queried_source, queried_from, created_beside, inserted_rows as inserted_rows_of, column_names}
 use Rattle.hv_logic.specs.Rows.{sorted, found_cmp}
 use Rattle.hv_logic.specs.Sorting.{sorted_by}
 use Rattle.hv_logic.proofs.SortingLaws.{sorted-permuted, permuted-sorted_by}
@@ -25,10 +28,11 @@ use Rattle.hv_history.specs.declared.state.Written.{Written}
 use Rattle.hv_history.specs.declared.state.Table.{Table}
 use Rattle.hv_history.specs.State.{state_of, seen_table, seen_tables, content_of}
 use Rattle.hv_stands.specs.Sound.{RiseWithin, HasSoundWrites, IsLive, NumberedFrom}
-use Rattle.hv_stands.specs.Reading.{from_name, source_name, table_of_name, inserted_rows, rows_read, seen_of, seen_by_name, seen_read, written_with, inserts_in, rows_at, rows_from}
+use Rattle.hv_stands.specs.Reading.{first_name, table_of_name, inserted_rows, rows_read, seen_of, seen_by_name, seen_read, written_with, inserts_in, rows_at, rows_from}
 use Rattle.hv_stands.specs.Laws.{ReadingIsEnough}
 use Rattle.hv_stands.proofs.Soundness.{all-slice}
 use Rattle.hv_stands.proofs.Tables.{named-seen, named-at}
+use Rattle.hv_stands.proofs.Named.{first-source}
 
 -- ---- write id by write id
 
@@ -130,19 +134,19 @@ sorted-read low high writes rise =
 -- ---- the one table that is seen
 
 named-here : (name : List ℕ) (other table : Table) (rest : Option Table)
-    → (rest ≡ Some table → pointwise nat_eq table.info.name name ≡ true)
-    → (b : Bool) → pointwise nat_eq other.info.name name ≡ b → cond b (Some other) rest ≡ Some table
-    → pointwise nat_eq table.info.name name ≡ true
+    → (rest ≡ Some table → pointwise nat_eq table.info.shape.name name ≡ true)
+    → (b : Bool) → pointwise nat_eq other.info.shape.name name ≡ b → cond b (Some other) rest ≡ Some table
+    → pointwise nat_eq table.info.shape.name name ≡ true
 named-here name other table rest later true is found =
     let same : other ≡ table = cc in
-    ap (λ (t : Table). pointwise nat_eq t.info.name name) (sym same) ∙ is
+    ap (λ (t : Table). pointwise nat_eq t.info.shape.name name) (sym same) ∙ is
 named-here name other table rest later false is found = later found
 
 has_name : (name : List ℕ) (tables : List Table) (table : Table) → table_of_name name tables ≡ Some table
-    → pointwise nat_eq table.info.name name ≡ true
+    → pointwise nat_eq table.info.shape.name name ≡ true
 has_name name [] table e = cc
 has_name name (other ∷ tables) table e =
-    named-here name other table (table_of_name name tables) (has_name name tables table) (pointwise nat_eq other.info.name name) refl e
+    named-here name other table (table_of_name name tables) (has_name name tables table) (pointwise nat_eq other.info.shape.name name) refl e
 
 -- what is found by a name in the one table that was read
 read-one : Stmt → Table → Seen
@@ -158,11 +162,12 @@ named-read tree name tables (Some table) found =
 module _ (tables : List Table) (sound : (table : Table) (n : ℕ) → slice_get tables n ≡ Some table → HasSoundWrites table)
     (live : AllByRecursion IsLive tables) (order : NumberedFrom 1 tables) where
   -- inserts and new tables need no rows
-  inserts-alike : (tree : Stmt) (insert : Insert) (o : Option Table)
-      → inserted_into (option_map (read-one tree) o) insert ≡ inserted_into (option_map seen_table o) insert
+  inserts-alike : (tree : Stmt) (rows : Rows) (o : Option Table)
+      → inserted_rows_of (option_map (read-one tree) o) rows ≡ inserted_rows_of (option_map seen_table o) rows
   unfolding read-one
-  inserts-alike tree insert None = refl
-  inserts-alike tree insert (Some table) = refl
+  inserts-alike tree (source_rows.Values values) None = refl
+  inserts-alike tree (source_rows.Values values) (Some table) = refl
+  inserts-alike tree (source_rows.Query query) o = refl
 
   creates-alike : (tree : Stmt) (create : CreateTable) (o : Option Table)
       → created_beside (option_map (read-one tree) o) create ≡ created_beside (option_map seen_table o) create
@@ -176,32 +181,39 @@ module _ (tables : List Table) (sound : (table : Table) (n : ℕ) → slice_get 
   scans-alike tree name None found reads = refl
   scans-alike tree name (Some table) found reads =
       let at = named-at 1 name tables table order found in
-      ap (λ (rows : List Found). Listing (column_names table.info) (sorted (map (λ (found : Found). found.row) rows))) (reads table)
-      ∙ ap (Listing (column_names table.info)) (sorted-read 0 _ table.writes (sound table at.place at.here))
+      ap (λ (rows : List Found). Listing (column_names table.info.shape) (sorted (map (λ (found : Found). found.row) rows))) (reads table)
+      ∙ ap (Listing (column_names table.info.shape)) (sorted-read 0 _ table.writes (sound table at.place at.here))
 
-  sources-alike : (tree : Stmt) (source : Source) → ((table : Table) → rows_read tree table ≡ inserted_rows table.writes)
-      → queried_source source (seen_by_name tree (source_name source) tables) ≡ queried_source source (seen_tables tables)
-  sources-alike tree (TableSource name alias) reads =
+  tables-alike : (tree : Stmt) (name : List ℕ) → ((table : Table) → rows_read tree table ≡ inserted_rows table.writes)
+      → scanned (named name (seen_by_name tree (Some name) tables)) ≡ scanned (named name (seen_tables tables))
+  tables-alike tree name reads =
       ap scanned (named-read tree name tables (table_of_name name tables) refl)
       ∙ scans-alike tree name (table_of_name name tables) refl reads
       ∙ ap scanned (sym (named-seen name tables live))
-  sources-alike tree source reads = refl
 
-  froms-alike : (tree : Stmt) (from : Option (From Source)) → ((table : Table) → rows_read tree table ≡ inserted_rows table.writes)
-      → queried_from from (seen_by_name tree (from_name from) tables) ≡ queried_from from (seen_tables tables)
-  froms-alike tree None reads = refl
-  froms-alike tree (Some from) reads = sources-alike tree from.source reads
+  sources-alike : (tree : Stmt) (source : Source) (joins unions : List Lock) → ((table : Table) → rows_read tree table ≡ inserted_rows table.writes)
+      → queried_source source (seen_by_name tree (first_name ((source_names source ++ joins) ++ unions)) tables) ≡ queried_source source (seen_tables tables)
+  sources-alike tree (TableSource name alias) joins unions reads =
+      ap (λ (o : Option (List ℕ)). Some (scanned (named name (seen_by_name tree o tables)))) (first-source name alias joins unions)
+      ∙ ap Some (tables-alike tree name reads)
+  sources-alike tree source joins unions reads = refl
+
+  froms-alike : (tree : Stmt) (from : Option (From Source)) (unions : List Lock) → ((table : Table) → rows_read tree table ≡ inserted_rows table.writes)
+      → queried_from from (seen_by_name tree (first_name (names_in_maybe source_names from ++ unions)) tables) ≡ queried_from from (seen_tables tables)
+  froms-alike tree None unions reads = refl
+  froms-alike tree (Some from) unions reads = sources-alike tree from.source (flat_map (names_of_join source_names) from.joins) unions reads
 
   trees-alike : (tree : Stmt) → meaning_of (seen_read tree tables) tree ≡ meaning_of (seen_tables tables) tree
-  trees-alike (stmt.Query query) = froms-alike (stmt.Query query) query.select.from (λ table. refl)
+  trees-alike (stmt.Query query) =
+      froms-alike (stmt.Query query) query.select.from (flat_map (names_of_union source_names) query.unions) (λ table. refl)
   trees-alike (stmt.Insert insert) =
-      ap (λ o. inserted_into o insert) (named-read (stmt.Insert insert) insert.table tables (table_of_name insert.table tables) refl)
-      ∙ inserts-alike (stmt.Insert insert) insert (table_of_name insert.table tables)
-      ∙ ap (λ o. inserted_into o insert) (sym (named-seen insert.table tables live))
+      ap (λ o. inserted_rows_of o insert.rows) (named-read (stmt.Insert insert) insert.table tables (table_of_name insert.table tables) refl)
+      ∙ inserts-alike (stmt.Insert insert) insert.rows (table_of_name insert.table tables)
+      ∙ ap (λ o. inserted_rows_of o insert.rows) (sym (named-seen insert.table tables live))
   trees-alike (stmt.CreateTable create) =
-      ap (λ o. created_beside o create) (named-read (stmt.CreateTable create) create.table tables (table_of_name create.table tables) refl)
-      ∙ creates-alike (stmt.CreateTable create) create (table_of_name create.table tables)
-      ∙ ap (λ o. created_beside o create) (sym (named-seen create.table tables live))
+      ap (λ o. Some (created_beside o create)) (named-read (stmt.CreateTable create) create.table tables (table_of_name create.table tables) refl)
+      ∙ ap Some (creates-alike (stmt.CreateTable create) create (table_of_name create.table tables))
+      ∙ ap (λ o. Some (created_beside o create)) (sym (named-seen create.table tables live))
   trees-alike tree = refl
 
 pub reading-enough : ReadingIsEnough

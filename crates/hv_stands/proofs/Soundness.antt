@@ -92,8 +92,8 @@ soundness-later most next tables sound before = record {
 }
 
 pub tables-made-sound : MadeTablesAreSound
-tables-made-sound most tables name columns sound plain =
-    let made = made_table (length tables + 1) name columns in
+tables-made-sound most tables shape sound plain =
+    let made = made_table (length tables + 1) shape in
     record {
       live = all-more IsLive tables made sound.live refl;
       in_order = numbered-more 1 tables made sound.in_order (omega arith);

@@ -10,7 +10,7 @@ use Rattle.hv_shelf.specs.declared.place.Place.{Place}
 use Rattle.hv_shelf.specs.Disk.{Tree}
 use Rattle.hv_shelf.specs.Places.{place_cmp, place_ties}
 use Rattle.hv_shelf.specs.Laws.{get-HasFile}
-use Rattle.hv_logic.specs.declared.catalog.Column.{Column}
+use Rattle.hv_logic.specs.declared.catalog.Shape.{Shape}
 use Rattle.hv_history.specs.declared.state.Written.{Written}
 use Rattle.hv_history.specs.declared.state.Table.{Table}
 use Rattle.hv_history.specs.State.{State, numbered, changed, changed_at}
@@ -40,16 +40,16 @@ made-more : (place : Place) (tables : List Table) (table : Table) (number : ℕ)
 made-more place tables table zero none = refl
 made-more place tables table (suc n) none = made-more-slice place tables table n none
 
-made_at-more : (tables : List Table) (number : ℕ) (name : List ℕ) (columns : List Column) (place : Place)
-    → made_at (tables ++ made_table number name columns ∷ []) place ≡ made_at tables place
+made_at-more : (tables : List Table) (number : ℕ) (shape : Shape) (place : Place)
+    → made_at (tables ++ made_table number shape ∷ []) place ≡ made_at tables place
 unfolding made_at
-made_at-more tables number name columns place =
-    made-more place tables (made_table number name columns) place.table.0 (no_file ((length place.partition == 0) && (place.bucket == 0)))
+made_at-more tables number shape place =
+    made-more place tables (made_table number shape) place.table.0 (no_file ((length place.partition == 0) && (place.bucket == 0)))
 
 pub made-files-stand : MadeTablesStand
-made-files-stand before now files name columns stands made = record {
+made-files-stand before now files shape stands made = record {
   each = λ place.
-      stands.each place ∙ sym (made_at-more before.tables (length before.tables + 1) name columns place)
+      stands.each place ∙ sym (made_at-more before.tables (length before.tables + 1) shape place)
       ∙ ap (λ tables. made_at tables place) (sym made);
 }
 

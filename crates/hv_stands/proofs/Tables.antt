@@ -1,28 +1,22 @@
 -- The table that a statement names is one of the book's, and what a statement sees of it is what stands there.
-use Rattle.std.proofs.Common.{refl, ◌≡◌, ℕ, suc, ◌+◌, nat_eq, Bool, true, false, cond, IsTrue, Option, Some, None, List, [], ◌∷◌, map, filter, option_map, sym, ap, ◌∙◌, arith}
+use Rattle.std.proofs.Common.{refl, ◌≡◌, ℕ, suc, ◌+◌, nat_eq, Bool, true, false, cond, IsTrue, Option, Some, None, List, [], ◌∷◌, map, filter, option_map, sym, ap, ◌∙◌, subst, arith}
 use Rattle.std.specs.Cmp.Lexicographic.{pointwise}
 use Rattle.std.specs.List.{slice_get, AllByRecursion}
-use Rattle.hv_ast.specs.declared.change.Insert.{Insert}
-use Rattle.hv_ast.specs.declared.change.Rows.{Rows}
-use Rattle.hv_ast.specs.declared.change.Rows.TheVariants as source_rows
-use Rattle.hv_ast.specs.declared.query.Source.{Source}
-use Rattle.hv_ast.specs.declared.query.Source.TheVariants.{Table as TableSource}
-use Rattle.hv_ast.specs.declared.query.From.{From}
 use Rattle.hv_ast.specs.declared.table.CreateTable.{CreateTable}
 use Rattle.hv_ast.specs.declared.statement.Stmt.{Stmt}
 use Rattle.hv_ast.specs.declared.statement.Stmt.TheVariants as stmt
 use Rattle.hv_logic.specs.declared.catalog.TableInfo.{TableInfo}
 use Rattle.hv_logic.specs.declared.effect.Effect.{Effect}
 use Rattle.hv_logic.specs.declared.seen.Seen.{Seen}
-use Rattle.hv_logic.specs.declared.meaning.Meaning.TheVariants.{Refused, Change, RowLimit}
-use Rattle.hv_logic.specs.Meaning.{meaning_of, named, scanned, queried_source, queried_from, created_beside, inserted_into, inserted_rows, inserts_of, all_counted}
-use Rattle.hv_logic.specs.Sizes.{row_fits}
-use Rattle.std.specs.List.{list_all}
+use Rattle.hv_logic.specs.declared.meaning.Meaning.{Meaning}
+use Rattle.hv_logic.specs.declared.meaning.Meaning.TheVariants.{Change}
+use Rattle.hv_logic.specs.Meaning.{meaning_of, named, created_beside}
 use Rattle.hv_history.specs.declared.state.Table.{Table}
 use Rattle.hv_history.specs.State.{state_of, numbered, seen_table, seen_tables}
 use Rattle.hv_stands.specs.Sound.{IsLive, NumberedFrom}
 use Rattle.hv_stands.specs.Reading.{table_of_name}
 use Rattle.hv_stands.specs.Laws.{ChangedTableStands}
+use Rattle.hv_stands.proofs.Meanings.{queried-is, inserted-is}
 
 -- ---- all tables are seen
 
@@ -46,8 +40,8 @@ named-cond false table o = refl
 named-mapped : (name : List ℕ) (tables : List Table) → named name (map seen_table tables) ≡ option_map seen_table (table_of_name name tables)
 named-mapped name [] = refl
 named-mapped name (table ∷ tables) =
-    ap (λ o. cond (pointwise nat_eq table.info.name name) (Some (seen_table table)) o) (named-mapped name tables)
-    ∙ named-cond (pointwise nat_eq table.info.name name) table (table_of_name name tables)
+    ap (λ o. cond (pointwise nat_eq table.info.shape.name name) (Some (seen_table table)) o) (named-mapped name tables)
+    ∙ named-cond (pointwise nat_eq table.info.shape.name name) table (table_of_name name tables)
 
 -- the table of a name, as it is seen
 pub named-seen : (name : List ℕ) (tables : List Table) → AllByRecursion IsLive tables
@@ -77,7 +71,7 @@ pub named-at : (first : ℕ) (name : List ℕ) (tables : List Table) (table : Ta
 named-at first name [] table order e = cc
 named-at first name (other ∷ tables) table order e =
     at-here first tables other table (table_of_name name tables) order.0 (named-at (first + 1) name tables table order.1)
-    (pointwise nat_eq other.info.name name) e
+    (pointwise nat_eq other.info.shape.name name) e
 
 pub named-numbered : (name : List ℕ) (tables : List Table) (table : Table) → NumberedFrom 1 tables
     → table_of_name name tables ≡ Some table → numbered tables table.info.table.0 ≡ Some table
@@ -88,56 +82,42 @@ named-numbered name tables table order e =
 
 -- ---- a change is of the table of the insert's name
 
-within_limit-info : (b : Bool) (seen info : TableInfo) (found effect : Effect) → cond b (Change seen found) RowLimit ≡ Change info effect → seen ≡ info
-within_limit-info true seen info found effect e = cc
-within_limit-info false seen info found effect e = cc
-
-counted-info : (b c : Bool) (seen info : TableInfo) (found effect : Effect) (other : ℕ)
-    → cond b (cond c (Change seen found) RowLimit) (Refused other) ≡ Change info effect → seen ≡ info
-counted-info true c seen info found effect other e = within_limit-info c seen info found effect e
-counted-info false c seen info found effect other e = cc
-
-rows-info : (rows : Rows) (seen info : TableInfo) (effect : Effect) → inserted_rows seen rows ≡ Change info effect → seen ≡ info
-rows-info (source_rows.Values rows) seen info effect e =
-    counted-info (all_counted _ rows) (list_all row_fits (inserts_of seen rows).inserts) seen info (inserts_of seen rows) effect _ e
-rows-info (source_rows.Query query) seen info effect e = cc
-
 -- the table of that description
 abbrev pub HasTable : TableInfo → List Table → Type 0
 HasTable info tables = (table : Table) × (numbered tables info.table.0 ≡ Some table) × (table.info ≡ info)
 
-module _ (tables : List Table) (live : AllByRecursion IsLive tables) (order : NumberedFrom 1 tables) (info : TableInfo) (effect : Effect) where
-  insert-named : (insert : Insert) (o : Option Table) → table_of_name insert.table tables ≡ o
-      → inserted_into (option_map seen_table o) insert ≡ Change info effect → HasTable info tables
-  insert-named insert None found e = cc
-  insert-named insert (Some table) found e =
-      let is : table.info ≡ info = rows-info insert.rows table.info info effect e in
-      (table, ap (λ (i : TableInfo). numbered tables i.table.0) (sym is) ∙ named-numbered insert.table tables table order found, is)
+module _ (tables : List Table) (live : AllByRecursion IsLive tables) (order : NumberedFrom 1 tables) where
+  abbrev ChangesTable : Option Meaning → Type 0
+  ChangesTable (Some (Change info effect)) = HasTable info tables
+  ChangesTable _ = Unit {0}
 
-  scanned-none : (o : Option Seen) → scanned o ≡ Change info effect → HasTable info tables
-  scanned-none None e = cc
-  scanned-none (Some seen) e = cc
+  found-table : (name : List ℕ) (o : Option Table) (seen : Seen) → table_of_name name tables ≡ o → option_map seen_table o ≡ Some seen
+      → HasTable seen.info tables
+  found-table name None seen found e = cc
+  found-table name (Some table) seen found e =
+      let is : seen_table table ≡ seen = cc in
+      let info : table.info ≡ seen.info = ap (λ (s : Seen). s.info) is in
+      (table, ap (λ (i : TableInfo). numbered tables i.table.0) (sym info) ∙ named-numbered name tables table order found, info)
 
-  source-none : (source : Source) (seen : List Seen) → queried_source source seen ≡ Change info effect → HasTable info tables
-  source-none (TableSource name alias) seen e = scanned-none (named name seen) e
-  source-none source seen e = cc
+  named-table : (name : List ℕ) (seen : Seen) → named name (seen_tables tables) ≡ Some seen → HasTable seen.info tables
+  named-table name seen e = found-table name (table_of_name name tables) seen refl (sym (named-seen name tables live) ∙ e)
 
-  from-none : (from : Option (From Source)) (seen : List Seen) → queried_from from seen ≡ Change info effect → HasTable info tables
-  from-none None seen e = cc
-  from-none (Some from) seen e = source-none from.source seen e
+  creates-none : (o : Option Seen) (create : CreateTable) → ChangesTable (Some (created_beside o create))
+  creates-none None create = tt
+  creates-none (Some seen) create = tt
 
-  created-none : (o : Option Seen) (create : CreateTable) → created_beside o create ≡ Change info effect → HasTable info tables
-  created-none None create e = cc
-  created-none (Some seen) create e = cc
+  changes-table : (tree : Stmt) → ChangesTable (meaning_of (seen_tables tables) tree)
+  changes-table (stmt.Query query) = queried-is ChangesTable tt (λ why. tt) (λ names rows. tt) query.select.from (seen_tables tables)
+  changes-table (stmt.Insert insert) =
+      inserted-is ChangesTable tt (λ why. tt) tt (named insert.table (seen_tables tables)) insert.rows
+      (λ seen values is fits. named-table insert.table seen is)
+  changes-table (stmt.CreateTable create) = creates-none (named create.table (seen_tables tables)) create
+  changes-table tree = tt
 
-  changed-named : (tree : Stmt) → meaning_of (seen_tables tables) tree ≡ Change info effect → HasTable info tables
-  changed-named (stmt.Query query) e = from-none query.select.from (seen_tables tables) e
-  changed-named (stmt.Insert insert) e =
-      insert-named insert (table_of_name insert.table tables) refl
-      (ap (λ o. inserted_into o insert) (sym (named-seen insert.table tables live)) ∙ e)
-  changed-named (stmt.CreateTable create) e = created-none (named create.table (seen_tables tables)) create e
-  changed-named tree e = cc
+  pub changed-named : (tree : Stmt) (info : TableInfo) (effect : Effect) → meaning_of (seen_tables tables) tree ≡ Some (Change info effect)
+      → HasTable info tables
+  changed-named tree info effect e = subst ChangesTable e (changes-table tree)
 
 pub changed-table : ChangedTableStands
 changed-table book tree info effect sound e =
-    changed-named (state_of book).tables sound.tables.live sound.tables.in_order info effect tree e
+    changed-named (state_of book).tables sound.tables.live sound.tables.in_order tree info effect e

@@ -2,10 +2,6 @@
 use Rattle.std.proofs.Common.{◌≡◌, ℕ, ◌+◌, ◌<◌, ◌≤◌, Bool, true, false, cond, Option, Some, None, List, [], ◌∷◌, map, filter, length, ℤ, refl, sym, ap, ◌∙◌, subst, arith}
 use Rattle.std.specs.Prelude.{sum_by, nat_eq}
 use Rattle.std.specs.List.{AllByRecursion, flat_map, list_all}
-use Rattle.std.specs.declared.cmp.Ordering.{Ordering}
-use Rattle.std.specs.declared.cmp.Ordering.TheVariants.{Less, Equal}
-use Rattle.std.specs.Ordering.{nat_cmp, ordering_then}
-use Rattle.std.specs.Cmp.{nat_cmp_is}
 use Rattle.std.specs.Cmp.Lexicographic.{pointwise}
 use Rattle.std.proofs.lemmas.Bool.{leb-true}
 use Rattle.std.proofs.lemmas.List.{length-append}
@@ -14,14 +10,7 @@ use Rattle.std.proofs.lemmas.List.Sorted.{All-permutation}
 use Rattle.std.proofs.lemmas.List.Sums.{sum_by-cons}
 use Rattle.std.proofs.lemmas.List.Concat.{flat_map-cons}
 use Rattle.hv_base.specs.declared.ids.RowId.{RowId}
-use Rattle.hv_base.specs.Identifiers.{row_id_cmp}
 use Rattle.hv_ast.specs.declared.expr.Expr.{Expr}
-use Rattle.hv_ast.specs.declared.change.Insert.{Insert}
-use Rattle.hv_ast.specs.declared.change.Rows.{Rows}
-use Rattle.hv_ast.specs.declared.change.Rows.TheVariants as source_rows
-use Rattle.hv_ast.specs.declared.query.From.{From}
-use Rattle.hv_ast.specs.declared.query.Source.{Source}
-use Rattle.hv_ast.specs.declared.query.Source.TheVariants as source
 use Rattle.hv_ast.specs.declared.table.CreateTable.{CreateTable}
 use Rattle.hv_ast.specs.declared.statement.Stmt.{Stmt}
 use Rattle.hv_ast.specs.declared.statement.Stmt.TheVariants as stmt
@@ -37,24 +26,29 @@ use Rattle.hv_value.specs.Dates.{date_of}
 use Rattle.hv_value.specs.Conversion.{converted, from_layer, from_date, some_int, int_of}
 use Rattle.hv_value.specs.Order.{row_cmp}
 use Rattle.hv_logic.specs.declared.catalog.Column.{Column}
+use Rattle.hv_logic.specs.declared.catalog.Shape.{Shape}
 use Rattle.hv_logic.specs.declared.catalog.TableInfo.{TableInfo}
 use Rattle.hv_logic.specs.declared.effect.Effect.{Effect}
 use Rattle.hv_logic.specs.declared.seen.Seen.{Seen}
-use Rattle.hv_logic.specs.declared.meaning.Meaning.TheVariants.{Change, Refused, RowLimit}
-use Rattle.hv_logic.specs.Meaning.{meaning_of, named, value_of, values_in, row_in, all_counted, inserts_of, within_limit, inserted_rows, inserted_into, scanned, queried_source, queried_from, created_beside}
+use Rattle.hv_logic.specs.declared.meaning.Meaning.{Meaning}
+use Rattle.hv_logic.specs.declared.meaning.Meaning.TheVariants.{Change}
+use Rattle.hv_logic.specs.Meaning.{meaning_of, named, value_of, values_in, row_in, inserts_of, created_beside}
 use Rattle.hv_logic.specs.Sizes.{stored_size, row_fits}
 use Rattle.hv_logic.specs.Rows.{sorted}
 use Rattle.hv_logic.proofs.SizeLemmas.{size-Null, size-Int, size-Str}
 use Rattle.hv_logic.proofs.SortingLaws.{permuted-sorted_by}
-use Rattle.hv_rowfile.specs.Layout.{int_spelling, text_spelling, value_spelling, ValueIsTaken, RowIsTaken, RecIsTaken, RisesFrom, CanWrite}
-use Rattle.hv_rowfile.proofs.Lengths.{length-four, length-text}
+use Rattle.hv_bytes.specs.Spelling.{text_spelling}
+use Rattle.hv_bytes.proofs.Lengths.{length-four, length-text}
+use Rattle.hv_rowfile.specs.Layout.{int_spelling, value_spelling, ValueIsTaken, RowIsTaken, RecIsTaken, RisesFrom, CanWrite}
 use Rattle.hv_rowfile.proofs.Values.{spelled-Null, spelled-Int, spelled-Str, taken-Null, taken-Int, taken-Str, flat_spelled, flat_taken}
 use Rattle.hv_history.specs.declared.state.Table.{Table}
 use Rattle.hv_history.specs.State.{state_of, seen_table, seen_tables, numbered_from, written_by}
 use Rattle.hv_stands.specs.Files.{records_of}
 use Rattle.hv_stands.specs.Sound.{ArePlain, IsPlainKind, IsPlainColumn, IsPlainTable, IsWhole}
 use Rattle.hv_stands.specs.Laws.{InsertsCanBeWritten}
+use Rattle.hv_history.proofs.StateLaws.{numbered-rises}
 use Rattle.hv_stands.proofs.Forms.{both-true}
+use Rattle.hv_stands.proofs.Meanings.{queried-is, inserted-is}
 
 -- ---- values as a table of INT and STRING has them
 
@@ -178,83 +172,48 @@ sorted-taken rows taken =
 
 -- ---- rows with their numbers
 
-abbrev numbered_id : ℕ → ℕ → RowId
-numbered_id write number = record { write = record { 0 = write }; statement = 0; bucket = 0; row = number }
+abbrev numbered_id : ℕ → ℕ → ℕ → RowId
+numbered_id write statement number = record { write = record { 0 = write }; statement = statement; bucket = 0; row = number }
 
-number-rises : (write number : ℕ) → row_id_cmp (numbered_id write number) (numbered_id write (number + 1)) ≡ Less
-unfolding row_id_cmp
-number-rises write number =
-    let same : nat_cmp write write ≡ Equal = sym (nat_cmp_is write write Equal refl) in
-    let below : number < number + 1 = omega arith in
-    let rises : nat_cmp number (number + 1) ≡ Less = sym (nat_cmp_is number (number + 1) Less below) in
-    ap (λ (o : Ordering). ordering_then o (nat_cmp number (number + 1))) same ∙ rises
+numbered-whole : (write statement number : ℕ) (rows : List Row) → AllByRecursion IsWhole (numbered_from write statement number rows)
+numbered-whole write statement number [] = tt
+numbered-whole write statement number (row ∷ rows) = (refl, numbered-whole write statement (number + 1) rows)
 
-numbered-whole : (write number : ℕ) (rows : List Row) → AllByRecursion IsWhole (numbered_from write number rows)
-numbered-whole write number [] = tt
-numbered-whole write number (row ∷ rows) = (refl, numbered-whole write (number + 1) rows)
+numbered-taken : (write statement number : ℕ) (rows : List Row) → 1 ≤ write → AllByRecursion RowIsTaken rows
+    → AllByRecursion (RecIsTaken false 0) (records_of (numbered_from write statement number rows))
+numbered-taken write statement number [] some taken = tt
+numbered-taken write statement number (row ∷ rows) some taken =
+    ((refl, record { bucket_same = refl; written = some }, taken.0), numbered-taken write statement (number + 1) rows some taken.1)
 
-numbered-taken : (write number : ℕ) (rows : List Row) → 1 ≤ write → AllByRecursion RowIsTaken rows
-    → AllByRecursion (RecIsTaken false 0) (records_of (numbered_from write number rows))
-numbered-taken write number [] some taken = tt
-numbered-taken write number (row ∷ rows) some taken =
-    ((refl, record { bucket_same = refl; written = some }, taken.0), numbered-taken write (number + 1) rows some taken.1)
+numbered-behind : (write statement number : ℕ) (rows : List Row)
+    → RisesFrom (Some (numbered_id write statement number)) (records_of (numbered_from write statement (number + 1) rows))
+numbered-behind write statement number [] = tt
+numbered-behind write statement number (row ∷ rows) =
+    (numbered-rises write statement number (number + 1) (omega arith), numbered-behind write statement (number + 1) rows)
 
-numbered-behind : (write number : ℕ) (rows : List Row)
-    → RisesFrom (Some (numbered_id write number)) (records_of (numbered_from write (number + 1) rows))
-numbered-behind write number [] = tt
-numbered-behind write number (row ∷ rows) = (number-rises write number, numbered-behind write (number + 1) rows)
-
-numbered-rises : (write number : ℕ) (rows : List Row) → RisesFrom None (records_of (numbered_from write number rows))
-numbered-rises write number [] = tt
-numbered-rises write number (row ∷ rows) = (tt, numbered-behind write number rows)
+numbered-file : (write statement number : ℕ) (rows : List Row) → RisesFrom None (records_of (numbered_from write statement number rows))
+numbered-file write statement number [] = tt
+numbered-file write statement number (row ∷ rows) = (tt, numbered-behind write statement number rows)
 
 abbrev AreWritten : ℕ → Effect → Type 0
 AreWritten write effect =
-    CanWrite false 0 (records_of (written_by write effect).inserts)
-    × AllByRecursion IsWhole (written_by write effect).inserts × (effect.deletes ≡ [])
+    CanWrite false 0 (records_of (written_by write 0 effect).inserts)
+    × AllByRecursion IsWhole (written_by write 0 effect).inserts × (effect.deletes ≡ [])
 
-effect-written : (write : ℕ) (info : TableInfo) (rows : List (List Expr)) → 1 ≤ write → ArePlain info.columns
-    → list_all row_fits (map (row_in info.columns) rows) ≡ true → AreWritten write (inserts_of info rows)
-effect-written write info rows some plain fit =
-    let made = map (row_in info.columns) rows in
-    let taken = sorted-taken made (rows-taken info.columns rows plain fit) in (
-      record { each = numbered-taken write 0 (sorted made) some taken; rising = numbered-rises write 0 (sorted made) },
-      numbered-whole write 0 (sorted made),
+effect-written : (write : ℕ) (shape : Shape) (rows : List (List Expr)) → 1 ≤ write → ArePlain shape.columns
+    → list_all row_fits (map (row_in shape.columns) rows) ≡ true → AreWritten write (inserts_of shape rows)
+effect-written write shape rows some plain fit =
+    let made = map (row_in shape.columns) rows in
+    let taken = sorted-taken made (rows-taken shape.columns rows plain fit) in (
+      record { each = numbered-taken write 0 0 (sorted made) some taken; rising = numbered-file write 0 0 (sorted made) },
+      numbered-whole write 0 0 (sorted made),
       refl,
     )
 
 -- ---- the statement
 
-limit-written : (fit : Bool) (write : ℕ) (info seen : TableInfo) (effect : Effect) (rows : List (List Expr))
-    → (fit ≡ true → AreWritten write (inserts_of seen rows))
-    → cond fit (Change seen (inserts_of seen rows)) RowLimit ≡ Change info effect → AreWritten write effect
-limit-written true write info seen effect rows fits e =
-    let same : inserts_of seen rows ≡ effect = cc in
-    subst (AreWritten write) same (fits refl)
-limit-written false write info seen effect rows fits e = cc
-
-counted-written : (counted : Bool) (write : ℕ) (info seen : TableInfo) (effect : Effect) (rows : List (List Expr)) → 1 ≤ write → ArePlain seen.columns
-    → cond counted (within_limit seen (inserts_of seen rows)) (Refused 14) ≡ Change info effect → AreWritten write effect
-counted-written true write info seen effect rows some plain e =
-    limit-written (list_all row_fits (map (row_in seen.columns) rows)) write info seen effect rows
-    (λ fit. effect-written write seen rows some plain fit) e
-counted-written false write info seen effect rows some plain e = cc
-
-rows-written : (write : ℕ) (info seen : TableInfo) (effect : Effect) (rows : Rows) → 1 ≤ write → ArePlain seen.columns
-    → inserted_rows seen rows ≡ Change info effect → AreWritten write effect
-rows-written write info seen effect (source_rows.Values rows) some plain e =
-    counted-written (all_counted (length seen.columns) rows) write info seen effect rows some plain e
-rows-written write info seen effect (source_rows.Query query) some plain e = cc
-
 abbrev IsPlainSeen : Seen → Type 0
-IsPlainSeen seen = ArePlain seen.info.columns
-
-insert-written : (write : ℕ) (info : TableInfo) (effect : Effect) (seen : Option Seen) (insert : Insert) → 1 ≤ write
-    → ((s : Seen) → seen ≡ Some s → IsPlainSeen s)
-    → inserted_into seen insert ≡ Change info effect → AreWritten write effect
-insert-written write info effect None insert some plain e = cc
-insert-written write info effect (Some seen) insert some plain e =
-    rows-written write info seen.info effect insert.rows some (plain seen refl) e
+IsPlainSeen seen = ArePlain seen.info.shape.columns
 
 named-by : (same : Bool) (x y : Seen) (rest : Option Seen) → IsPlainSeen x → ((s : Seen) → rest ≡ Some s → IsPlainSeen s)
     → cond same (Some x) rest ≡ Some y → IsPlainSeen y
@@ -264,31 +223,28 @@ named-by false x y rest plain more e = more y e
 named-plain : (name : List ℕ) (tables : List Seen) → AllByRecursion IsPlainSeen tables → (seen : Seen) → named name tables ≡ Some seen → IsPlainSeen seen
 named-plain name [] plain seen e = cc
 named-plain name (first ∷ tables) plain seen e =
-    named-by (pointwise nat_eq first.info.name name) first seen (named name tables) plain.0 (named-plain name tables plain.1) e
+    named-by (pointwise nat_eq first.info.shape.name name) first seen (named name tables) plain.0 (named-plain name tables plain.1) e
 
-scans-change_nothing : (seen : Option Seen) (info : TableInfo) (effect : Effect) → scanned seen ≡ Change info effect → ⊥
-scans-change_nothing None info effect e = cc
-scans-change_nothing (Some seen) info effect e = cc
+module _ (write : ℕ) (some : 1 ≤ write) where
+  abbrev CanBeWritten : Option Meaning → Type 0
+  CanBeWritten (Some (Change info effect)) = AreWritten write effect
+  CanBeWritten _ = Unit {0}
 
-sources-change_nothing : (from : Source) (tables : List Seen) (info : TableInfo) (effect : Effect) → queried_source from tables ≡ Change info effect → ⊥
-sources-change_nothing (source.Table table alias) tables info effect e = scans-change_nothing (named table tables) info effect e
-sources-change_nothing other tables info effect e = cc
+  creates-write_nothing : (seen : Option Seen) (create : CreateTable) → CanBeWritten (Some (created_beside seen create))
+  creates-write_nothing None create = tt
+  creates-write_nothing (Some seen) create = tt
 
-queries-change_nothing : (from : Option (From Source)) (tables : List Seen) (info : TableInfo) (effect : Effect) → queried_from from tables ≡ Change info effect → ⊥
-queries-change_nothing None tables info effect e = cc
-queries-change_nothing (Some from) tables info effect e = sources-change_nothing from.source tables info effect e
+  meaning-written : (tables : List Seen) (tree : Stmt) → AllByRecursion IsPlainSeen tables → CanBeWritten (meaning_of tables tree)
+  meaning-written tables (stmt.Insert insert) plain =
+      inserted-is CanBeWritten tt (λ why. tt) tt (named insert.table tables) insert.rows
+      (λ seen values is fits. effect-written write seen.info.shape values some (named-plain insert.table tables plain seen is) fits)
+  meaning-written tables (stmt.Query query) plain = queried-is CanBeWritten tt (λ why. tt) (λ names rows. tt) query.select.from tables
+  meaning-written tables (stmt.CreateTable create) plain = creates-write_nothing (named create.table tables) create
+  meaning-written tables other plain = tt
 
-creates-change_nothing : (seen : Option Seen) (create : CreateTable) (info : TableInfo) (effect : Effect) → created_beside seen create ≡ Change info effect → ⊥
-creates-change_nothing None create info effect e = cc
-creates-change_nothing (Some seen) create info effect e = cc
-
-meaning-written : (tables : List Seen) (tree : Stmt) (write : ℕ) (info : TableInfo) (effect : Effect) → 1 ≤ write
-    → AllByRecursion IsPlainSeen tables → meaning_of tables tree ≡ Change info effect → AreWritten write effect
-meaning-written tables (stmt.Insert insert) write info effect some plain e =
-    insert-written write info effect (named insert.table tables) insert some (named-plain insert.table tables plain) e
-meaning-written tables (stmt.Query query) write info effect some plain e = absurd (queries-change_nothing query.select.from tables info effect e)
-meaning-written tables (stmt.CreateTable create) write info effect some plain e = absurd (creates-change_nothing (named create.table tables) create info effect e)
-meaning-written tables other write info effect some plain e = cc
+  pub change-written : (tables : List Seen) (tree : Stmt) (info : TableInfo) (effect : Effect) → AllByRecursion IsPlainSeen tables
+      → meaning_of tables tree ≡ Some (Change info effect) → AreWritten write effect
+  change-written tables tree info effect plain e = subst CanBeWritten e (meaning-written tables tree plain)
 
 -- the tables that a statement sees are among those that stand
 live-seen : (live : Bool) (table : Table) (rest : List Table) → IsPlainTable table → AllByRecursion IsPlainSeen (map seen_table rest)
@@ -303,5 +259,5 @@ seen-plain (table ∷ tables) plain =
 
 pub inserts-written : InsertsCanBeWritten
 inserts-written book tree info effect write sound e some =
-    meaning-written (seen_tables (state_of book).tables) tree write info effect some
+    change-written write some (seen_tables (state_of book).tables) tree info effect
     (seen-plain (state_of book).tables sound.tables.plain) e

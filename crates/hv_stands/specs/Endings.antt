@@ -10,7 +10,7 @@ use Rattle.hv_history.specs.declared.state.Ending.TheVariants.{Aborted}
 use Rattle.hv_history.specs.declared.state.Transaction.{Transaction}
 use Rattle.hv_history.specs.State.{State, state_of, numbered}
 use Rattle.hv_history.specs.Answers.{answer}
-use Rattle.hv_history.specs.Legal.{IsLegalFrom}
+use Rattle.hv_history.specs.Legal.{HasRoom, IsLegalFrom, profile}
 use Rattle.hv_stands.specs.Sound.{HasEnded}
 
 -- the session of a script, as long as there is one
@@ -39,6 +39,10 @@ abbrev pub is_refused_transaction : Option Transaction → Bool
 is_refused_transaction None = false
 is_refused_transaction (Some transaction) = is_abort transaction.ending
 
+-- the journal has room for what a statement notes, of which only the commit asks for none
+abbrev pub HasSpace : List Entry → Type 0
+HasSpace book = HasRoom profile (state_of book) 4
+
 -- whether the transaction of that number was aborted
 abbrev pub is_refused : State → ℕ → Bool
 is_refused state txn = is_refused_transaction (numbered state.transactions txn)
@@ -47,9 +51,10 @@ is_refused state txn = is_refused_transaction (numbered state.transactions txn)
 -- this answer, and these are the tables now.
 pub record Goes (book added : List Entry) (number : ℕ) (text reply : List ℕ) (refused : Bool) (tables : List Table) : Type 0 where
   pub first : (more : List Entry) × (added ≡ opening book number text ∷ more)
-  pub legal : IsLegalFrom (state_of book) added
+  pub legal : IsLegalFrom profile (state_of book) added
   pub answered : answer (state_of (book ++ added)) (next_number book) ≡ Some reply
   pub ends : is_refused (state_of (book ++ added)) (next_number book) ≡ refused
   pub tables_are : (state_of (book ++ added)).tables ≡ tables
+  pub jobs : (state_of (book ++ added)).jobs ≡ (state_of book).jobs
   pub count : length (state_of (book ++ added)).transactions ≡ next_number book
   pub ended : AllByRecursion HasEnded (state_of book).transactions → AllByRecursion HasEnded (state_of (book ++ added)).transactions

@@ -1,5 +1,5 @@
 -- What is proved of statements, one after another, and of the files that they leave.
-use Rattle.std.specs.Prelude.{◌≡◌, ℕ, ◌+◌, ◌<◌, ◌≤◌, false, true, Some, None, List, [], ◌∷◌, ◌++◌, length}
+use Rattle.std.specs.Prelude.{◌≡◌, ℕ, ◌+◌, ◌<◌, ◌≤◌, false, true, Option, Some, None, List, [], ◌∷◌, ◌++◌, length}
 use Rattle.std.specs.List.{AllByRecursion}
 use Rattle.hv_base.specs.declared.ids.Touch.{Touch}
 use Rattle.hv_shelf.specs.Disk.{Store, Tree, HasFile}
@@ -7,11 +7,11 @@ use Rattle.hv_ast.specs.declared.statement.Stmt.{Stmt}
 use Rattle.hv_grammar.specs.Running.{Runs}
 use Rattle.hv_ast.specs.Built.{IsBuilt}
 use Rattle.hv_value.specs.declared.row.Row.{Row}
-use Rattle.hv_logic.specs.declared.catalog.Column.{Column}
+use Rattle.hv_logic.specs.declared.catalog.Shape.{Shape}
 use Rattle.hv_logic.specs.declared.catalog.TableInfo.{TableInfo}
 use Rattle.hv_logic.specs.declared.effect.Effect.{Effect}
 use Rattle.hv_logic.specs.declared.meaning.Meaning.{Meaning}
-use Rattle.hv_logic.specs.declared.meaning.Meaning.TheVariants.{Refused, Listing, Change, Make, RowLimit}
+use Rattle.hv_logic.specs.declared.meaning.Meaning.TheVariants.{Listing, Change, Make, RowLimit}
 use Rattle.hv_logic.specs.Meaning.{meaning_of}
 use Rattle.hv_rowfile.specs.Layout.{CanWrite}
 use Rattle.hv_history.specs.declared.entry.Entry.{Entry}
@@ -21,15 +21,16 @@ use Rattle.hv_history.specs.declared.entry.Cause.TheVariants as cause
 use Rattle.hv_history.specs.declared.state.Written.{Written}
 use Rattle.hv_history.specs.declared.state.Table.{Table}
 use Rattle.hv_history.specs.State.{State, state_of, numbered, changed, seen_tables, written_by, written_to, owned, new_table}
+use Rattle.hv_history.specs.Legal.{IsRefusedAs}
 use Rattle.hv_history.specs.Answers.{listing, counts_line, ok_line, cause_text}
 use Rattle.hv_dirs.specs.Names.{write_end}
 use Rattle.hv_stands.specs.Files.{records_of, file_of, own_place, Stands}
 use Rattle.hv_stands.specs.Sound.{IsSound, AreSound, IsWhole, ArePlain, AreInserts}
-use Rattle.hv_stands.specs.Endings.{next_number, statement_entries, Goes}
+use Rattle.hv_stands.specs.Endings.{next_number, statement_entries, HasSpace, Goes}
 use Rattle.hv_stands.specs.Reading.{seen_read}
 
 -- what a statement of this tree comes to behind a book
-abbrev pub meant : List Entry → Stmt → Meaning
+abbrev pub meant : List Entry → Stmt → Option Meaning
 meant book tree = meaning_of (seen_tables (state_of book).tables) tree
 
 -- the entry that commits the statement, with these touches
@@ -41,34 +42,33 @@ committing book wrote = entry.Commit (record { 0 = next_number book }) wrote
 -- a table that is made has columns that are built
 abbrev pub MadeColumnsArePlain : Type 0
 MadeColumnsArePlain =
-    (book : List Entry) (tree : Stmt) (name : List ℕ) (columns : List Column)
-    → IsBuilt tree → meant book tree ≡ Make name columns → ArePlain columns
+    (book : List Entry) (tree : Stmt) (shape : Shape)
+    → IsBuilt tree → meant book tree ≡ Some (Make shape) → ArePlain shape.columns
 
 -- ---- the four ways of a statement
 
 abbrev pub QueriesEnd : Type 0
 QueriesEnd =
     (book : List Entry) (number : ℕ) (text : List ℕ) (tree : Stmt) (names : List (List ℕ)) (rows : List Row)
-    → IsSound (state_of book) → Runs text tree → meant book tree ≡ Listing names rows
+    → IsSound (state_of book) → HasSpace book → Runs text tree → meant book tree ≡ Some (Listing names rows)
     → Goes book (statement_entries book number text (committing book [] ∷ [])) number text (listing names rows) false (state_of book).tables
 
 -- a statement may be aborted for this cause; damage is told of files alone
-abbrev pub IsCauseOf : Meaning → Cause → Type 0
-IsCauseOf meaning (cause.Refused number) = meaning ≡ Refused number
-IsCauseOf meaning cause.RowLimit = meaning ≡ RowLimit
+abbrev pub IsCauseOf : Option Meaning → Cause → Type 0
+IsCauseOf meaning (cause.Refused number) = IsRefusedAs number meaning
+IsCauseOf meaning cause.RowLimit = meaning ≡ Some RowLimit
 IsCauseOf meaning (cause.Damaged place) = Unit {0}
 IsCauseOf meaning _ = ⊥
 
 abbrev pub RefusalsEnd : Type 0
 RefusalsEnd =
     (book : List Entry) (number : ℕ) (text : List ℕ) (tree : Stmt) (cause : Cause)
-    → IsSound (state_of book) → Runs text tree → IsCauseOf (meant book tree) cause
+    → IsSound (state_of book) → HasSpace book → Runs text tree → IsCauseOf (meant book tree) cause
     → Goes book (statement_entries book number text (entry.Abort (record { 0 = next_number book }) cause ∷ []))
     number text (cause_text None cause) true (state_of book).tables
 
-abbrev pub made_table : ℕ → List ℕ → List Column → Table
-made_table number name columns =
-    new_table (record { table = record { 0 = number }; name = name; columns = columns; parts = []; bucketed = []; buckets = 0 })
+abbrev pub made_table : ℕ → Shape → Table
+made_table number shape = new_table (record { table = record { 0 = number }; shape = shape })
 
 -- the number of the table that is made next
 abbrev pub next_table : List Entry → ℕ
@@ -76,11 +76,11 @@ next_table book = length (state_of book).tables + 1
 
 abbrev pub TablesAreMade : Type 0
 TablesAreMade =
-    (book : List Entry) (number : ℕ) (text : List ℕ) (tree : Stmt) (name : List ℕ) (columns : List Column)
-    → IsSound (state_of book) → Runs text tree → meant book tree ≡ Make name columns
+    (book : List Entry) (number : ℕ) (text : List ℕ) (tree : Stmt) (shape : Shape)
+    → IsSound (state_of book) → HasSpace book → Runs text tree → meant book tree ≡ Some (Make shape)
     → Goes book
     (statement_entries book number text (entry.Create (record { 0 = next_number book }) (record { 0 = next_table book }) ∷ []))
-    number text ok_line false ((state_of book).tables ++ made_table (next_table book) name columns ∷ [])
+    number text ok_line false ((state_of book).tables ++ made_table (next_table book) shape ∷ [])
 
 -- the tables behind an insert under the next write id
 abbrev pub tables_inserted : List Table → ℕ → ℕ → Written → List Table
@@ -92,20 +92,20 @@ inserting info effect = record { table = info.table; partition = []; inserted = 
 abbrev pub RowsAreInserted : Type 0
 RowsAreInserted =
     (book : List Entry) (number : ℕ) (text : List ℕ) (tree : Stmt) (info : TableInfo) (effect : Effect) (table : Table)
-    → IsSound (state_of book) → Runs text tree → meant book tree ≡ Change info effect → 0 < length effect.inserts
+    → IsSound (state_of book) → HasSpace book → Runs text tree → meant book tree ≡ Some (Change info effect) → 0 < length effect.inserts
     → numbered (state_of book).tables info.table.0 ≡ Some table
     → Goes book
     (statement_entries book number text
     (entry.Given (record { 0 = next_number book }) info.table (record { 0 = length table.owners + 1 })
     ∷ committing book (inserting info effect ∷ []) ∷ []))
     number text (counts_line (inserting info effect ∷ [])) false
-    (tables_inserted (state_of book).tables (next_number book) info.table.0 (written_by (length table.owners + 1) effect))
+    (tables_inserted (state_of book).tables (next_number book) info.table.0 (written_by (length table.owners + 1) 0 effect))
 
 -- where there is nothing to insert no write id is given
 abbrev pub NothingIsInserted : Type 0
 NothingIsInserted =
     (book : List Entry) (number : ℕ) (text : List ℕ) (tree : Stmt) (info : TableInfo) (effect : Effect)
-    → IsSound (state_of book) → Runs text tree → meant book tree ≡ Change info effect → effect.inserts ≡ []
+    → IsSound (state_of book) → HasSpace book → Runs text tree → meant book tree ≡ Some (Change info effect) → effect.inserts ≡ []
     → Goes book (statement_entries book number text (committing book [] ∷ []))
     number text (counts_line []) false (state_of book).tables
 
@@ -115,15 +115,15 @@ NothingIsInserted =
 abbrev pub InsertsCanBeWritten : Type 0
 InsertsCanBeWritten =
     (book : List Entry) (tree : Stmt) (info : TableInfo) (effect : Effect) (write : ℕ)
-    → IsSound (state_of book) → meant book tree ≡ Change info effect → 1 ≤ write
-    → CanWrite false 0 (records_of (written_by write effect).inserts)
-    × AllByRecursion IsWhole (written_by write effect).inserts × (effect.deletes ≡ [])
+    → IsSound (state_of book) → meant book tree ≡ Some (Change info effect) → 1 ≤ write
+    → CanWrite false 0 (records_of (written_by write 0 effect).inserts)
+    × AllByRecursion IsWhole (written_by write 0 effect).inserts × (effect.deletes ≡ [])
 
 -- the table of a change is one of the book's
 abbrev pub ChangedTableStands : Type 0
 ChangedTableStands =
     (book : List Entry) (tree : Stmt) (info : TableInfo) (effect : Effect)
-    → IsSound (state_of book) → meant book tree ≡ Change info effect
+    → IsSound (state_of book) → meant book tree ≡ Some (Change info effect)
     → (table : Table) × (numbered (state_of book).tables info.table.0 ≡ Some table) × (table.info ≡ info)
 
 -- a statement means the same over the rows that are read from its table's files
@@ -140,8 +140,8 @@ SoundnessGoesOn =
 
 abbrev pub MadeTablesAreSound : Type 0
 MadeTablesAreSound =
-    (most : ℕ) (tables : List Table) (name : List ℕ) (columns : List Column) → AreSound most tables → ArePlain columns
-    → AreSound most (tables ++ made_table (length tables + 1) name columns ∷ [])
+    (most : ℕ) (tables : List Table) (shape : Shape) → AreSound most tables → ArePlain shape.columns
+    → AreSound most (tables ++ made_table (length tables + 1) shape ∷ [])
 
 abbrev pub InsertedTablesAreSound : Type 0
 InsertedTablesAreSound =
@@ -152,8 +152,8 @@ InsertedTablesAreSound =
 
 abbrev pub MadeTablesStand : Type 0
 MadeTablesStand =
-    (before now : State) (files : Tree) (name : List ℕ) (columns : List Column)
-    → Stands before files → now.tables ≡ before.tables ++ made_table (length before.tables + 1) name columns ∷ []
+    (before now : State) (files : Tree) (shape : Shape)
+    → Stands before files → now.tables ≡ before.tables ++ made_table (length before.tables + 1) shape ∷ []
     → Stands now files
 
 abbrev pub InsertedFilesStand : Type 0

@@ -2,30 +2,22 @@
 use Rattle.std.specs.Prelude.{ℕ, ◌+◌, zero, suc, ◌==◌, Bool, true, false, if◌then◌else◌, nat_eq, Option, Some, None, List, [], ◌∷◌, ◌++◌}
 use Rattle.std.specs.Cmp.Lexicographic.{pointwise}
 use Rattle.std.specs.List.{flat_map}
-use Rattle.hv_ast.specs.declared.query.From.{From}
-use Rattle.hv_ast.specs.declared.query.Source.{Source}
-use Rattle.hv_ast.specs.declared.query.Source.TheVariants.{Table as TableSource}
+use Rattle.hv_locks.specs.declared.table.Lock.{Lock}
 use Rattle.hv_ast.specs.declared.statement.Stmt.{Stmt}
 use Rattle.hv_ast.specs.declared.statement.Stmt.TheVariants as stmt
+use Rattle.hv_logic.specs.Names.{names_in}
 use Rattle.hv_logic.specs.declared.effect.Found.{Found}
 use Rattle.hv_logic.specs.declared.seen.Seen.{Seen}
 use Rattle.hv_history.specs.declared.state.Written.{Written}
 use Rattle.hv_history.specs.declared.state.Table.{Table}
 
--- the table that a statement names, where its form is built
-abbrev pub source_name : Source → Option (List ℕ)
-source_name (TableSource name alias) = Some name
-source_name _ = None
-
-abbrev pub from_name : Option (From Source) → Option (List ℕ)
-from_name None = None
-from_name (Some from) = source_name from.source
+-- the first of the tables that a statement names; the forms that are built name one
+abbrev pub first_name : List Lock → Option (List ℕ)
+first_name [] = None
+first_name (lock ∷ locks) = Some lock.name
 
 abbrev pub table_named : Stmt → Option (List ℕ)
-table_named (stmt.Query query) = from_name query.select.from
-table_named (stmt.Insert insert) = Some insert.table
-table_named (stmt.CreateTable create) = Some create.table
-table_named _ = None
+table_named tree = first_name (names_in tree)
 
 -- whether the rows of that table matter
 abbrev pub reads_rows : Stmt → Bool
@@ -36,7 +28,7 @@ reads_rows _ = false
 abbrev pub table_of_name : List ℕ → List Table → Option Table
 table_of_name name [] = None
 table_of_name name (table ∷ tables) =
-    if pointwise nat_eq table.info.name name then Some table else table_of_name name tables
+    if pointwise nat_eq table.info.shape.name name then Some table else table_of_name name tables
 
 -- all rows that a table's commits inserted, in their order
 abbrev pub inserted_rows : List Written → List Found

@@ -39,7 +39,7 @@ pub record ArePlain (columns : List Column) : Type 0 where
   pub each : AllByRecursion IsPlainColumn columns
 
 abbrev pub IsPlainTable : Table → Type 0
-IsPlainTable table = ArePlain table.info.columns
+IsPlainTable table = ArePlain table.info.shape.columns
 
 abbrev pub IsWhole : Found → Type 0
 IsWhole found = found.partition ≡ []
@@ -72,4 +72,5 @@ pub record AreSound (most : ℕ) (tables : List Table) : Type 0 where
 
 pub record IsSound (state : State) : Type 0 where
   pub ended : AllByRecursion HasEnded state.transactions
+  pub no_jobs : state.jobs ≡ []
   pub tables : AreSound state.entries state.tables

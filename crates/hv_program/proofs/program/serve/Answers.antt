@@ -1,7 +1,8 @@
+use Rattle.hv_base.proofs.ToldLemmas.{stays_same, stays_stays, stays_by}
 use Rattle.hv_house.specs.House.{entries_of, IsReady}
 use Rattle.std.proofs.Common.{ap}
 use Rattle.hv_program.proofs.Ends.{Serves-run, Serves-store, Serves-memory}
-use Rattle.hv_program.proofs.Turns.{spares-empty, StaysTold-same, StaysTold-then, StaysTold-moved, StaysTold-is}
+use Rattle.hv_program.proofs.Turns.{spares-empty, StaysTold-is}
 use Rattle.hv_program.proofs.Refusing.{opens-run, opens-store, opens-memory}
 use Rattle.hv_program.proofs.Blaming.{blames-run, blames-store, blames-memory}
 use Rattle.hv_program.proofs.program.serve.Goals as goal
@@ -16,7 +17,7 @@ returns-in-Ok g c = record {
   blames = blames-run c.run-ran.result _ _ _ _ _ _ _ c.status_of.ensures.value c.in-Ok.ensures.later (ap g.D.Shelf.faults c.close.ensures) c.run-ran.ensures.blames;
   kept = spares-empty _ _ c.in-Ok.ensures.empty;
   heard = c.run-ran.ensures.heard;
-  tells = StaysTold-is _ _ _ (StaysTold-then _ _ _ (StaysTold-moved _ _ _ c.in-Ok.ensures.tree) c.run-ran.ensures.tells) (ap g.D.Shelf.told c.close.ensures);
+  tells = StaysTold-is _ _ _ (stays_stays _ _ _ (stays_by _ _ _ c.in-Ok.ensures.tree) c.run-ran.ensures.tells) (ap g.D.Shelf.told c.close.ensures);
 }
 
 pub returns-in-Err-Store-default : goal.returns-in-Err-Store-default
@@ -25,7 +26,7 @@ returns-in-Err-Store-default g c = record {
   opened = opens-store _ _ _ _ _ c.status.ensures;
   blames = blames-store _ _ _ _ _ c.status.ensures c.in-Err-Store-default.field-0-0-is c.in-Err-Store-default.ensures.cause.failed;
   kept = c.in-Err-Store-default.ensures.kept;
-  heard = StaysTold-same _;
+  heard = stays_same _;
   tells = c.in-Err-Store-default.ensures.tells;
 }
 
@@ -35,6 +36,6 @@ returns-in-Err-NoMemory-default g c = record {
   opened = opens-memory _ _ _ _ _ c.status-in-Err-NoMemory-default.ensures;
   blames = blames-memory _ _ _ _ c.status-in-Err-NoMemory-default.ensures;
   kept = c.in-Err-NoMemory-default.ensures.kept;
-  heard = StaysTold-same _;
+  heard = stays_same _;
   tells = c.in-Err-NoMemory-default.ensures.tells;
 }

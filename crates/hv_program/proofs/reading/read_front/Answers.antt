@@ -1,7 +1,7 @@
 use Rattle.std.proofs.Common.{◌≤◌, length, ◌∙◌, refl, arith}
+use Rattle.hv_base.proofs.ToldLemmas.{stays_by, stays_stays}
 use Rattle.hv_base.proofs.ReadingLemmas.{GivesFront-none, GivesAll-end, GivesFront-pushed, held-more}
 use Rattle.hv_program.proofs.Fronts.{length-asked, length-chunk, asked-some, held-within, TakesUpTo-all, TakesUpTo-most, StaysTold-failed}
-use Rattle.hv_program.proofs.Turns.{StaysTold-moved, StaysTold-then}
 use Rattle.hv_program.proofs.Blaming.{Rose-later}
 use Rattle.hv_program.proofs.reading.read_front.Goals as goal
 
@@ -27,7 +27,7 @@ returns-then-count-eq0-clause-taken g c =
 
 pub returns-then-count-eq0-clause-tells : goal.returns-then-count-eq0-clause-tells
 returns-then-count-eq0-clause-tells g c =
-    StaysTold-then _ _ _ (StaysTold-moved _ _ _ c.loop-chunk.invariant.given) (StaysTold-moved _ _ _ c.in-Ok.ensures.done)
+    stays_stays _ _ _ (stays_by _ _ _ c.loop-chunk.invariant.given) (stays_by _ _ _ c.in-Ok.ensures.done)
 
 pub loop-chunk-preserved : goal.loop-chunk-preserved
 loop-chunk-preserved g c = record {
@@ -42,7 +42,7 @@ loop-chunk-preserved g c = record {
 
 pub returns-in_err-extend_from_slice-clause-tells : goal.returns-in_err-extend_from_slice-clause-tells
 returns-in_err-extend_from_slice-clause-tells g c =
-    StaysTold-then _ _ _ (StaysTold-moved _ _ _ c.loop-chunk.invariant.given) (StaysTold-moved _ _ _ c.in-Ok.ensures.done)
+    stays_stays _ _ _ (stays_by _ _ _ c.loop-chunk.invariant.given) (stays_by _ _ _ c.in-Ok.ensures.done)
 
 pub returns-clause-taken : goal.returns-clause-taken
 returns-clause-taken g c =
@@ -50,4 +50,4 @@ returns-clause-taken g c =
     TakesUpTo-most _ _ _ _ reached c.loop-chunk.invariant.given
 
 pub returns-clause-tells : goal.returns-clause-tells
-returns-clause-tells g c = StaysTold-moved _ _ _ c.loop-chunk.invariant.given
+returns-clause-tells g c = stays_by _ _ _ c.loop-chunk.invariant.given

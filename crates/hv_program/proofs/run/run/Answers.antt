@@ -1,5 +1,6 @@
 use Rattle.std.proofs.Common.{Err, ap, arith}
-use Rattle.hv_program.proofs.Turns.{StaysTold-then, StaysTold-moved, Prints-next, Halts-stopped, Halts-cut}
+use Rattle.hv_base.proofs.ToldLemmas.{stays_stays, stays_by}
+use Rattle.hv_program.proofs.Turns.{Prints-next, Halts-stopped, Halts-cut}
 use Rattle.hv_program.proofs.Blaming.{Blames-stopped, Blames-cut}
 use Rattle.hv_program.proofs.run.run.Goals as goal
 
@@ -10,8 +11,8 @@ loop-i-preserved g c = record {
   shows = λ s. c.in_ok-reply.ensures.shows (c.loop-i.invariant.shows s);
   prints = λ s. Prints-next _ _ _ _ _ c.args.texts.now c.loop-i.i _ _ _ _ _ _ _ _ c.loop-i-test.true c.index-texts-i.is c.loop-i.invariant.tells
       c.as_slice.ensures c.in_ok-write_all.ensures.done (c.loop-i.invariant.prints s) (c.in_ok-reply.ensures.answered (c.loop-i.invariant.shows s));
-  tells = StaysTold-then _ _ _ c.loop-i.invariant.tells c.in_ok-reply.ensures.tells;
-  heard = StaysTold-then _ _ _ c.loop-i.invariant.heard (StaysTold-moved _ _ _ c.in_ok-write_all.ensures.done);
+  tells = stays_stays _ _ _ c.loop-i.invariant.tells c.in_ok-reply.ensures.tells;
+  heard = stays_stays _ _ _ c.loop-i.invariant.heard (stays_by _ _ _ c.in_ok-write_all.ensures.done);
   later_store = omega (arith, c.loop-i.invariant.later_store, c.in_ok-reply.ensures.cause.later);
   later_sink = omega (arith, c.loop-i.invariant.later_sink, c.in_ok-write_all.ensures.cause.later);
 }

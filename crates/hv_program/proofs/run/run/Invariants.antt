@@ -1,6 +1,6 @@
 use Rattle.std.proofs.Common.{◌+◌, ◌*◌, ◌≤◌, length, take}
-use Rattle.hv_base.specs.Told.{Tells}
-use Rattle.hv_house.specs.House.{entries_of, IsReady, Shows, StaysTold}
+use Rattle.hv_base.specs.Told.{Tells, StaysTold}
+use Rattle.hv_house.specs.House.{entries_of, IsReady, Shows}
 use Rattle.hv_program.specs.Running.{Prints}
 use Rattle.hv_program.proofs.run.run.Given as goal
 

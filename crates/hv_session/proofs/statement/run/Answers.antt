@@ -1,5 +1,4 @@
-use Rattle.std.proofs.Common.{subst, sym}
-use Rattle.hv_grammar.specs.Running.{Runs}
+use Rattle.hv_base.proofs.ToldLemmas.{stays_stays}
 use Rattle.hv_session.proofs.Joining.{run-numbers, run-can, run-ran}
 use Rattle.hv_session.proofs.Halfway.{run-stopped}
 use Rattle.hv_session.proofs.statement.run.Goals as goal
@@ -22,7 +21,12 @@ returns-clause-ran g c =
 pub returns-clause-stopped : goal.returns-clause-stopped
 returns-clause-stopped g c =
     run-stopped g.D.Shelf.told c.args.number c.args.text c.args.house.now c.begin.new.house c.finish.new.house c.args.tree.now c.in_ok-txn.txn c.finish.result
-    c.requires.ready c.requires.tree c.in_ok-txn.ensures.started c.finish.ensures.unended
+    c.requires.ready c.requires.room c.requires.tree c.in_ok-txn.ensures.started c.finish.ensures.unended
 
-pub begin-requires-clause-tree : goal.begin-requires-clause-tree
-begin-requires-clause-tree g c = subst (Runs c.args.text) (sym c.requires.same) c.requires.tree
+pub finish-requires-clause-built : goal.finish-requires-clause-built
+finish-requires-clause-built g c = c.requires.tree.built
+
+pub returns-clause-tells : goal.returns-clause-tells
+returns-clause-tells g c =
+    stays_stays (g.D.Shelf.told c.args.house.now.shelf) (g.D.Shelf.told c.begin.new.house.shelf) (g.D.Shelf.told c.finish.new.house.shelf)
+    c.begin.ensures.tells c.finish.ensures.tells

@@ -1,10 +1,10 @@
 use Rattle.std.proofs.Common.{arith}
-use Rattle.hv_journal.proofs.Lengths.{length-word}
+use Rattle.hv_bytes.proofs.Lengths.{length-eight}
 use Rattle.hv_house.proofs.Halts.{empty_noted}
 use Rattle.hv_house.proofs.house.House.begin.Goals as goal
 
 pub note-requires-clause-short : goal.note-requires-clause-short
-note-requires-clause-short g c = omega (arith, length-word 0)
+note-requires-clause-short g c = omega (arith, length-eight 0)
 
 pub returns-in_err-note-clause-stopped : goal.returns-in_err-note-clause-stopped
 returns-in_err-note-clause-stopped g c = λ unwritten.
