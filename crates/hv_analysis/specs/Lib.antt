@@ -1,0 +1,5 @@
+pub mod Creates
+pub mod Inserts
+pub mod Selects
+pub mod Aggregates
+pub mod Analysis

@@ -1,0 +1,148 @@
+ghost use Rattle.std.specs.Prelude.{◌≡◌};
+ghost use Rattle.hv_types.specs.declared.places.Place.TheVariants as place;
+ghost use Rattle.hv_types.specs.Kinds.{asked, given, element_given};
+
+use crate::kinds::{scalar_type, wider};
+use hv_value::{Elem, SqlType};
+
+/// What a place of a function asks of its operand.
+#[derive(Clone, Copy)]
+pub enum Place {
+    Any,
+    /// A BOOLEAN.
+    Truth,
+    /// An integer of either width.
+    Integer,
+    /// An INT alone.
+    Int,
+    /// A STRING.
+    Text,
+    /// A DATE, or a STRING that is read as one.
+    Date,
+    Array,
+    /// Anything that is no array.
+    Ordered,
+}
+
+/// The type of what a function gives.
+#[derive(Clone, Copy)]
+pub enum Gives {
+    Fixed(SqlType),
+    /// That of the first operand.
+    Same,
+    /// The wider one of the first two.
+    Wider,
+    /// That of the elements of the first one.
+    Element,
+}
+
+/// What a function of two operands asks of them.
+#[derive(Clone, Copy)]
+pub enum Pair {
+    /// One type of both, to be compared.
+    Compared,
+    /// One type of both, which is that of the result.
+    Unified,
+    Placed(Place, Place, Gives),
+}
+
+fn asked_date(kind: SqlType) -> Option<SqlType>
+    ensures { result ≡ asked place.Date kind }
+{
+    match kind {
+        SqlType::Null | SqlType::Date | SqlType::Str => Some(SqlType::Date),
+        _ => None,
+    }
+}
+
+fn asked_integer(kind: SqlType) -> Option<SqlType>
+    ensures { result ≡ asked place.Integer kind }
+{
+    match kind {
+        SqlType::Null | SqlType::Int => Some(SqlType::Int),
+        SqlType::BigInt => Some(SqlType::BigInt),
+        _ => None,
+    }
+}
+
+fn asked_array(kind: SqlType) -> Option<SqlType>
+    ensures { result ≡ asked place.Array kind }
+{
+    match kind {
+        SqlType::Null => Some(SqlType::ArrayOf(Elem::Null)),
+        SqlType::ArrayOf(elem) => Some(SqlType::ArrayOf(elem)),
+        _ => None,
+    }
+}
+
+fn asked_ordered(kind: SqlType) -> Option<SqlType>
+    ensures { result ≡ asked place.Ordered kind }
+{
+    match kind {
+        SqlType::ArrayOf(_) => None,
+        _ => Some(kind),
+    }
+}
+
+fn asked_truth(kind: SqlType) -> Option<SqlType>
+    ensures { result ≡ asked place.Truth kind }
+{
+    match kind {
+        SqlType::Null | SqlType::Boolean => Some(SqlType::Boolean),
+        _ => None,
+    }
+}
+
+fn asked_int(kind: SqlType) -> Option<SqlType>
+    ensures { result ≡ asked place.Int kind }
+{
+    match kind {
+        SqlType::Null | SqlType::Int => Some(SqlType::Int),
+        _ => None,
+    }
+}
+
+fn asked_text(kind: SqlType) -> Option<SqlType>
+    ensures { result ≡ asked place.Text kind }
+{
+    match kind {
+        SqlType::Null | SqlType::Str => Some(SqlType::Str),
+        _ => None,
+    }
+}
+
+/// The type as which an operand of this type is taken at the place, None where it may not stand.
+pub fn asked(place: Place, kind: SqlType) -> Option<SqlType>
+    ensures { result ≡ asked place kind }
+{
+    match place {
+        Place::Any => Some(kind),
+        Place::Truth => asked_truth(kind),
+        Place::Integer => asked_integer(kind),
+        Place::Int => asked_int(kind),
+        Place::Text => asked_text(kind),
+        Place::Date => asked_date(kind),
+        Place::Array => asked_array(kind),
+        Place::Ordered => asked_ordered(kind),
+    }
+}
+
+fn element_given(kind: SqlType) -> SqlType
+    ensures { result ≡ element_given kind }
+{
+    match kind {
+        SqlType::ArrayOf(elem) => scalar_type(elem),
+        _ => SqlType::Null,
+    }
+}
+
+pub(crate) fn given(gives: Gives, first: SqlType, second: SqlType) -> SqlType
+    ensures { result ≡ given gives first second }
+{
+    match gives {
+        Gives::Fixed(kind) => kind,
+        Gives::Same => first,
+        Gives::Wider => wider(first, second),
+        Gives::Element => element_given(first),
+    }
+}
