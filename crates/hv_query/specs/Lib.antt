@@ -1,0 +1,4 @@
+pub mod Joins
+pub mod Grouped
+pub mod Order
+pub mod Rows
