@@ -1,6 +1,6 @@
 use Rattle.std.proofs.Common.{◌≡◌, ◌++◌, map, string_bytes}
-use Rattle.hv_files.specs.Names.{piece_name}
-use Rattle.hv_files.proofs.names.push_pieces.Given as goal
+use Rattle.hv_paths.specs.Names.{piece_name}
+use Rattle.hv_paths.proofs.names.push_pieces.Given as goal
 
 abbrev pub invariant-loop-piece : goal.invariant-loop-piece
 invariant-loop-piece l =

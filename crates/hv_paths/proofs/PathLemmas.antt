@@ -4,8 +4,8 @@ use Rattle.std.specs.Char.{is_ascii_digit}
 use Rattle.std.specs.Str.{all_ascii_digits}
 use Rattle.std.specs.List.{list_all, slice_split, onto_first, join_with_byte}
 use Rattle.std.proofs.lemmas.List.Splits.{join_with_byte-slice_split}
-use Rattle.hv_files.specs.Names.{slash, dot, piece_mark, dir_mark, is_marked, piece_name, dir_name, padded, table_name, bucket_name, pieces_of, folders_of, has_slash, is_dotted, is_name}
-use Rattle.hv_files.proofs.NameLemmas.{piece_cases, dir_cases, piece_name-same, dir_name-same, padded-same, padded_digits, padded_some}
+use Rattle.hv_paths.specs.Names.{slash, dot, piece_mark, dir_mark, is_marked, piece_name, dir_name, padded, table_name, bucket_name, pieces_of, folders_of, has_slash, is_dotted, is_name}
+use Rattle.hv_paths.proofs.NameLemmas.{piece_cases, dir_cases, piece_name-same, dir_name-same, padded-same, padded_digits, padded_some}
 
 -- ## Two directories have two paths
 

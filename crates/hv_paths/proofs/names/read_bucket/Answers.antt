@@ -1,10 +1,10 @@
 use Rattle.std.proofs.Common.{◌≡◌, Some, sym, ap, ◌∙◌, true≢false}
 use Rattle.std.specs.Cmp.Lexicographic.{pointwise, nat_list_eq_equiv}
 use Rattle.std.specs.Prelude.{nat_eq}
-use Rattle.hv_files.specs.Names.{bucket_name}
-use Rattle.hv_files.proofs.NameLemmas.{digits_of, parse_padded}
-use Rattle.hv_files.proofs.names.read_bucket.Goals.{then-eq, else-eq}
-use Rattle.hv_files.proofs.names.read_bucket.Goals as goal
+use Rattle.hv_paths.specs.Names.{bucket_name}
+use Rattle.hv_paths.proofs.NameLemmas.{digits_of, parse_padded}
+use Rattle.hv_paths.proofs.names.read_bucket.Goals.{then-eq, else-eq}
+use Rattle.hv_paths.proofs.names.read_bucket.Goals as goal
 
 pub returns-in_default-parse-clause-every : goal.returns-in_default-parse-clause-every
 returns-in_default-parse-clause-every c bucket small named =

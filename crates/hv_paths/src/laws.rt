@@ -1,6 +1,6 @@
 ghost use Rattle.std.specs.Prelude.{◌≡◌, ◌<◌, ◌^◌, ℕ, List, true, false};
 ghost use Rattle.std.specs.List.{list_all};
-ghost use Rattle.hv_files.specs.Names.{piece_name, dir_name, table_name, bucket_name, folders_of, has_slash, is_name};
+ghost use Rattle.hv_paths.specs.Names.{piece_name, dir_name, table_name, bucket_name, folders_of, has_slash, is_name};
 
 /// Two pieces, two directories and two files have two names, and no piece has a directory's name.
 pub fn names_differ()

@@ -2,9 +2,9 @@ use Rattle.std.proofs.Common.{◌++◌, map, string_bytes, sym, ap, ◌∙◌, l
 use Rattle.std.specs.Str.Iter.{split_text, split_has_more, split_pattern}
 use Rattle.std.proofs.lemmas.Iterator.Consumers.{YieldsList-end}
 use Rattle.std.proofs.lemmas.Iterator.Splits.{YieldsList-from_str_split}
-use Rattle.hv_files.specs.Names.{piece_name, slash}
-use Rattle.hv_files.proofs.NameLemmas.{map-shown, pieces_of-some}
-use Rattle.hv_files.proofs.names.push_pieces.Goals as goal
+use Rattle.hv_paths.specs.Names.{piece_name, slash}
+use Rattle.hv_paths.proofs.NameLemmas.{map-shown, pieces_of-some}
+use Rattle.hv_paths.proofs.names.push_pieces.Goals as goal
 
 pub returns : goal.returns
 returns c =

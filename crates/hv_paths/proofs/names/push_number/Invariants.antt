@@ -1,6 +1,6 @@
 use Rattle.std.proofs.Common.{◌≡◌, ◌++◌, replicate, string_bytes}
-use Rattle.hv_files.specs.Names.{zero_digit}
-use Rattle.hv_files.proofs.names.push_number.Given as goal
+use Rattle.hv_paths.specs.Names.{zero_digit}
+use Rattle.hv_paths.proofs.names.push_number.Given as goal
 
 abbrev pub invariant-loop : goal.invariant-loop
 invariant-loop l =

@@ -6,8 +6,8 @@
 use Rattle.std.specs.Prelude.{◌≡◌, ℕ, ◌-◌, List, [], ◌∷◌, ◌++◌, length, replicate, Bool, true, not, ◌&&◌, ◌||◌, ◌==◌, if◌then◌else◌, map, codes}
 use Rattle.std.specs.Fmt.{decimal}
 use Rattle.std.specs.List.{list_any, slice_split}
-use Rattle.hv_files.specs.declared.names.Entry.{Entry}
-use Rattle.hv_files.specs.declared.names.Entry.TheVariants.{Piece, Dir, Other}
+use Rattle.hv_paths.specs.declared.names.Entry.{Entry}
+use Rattle.hv_paths.specs.declared.names.Entry.TheVariants.{Piece, Dir, Other}
 
 -- the bytes `/`, `0`, `=`, `.`, `%` and `@`
 abbrev pub slash : ℕ

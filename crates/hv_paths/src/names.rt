@@ -1,6 +1,6 @@
 ghost use Rattle.std.specs.Prelude.{◌≡◌, ◌<◌, ◌++◌, ◌^◌, ℕ, map, Some, IfOk, IfSome, OnOk, string_bytes};
-ghost use Rattle.hv_files.specs.Paths.{outer_folders};
-ghost use Rattle.hv_files.specs.Names.{is_marked, has_equals, piece_name, dir_name, padded, table_name, bucket_name, Names, folders_of, pieces_of, has_slash};
+ghost use Rattle.hv_paths.specs.Paths.{outer_folders};
+ghost use Rattle.hv_paths.specs.Names.{is_marked, has_equals, piece_name, dir_name, padded, table_name, bucket_name, Names, folders_of, pieces_of, has_slash};
 
 use hv_base::{NoMemory, TableId};
 use std::alloc::Global;

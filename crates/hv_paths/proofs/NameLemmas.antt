@@ -6,7 +6,7 @@ use Rattle.std.specs.Str.{all_ascii_digits}
 use Rattle.std.specs.Str.Parse.{ParsesUnsigned}
 use Rattle.std.proofs.lemmas.Fmt.{digits_decimal, digits_value-decimal, decimal_is_IsNumeral}
 use Rattle.std.proofs.lemmas.Str.Parse.{IsNumeralModel, numerals_by_fold, parse_gives}
-use Rattle.hv_files.specs.Names.{slash, zero_digit, piece_mark, dir_mark, is_marked, has_equals, piece_name, dir_name, padded, bucket_name, pieces_of}
+use Rattle.hv_paths.specs.Names.{slash, zero_digit, piece_mark, dir_mark, is_marked, has_equals, piece_name, dir_name, padded, bucket_name, pieces_of}
 
 -- ## Pieces and directories
 

@@ -1,6 +1,6 @@
 use Rattle.std.proofs.Common.{sym, ◌∙◌}
-use Rattle.hv_files.proofs.NameLemmas.{no_entry}
-use Rattle.hv_files.proofs.names.entry_of.Goals as goal
+use Rattle.hv_paths.proofs.NameLemmas.{no_entry}
+use Rattle.hv_paths.proofs.names.entry_of.Goals as goal
 
 pub returns-then-is_marked : goal.returns-then-is_marked
 unfolding lib.Utf8.encode

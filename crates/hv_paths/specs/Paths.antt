@@ -3,7 +3,7 @@
 use Rattle.std.specs.Prelude.{ℕ, List, ◌∷◌, ◌++◌, map, codes}
 use Rattle.hv_shelf.specs.declared.place.Place.{Place}
 use Rattle.hv_shelf.specs.declared.place.DirAt.{DirAt}
-use Rattle.hv_files.specs.Names.{slash, dot, table_name, bucket_name, folders_of, pieces_of, piece_name, path_below}
+use Rattle.hv_paths.specs.Names.{slash, dot, table_name, bucket_name, folders_of, pieces_of, piece_name, path_below}
 
 -- the path of a name in a folder
 abbrev pub path_in : (folder name : List ℕ) → List ℕ
