@@ -12,6 +12,7 @@ use Rattle.std.proofs.lemmas.List.Sums.{prefix_len-le-length}
 use Rattle.std.proofs.lemmas.List.Folds.{length-prefix_len}
 use Rattle.hv_ast.specs.declared.token.Lexeme.{Lexeme}
 use Rattle.hv_ast.specs.declared.token.Token.{Token}
+use Rattle.hv_ast.specs.declared.token.Symbol.{Symbol}
 use Rattle.hv_ast.specs.Tokens.{Text, Fault, Front, gap, token, fault, Tokens, is_space, is_quote, is_backquote, is_printable, begins_word, continues_word, comment, word, number, lone, string, string_until, closing, quoted, quoted_until, quoted_by, name_of, first_is, is_big_mark, symbol, symbol_of, symbols, front, from_front, after_token, tokens_from}
 
 -- ---- the tokens behind a front
@@ -165,19 +166,22 @@ quoted_until_within at rest (Some n) same =
 
 -- ---- symbols
 
+abbrev Row : Type 0
+Row = Text × Symbol
+
 and_parts : (a b : Bool) → (a && b) ≡ true → (a ≡ true) × (b ≡ true)
 and_parts true b both = (refl, both)
 and_parts false b both = cc
 
-passes_here : (p q : Text → Bool) (x s : Text) (later : Option Text) (hit : Bool) → p x ≡ hit → q x ≡ true
+passes_here : (p q : Row → Bool) (x s : Row) (later : Option Row) (hit : Bool) → p x ≡ hit → q x ≡ true
     → (later ≡ Some s → (p s ≡ true) × (q s ≡ true)) → cond hit (Some x) later ≡ Some s
     → (p s ≡ true) × (q s ≡ true)
 passes_here p q x s later true test pass rest found =
     let same : x ≡ s = cc in
-    subst (λ (t : Text). (p t ≡ true) × (q t ≡ true)) same (test, pass)
+    subst (λ (t : Row). (p t ≡ true) × (q t ≡ true)) same (test, pass)
 passes_here p q x s later false test pass rest found = rest found
 
-found_passes : (p q : Text → Bool) (all : List Text) (s : Text) → list_all q all ≡ true → find p all ≡ Some s
+found_passes : (p q : Row → Bool) (all : List Row) (s : Row) → list_all q all ≡ true → find p all ≡ Some s
     → (p s ≡ true) × (q s ≡ true)
 found_passes p q [] s pass found = cc
 found_passes p q (x ∷ all) s pass found =
@@ -190,14 +194,14 @@ begun_within text s begins =
     let long = ap {B = ℕ} length whole in
     omega (arith, long, length-append s (drop (length s) text))
 
-symbol_until_within : (at : ℕ) (text : Text) (found : Option Text) → find (λ s. starts_with nat_eq text s) symbols ≡ found
+symbol_until_within : (at : ℕ) (text : Text) (found : Option Row) → find (λ (row : Row). starts_with nat_eq text row.0) symbols ≡ found
     → IsWithin (length text) (symbol_of at found)
 unfolding symbols
 symbol_until_within at text None same = tt
 symbol_until_within at text (Some s) same =
-    let passes = found_passes (λ t. starts_with nat_eq text t) (λ t. nat_le 1 (length t)) symbols s refl same in
-    let some : 1 ≤ length s = grind (arith, nat_tests) in
-    (some, begun_within text s passes.0)
+    let passes = found_passes (λ row. starts_with nat_eq text row.0) (λ row. nat_le 1 (length row.0)) symbols s refl same in
+    let some : 1 ≤ length s.0 = grind (arith, nat_tests) in
+    (some, begun_within text s.0 passes.0)
 
 -- ---- all
 

@@ -11,6 +11,7 @@ use Rattle.std.proofs.lemmas.List.Folds.{length-prefix_len}
 use Rattle.std.proofs.lemmas.List.Sums.{take_while-cons, prefix_len_passes}
 use Rattle.hv_ast.specs.declared.token.Lexeme.{Lexeme}
 use Rattle.hv_ast.specs.declared.token.Token.{Token}
+use Rattle.hv_ast.specs.declared.token.Symbol.{Symbol}
 use Rattle.hv_ast.specs.Tokens.{Text, Fault, Front, gap, token, fault, Tokens, is_space, is_quote, is_backquote, is_printable, begins_word, continues_word, comment, word, number, lone, first_is, is_big_mark, string, string_until, closing, quoted, quoted_until, quoted_by, name_of, symbol, symbol_of, symbols, front, from_front, after_token, tokens_from, tokens_of}
 use Rattle.hv_ast.specs.Layout.{IsSpace, IsComment, Layout, finished, passed, spelled, RiseFrom, PlacesRise, NothingBetween}
 use Rattle.hv_ast.proofs.Fronts.{cond_both, LiesWithin, front_within}
@@ -55,7 +56,7 @@ quoted_separates : (whole : Text) (at : ℕ) (rest : Text) (found : Option ℕ) 
 quoted_separates whole at rest None = record { part = tt }
 quoted_separates whole at rest (Some n) = name_separates whole at (take n rest) _
 
-symbol_separates : (whole : Text) (at : ℕ) (found : Option Text) → SeparatesIt whole (symbol_of at found)
+symbol_separates : (whole : Text) (at : ℕ) (found : Option (Text × Symbol)) → SeparatesIt whole (symbol_of at found)
 symbol_separates whole at None = record { part = tt }
 symbol_separates whole at (Some s) = record { part = tt }
 

@@ -8,7 +8,10 @@ use Rattle.std.specs.Option.{option_map}
 use Rattle.std.specs.Char.{is_ascii_alphabetic, is_ascii_alphanumeric, is_ascii_digit, to_ascii_lowercase}
 use Rattle.std.specs.Str.Parse.{digits_value}
 use Rattle.hv_ast.specs.declared.token.Lexeme.{Lexeme}
-use Rattle.hv_ast.specs.declared.token.Lexeme.TheVariants.{Word, Quoted, Int, Big, Str, Symbol}
+use Rattle.hv_ast.specs.declared.token.Lexeme.TheVariants as lexeme
+use Rattle.hv_ast.specs.declared.token.Lexeme.TheVariants.{Word, Quoted, Int, Big, Str}
+use Rattle.hv_ast.specs.declared.token.Symbol.{Symbol}
+use Rattle.hv_ast.specs.declared.token.Symbol.TheVariants as s
 use Rattle.hv_ast.specs.declared.token.Token.{Token}
 
 -- the bytes of a text
@@ -147,21 +150,37 @@ quoted_until at rest (Some n) =
 abbrev pub quoted : ℕ → Text → Front
 quoted at rest = quoted_until at rest (position is_backquote rest)
 
--- ---- symbols, the longest first
+-- ---- symbols with their spellings, each before those that it begins with
 
-unfoldable pub symbols : List Text
+unfoldable pub symbols : List (Text × Symbol)
 symbols =
-    codes "<=>"
-    ∷ codes "==" ∷ codes "<>" ∷ codes "!=" ∷ codes "<=" ∷ codes ">="
-    ∷ codes "(" ∷ codes ")" ∷ codes "[" ∷ codes "]" ∷ codes "," ∷ codes "."
-    ∷ codes "*" ∷ codes "+" ∷ codes "-" ∷ codes "%" ∷ codes "=" ∷ codes "<" ∷ codes ">" ∷ []
+    (codes "<=>", s.NullSafeEqual)
+    ∷ (codes "==", s.EqualTwice)
+    ∷ (codes "<>", s.Unequal)
+    ∷ (codes "!=", s.BangEqual)
+    ∷ (codes "<=", s.AtMost)
+    ∷ (codes ">=", s.AtLeast)
+    ∷ (codes "=", s.Equal)
+    ∷ (codes "<", s.Less)
+    ∷ (codes ">", s.Greater)
+    ∷ (codes "(", s.Open)
+    ∷ (codes ")", s.Close)
+    ∷ (codes "[", s.OpenIndex)
+    ∷ (codes "]", s.CloseIndex)
+    ∷ (codes ",", s.Comma)
+    ∷ (codes ".", s.Dot)
+    ∷ (codes "*", s.Star)
+    ∷ (codes "+", s.Plus)
+    ∷ (codes "-", s.Minus)
+    ∷ (codes "%", s.Percent) ∷ []
 
-abbrev pub symbol_of : ℕ → Option Text → Front
+abbrev pub symbol_of : ℕ → Option (Text × Symbol) → Front
 symbol_of at None = fault (bad_character at)
-symbol_of at (Some spelling) = token (Symbol spelling) (length spelling)
+symbol_of at (Some row) = token (lexeme.Symbol row.1) (length row.0)
 
+-- the first symbol that the text begins with
 abbrev pub symbol : ℕ → Text → Front
-symbol at text = symbol_of at (find (λ spelling. starts_with nat_eq text spelling) symbols)
+symbol at text = symbol_of at (find (λ row. starts_with nat_eq text row.0) symbols)
 
 -- ---- the whole text
 

@@ -29,5 +29,5 @@ pub use table::{
     AddColumns, Clustering, ColumnDefinition, Compact, CompactionKind, CreateTable, CreateView,
     DropTable, Property,
 };
-pub use token::{Lexeme, Token};
+pub use token::{Lexeme, Symbol, Token};
 pub use types::{ScalarName, TypeName};

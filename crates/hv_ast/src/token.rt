@@ -1,5 +1,48 @@
 use hv_base::Text;
 
+/// A symbol.
+#[derive(Clone, Copy)]
+pub enum Symbol {
+    /// `<=>`
+    NullSafeEqual,
+    /// `==`
+    EqualTwice,
+    /// `<>`
+    Unequal,
+    /// `!=`
+    BangEqual,
+    /// `<=`
+    AtMost,
+    /// `>=`
+    AtLeast,
+    /// `=`
+    Equal,
+    /// `<`
+    Less,
+    /// `>`
+    Greater,
+    /// `(`
+    Open,
+    /// `)`
+    Close,
+    /// `[`
+    OpenIndex,
+    /// `]`
+    CloseIndex,
+    /// `,`
+    Comma,
+    /// `.`
+    Dot,
+    /// `*`
+    Star,
+    /// `+`
+    Plus,
+    /// `-`
+    Minus,
+    /// `%`
+    Percent,
+}
+
 /// What a token is.
 #[derive(Drop)]
 pub enum Lexeme {
@@ -14,7 +57,7 @@ pub enum Lexeme {
     /// A string after its escapes.
     Str(Text),
     /// A symbol, as `<=`.
-    Symbol(Text),
+    Symbol(Symbol),
 }
 
 /// A token of a text, and the place of its first byte, from 0.

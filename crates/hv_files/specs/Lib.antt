@@ -1,4 +1,2 @@
 pub mod Acts
 pub mod Answers
-pub mod Names
-pub mod Paths

@@ -1,8 +1,8 @@
 //! The folder of a store: its lock, and its making.
 use crate::fault::{Cause, FileFault};
 use crate::journal::Journal;
-use crate::paths::{journal_path, lock_path, tables_path};
 use crate::system::{Stand, System};
+use hv_paths::{journal_path, lock_path, tables_path};
 use std::alloc::Global;
 use std::fs::{File, TryLockError};
 use std::path::Path;

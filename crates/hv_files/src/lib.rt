@@ -11,8 +11,6 @@ mod file_shelf;
 mod home;
 mod journal;
 mod known;
-mod laws;
-mod names;
 mod paths;
 mod real;
 mod system;
@@ -20,6 +18,5 @@ mod tree;
 
 pub use fault::{Cause, FileFault};
 pub use file_shelf::FileShelf;
-pub use laws::{folders_differ, names_are_safe, names_differ};
 pub use real::RealFiles;
 pub use system::{Stand, System};

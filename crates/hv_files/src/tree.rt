@@ -3,16 +3,17 @@ ghost use Rattle.std.specs.Prelude.{◌≡◌, ◌++◌, IfOk, IfSome, OnOk, str
 ghost use Rattle.hv_shelf.specs.Disk.{IsListing};
 ghost use Rattle.hv_files.specs.Acts.{Keeps, Puts};
 ghost use Rattle.hv_files.specs.Acts.Act.{Gives, Writes, Moves, TakesFolder};
-ghost use Rattle.hv_files.specs.Paths.{file_path, working_path, path_of_dir, dir_path};
+ghost use Rattle.hv_paths.specs.Paths.{file_path, working_path, path_of_dir, dir_path};
 
 use crate::fault::{Cause, FileFault};
 use crate::known::Known;
-use crate::names::{Entry, entry_of, folders_of, is_ours, outer_folders, read_bucket};
-use crate::paths::{
-    dir_path, file_path, partition_path, path_in, path_of_dir, table_path, working_path,
-};
+use crate::paths::{dir_path, file_path, path_of_dir, working_path};
 use crate::system::{Stand, System};
 use hv_base::{NoMemory, TableId, Text};
+use hv_paths::{
+    Entry, entry_of, folders_of, is_ours, outer_folders, partition_path, path_in, read_bucket,
+    table_path,
+};
 use hv_shelf::{DirAt, Place};
 use std::alloc::Global;
 use std::collections::BTreeSet;

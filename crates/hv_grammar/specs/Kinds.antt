@@ -5,7 +5,10 @@ use Rattle.std.specs.List.{list_any}
 use Rattle.std.specs.Str.{bytes_eq}
 use denote.Enum.Bare.{sameb}
 use Rattle.hv_ast.specs.declared.token.Lexeme.{Lexeme}
-use Rattle.hv_ast.specs.declared.token.Lexeme.TheVariants.{Word, Quoted, Int, Big, Str, Symbol}
+use Rattle.hv_ast.specs.declared.token.Lexeme.TheVariants as lexeme
+use Rattle.hv_ast.specs.declared.token.Lexeme.TheVariants.{Word, Quoted, Int, Big, Str}
+use Rattle.hv_ast.specs.declared.token.Symbol.{Symbol}
+use Rattle.hv_ast.specs.declared.token.Symbol.TheVariants as s
 use Rattle.hv_ast.specs.Tokens.{Text}
 use Rattle.hv_grammar.specs.contracts.kind.Kind.{the_type}
 use Rattle.hv_grammar.specs.declared.kind.Kind.{Kind}
@@ -115,27 +118,27 @@ placed =
 unfoldable pub words : List (Text × Kind)
 words = reserved ++ placed
 
-unfoldable pub symbols : List (Text × Kind)
-symbols =
-    (codes "(", k.Open)
-    ∷ (codes ")", k.Close)
-    ∷ (codes "[", k.OpenIndex)
-    ∷ (codes "]", k.CloseIndex)
-    ∷ (codes ",", k.Comma)
-    ∷ (codes ".", k.Dot)
-    ∷ (codes "*", k.Star)
-    ∷ (codes "+", k.Plus)
-    ∷ (codes "-", k.Minus)
-    ∷ (codes "%", k.Percent)
-    ∷ (codes "=", k.Equal)
-    ∷ (codes "==", k.EqualTwice)
-    ∷ (codes "<>", k.Unequal)
-    ∷ (codes "!=", k.Unequal)
-    ∷ (codes "<", k.Less)
-    ∷ (codes "<=", k.AtMost)
-    ∷ (codes ">", k.Greater)
-    ∷ (codes ">=", k.AtLeast)
-    ∷ (codes "<=>", k.NullSafeEqual) ∷ []
+-- the kind of a symbol
+unfoldable pub symbol_kind : Symbol → Kind
+symbol_kind s.NullSafeEqual = k.NullSafeEqual
+symbol_kind s.EqualTwice = k.EqualTwice
+symbol_kind s.Unequal = k.Unequal
+symbol_kind s.BangEqual = k.Unequal
+symbol_kind s.AtMost = k.AtMost
+symbol_kind s.AtLeast = k.AtLeast
+symbol_kind s.Open = k.Open
+symbol_kind s.Close = k.Close
+symbol_kind s.OpenIndex = k.OpenIndex
+symbol_kind s.CloseIndex = k.CloseIndex
+symbol_kind s.Comma = k.Comma
+symbol_kind s.Dot = k.Dot
+symbol_kind s.Star = k.Star
+symbol_kind s.Plus = k.Plus
+symbol_kind s.Minus = k.Minus
+symbol_kind s.Percent = k.Percent
+symbol_kind s.Equal = k.Equal
+symbol_kind s.Less = k.Less
+symbol_kind s.Greater = k.Greater
 
 -- the kind in the first row of this spelling
 abbrev pub look_up : List (Text × Kind) → Kind → Text → Kind
@@ -157,4 +160,4 @@ kind_of (Quoted name) = k.Name
 kind_of (Int number) = k.Number
 kind_of (Big number) = k.Number
 kind_of (Str text) = k.Text
-kind_of (Symbol symbol) = look_up symbols k.Nothing symbol
+kind_of (lexeme.Symbol symbol) = symbol_kind symbol

@@ -1,9 +1,10 @@
 //! Kinds of tokens.
 
-ghost use Rattle.std.specs.Prelude.{◌≡◌, ◌≢◌, true, false, map};
+ghost use Rattle.std.specs.Prelude.{◌≡◌, ◌≢◌, ◌∷◌, true, false, map, List, ℕ};
 ghost use Rattle.hv_grammar.specs.Kinds as spec;
+ghost use Rattle.hv_grammar.specs.declared.kind.Kind.TheVariants as kind;
 
-use hv_ast::Lexeme;
+use hv_ast::{Lexeme, Symbol};
 
 /// What a token is to the grammar: a keyword, a symbol, or one that holds a name or a value.
 #[derive(Clone, Copy, PartialEq, Eq)]
@@ -129,38 +130,73 @@ pub enum Kind {
     Nothing,
 }
 
-/// A keyword or a symbol: how it is spelled, and its kind.
+/// A keyword: how it is spelled, and its kind.
 struct Row(&'static str, Kind);
 
-/// The reserved words, and behind them those that are keywords by their place alone.
-static WORDS: [Row; 90] = [
+// The keywords by their first letter: reserved words, and behind them those that are keywords by their
+// place alone.
+
+static A_WORDS: [Row; 7] = [
     Row("all", Kind::All),
     Row("alter", Kind::Alter),
     Row("and", Kind::And),
     Row("array", Kind::Array),
     Row("as", Kind::As),
+    Row("abort", Kind::Abort),
+    Row("asc", Kind::Asc),
+];
+
+static B_WORDS: [Row; 5] = [
     Row("between", Kind::Between),
     Row("bigint", Kind::BigInt),
     Row("boolean", Kind::Boolean),
     Row("by", Kind::By),
+    Row("buckets", Kind::Buckets),
+];
+
+static C_WORDS: [Row; 9] = [
     Row("case", Kind::Case),
     Row("cast", Kind::Cast),
     Row("create", Kind::Create),
     Row("cross", Kind::Cross),
+    Row("clustered", Kind::Clustered),
+    Row("comment", Kind::Comment),
+    Row("compact", Kind::Compact),
+    Row("compactions", Kind::Compactions),
+    Row("count", Kind::Count),
+];
+
+static D_WORDS: [Row; 8] = [
     Row("date", Kind::Date),
     Row("delete", Kind::Delete),
     Row("describe", Kind::Describe),
     Row("distinct", Kind::Distinct),
     Row("div", Kind::Div),
     Row("drop", Kind::Drop),
+    Row("default", Kind::Default),
+    Row("desc", Kind::Desc),
+];
+
+static E_WORDS: [Row; 5] = [
     Row("else", Kind::Else),
     Row("end", Kind::End),
     Row("exists", Kind::Exists),
+    Row("explain", Kind::Explain),
+    Row("explode", Kind::Explode),
+];
+
+static F_WORDS: [Row; 4] = [
     Row("false", Kind::False),
     Row("from", Kind::From),
     Row("full", Kind::Full),
-    Row("group", Kind::Group),
-    Row("having", Kind::Having),
+    Row("formatted", Kind::Formatted),
+];
+
+static G_WORDS: [Row; 1] = [Row("group", Kind::Group)];
+
+static H_WORDS: [Row; 1] = [Row("having", Kind::Having)];
+
+static I_WORDS: [Row; 8] = [
     Row("if", Kind::If),
     Row("in", Kind::In),
     Row("inner", Kind::Inner),
@@ -169,84 +205,69 @@ static WORDS: [Row; 90] = [
     Row("integer", Kind::Int),
     Row("into", Kind::Into),
     Row("is", Kind::Is),
-    Row("join", Kind::Join),
+];
+
+static J_WORDS: [Row; 1] = [Row("join", Kind::Join)];
+
+static L_WORDS: [Row; 5] = [
     Row("lateral", Kind::Lateral),
     Row("left", Kind::Left),
     Row("like", Kind::Like),
     Row("limit", Kind::Limit),
-    Row("merge", Kind::Merge),
-    Row("not", Kind::Not),
-    Row("null", Kind::Null),
+    Row("locks", Kind::Locks),
+];
+
+static M_WORDS: [Row; 2] = [Row("merge", Kind::Merge), Row("matched", Kind::Matched)];
+
+static N_WORDS: [Row; 2] = [Row("not", Kind::Not), Row("null", Kind::Null)];
+
+static O_WORDS: [Row; 6] = [
     Row("on", Kind::On),
     Row("or", Kind::Or),
     Row("order", Kind::Order),
     Row("outer", Kind::Outer),
     Row("overwrite", Kind::Overwrite),
-    Row("partition", Kind::Partition),
-    Row("right", Kind::Right),
-    Row("select", Kind::Select),
-    Row("set", Kind::Set),
-    Row("table", Kind::Table),
-    Row("then", Kind::Then),
-    Row("true", Kind::True),
-    Row("truncate", Kind::Truncate),
-    Row("union", Kind::Union),
-    Row("update", Kind::Update),
-    Row("using", Kind::Using),
-    Row("values", Kind::Values),
-    Row("view", Kind::View),
-    Row("when", Kind::When),
-    Row("where", Kind::Where),
-    Row("abort", Kind::Abort),
-    Row("asc", Kind::Asc),
-    Row("buckets", Kind::Buckets),
-    Row("clustered", Kind::Clustered),
-    Row("comment", Kind::Comment),
-    Row("compact", Kind::Compact),
-    Row("compactions", Kind::Compactions),
-    Row("count", Kind::Count),
-    Row("default", Kind::Default),
-    Row("desc", Kind::Desc),
-    Row("explain", Kind::Explain),
-    Row("explode", Kind::Explode),
-    Row("formatted", Kind::Formatted),
-    Row("locks", Kind::Locks),
-    Row("matched", Kind::Matched),
     Row("orc", Kind::Orc),
+];
+
+static P_WORDS: [Row; 5] = [
+    Row("partition", Kind::Partition),
     Row("partitioned", Kind::Partitioned),
     Row("partitions", Kind::Partitions),
     Row("posexplode", Kind::PosExplode),
     Row("purge", Kind::Purge),
+];
+
+static R_WORDS: [Row; 1] = [Row("right", Kind::Right)];
+
+static S_WORDS: [Row; 6] = [
+    Row("select", Kind::Select),
+    Row("set", Kind::Set),
     Row("semi", Kind::Semi),
     Row("show", Kind::Show),
     Row("stored", Kind::Stored),
     Row("string", Kind::String),
+];
+
+static T_WORDS: [Row; 7] = [
+    Row("table", Kind::Table),
+    Row("then", Kind::Then),
+    Row("true", Kind::True),
+    Row("truncate", Kind::Truncate),
     Row("tables", Kind::Tables),
     Row("tblproperties", Kind::TblProperties),
     Row("transactions", Kind::Transactions),
 ];
 
-static SYMBOLS: [Row; 19] = [
-    Row("(", Kind::Open),
-    Row(")", Kind::Close),
-    Row("[", Kind::OpenIndex),
-    Row("]", Kind::CloseIndex),
-    Row(",", Kind::Comma),
-    Row(".", Kind::Dot),
-    Row("*", Kind::Star),
-    Row("+", Kind::Plus),
-    Row("-", Kind::Minus),
-    Row("%", Kind::Percent),
-    Row("=", Kind::Equal),
-    Row("==", Kind::EqualTwice),
-    Row("<>", Kind::Unequal),
-    Row("!=", Kind::Unequal),
-    Row("<", Kind::Less),
-    Row("<=", Kind::AtMost),
-    Row(">", Kind::Greater),
-    Row(">=", Kind::AtLeast),
-    Row("<=>", Kind::NullSafeEqual),
+static U_WORDS: [Row; 3] = [
+    Row("union", Kind::Union),
+    Row("update", Kind::Update),
+    Row("using", Kind::Using),
 ];
+
+static V_WORDS: [Row; 2] = [Row("values", Kind::Values), Row("view", Kind::View)];
+
+static W_WORDS: [Row; 2] = [Row("when", Kind::When), Row("where", Kind::Where)];
 
 /// The kind in the first row of this spelling, and `other` where there is none.
 fn look_up(rows: &[Row], other: Kind, spelling: &str) -> Kind
@@ -263,17 +284,75 @@ fn look_up(rows: &[Row], other: Kind, spelling: &str) -> Kind
     other
 }
 
+/// The keywords that begin with this letter.
+#[tactic(auto, unfolding(crate::specs::Kinds::words, crate::specs::Kinds::reserved, crate::specs::Kinds::placed))]
+fn rows_of(first: u8) -> &'static [Row]
+    ensures { (rest : List ℕ)
+        → spec.look_up (map (λ row. (row.0.now, row.1)) result.now) kind.Name (first ∷ rest)
+        ≡ spec.word_kind (first ∷ rest) }
+{
+    match first {
+        b'a' => &A_WORDS,
+        b'b' => &B_WORDS,
+        b'c' => &C_WORDS,
+        b'd' => &D_WORDS,
+        b'e' => &E_WORDS,
+        b'f' => &F_WORDS,
+        b'g' => &G_WORDS,
+        b'h' => &H_WORDS,
+        b'i' => &I_WORDS,
+        b'j' => &J_WORDS,
+        b'l' => &L_WORDS,
+        b'm' => &M_WORDS,
+        b'n' => &N_WORDS,
+        b'o' => &O_WORDS,
+        b'p' => &P_WORDS,
+        b'r' => &R_WORDS,
+        b's' => &S_WORDS,
+        b't' => &T_WORDS,
+        b'u' => &U_WORDS,
+        b'v' => &V_WORDS,
+        b'w' => &W_WORDS,
+        _ => &[],
+    }
+}
+
 /// The kind of a word, by its spelling in lower case.
+#[tactic(auto, unfolding(crate::specs::Kinds::words, crate::specs::Kinds::reserved, crate::specs::Kinds::placed))]
 pub fn word_kind(word: &str) -> Kind
     ensures { result ≡ spec.word_kind word.now }
 {
-    look_up(&WORDS, Kind::Name, word)
+    match word.as_bytes() {
+        [first, ..] => look_up(rows_of(*first), Kind::Name, word),
+        [] => Kind::Name,
+    }
 }
 
-fn symbol_kind(symbol: &str) -> Kind
-    ensures { result ≡ spec.look_up spec.symbols Kind.Nothing symbol.now }
+/// The kind of a symbol.
+#[tactic(auto, unfolding(crate::specs::Kinds::symbol_kind))]
+fn symbol_kind(symbol: Symbol) -> Kind
+    ensures { result ≡ spec.symbol_kind symbol }
 {
-    look_up(&SYMBOLS, Kind::Nothing, symbol)
+    match symbol {
+        Symbol::NullSafeEqual => Kind::NullSafeEqual,
+        Symbol::EqualTwice => Kind::EqualTwice,
+        Symbol::Unequal | Symbol::BangEqual => Kind::Unequal,
+        Symbol::AtMost => Kind::AtMost,
+        Symbol::AtLeast => Kind::AtLeast,
+        Symbol::Open => Kind::Open,
+        Symbol::Close => Kind::Close,
+        Symbol::OpenIndex => Kind::OpenIndex,
+        Symbol::CloseIndex => Kind::CloseIndex,
+        Symbol::Comma => Kind::Comma,
+        Symbol::Dot => Kind::Dot,
+        Symbol::Star => Kind::Star,
+        Symbol::Plus => Kind::Plus,
+        Symbol::Minus => Kind::Minus,
+        Symbol::Percent => Kind::Percent,
+        Symbol::Equal => Kind::Equal,
+        Symbol::Less => Kind::Less,
+        Symbol::Greater => Kind::Greater,
+    }
 }
 
 /// What a token is to the grammar. An identifier between backquotes is never a keyword.
@@ -286,7 +365,7 @@ pub fn kind_of(lexeme: &Lexeme) -> Kind
         Lexeme::Quoted(_) => Kind::Name,
         Lexeme::Int(_) | Lexeme::Big(_) => Kind::Number,
         Lexeme::Str(_) => Kind::Text,
-        Lexeme::Symbol(symbol) => symbol_kind(symbol.as_str()),
+        Lexeme::Symbol(symbol) => symbol_kind(*symbol),
     }
 }
 

@@ -1,6 +1,6 @@
 //! Texts with their tokens or their first fault, worked out by hand.
 
-use hv_ast::{Lexeme, Token};
+use hv_ast::{Lexeme, Symbol, Token};
 use hv_base::Text;
 use hv_lex::lex;
 use hv_parse_expr::is_reserved;
@@ -86,6 +86,30 @@ static CASES: [(&str, &str); 66] = [
     ("a \u{0}", "bad character at 2"),
 ];
 
+fn spelled(symbol: Symbol) -> &'static str {
+    match symbol {
+        Symbol::NullSafeEqual => "<=>",
+        Symbol::EqualTwice => "==",
+        Symbol::Unequal => "<>",
+        Symbol::BangEqual => "!=",
+        Symbol::AtMost => "<=",
+        Symbol::AtLeast => ">=",
+        Symbol::Open => "(",
+        Symbol::Close => ")",
+        Symbol::OpenIndex => "[",
+        Symbol::CloseIndex => "]",
+        Symbol::Comma => ",",
+        Symbol::Dot => ".",
+        Symbol::Star => "*",
+        Symbol::Plus => "+",
+        Symbol::Minus => "-",
+        Symbol::Percent => "%",
+        Symbol::Equal => "=",
+        Symbol::Less => "<",
+        Symbol::Greater => ">",
+    }
+}
+
 fn show_token(out: &mut String, token: &Token) -> Result<(), AllocError> {
     let at = token.at;
     match &token.what {
@@ -94,7 +118,10 @@ fn show_token(out: &mut String, token: &Token) -> Result<(), AllocError> {
         Lexeme::Int(number) => write!(out, "{number}@{at} "),
         Lexeme::Big(number) => write!(out, "{number}L@{at} "),
         Lexeme::Str(text) => write!(out, "\"{text}\"@{at} "),
-        Lexeme::Symbol(symbol) => write!(out, "{symbol}@{at} "),
+        Lexeme::Symbol(symbol) => {
+            let symbol = spelled(*symbol);
+            write!(out, "{symbol}@{at} ")
+        }
     }
 }
 

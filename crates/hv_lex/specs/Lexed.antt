@@ -1,12 +1,15 @@
 -- What the lexer answers, against the definition of a text's tokens.
-use Rattle.std.specs.Prelude.{◌≡◌, ℕ, ◌+◌, Bool, List, [], ◌∷◌, Vec, Option, None, Some, Result, Ok, Err}
+use Rattle.std.specs.Prelude.{◌≡◌, ℕ, ◌+◌, Bool, List, [], ◌∷◌, Vec, Option, None, Some, Result, Ok, Err, nat_eq}
+use Rattle.std.specs.List.{starts_with}
 use Rattle.std.specs.declared.alloc.Global.{Global}
 use Rattle.hv_ast.specs.Tokens.{behind, unescaped, Text, Fault, bad_character, open_string, wide_number, Front, gap, token, fault}
 use Rattle.hv_ast.specs.declared.token.Lexeme.{Lexeme}
+use Rattle.hv_ast.specs.declared.token.Symbol.{Symbol}
 use Rattle.hv_ast.specs.declared.token.Token.{Token}
 use Rattle.hv_lex.specs.declared.fault.LexFault.{LexFault}
 use Rattle.hv_lex.specs.declared.fault.LexFault.TheVariants.{BadCharacter, OpenString, WideNumber, NoMemory}
 use Rattle.hv_lex.specs.declared.pieces.Piece.{Piece}
+use Rattle.hv_lex.specs.declared.symbols.Row.{Row}
 
 -- the error tells the fault, or that memory ran out
 abbrev pub Tells : {T : Type 0} → LexFault → Result T Fault → Type 0
@@ -48,3 +51,11 @@ StepsOver old new taken at c (Err _) = ⊥
 abbrev pub kept : ℕ → Option Lexeme → List Token
 kept at None = []
 kept at (Some what) = record { what = what; at = at } ∷ []
+
+-- the spelling and the symbol of a row, as the definition's table has them
+abbrev pub row_of : Row → Text × Symbol
+row_of row = (row.0.now, row.1)
+
+-- the text begins with the row's spelling
+abbrev pub begins : Text → Text × Symbol → Bool
+begins text row = starts_with nat_eq text row.0

@@ -54,6 +54,6 @@ pub fn front(alloc: Global, at: usize, text: &[u8]) -> Result<Piece, LexFault>
     } else if first == b'`' {
         quoted(alloc, at, &text[1..])
     } else {
-        symbol(alloc, at, text)
+        symbol(at, text)
     }
 }

@@ -6,6 +6,8 @@ use Rattle.std.specs.Str.{bytes_eq}
 use Rattle.hv_ast.specs.declared.token.Token.{Token}
 use Rattle.hv_ast.specs.declared.token.Lexeme.{Lexeme}
 use Rattle.hv_ast.specs.declared.token.Lexeme.TheVariants as lexeme
+use Rattle.hv_ast.specs.declared.token.Symbol.{Symbol}
+use Rattle.hv_ast.specs.declared.token.Symbol.TheVariants as symbol
 use Rattle.hv_ast.specs.declared.types.TypeName.TheVariants as type
 use Rattle.hv_ast.specs.declared.expr.Expr.{Expr}
 use Rattle.hv_ast.specs.declared.expr.Expr.TheVariants as e
@@ -20,7 +22,7 @@ use Rattle.hv_ast.specs.Tokens.{Text}
 use Rattle.hv_grammar.specs.contracts.kind.Kind.{the_type}
 use Rattle.hv_grammar.specs.declared.kind.Kind.{Kind}
 use Rattle.hv_grammar.specs.declared.kind.Kind.TheVariants as k
-use Rattle.hv_grammar.specs.Kinds.{kind_of, same_kind, look_up, symbols}
+use Rattle.hv_grammar.specs.Kinds.{kind_of, same_kind, look_up, symbol_kind}
 use Rattle.hv_grammar.specs.Rules.{Rule}
 use Rattle.hv_grammar.specs.Rules as rule
 use Rattle.hv_grammar.specs.Readers.{Outcome, Reader, and_then, kind_at, next, sees, after, expect, by_option}
@@ -111,7 +113,6 @@ both false y h = absurd (cc)
 pub true_false : true ≡ false → ⊥
 true_false e = absurd (cc)
 
--- COUNT is a word, and no symbol
 pub look_up_kind : (test : Kind → Bool) (rows : List (Text × Kind)) (other : Kind) (spelling : Text)
     → list_all (λ row. test row.1) rows ≡ true → test other ≡ true → test (look_up rows other spelling) ≡ true
 look_up_kind test [] other spelling all last = last
@@ -122,15 +123,56 @@ look_up_kind test (row ∷ rows) other spelling all last =
     by_found others true = (both (test row.1) (list_all (λ row. test row.1) rows) all).0
     by_found others false = others
 
-not_count : Kind → Bool
-not_count k.Count = false
-not_count _ = true
+-- the kinds of symbols
+pub is_symbol : Kind → Bool
+is_symbol k.NullSafeEqual = true
+is_symbol k.EqualTwice = true
+is_symbol k.Unequal = true
+is_symbol k.AtMost = true
+is_symbol k.AtLeast = true
+is_symbol k.Equal = true
+is_symbol k.Less = true
+is_symbol k.Greater = true
+is_symbol k.Open = true
+is_symbol k.Close = true
+is_symbol k.OpenIndex = true
+is_symbol k.CloseIndex = true
+is_symbol k.Comma = true
+is_symbol k.Dot = true
+is_symbol k.Star = true
+is_symbol k.Plus = true
+is_symbol k.Minus = true
+is_symbol k.Percent = true
+is_symbol _ = false
 
+pub symbol_is : (s : Symbol) → is_symbol (symbol_kind s) ≡ true
+unfolding symbol_kind is_symbol
+symbol_is symbol.NullSafeEqual = refl
+symbol_is symbol.EqualTwice = refl
+symbol_is symbol.Unequal = refl
+symbol_is symbol.BangEqual = refl
+symbol_is symbol.AtMost = refl
+symbol_is symbol.AtLeast = refl
+symbol_is symbol.Equal = refl
+symbol_is symbol.Less = refl
+symbol_is symbol.Greater = refl
+symbol_is symbol.Open = refl
+symbol_is symbol.Close = refl
+symbol_is symbol.OpenIndex = refl
+symbol_is symbol.CloseIndex = refl
+symbol_is symbol.Comma = refl
+symbol_is symbol.Dot = refl
+symbol_is symbol.Star = refl
+symbol_is symbol.Plus = refl
+symbol_is symbol.Minus = refl
+symbol_is symbol.Percent = refl
+
+-- COUNT is a word, and no symbol
 count_lexeme : (what : Lexeme) → kind_of what ≡ k.Count → (text : Text) × (c.word_in what ≡ Some text)
-unfolding kind_of symbols not_count
+unfolding kind_of is_symbol
 count_lexeme (lexeme.Word text) h = (text, refl)
 count_lexeme (lexeme.Quoted text) h = (text, refl)
-count_lexeme (lexeme.Symbol text) h = absurd (true_false (sym (look_up_kind not_count symbols k.Nothing text refl refl) ∙ ap not_count h))
+count_lexeme (lexeme.Symbol s) h = absurd (true_false (sym (symbol_is s) ∙ ap is_symbol h))
 count_lexeme (lexeme.Int number) h = absurd (cc)
 count_lexeme (lexeme.Big number) h = absurd (cc)
 count_lexeme (lexeme.Str text) h = absurd (cc)

@@ -3,6 +3,8 @@ use Rattle.std.proofs.Common.{◌≡◌, ◌⊎◌, inl, inr, ℕ, zero, suc, Bo
 use Rattle.hv_ast.specs.declared.token.Token.{Token}
 use Rattle.hv_ast.specs.declared.token.Lexeme.{Lexeme}
 use Rattle.hv_ast.specs.declared.token.Lexeme.TheVariants as lexeme
+use Rattle.hv_ast.specs.declared.token.Symbol.{Symbol}
+use Rattle.hv_ast.specs.declared.token.Symbol.TheVariants as symbol
 use Rattle.hv_ast.specs.declared.expr.Expr.{Expr}
 use Rattle.hv_ast.specs.declared.query.Item.{Item}
 use Rattle.hv_ast.specs.declared.query.Item.TheVariants as i
@@ -18,7 +20,7 @@ use Rattle.hv_grammar.specs.declared.kind.Kind.{Kind}
 use Rattle.hv_grammar.specs.declared.kind.Kind.TheVariants as k
 use Rattle.hv_grammar.specs.contracts.kind.Kind.{the_type}
 use denote.Enum.Bare.{true_same}
-use Rattle.hv_grammar.specs.Kinds.{kind_of, same_kind, symbols}
+use Rattle.hv_grammar.specs.Kinds.{kind_of, same_kind, symbol_kind}
 use Rattle.hv_grammar.specs.Rules.{Rule}
 use Rattle.hv_grammar.specs.Rules as rule
 use Rattle.hv_grammar.specs.Readers.{Outcome, Reader, and_then, kind_at, next, sees, after}
@@ -34,23 +36,41 @@ use Rattle.hv_parse_expr.proofs.Below.{Any, Without, lower, below_at, below_with
 use Rattle.hv_parse_expr.proofs.Begins.{Stop, End, Begins, starts, avoids_begins, word_kind, word_next, is_seen, is_not_seen}
 use Rattle.hv_parse_expr.proofs.Wholes.{Whole, whole_give, whole_then, whole_word, whole_pass, whole_eat, whole_flag, whole_held}
 use Rattle.hv_parse_expr.proofs.Rows.{whole_separated}
-use Rattle.hv_parse_expr.proofs.Found.{true_false, look_up_kind, word_kind_is, name_whole, list_whole}
+use Rattle.hv_parse_expr.proofs.Found.{true_false, word_kind_is, name_whole, list_whole}
 use Rattle.hv_parse_query.proofs.Ranks.{Behind, rank, behind_stops, name_rank, no_alias, join_rank, no_join}
 use Rattle.hv_parse_query.proofs.Wholes.{Leads, Takes, leads_give, leads_word, leads_bind, leads_first, leads_or, leads_option, leads_either, leads_many, avoids, whole_weak, whole_next, whole_map, whole_perhaps, whole_either, whole_bracketed, whole_rows, whole_many, takes_word, takes_or}
 use Rattle.hv_parse_query.proofs.Spelled as sound
 
 -- ---- words
 
-not_default : Kind → Bool
-not_default k.Default = false
-not_default _ = true
+no_default : (s : Symbol) → symbol_kind s ≡ k.Default → ⊥
+unfolding symbol_kind
+no_default symbol.NullSafeEqual h = absurd (cc)
+no_default symbol.EqualTwice h = absurd (cc)
+no_default symbol.Unequal h = absurd (cc)
+no_default symbol.BangEqual h = absurd (cc)
+no_default symbol.AtMost h = absurd (cc)
+no_default symbol.AtLeast h = absurd (cc)
+no_default symbol.Equal h = absurd (cc)
+no_default symbol.Less h = absurd (cc)
+no_default symbol.Greater h = absurd (cc)
+no_default symbol.Open h = absurd (cc)
+no_default symbol.Close h = absurd (cc)
+no_default symbol.OpenIndex h = absurd (cc)
+no_default symbol.CloseIndex h = absurd (cc)
+no_default symbol.Comma h = absurd (cc)
+no_default symbol.Dot h = absurd (cc)
+no_default symbol.Star h = absurd (cc)
+no_default symbol.Plus h = absurd (cc)
+no_default symbol.Minus h = absurd (cc)
+no_default symbol.Percent h = absurd (cc)
 
 -- DEFAULT is a word, and no symbol
 default_lexeme : (what : Lexeme) → kind_of what ≡ k.Default → (text : Text) × (c.word_in what ≡ Some text)
-unfolding kind_of symbols not_default
+unfolding kind_of
 default_lexeme (lexeme.Word text) h = (text, refl)
 default_lexeme (lexeme.Quoted text) h = (text, refl)
-default_lexeme (lexeme.Symbol text) h = absurd (true_false (sym (look_up_kind not_default symbols k.Nothing text refl refl) ∙ ap not_default h))
+default_lexeme (lexeme.Symbol s) h = absurd (no_default s h)
 default_lexeme (lexeme.Int number) h = absurd (cc)
 default_lexeme (lexeme.Big number) h = absurd (cc)
 default_lexeme (lexeme.Str text) h = absurd (cc)

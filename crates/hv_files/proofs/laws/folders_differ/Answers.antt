@@ -1,5 +1,0 @@
-use Rattle.hv_files.proofs.PathLemmas.{folders_of-same}
-use Rattle.hv_files.proofs.laws.folders_differ.Goals as goal
-
-pub returns : goal.returns
-returns c = record { law = folders_of-same }

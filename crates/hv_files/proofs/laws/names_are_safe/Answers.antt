@@ -1,5 +1,0 @@
-use Rattle.hv_files.proofs.PathLemmas.{folders_of-are_names, bucket_name-is_name}
-use Rattle.hv_files.proofs.laws.names_are_safe.Goals as goal
-
-pub returns : goal.returns
-returns c = record { folders = folders_of-are_names; files = bucket_name-is_name }
