@@ -1,5 +1,5 @@
 -- What a note says is what the transaction says.
-use Rattle.std.proofs.Common.{◌≡◌, ℕ, suc, ◌+◌, ◌<◌, ◌≤◌, Option, Some, None, List, [], ◌∷◌, length, map, refl, sym, ap, ◌∙◌, arith}
+use Rattle.std.proofs.Common.{◌≡◌, ℕ, suc, ◌+◌, Option, Some, None, List, [], ◌∷◌, length, map, refl, sym, ap, ◌∙◌, arith}
 use Rattle.std.specs.Prelude.{Bool, true, false, not, ◌&&◌, ◌↔◌, IsTrue, IsFalse, IsSomeAnd, IsNone, ◌==◌, is_none, is_some, sum_by}
 use Rattle.std.specs.Option.{option_map}
 use Rattle.std.proofs.lemmas.Bool.{eq-eqb, eqb-true}
@@ -11,7 +11,7 @@ use Rattle.hv_history.specs.declared.state.Ending.TheVariants.{Committed, Aborte
 use Rattle.hv_base.specs.declared.ids.Limits.{Limits}
 use Rattle.hv_history.specs.declared.state.Table.{Table}
 use Rattle.hv_history.specs.State.{State, Job, numbered, given_in}
-use Rattle.hv_history.specs.Legal.{is_open, is_started, IsRunning, open_one, one_if, is_working, working_one, GivenFits, HasRoom}
+use Rattle.hv_history.specs.Legal.{is_open, IsRunning, open_one, one_if, is_working, working_one, GivenFits, HasRoom}
 use Rattle.hv_book.specs.Briefs.{brief, brief_table, given_at, given_while, brief_job, end_of, snapshot_place, open_from, open_next}
 use Rattle.hv_meta.specs.declared.facts.TxnState.TheVariants.{Ended}
 use Rattle.hv_meta.specs.States.{ending_place, state_by, noted_by, transaction_state, noted_state, is_unended_note, is_running_note, is_working_note, working_note, is_next_note, is_held}
