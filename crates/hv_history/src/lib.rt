@@ -2,7 +2,6 @@
 #![tactic(auto)]
 
 mod answers;
-mod book;
 mod causes;
 mod commits;
 mod entry;
@@ -11,7 +10,6 @@ mod numbers;
 mod state;
 
 pub use answers::{counts_line, listing, ok_line};
-pub use book::Book;
 pub use causes::{cause_text, refusal_name};
 pub use commits::{given_in, number_rows, written_by};
 pub use entry::{Cause, Entry, FilePlace, JobCause, JobKind};

@@ -9,7 +9,8 @@ ghost use Rattle.hv_house.specs.Booting.{boot_fault, IsFresh, IsBooted, IsBootFa
 
 use crate::fault::HouseFault;
 use crate::house::House;
-use hv_history::{Book, Entry};
+use hv_book::Book;
+use hv_history::Entry;
 use hv_journal::open_empty;
 use hv_shelf::Shelf;
 use std::alloc::Global;

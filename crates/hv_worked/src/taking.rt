@@ -3,7 +3,8 @@ ghost use Rattle.hv_reading.specs.Faults.{IsRefusalOf};
 ghost use Rattle.hv_history.specs.declared.entry.Entry.TheVariants.{Opened};
 
 use hv_base::{Text, TxnId};
-use hv_history::{Book, Entry};
+use hv_book::Book;
+use hv_history::Entry;
 use hv_reading::{TextFault, read_statement};
 use std::alloc::Global;
 

@@ -1,0 +1,4 @@
+pub mod NoteLaws
+pub mod TextLaws
+pub mod HeldLaws
+pub mod BookLaws

@@ -1,0 +1,193 @@
+use crate::index::Index;
+use crate::notes::{Held, JobNote, TableNote, TransactionNote, append};
+use crate::openings::OpeningNotes;
+use hv_ast::Stmt;
+use hv_base::NoMemory;
+use hv_history::{Entry, numbered};
+use std::alloc::Global;
+use std::marker::Model;
+
+/// The list of the journal's entries, which is the warehouse's history. Beside each entry that has a
+/// text it keeps that text's tree, and beside them all what is asked often: so nobody walks them.
+/// Contracts see the entries, and how many more fit without asking for memory.
+#[derive(Drop)]
+pub struct Book {
+    entries: Vec<Entry>,
+    trees: Vec<Option<Stmt>>,
+    index: Index,
+    openings: OpeningNotes,
+}
+
+impl Model for Book {
+    ghost use Rattle.hv_history.specs.Book.{Kept};
+    ghost use Rattle.hv_book.specs.Index.{IsIndexed};
+
+    ghost Value = { Kept };
+
+    ghost view = { λ book. record { entries = book.entries.items; spare = book.index.room } };
+
+    ghost invariant = { λ book. IsIndexed book.entries book.trees book.index book.openings };
+}
+
+impl Book {
+    ghost use Rattle.std.specs.Prelude.{◌≡◌, ℕ, ◌+◌, ◌<◌, ◌≤◌, ◌++◌, ◌∷◌, [], Some, map, OnOk, OnErr, IsOk};
+    ghost use Rattle.std.specs.Option.{option_copied};
+    ghost use Rattle.hv_history.specs.declared.state.Table.{Table};
+    ghost use Rattle.hv_history.specs.Book.{tree_of_entry, tree_at};
+    ghost use Rattle.hv_history.specs.State.{state_of, numbered, created_shape};
+    ghost use Rattle.hv_book.specs.Briefs.{brief, brief_table, brief_job, open_from, held_by, given_at, tree_in, text_tree};
+    ghost use Rattle.hv_book.specs.Index.{openings_in};
+
+    /// The book of no entries. It takes no memory.
+    pub fn new(alloc: Global) -> Book
+        ensures entries { result.entries ≡ [] }
+    {
+        Book {
+            entries: Vec::new(alloc),
+            trees: Vec::new(alloc),
+            index: Index::new(alloc),
+            openings: OpeningNotes::new(alloc),
+        }
+    }
+
+    pub fn entries(&self) -> &[Entry]
+        ensures entries { result.now ≡ self.now.entries }
+    {
+        self.entries.as_slice()
+    }
+
+    /// The tree beside the entry at this place, from 0. None where the entry has no text.
+    pub fn tree(&self, at: usize) -> Option<&Stmt>
+        ensures tree { option_copied result ≡ tree_at self.now.entries at }
+    {
+        match self.trees.get(at) {
+            Some(tree) => tree.as_ref(),
+            None => None,
+        }
+    }
+
+    /// The transactions, by number from 1: their Starts and ends.
+    pub fn transactions(&self) -> &[TransactionNote]
+        ensures transactions { result.now ≡ map brief (state_of self.now.entries).transactions }
+    {
+        self.index.transactions.as_slice()
+    }
+
+    /// The numbers of the open transactions, rising.
+    pub fn ongoing(&self) -> &[u64]
+        ensures ongoing { result.now ≡ open_from 1 (map brief (state_of self.now.entries).transactions) }
+    {
+        self.index.ongoing.as_slice()
+    }
+
+    /// The tables, by number from 1: their ids, whether they are live, how many write ids were given.
+    pub fn tables(&self) -> &[TableNote]
+        ensures tables { result.now ≡ map brief_table (state_of self.now.entries).tables }
+    {
+        self.index.tables.as_slice()
+    }
+
+    /// The compaction jobs, by number from 1.
+    pub fn jobs(&self) -> &[JobNote]
+        ensures jobs { result.now ≡ map brief_job (state_of self.now.entries).jobs }
+    {
+        self.index.jobs.as_slice()
+    }
+
+    /// The write ids of the open transactions.
+    pub fn held(&self) -> &[Held]
+        ensures held { (k : ℕ) → held_by k result.now
+            ≡ given_at (numbered (state_of self.now.entries).transactions k) }
+    {
+        self.index.held.as_slice()
+    }
+
+    /// The openings of the store.
+    pub fn openings(&self) -> &OpeningNotes
+        ensures openings { openings_in result.now ≡ (state_of self.now.entries).openings }
+    {
+        &self.openings
+    }
+
+    /// The tree of the text that opened the transaction of this number.
+    pub fn opening_tree(&self, txn: u64) -> Option<&Stmt>
+        ensures tree { option_copied result
+            ≡ tree_in (numbered (state_of self.now.entries).transactions txn) }
+    {
+        match numbered(&self.index.opened, txn) {
+            Some(place) => self.tree(*place as usize),
+            None => None,
+        }
+    }
+
+    /// The tree of the text that made the table of this number.
+    pub fn table_tree(&self, table: u64) -> Option<&Stmt>
+        ensures shape { (t : Table) → numbered (state_of self.now.entries).tables table ≡ Some t
+            → t.info.shape ≡ created_shape (option_copied result) }
+    {
+        match numbered(&self.index.texts, table) {
+            Some(text) => self.text_tree(*text),
+            None => None,
+        }
+    }
+
+    /// The tree of the text at a place, where there is one.
+    fn text_tree(&self, text: Option<u64>) -> Option<&Stmt>
+        ensures tree { option_copied result ≡ text_tree self.now.entries text }
+    {
+        match text {
+            Some(place) => self.tree(place as usize),
+            None => None,
+        }
+    }
+
+    /// Makes room for so many entries more.
+    pub fn reserve(&mut self, more: usize) -> Result<(), NoMemory>
+        ensures entries { self.new.entries ≡ self.old.entries }
+        ensures room { OnOk result (more ≤ self.new.spare) }
+        ensures spare { self.old.spare ≤ self.new.spare }
+        ensures has { more ≤ self.old.spare → IsOk result }
+    {
+        if more <= self.index.room {
+            return Ok(());
+        }
+        self.entries.reserve(more)?;
+        self.trees.reserve(more)?;
+        self.openings.kept.reserve(more)?;
+        self.index.reserve(more)
+    }
+
+    /// Appends an entry with its text's tree, which is there exactly where it has a text.
+    pub fn push(&mut self, entry: Entry, tree: Option<Stmt>) -> Result<(), NoMemory>
+        requires tree { tree ≡ tree_of_entry entry }
+        ensures ok { OnOk result (self.new.entries ≡ self.old.entries ++ entry ∷ []) }
+        ensures err { OnErr result (self.new.entries ≡ self.old.entries) }
+        ensures spare { self.old.spare ≤ self.new.spare + 1 }
+        ensures room { 0 < self.old.spare → IsOk result }
+    {
+        if self.reserve(1).is_ok() {
+            self.put(entry, tree);
+            Ok(())
+        } else {
+            discard(entry);
+            discard(tree);
+            Err(NoMemory)
+        }
+    }
+
+    /// Appends where there is room.
+    fn put(&mut self, entry: Entry, tree: Option<Stmt>)
+        requires room { 0 < self.old.spare }
+        requires tree { tree ≡ tree_of_entry entry }
+        ensures entries { self.new.entries ≡ self.old.entries ++ entry ∷ [] }
+        ensures spare { self.old.spare ≤ self.new.spare + 1 }
+    {
+        let place = self.entries.as_slice().len() as u64;
+        self.index.note(place, &entry);
+        self.openings.note(place, &entry);
+        append(&mut self.entries, entry);
+        append(&mut self.trees, tree);
+    }
+}
+
+fn discard<T: Drop>(_value: T) {}

@@ -1,0 +1,64 @@
+-- How far a transaction has come. Source: Hive Transactions (open, committed, aborted).
+use Rattle.std.specs.Prelude.{ℕ, ◌+◌, ◌==◌, ◌&&◌, Bool, false, not, is_none, is_some, Option, None, Some, List}
+use Rattle.hv_history.specs.declared.state.Transaction.{Transaction}
+use Rattle.hv_history.specs.declared.state.Ending.{Ending}
+use Rattle.hv_history.specs.declared.state.Ending.TheVariants.{Committed, Aborted, Made, Dropped}
+use Rattle.hv_history.specs.State.{State, numbered, given_in}
+use Rattle.hv_history.specs.Legal.{is_started, one_if}
+use Rattle.hv_book.specs.declared.notes.End.{End}
+use Rattle.hv_book.specs.declared.notes.TransactionNote.{TransactionNote}
+use Rattle.hv_book.specs.declared.notes.JobNote.{JobNote}
+use Rattle.hv_book.specs.declared.notes.TableNote.{TableNote}
+use Rattle.hv_meta.specs.declared.facts.TxnState.{TxnState}
+use Rattle.hv_meta.specs.declared.facts.TxnState.TheVariants.{Unknown, Running, Ended}
+
+abbrev pub ending_place : Ending → ℕ
+ending_place (Committed place wrote) = place
+ending_place (Aborted place cause) = place
+ending_place (Made place table) = place
+ending_place (Dropped place table) = place
+
+abbrev pub state_by : Option Ending → Bool → TxnState
+state_by None started = Running started
+state_by (Some ending) started = Ended (ending_place ending)
+
+abbrev pub transaction_state : Option Transaction → TxnState
+transaction_state None = Unknown
+transaction_state (Some transaction) = state_by transaction.ending (is_started transaction)
+
+-- the state of the transaction of that number
+abbrev pub state_in : State → ℕ → TxnState
+state_in state txn = transaction_state (numbered state.transactions txn)
+
+-- the same by a transaction's note
+abbrev pub noted_by : Option End → Bool → TxnState
+noted_by None started = Running started
+noted_by (Some end) started = Ended end.at
+
+abbrev pub noted_state : Option TransactionNote → TxnState
+noted_state None = Unknown
+noted_state (Some note) = noted_by note.ending (is_some note.started)
+
+abbrev pub is_unended_note : Option TransactionNote → Bool
+is_unended_note None = false
+is_unended_note (Some note) = is_none note.ending
+
+abbrev pub is_running_note : Option TransactionNote → Bool
+is_running_note None = false
+is_running_note (Some note) = is_none note.ending && is_some note.started
+
+-- a job that was picked and has not ended, by its note
+abbrev pub is_working_note : JobNote → Bool
+is_working_note job = job.is_picked && (not job.is_published && (not job.is_empty && not job.is_failed))
+
+abbrev pub working_note : JobNote → ℕ
+working_note job = one_if (is_working_note job)
+
+-- the table is live, and this is its next write id
+abbrev pub is_next_note : ℕ → Option TableNote → Bool
+is_next_note write None = false
+is_next_note write (Some note) = note.is_live && (write == note.high + 1)
+
+-- a write id of this table is among these
+abbrev pub is_held : ℕ → List (ℕ × ℕ) → Bool
+is_held table given = is_some (given_in table given)
