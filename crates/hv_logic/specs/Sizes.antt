@@ -1,6 +1,6 @@
 -- How many bytes a row takes in a row file: each value a tag byte and its content, and so the limit of a row.
 -- This project's profile.
-use Rattle.std.specs.Prelude.{ℕ, ◌+◌, Bool, nat_le, length, sum, sum_by}
+use Rattle.std.specs.Prelude.{ℕ, ◌+◌, Bool, nat_le, List, length, sum, sum_by}
 use Rattle.hv_value.specs.declared.value.Value.{Value}
 use Rattle.hv_value.specs.declared.value.Value.TheOpen.{Value-F}
 use Rattle.hv_value.specs.declared.value.Value.TheFolds.{fold-Value}
@@ -19,12 +19,18 @@ layer_size (Value-F.Array sizes) = 5 + sum sizes
 unfoldable pub stored_size : Value → ℕ
 stored_size = fold-Value ℕ layer_size
 
-abbrev pub row_size : Row → ℕ
-row_size row = sum_by stored_size row.values
+abbrev pub values_size : List Value → ℕ
+values_size values = sum_by stored_size values
 
 -- the most bytes of a row's values
 abbrev pub row_limit : ℕ
 row_limit = 65536
 
+abbrev pub values_fit : List Value → Bool
+values_fit values = nat_le (values_size values) row_limit
+
+abbrev pub row_size : Row → ℕ
+row_size row = values_size row.values
+
 abbrev pub row_fits : Row → Bool
-row_fits row = nat_le (row_size row) row_limit
+row_fits row = values_fit row.values

@@ -1,6 +1,6 @@
 ghost use Rattle.std.specs.Prelude.{◌≡◌, ℕ, min, sum_by};
 ghost use Rattle.std.specs.List.{list_all};
-ghost use Rattle.hv_logic.specs.Sizes.{stored_size, row_size, row_fits};
+ghost use Rattle.hv_logic.specs.Sizes.{stored_size, values_fit, row_fits};
 
 use hv_value::{Row, Value};
 
@@ -33,11 +33,18 @@ fn stored_sizes(values: &[Value]) -> u64
     size
 }
 
-/// Whether the row's values stay within the most bytes that a row may take in a row file.
+/// Whether these values of a row stay within the most bytes that a row may take in a row file.
+pub fn values_fit(values: &[Value]) -> bool
+    ensures { result ≡ values_fit values.now }
+{
+    stored_sizes(values) <= ROW_LIMIT
+}
+
+/// Whether the row's values do.
 pub fn row_fits(row: &Row) -> bool
     ensures { result ≡ row_fits row.now }
 {
-    stored_sizes(row.values.as_slice()) <= ROW_LIMIT
+    values_fit(row.values.as_slice())
 }
 
 /// Whether each row does.

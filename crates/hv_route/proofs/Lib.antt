@@ -1,2 +1,5 @@
+pub mod BackLemmas
 pub mod EscapeLemmas
 pub mod PartitionLemmas
+pub mod PlacedLemmas
+pub mod SayLemmas

@@ -1,2 +1,6 @@
+pub mod Back
 pub mod Buckets
 pub mod Partitions
+pub mod Placing
+pub mod Routes
+pub mod Touching

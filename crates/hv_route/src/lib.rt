@@ -2,9 +2,21 @@
 #![tactic(auto)]
 
 mod buckets;
+#[cfg(test)]
+mod changes;
+mod counts;
+mod fault;
+mod files;
+mod laws;
 mod partitions;
+mod placed;
+mod runs;
 #[cfg(test)]
 mod tests;
 
 pub use buckets::bucket_of;
+pub use counts::touches;
+pub use fault::RouteFault;
+pub use files::{OutFile, route};
+pub use laws::{text_says_values, texts_say_values};
 pub use partitions::{partition_text, partition_values};

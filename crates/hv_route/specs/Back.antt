@@ -1,0 +1,39 @@
+-- The law of the way back: the text of a partition says its values.
+use Rattle.std.specs.Prelude.{◌≡◌, ◌<◌, All, FitsSigned, List, [], ◌∷◌}
+use Rattle.std.specs.Int.{w32, w64}
+use Rattle.std.specs.Str.{IsUtf8}
+use Rattle.hv_value.specs.declared.sql_type.SqlType.{SqlType}
+use Rattle.hv_value.specs.declared.sql_type.SqlType.TheVariants as type
+use Rattle.hv_value.specs.declared.value.Value.{Value}
+use Rattle.hv_value.specs.declared.value.Value.TheOpen.{Value-F}
+use Rattle.hv_value.specs.declared.value.Value.TheViews.{out-Value}
+use Rattle.hv_logic.specs.declared.catalog.Column.{Column}
+use Rattle.hv_route.specs.Partitions.{partition_text, partition_values, read_value, value_text}
+
+-- the text of the value says it
+abbrev pub SaysValue : SqlType → Value → Type 0
+SaysValue kind v = read_value kind (value_text v) ≡ v
+
+-- there are as many values as columns, and each one's text says it
+abbrev pub SayValues : List Column → List Value → Type 0
+SayValues [] [] = Unit {0}
+SayValues [] (v ∷ values) = ⊥
+SayValues (column ∷ columns) [] = ⊥
+SayValues (column ∷ columns) (v ∷ values) = SaysValue column.kind v × SayValues columns values
+
+-- then the text of the partition says all of them
+abbrev pub TextSaysValues : Type 0
+TextSaysValues =
+    (columns : List Column) (values : List Value) → SayValues columns values → partition_values columns (partition_text columns values) ≡ values
+
+-- NULL, a BOOLEAN, a number of its width, and a text in UTF-8, each where its column is of that type
+abbrev pub IsSaidLayer : SqlType → Value-F Value → Type 0
+IsSaidLayer kind Value-F.Null = Unit {0}
+IsSaidLayer type.Boolean (Value-F.Bool b) = Unit {0}
+IsSaidLayer type.Int (Value-F.Int z) = FitsSigned w32 z
+IsSaidLayer type.BigInt (Value-F.Big z) = FitsSigned w64 z
+IsSaidLayer type.Str (Value-F.Str text) = IsUtf8 text × All (λ b. b < 256) text
+IsSaidLayer _ _ = ⊥
+
+abbrev pub SaysLayers : Type 0
+SaysLayers = (kind : SqlType) (v : Value) → IsSaidLayer kind (out-Value v) → SaysValue kind v
