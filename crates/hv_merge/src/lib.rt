@@ -1,0 +1,14 @@
+//! The rows that a reader sees in a bucket's files, merged in one pass.
+#![tactic(auto)]
+
+mod deletes;
+mod heads;
+mod merging;
+mod rising;
+mod shown;
+#[cfg(test)]
+mod tests;
+
+pub use merging::merge;
+pub use rising::rises;
+pub use shown::Shown;
