@@ -46,7 +46,7 @@ module _ {A : Type 0} (part : A → Bool) where
   layer_aggregates (Expr-F.In x negated among) = part x || in_any among
   layer_aggregates (Expr-F.Literal literal) = false
   layer_aggregates (Expr-F.Column source name) = false
-  layer_aggregates (Expr-F.Case operand whens otherwise) = in_some operand || (in_whens whens || in_some otherwise)
+  layer_aggregates (Expr-F.Case operand whens otherwise) = (in_some operand || in_whens whens) || in_some otherwise
   layer_aggregates (Expr-F.Cast x name) = part x
   layer_aggregates Expr-F.CountRows = true
   layer_aggregates (Expr-F.Call name distinct arguments) = aggregates (function_named name) || in_any arguments

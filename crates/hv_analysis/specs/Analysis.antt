@@ -12,7 +12,7 @@ use Rattle.hv_ast.specs.declared.query.Item.TheVariants as item
 use Rattle.hv_ast.specs.declared.query.Query.{Query}
 use Rattle.hv_ast.specs.declared.query.Select.{Select}
 use Rattle.hv_ast.specs.declared.query.Source.{Source}
-use Rattle.hv_ast.specs.declared.query.Source.TheVariants as source
+use Rattle.hv_ast.specs.declared.query.Source.TheVariants.{Table}
 use Rattle.hv_ast.specs.declared.statement.Stmt.{Stmt}
 use Rattle.hv_ast.specs.declared.statement.Stmt.TheVariants as stmt
 use Rattle.hv_logic.specs.declared.catalog.TableInfo.{TableInfo}
@@ -26,13 +26,13 @@ use Rattle.hv_analysis.specs.Selects.{selected}
 
 abbrev pub is_empty : {A : Type 0} → List A → Bool
 is_empty [] = true
-is_empty (a ∷ as) = false
+is_empty (a ∷ rest) = false
 
 -- ---- a query of one select of at most one table, without groups
 
 abbrev pub is_table : Source → Bool
-is_table (source.Table name alias) = true
-is_table (source.Query query alias) = false
+is_table (Table name alias) = true
+is_table _ = false
 
 abbrev pub is_single_from : Option (From Source) → Bool
 is_single_from None = true

@@ -107,7 +107,8 @@ shape_of create = record {
   columns = map column_of create.columns;
   parts = map column_of create.partitions;
   bucketed = map (λ name. place_or_first (bucket_place create.columns name)) (bucket_names create.clustering);
-  buckets = bucket_count create.clustering }
+  buckets = bucket_count create.clustering;
+}
 
 abbrev pub made : Bool → CreateTable → Logic
 made exists create = if exists then logic.Nothing else logic.Make (shape_of create)

@@ -1,11 +1,13 @@
 -- INSERT of VALUES: the target (NoTable), then in three passes the expressions of all rows, all numbers of values
 -- (BadCount), all conversions (BadType). Values are over no columns and no group.
 -- Source: Hive Language Manual, DML; the order of faults is this project's profile.
-use Rattle.std.specs.Prelude.{ℕ, ◌==◌, Bool, true, false, if◌then◌else◌, ◌&&◌, List, [], ◌∷◌, ◌++◌, length, map, slice_get, option_and_then, Option, None, Some, Result, Ok, Err}
+use Rattle.std.specs.Prelude.{ℕ, ◌==◌, Bool, true, false, if◌then◌else◌, ◌&&◌, List, [], ◌∷◌, ◌++◌, length, map, drop, slice_get, Option, None, Some, Result, Ok, Err}
 use Rattle.std.specs.List.{list_all}
 use Rattle.hv_base.specs.declared.refusal.Refusal.{Refusal}
 use Rattle.hv_base.specs.declared.refusal.Refusal.TheVariants as refusal
 use Rattle.hv_ast.specs.declared.expr.Expr.{Expr}
+use Rattle.hv_value.specs.declared.sql_type.SqlType.{SqlType}
+use Rattle.hv_value.specs.declared.sql_type.SqlType.TheVariants as type
 use Rattle.hv_value.specs.Conversion.{is_convertible}
 use Rattle.hv_typed.specs.declared.tree.TypedExpr.{TypedExpr}
 use Rattle.hv_logic.specs.declared.catalog.Column.{Column}
@@ -40,14 +42,17 @@ has_count count row = length row == count
 -- ---- third pass: each value is converted by itself to its column's type
 
 abbrev pub converts : List Column → List TypedExpr → Bool
-converts [] xs = true
-converts (column ∷ columns) [] = true
+converts columns [] = true
+converts [] (x ∷ xs) = true
 converts (column ∷ columns) (x ∷ xs) = is_convertible (kind_of x) column.kind && converts columns xs
 
+abbrev pub first_type : List Column → SqlType
+first_type [] = type.Null
+first_type (column ∷ columns) = column.kind
+
 abbrev pub converted_row : List Column → List TypedExpr → List TypedExpr
-converted_row [] xs = []
-converted_row (column ∷ columns) [] = []
-converted_row (column ∷ columns) (x ∷ xs) = as_kind column.kind x ∷ converted_row columns xs
+converted_row columns [] = []
+converted_row columns (x ∷ xs) = as_kind (first_type columns) x ∷ converted_row (drop 1 columns) xs
 
 -- ----
 

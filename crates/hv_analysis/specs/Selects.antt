@@ -14,7 +14,7 @@ use Rattle.hv_ast.specs.declared.query.Item.TheVariants as item
 use Rattle.hv_ast.specs.declared.query.Query.{Query}
 use Rattle.hv_ast.specs.declared.query.Select.{Select}
 use Rattle.hv_ast.specs.declared.query.Source.{Source}
-use Rattle.hv_ast.specs.declared.query.Source.TheVariants as source
+use Rattle.hv_ast.specs.declared.query.Source.TheVariants.{Table}
 use Rattle.hv_typed.specs.declared.tree.TypedExpr.{TypedExpr}
 use Rattle.hv_typed.specs.declared.tree.TypedExpr.TheVariants as tree
 use Rattle.hv_logic.specs.declared.catalog.Column.{Column}
@@ -53,7 +53,8 @@ abbrev pub opened_table : ℕ → List ℕ → List Column → Opened
 opened_table place alias columns = record {
   from = Some (from_table place (length columns));
   aliases = alias ∷ [];
-  fields = map (field_of alias) columns }
+  fields = map (field_of alias) columns;
+}
 
 abbrev pub opened_info : ℕ → Option TableInfo → List ℕ → Result Opened Refusal
 opened_info place None alias = Err refusal.NoTable
@@ -64,8 +65,8 @@ opened_at tables None alias = Err refusal.NoTable
 opened_at tables (Some place) alias = opened_info place (slice_get tables place) alias
 
 abbrev pub opened_source : List TableInfo → Source → Result Opened Refusal
-opened_source tables (source.Table name alias) = opened_at tables (place_of name tables) (or_name alias name)
-opened_source tables (source.Query query alias) = Err refusal.Syntax
+opened_source tables (Table name alias) = opened_at tables (place_of name tables) (or_name alias name)
+opened_source tables _ = Err refusal.Syntax
 
 -- without FROM there is one row without values
 abbrev pub opened_none : Opened
@@ -117,7 +118,7 @@ item_shown opened (item.AllOf alias) = all_shown opened alias
 item_shown opened (item.One x alias) = one_shown opened.fields x alias
 item_shown opened (item.Window window alias) = Err refusal.Syntax
 
-abbrev pub behind : List Shown → Result (List Shown) Refusal → Result (List Shown) Refusal
+abbrev pub behind : {A : Type 0} → List A → Result (List A) Refusal → Result (List A) Refusal
 behind done (Ok rest) = Ok (done ++ rest)
 behind done (Err refusal) = Err refusal
 
@@ -152,16 +153,29 @@ expr_shown shown = shown.expr
 
 abbrev pub select_of : Bool → Option (TypedFrom TypedSource) → Option TypedExpr → List Shown → TypedSelect TypedSource
 select_of distinct from filter shown = record {
-  distinct = distinct; items = map expr_shown shown; from = from; filter = filter; groups = None }
+  distinct = distinct;
+  items = map expr_shown shown;
+  from = from;
+  filter = filter;
+  groups = None;
+}
 
 abbrev pub query_of : Option ℕ → Bool → Option (TypedFrom TypedSource) → Option TypedExpr → List Shown → TypedQuery TypedSource
 query_of limit distinct from filter shown = record {
   select = select_of distinct from filter shown;
-  unions = []; order = []; limit = limit; columns = columns_shown 0 shown }
+  unions = [];
+  order = [];
+  limit = limit;
+  columns = columns_shown 0 shown;
+}
 
+unfoldable pub listed : Query Source → Opened → Option TypedExpr → Result (TypedQuery TypedSource) Refusal
+listed query opened filter =
+    and_then (items_shown opened query.select.items) (λ shown. Ok (query_of query.limit query.select.distinct opened.from filter shown))
+
+unfoldable pub filtered : Query Source → Opened → Result (TypedQuery TypedSource) Refusal
+filtered query opened = and_then (filter_typed opened.fields query.select.filter) (λ filter. listed query opened filter)
+
+-- the source, then WHERE, then the items
 unfoldable pub selected : List TableInfo → Query Source → Result (TypedQuery TypedSource) Refusal
-selected tables query =
-    and_then (opened tables query.select.from) (λ opened.
-      and_then (filter_typed opened.fields query.select.filter) (λ filter.
-        and_then (items_shown opened query.select.items) (λ shown.
-          Ok (query_of query.limit query.select.distinct opened.from filter shown))))
+selected tables query = and_then (opened tables query.select.from) (λ opened. filtered query opened)

@@ -1,4 +1,5 @@
 ghost use Rattle.std.specs.Prelude.{◌≡◌};
+ghost use Rattle.hv_types.specs.Calls.{function_named};
 ghost use Rattle.hv_analysis.specs.Aggregates.{aggregates, in_some, in_any, in_operations, in_whens, has_aggregate};
 
 use hv_ast::{Expr, Operation, When};
@@ -29,7 +30,10 @@ pub fn has_aggregate(expr: &Expr) -> bool
             has_aggregate(first.get()) || in_operations(operations.as_slice())
         }
         Expr::Between {
-            value, low, high, ..
+            value,
+            low,
+            high,
+            ..
         } => has_aggregate(value.get()) || has_aggregate(low.get()) || has_aggregate(high.get()),
         Expr::In { value, among, .. } => has_aggregate(value.get()) || in_any(among.as_slice()),
         Expr::Literal(_) => false,
@@ -38,7 +42,12 @@ pub fn has_aggregate(expr: &Expr) -> bool
             operand,
             whens,
             otherwise,
-        } => in_some(operand) || in_whens(whens.as_slice()) || in_some(otherwise),
+        } => {
+            let mut found = in_some(operand);
+            found |= in_whens(whens.as_slice());
+            found |= in_some(otherwise);
+            found
+        }
         Expr::Cast(expr, _) => has_aggregate(expr.get()),
         Expr::CountRows => true,
         Expr::Call {

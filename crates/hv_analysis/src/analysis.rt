@@ -82,11 +82,7 @@ fn is_whole(insert: &Insert) -> bool
     !insert.overwrite && insert.partition.is_empty() && insert.columns.is_empty()
 }
 
-fn query_analysed(
-    alloc: Global,
-    tables: &[TableInfo],
-    query: &Query,
-) -> Result<Logic, TypeFault>
+fn query_analysed(alloc: Global, tables: &[TableInfo], query: &Query) -> Result<Logic, TypeFault>
     ensures { Types result (query_analysed tables.now query.now) }
 {
     if !is_single(query) {
@@ -96,11 +92,7 @@ fn query_analysed(
     Ok(Logic::Query(query.into_inner()))
 }
 
-fn insert_analysed(
-    alloc: Global,
-    tables: &[TableInfo],
-    insert: &Insert,
-) -> Result<Logic, TypeFault>
+fn insert_analysed(alloc: Global, tables: &[TableInfo], insert: &Insert) -> Result<Logic, TypeFault>
     ensures { Types result (insert_analysed tables.now insert.now) }
 {
     if !is_whole(insert) {

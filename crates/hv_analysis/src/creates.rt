@@ -13,7 +13,9 @@ use hv_types::TypeFault;
 use std::alloc::Global;
 
 const MOST_COLUMNS: usize = 64;
+
 const MOST_PARTITION_COLUMNS: usize = 4;
+
 const MOST_BUCKETS: u64 = 256;
 
 /// The place of the table of that name.

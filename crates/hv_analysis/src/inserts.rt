@@ -1,9 +1,9 @@
 //! INSERT of VALUES.
 
-ghost use Rattle.std.specs.Prelude.{◌≡◌, IfOk, map, Some};
+ghost use Rattle.std.specs.Prelude.{◌≡◌, IfOk, map, drop, Some};
 ghost use Rattle.std.specs.List.{list_all};
 ghost use Rattle.hv_types.specs.Faults.{Types};
-ghost use Rattle.hv_analysis.specs.Inserts.{row_typed, rows_typed, has_count, converts, converted_row, columns_of, values_checked, inserted_into, inserted};
+ghost use Rattle.hv_analysis.specs.Inserts.{row_typed, rows_typed, has_count, converts, first_type, converted_row, columns_of, values_checked, inserted_into, inserted};
 
 use crate::creates::place_of;
 use crate::logic::{Logic, TypedInsert};
@@ -12,7 +12,7 @@ use hv_base::{Duplicate, List, NoMemory, Refusal, Text};
 use hv_logic::{Column, Shape, TableInfo};
 use hv_typed::TypedExpr;
 use hv_types::{Over, TypeFault, item_as_kind, kind_of, type_expr};
-use hv_value::is_convertible;
+use hv_value::{SqlType, is_convertible};
 use std::alloc::Global;
 
 #[tactic(auto, using(crate::proofs::Orders::orders), unfolding(crate::specs::Inserts::row_typed))]
@@ -51,10 +51,15 @@ fn all_counted(count: usize, rows: &[List<TypedExpr>]) -> bool
 fn converts(columns: &[Column], row: &[TypedExpr]) -> bool
     ensures { result ≡ converts columns.now row.now }
 {
-    for i in 0..columns.len().min(row.len()) {
-        if !is_convertible(&kind_of(&row[i]), &columns[i].kind) {
+    let mut rest = columns;
+    for expr in row {
+        let [column, behind @ ..] = rest else {
+            return true;
+        };
+        if !is_convertible(&kind_of(expr), &column.kind) {
             return false;
         }
+        rest = behind;
     }
     true
 }
@@ -70,6 +75,24 @@ fn all_convert(columns: &[Column], rows: &[List<TypedExpr>]) -> bool
     true
 }
 
+fn first_type(columns: &[Column]) -> SqlType
+    ensures { result ≡ first_type columns.now }
+{
+    match columns {
+        [] => SqlType::Null,
+        [column, ..] => column.kind,
+    }
+}
+
+fn behind_first(columns: &[Column]) -> &[Column]
+    ensures { result.now ≡ drop 1 columns.now }
+{
+    match columns {
+        [] => columns,
+        [_, behind @ ..] => behind,
+    }
+}
+
 fn converted_row(
     alloc: Global,
     columns: &[Column],
@@ -78,13 +101,10 @@ fn converted_row(
     ensures { IfOk result (λ made. made ≡ converted_row columns.now row) }
 {
     let mut rest = columns;
-    let mut made = Vec::with_capacity(alloc, columns.len())?;
+    let mut made = Vec::with_capacity(alloc, row.len())?;
     for expr in row.into_vec() {
-        let [column, behind @ ..] = rest else {
-            break;
-        };
-        made.push(item_as_kind(alloc, column.kind, expr)?)?;
-        rest = behind;
+        made.push(item_as_kind(alloc, first_type(rest), expr)?)?;
+        rest = behind_first(rest);
     }
     Ok(List::from_vec(made))
 }

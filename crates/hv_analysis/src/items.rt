@@ -51,11 +51,7 @@ fn fields_shown(
     Ok(List::from_vec(shown))
 }
 
-fn shown_name(
-    alloc: Global,
-    alias: &Option<Text>,
-    expr: &Expr,
-) -> Result<Option<Text>, NoMemory>
+fn shown_name(alloc: Global, alias: &Option<Text>, expr: &Expr) -> Result<Option<Text>, NoMemory>
     ensures { IfOk result (λ name. name ≡ shown_name alias.now expr.now) }
 {
     match alias {
@@ -159,10 +155,7 @@ fn column_shown(alloc: Global, place: usize, shown: &Shown) -> Result<OutputColu
 }
 
 /// The names and types of the output columns.
-pub(crate) fn columns_shown(
-    alloc: Global,
-    shown: &[Shown],
-) -> Result<List<OutputColumn>, NoMemory>
+pub(crate) fn columns_shown(alloc: Global, shown: &[Shown]) -> Result<List<OutputColumn>, NoMemory>
     ensures { IfOk result (λ columns. columns ≡ columns_shown 0 shown.now) }
 {
     let mut columns = Vec::with_capacity(alloc, shown.len())?;
@@ -173,10 +166,7 @@ pub(crate) fn columns_shown(
 }
 
 /// The expressions alone.
-pub(crate) fn exprs_shown(
-    alloc: Global,
-    shown: List<Shown>,
-) -> Result<List<TypedExpr>, NoMemory>
+pub(crate) fn exprs_shown(alloc: Global, shown: List<Shown>) -> Result<List<TypedExpr>, NoMemory>
     ensures { IfOk result (λ exprs. exprs ≡ map expr_shown shown) }
 {
     let mut exprs = Vec::with_capacity(alloc, shown.len())?;

@@ -2,7 +2,8 @@
 
 ghost use Rattle.std.specs.Prelude.{◌≡◌, IfOk, map, Some, Ok};
 ghost use Rattle.hv_types.specs.Faults.{Types};
-ghost use Rattle.hv_analysis.specs.Selects.{field_of, or_name, from_table, opened_table, opened_at, opened_source, opened_none, opened, filter_typed, query_of, selected};
+ghost use Rattle.hv_analysis.specs.Creates.{place_of};
+ghost use Rattle.hv_analysis.specs.Selects.{field_of, or_name, from_table, opened_table, opened_at, opened_source, opened_none, opened, filter_typed, query_of, listed, filtered, selected};
 
 use crate::creates::place_of;
 use crate::inserts::columns_of;
@@ -60,17 +61,21 @@ fn opened_table(
     place: usize,
     alias: &Text,
     columns: &[Column],
-) -> Result<Opened, NoMemory>
+) -> Result<Boxed<Opened>, NoMemory>
     ensures { IfOk result (λ opened. opened ≡ opened_table place alias.now columns.now) }
 {
     let fields = fields_of(alloc, alias, columns)?;
     let mut aliases = Vec::with_capacity(alloc, 1)?;
     aliases.push(alias.duplicate(alloc)?)?;
-    Ok(Opened {
-        from: Some(from_table(alloc, place, columns.len())?),
-        aliases: List::from_vec(aliases),
-        fields,
-    })
+    let from = from_table(alloc, place, columns.len())?;
+    Boxed::new(
+        alloc,
+        Opened {
+            from: Some(from),
+            aliases: List::from_vec(aliases),
+            fields,
+        },
+    )
 }
 
 fn opened_at(
@@ -78,7 +83,7 @@ fn opened_at(
     tables: &[TableInfo],
     name: &Text,
     alias: &Text,
-) -> Result<Opened, TypeFault>
+) -> Result<Boxed<Opened>, TypeFault>
     ensures { Types result (opened_at tables.now (place_of name.now tables.now) alias.now) }
 {
     let Some(place) = place_of(name, tables) else {
@@ -95,7 +100,7 @@ fn opened_source(
     alloc: Global,
     tables: &[TableInfo],
     source: &Source,
-) -> Result<Opened, TypeFault>
+) -> Result<Boxed<Opened>, TypeFault>
     ensures { Types result (opened_source tables.now source.now) }
 {
     match source {
@@ -109,15 +114,18 @@ fn opened(
     alloc: Global,
     tables: &[TableInfo],
     from: &Option<From>,
-) -> Result<Opened, TypeFault>
+) -> Result<Boxed<Opened>, TypeFault>
     ensures { Types result (opened tables.now from.now) }
 {
     match from {
-        None => Ok(Opened {
-            from: None,
-            aliases: List::empty(alloc),
-            fields: List::empty(alloc),
-        }),
+        None => Ok(Boxed::new(
+            alloc,
+            Opened {
+                from: None,
+                aliases: List::empty(alloc),
+                fields: List::empty(alloc),
+            },
+        )?),
         Some(from) => opened_source(alloc, tables, &from.source),
     }
 }
@@ -165,6 +173,39 @@ fn query_of(
     )
 }
 
+#[tactic(auto, unfolding(crate::specs::Selects::listed))]
+fn listed(
+    alloc: Global,
+    query: &Query,
+    opened: Boxed<Opened>,
+    filter: Option<Boxed<TypedExpr>>,
+) -> Result<Boxed<TypedQuery>, TypeFault>
+    ensures { Types result (listed query.now opened filter) }
+{
+    let shown = items_shown(alloc, opened.get(), query.select.items.as_slice())?;
+    let Opened { from, .. } = opened.into_inner();
+    Ok(query_of(
+        alloc,
+        query.limit,
+        query.select.distinct,
+        from,
+        filter,
+        shown,
+    )?)
+}
+
+#[tactic(auto, unfolding(crate::specs::Selects::filtered))]
+fn filtered(
+    alloc: Global,
+    query: &Query,
+    opened: Boxed<Opened>,
+) -> Result<Boxed<TypedQuery>, TypeFault>
+    ensures { Types result (filtered query.now opened) }
+{
+    let filter = filter_typed(alloc, opened.get().fields.as_slice(), &query.select.filter)?;
+    listed(alloc, query, opened, filter)
+}
+
 /// The typed query, or its first fault: of its source, of WHERE, of its items.
 #[tactic(auto, unfolding(crate::specs::Selects::selected))]
 pub(crate) fn selected(
@@ -175,8 +216,5 @@ pub(crate) fn selected(
     ensures { Types result (selected tables.now query.now) }
 {
     let opened = opened(alloc, tables, &query.select.from)?;
-    let filter = filter_typed(alloc, opened.fields.as_slice(), &query.select.filter)?;
-    let shown = items_shown(alloc, &opened, query.select.items.as_slice())?;
-    let Opened { from, .. } = opened;
-    Ok(query_of(alloc, query.limit, query.select.distinct, from, filter, shown)?)
+    filtered(alloc, query, opened)
 }
