@@ -10,8 +10,12 @@ use hv_history::Entry;
 use std::alloc::Global;
 
 /// What stands at a gate, the first of these bytes: None behind a closed one; the entry of the record, and
-/// the bytes behind it, for an open one.
-fn next_record(alloc: Global, rest: &[u8], at: u64) -> Result<Option<(Entry, &[u8])>, JournalFault>
+/// the bytes behind it, for an open one. A gate that is bad is called by its place `at`.
+pub fn next_record(
+    alloc: Global,
+    rest: &[u8],
+    at: u64,
+) -> Result<Option<(Entry, &[u8])>, JournalFault>
     ensures closed { IfOk result (λ found. IfNone found (IsClosed rest.now)) }
     ensures open { IfOk result (λ found. IfSome found (λ x. Opens rest.now x.0 x.1.now)) }
     ensures bad { IfErr result (IsFaultOf rest.now at) }

@@ -11,7 +11,7 @@ mod writing;
 
 pub use appending::{append, open_empty};
 pub use fault::JournalFault;
-pub use journal::read_records;
+pub use journal::{next_record, read_records};
 pub use laws::{one_book, one_spelling};
 pub use reading::records::decode_entry;
 pub use writing::lengths::record_length;
