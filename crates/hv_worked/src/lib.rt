@@ -7,3 +7,5 @@ pub use taking::take;
 
 #[cfg(test)]
 mod running;
+#[cfg(test)]
+mod tests;
