@@ -30,11 +30,7 @@ pub fn as_kind(
 }
 
 /// The same of an operand that stands in a list.
-pub fn item_as_kind(
-    alloc: Global,
-    to: SqlType,
-    expr: TypedExpr,
-) -> Result<TypedExpr, NoMemory>
+pub fn item_as_kind(alloc: Global, to: SqlType, expr: TypedExpr) -> Result<TypedExpr, NoMemory>
     ensures { IfOk result (λ made. made ≡ as_kind to expr) }
 {
     if same_type(kind_of(&expr), to) {

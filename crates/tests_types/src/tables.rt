@@ -1,0 +1,128 @@
+//! The tables that the statements make, each with its rows.
+
+use crate::show;
+use hv_analysis::{Logic, TypedInsert};
+use hv_base::{Boxed, List, NoMemory, TableId};
+use hv_eval::eval;
+use hv_logic::{Shape, TableInfo};
+use hv_query::{TypedQuery, TypedSource};
+use hv_typed::TypedExpr;
+use hv_value::{Row, Value};
+use std::alloc::Global;
+
+#[derive(Drop)]
+pub(crate) struct Tables {
+    infos: Vec<TableInfo>,
+    rows: Vec<Vec<Row>>,
+}
+
+fn evaluated(alloc: Global, exprs: &List<TypedExpr>, row: &Row) -> Result<Row, NoMemory> {
+    let mut values = Vec::new(alloc);
+    for expr in exprs.as_slice() {
+        values.push(eval(alloc, expr, row)?)?;
+    }
+    Ok(Row {
+        values: List::from_vec(values),
+    })
+}
+
+fn is_kept(alloc: Global, filter: &Option<Boxed<TypedExpr>>, row: &Row) -> Result<bool, NoMemory> {
+    match filter {
+        None => Ok(true),
+        Some(filter) => {
+            let value = eval(alloc, filter.get(), row)?;
+            Ok(matches!(&value, Value::Bool(true)))
+        }
+    }
+}
+
+impl Tables {
+    pub(crate) fn new(alloc: Global) -> Tables {
+        Tables {
+            infos: Vec::new(alloc),
+            rows: Vec::new(alloc),
+        }
+    }
+
+    pub(crate) fn infos(&self) -> &[TableInfo] {
+        &self.infos
+    }
+
+    fn make(&mut self, alloc: Global, shape: Shape) -> Result<(), NoMemory> {
+        let table = TableId(1);
+        self.infos.push(TableInfo { table, shape })?;
+        Ok(self.rows.push(Vec::new(alloc))?)
+    }
+
+    fn insert(
+        &mut self,
+        alloc: Global,
+        insert: &TypedInsert,
+        out: &mut Vec<u8>,
+    ) -> Result<(), NoMemory> {
+        out.extend_from_slice(b"inserted")?;
+        let none = Row {
+            values: List::empty(alloc),
+        };
+        for exprs in insert.rows.as_slice() {
+            let row = evaluated(alloc, exprs, &none)?;
+            show::row(&row, out)?;
+            if let Some(rows) = self.rows.get_mut(insert.table as usize) {
+                rows.push(row)?;
+            }
+        }
+        Ok(())
+    }
+
+    /// Each row for which the condition is true, by its items.
+    fn list(
+        &self,
+        alloc: Global,
+        query: &TypedQuery,
+        rows: &[Row],
+        out: &mut Vec<u8>,
+    ) -> Result<(), NoMemory> {
+        show::outputs(&query.columns, out)?;
+        for row in rows {
+            if is_kept(alloc, &query.select.filter, row)? {
+                show::row(&evaluated(alloc, &query.select.items, row)?, out)?;
+            }
+        }
+        Ok(())
+    }
+
+    fn query(&self, alloc: Global, query: &TypedQuery, out: &mut Vec<u8>) -> Result<(), NoMemory> {
+        match &query.select.from {
+            None => {
+                let none = Row {
+                    values: List::empty(alloc),
+                };
+                self.list(alloc, query, &[none], out)
+            }
+            Some(from) => match &from.source {
+                TypedSource::Table(place) => match self.rows.get(*place as usize) {
+                    Some(rows) => self.list(alloc, query, rows, out),
+                    None => Ok(()),
+                },
+                TypedSource::Query(_) => Ok(()),
+            },
+        }
+    }
+
+    pub(crate) fn run(
+        &mut self,
+        alloc: Global,
+        logic: Boxed<Logic>,
+        out: &mut Vec<u8>,
+    ) -> Result<(), NoMemory> {
+        match logic.into_inner() {
+            Logic::Nothing => Ok(out.extend_from_slice(b"nothing")?),
+            Logic::Make(shape) => {
+                show::shape(alloc, &shape, out)?;
+                self.make(alloc, shape)
+            }
+            Logic::Insert(insert) => self.insert(alloc, &insert, out),
+            Logic::Query(query) => self.query(alloc, &query, out),
+        }
+    }
+}
