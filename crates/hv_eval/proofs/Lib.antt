@@ -1,5 +1,3 @@
-pub mod Layers
-pub mod IntegerLemmas
 pub mod Groups
 pub mod JoinedTexts
 pub mod Nodes

@@ -1,3 +1,2 @@
-pub mod Seen
-pub mod Makes
+pub mod Held
 pub mod Walks

@@ -1,8 +1,9 @@
 ghost use Rattle.std.specs.Prelude.{◌≡◌, IfOk};
-ghost use Rattle.hv_eval.specs.Seen.{seen_value, held_value};
+ghost use Rattle.hv_seen.specs.Seen.{seen_value};
+ghost use Rattle.hv_eval.specs.Held.{held_value};
 
-use crate::seen::{Seen, view};
-use hv_base::{Duplicate, NoMemory};
+use hv_base::NoMemory;
+use hv_seen::{Seen, owned, view};
 use hv_value::Value;
 use std::alloc::Global;
 
@@ -11,21 +12,6 @@ use std::alloc::Global;
 pub(crate) enum Held<'a> {
     Seen(Seen<'a>),
     Made(Value),
-}
-
-#[tactic(auto, using(crate::proofs::Layers::layers))]
-pub(crate) fn owned(alloc: Global, value: &Seen) -> Result<Value, NoMemory>
-    ensures { IfOk result (λ made. made ≡ seen_value value.now) }
-{
-    match value {
-        Seen::Null => Ok(Value::Null),
-        Seen::Bool(truth) => Ok(Value::Bool(*truth)),
-        Seen::Int(number) => Ok(Value::Int(*number)),
-        Seen::Big(number) => Ok(Value::Big(*number)),
-        Seen::Str(text) => Ok(Value::Str(text.duplicate(alloc)?)),
-        Seen::Day(day) => Ok(Value::Day(*day)),
-        Seen::Array(items) => Ok(Value::Array(items.duplicate(alloc)?)),
-    }
 }
 
 impl<'a> Held<'a> {

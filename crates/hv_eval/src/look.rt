@@ -5,13 +5,11 @@ ghost use Rattle.hv_typed.specs.Values.{taken_or_null, truth_value};
 ghost use Rattle.hv_typed.specs.Functions.{all_of, any_of, equals_any, first_known, many_value};
 ghost use Rattle.hv_typed.specs.Evaluation.{value_of, values_of, is_met};
 ghost use Rattle.hv_eval.specs.Walks.{chain_value, chosen_value, optional_value, settled_value};
-ghost use Rattle.hv_eval.specs.Seen.{seen_value};
+ghost use Rattle.hv_seen.specs.Seen.{seen_value};
 
-use crate::compare::equal;
-use crate::integers::arithmetic;
-use crate::seen::{Seen, is_null, null, of_big, of_truth, taken, truth};
 use crate::table::{both, either, one, three, two};
 use hv_base::Boxed;
+use hv_seen::{Seen, arithmetic, equal, is_null, null, of_big, of_truth, taken, truth};
 use hv_typed::{Aggregate, Branch, Link, Many, TypedExpr};
 use hv_value::{SqlType, Value};
 

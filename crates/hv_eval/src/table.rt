@@ -6,19 +6,20 @@ ghost use Rattle.hv_value.specs.Conversion.{some_int, some_day};
 ghost use Rattle.hv_value.specs.Dates.{date_add, date_sub, date_diff, year_of, month_of, day_of_month};
 ghost use Rattle.hv_typed.specs.Values.{truth_of, text_of, number_of, text_value, is_null, holds, day_of, int_of, both_of, items_of, item_at, taken_or_null, element, both, either};
 ghost use Rattle.hv_typed.specs.Functions.{given, size_of, one_value, two_value, three_value, between, part_of};
-ghost use Rattle.hv_eval.specs.Seen.{seen_layer, seen_value};
+ghost use Rattle.hv_seen.specs.Seen.{seen_layer, seen_value};
 ghost use Rattle.hv_text.specs.Characters.{substring_from};
-ghost use Rattle.hv_eval.specs.Makes.{made_value};
+ghost use Rattle.hv_seen.specs.Makes.{made_value};
 
-use crate::compare::{compare, null_safe_equal};
-use crate::integers::{absolute, minus, plus, positive_remainder};
-use crate::seen::{Seen, day, int, is_null, null, number, of_day, of_int, of_truth, taken, truth};
-use crate::texts::{Maker, is_like, length_of, low_int, place_of};
 use hv_base::List;
+use hv_seen::{
+    Maker, Seen, absolute, cast, compare, day, int, is_like, is_null, length_of, low_int, minus,
+    null, null_safe_equal, number, of_day, of_int, of_truth, place_of, plus, positive_remainder,
+    taken, truth,
+};
 use hv_typed::{One, Three, Two};
 use hv_value::{SqlType, Value, date_add, date_diff, date_sub, day_of_month, month_of, year_of};
 
-#[tactic(auto, using(crate::proofs::Layers::layers))]
+#[tactic(auto, using(hv_seen::proofs::Layers::layers))]
 fn size<'a>(array: &Seen) -> Seen<'a>
     ensures { seen_value result ≡ size_of (items_of (seen_value array.now)) }
 {
@@ -101,7 +102,7 @@ fn item<'a>(kind: &SqlType, items: &'a List<Value>, place: i64) -> Seen<'a>
 }
 
 // An element is lent by the array.
-#[tactic(auto, using(crate::proofs::Layers::layers), unfolding(hv_typed::specs::Values::element))]
+#[tactic(auto, using(hv_seen::proofs::Layers::layers), unfolding(hv_typed::specs::Values::element))]
 fn element<'a>(kind: &SqlType, array: &Seen<'a>, place: &Seen) -> Seen<'a>
     ensures { seen_value result ≡ element kind.now (seen_value array.now) (seen_value place.now) }
 {
@@ -128,7 +129,7 @@ pub(crate) fn one<'a>(function: One, kind: &SqlType, value: &Seen) -> Result<See
         One::Year => Ok(year(value)),
         One::Month => Ok(month(value)),
         One::Day => Ok(day_number(value)),
-        One::Cast => Err(Maker::Cast),
+        One::Cast => cast(kind, value).ok_or(Maker::Cast),
         One::Lower => Err(Maker::Lower),
         One::Upper => Err(Maker::Upper),
         One::Trim => Err(Maker::Trim),

@@ -3,16 +3,17 @@ ghost use Rattle.hv_typed.specs.Values.{text_value};
 ghost use Rattle.hv_typed.specs.Functions.{all_of, any_of, equals_any, first_known, joined, many_value, one_value, two_value, three_value};
 ghost use Rattle.hv_typed.specs.Evaluation.{value_of, values_of, is_met};
 ghost use Rattle.hv_eval.specs.Walks.{chain_value, chosen_value, optional_value, settled_value};
-ghost use Rattle.hv_eval.specs.Seen.{seen_value, held_value};
+ghost use Rattle.hv_seen.specs.Seen.{seen_value};
+ghost use Rattle.hv_eval.specs.Held.{held_value};
 
-use crate::compare::equal;
-use crate::held::{Held, owned};
-use crate::integers::arithmetic;
+use crate::held::Held;
 use crate::look::{column, in_value, is_met, no_rows, over_nothing, value_without_memory};
-use crate::seen::{Seen, is_null, null, of_truth, taken, text, truth};
 use crate::table::{both, either, one, three, two};
-use crate::texts::{make, part_from, rest_from};
 use hv_base::{Boxed, List, NoMemory, Text};
+use hv_seen::{
+    Seen, arithmetic, equal, is_null, make, null, of_truth, owned, part_from, rest_from, taken,
+    text, truth,
+};
 use hv_typed::{Branch, Link, Many, One, Three, Two, TypedExpr};
 use hv_value::{Row, SqlType, Value};
 use std::alloc::Global;

@@ -47,8 +47,8 @@ fn from_int(alloc: Global, number: i32, to: &SqlType) -> Result<Value, NoMemory>
     }
 }
 
-// The low 32 bits in two's complement.
-fn low_half(number: i64) -> i32
+/// The low 32 bits in two's complement.
+pub fn low_half(number: i64) -> i32
     ensures { result ≡ int_wrap w32 number }
 {
     let low = number.rem_euclid(0x1_0000_0000) as u32;

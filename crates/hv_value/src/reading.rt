@@ -113,14 +113,14 @@ fn signed(bytes: &[u8]) -> Option<i64>
 }
 
 /// The BIGINT that a text writes: None exactly where it writes none.
-pub(crate) fn read_big(text: &[u8]) -> Option<i64>
+pub fn read_big(text: &[u8]) -> Option<i64>
     ensures { result ≡ big_of text.now }
 {
     signed(trimmed(text))
 }
 
 /// The INT that a text writes: None exactly where it writes none.
-pub(crate) fn read_int(text: &[u8]) -> Option<i32>
+pub fn read_int(text: &[u8]) -> Option<i32>
     ensures { result ≡ int_of text.now }
 {
     let number = read_big(text)?;

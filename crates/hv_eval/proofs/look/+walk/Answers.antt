@@ -1,6 +1,6 @@
 use Rattle.std.proofs.Common.{◌≡◌, sym, ap, ◌∙◌, option_map}
 use Rattle.hv_typed.specs.Evaluation.{value_of}
-use Rattle.hv_eval.specs.Seen.{seen_value}
+use Rattle.hv_seen.specs.Seen.{seen_value}
 use Rattle.hv_eval.specs.Walks.{chosen_value, optional_value, settled_value}
 use Rattle.hv_eval.proofs.Nodes.{value_of-case}
 use Rattle.hv_eval.proofs.look.+walk.Goals as goal

@@ -2,7 +2,7 @@ use Rattle.std.proofs.Common.{◌≡◌, drop, option_map}
 use Rattle.hv_typed.specs.Values.{both, either}
 use Rattle.hv_typed.specs.Functions.{all_of, any_of, equals_any, first_known}
 use Rattle.hv_typed.specs.Evaluation.{value_of, values_of, chained, chosen}
-use Rattle.hv_eval.specs.Seen.{seen_value}
+use Rattle.hv_seen.specs.Seen.{seen_value}
 use Rattle.hv_eval.proofs.look.+walk.Given as goal
 
 abbrev pub invariant-all-loop-expr : goal.invariant-all-loop-expr

@@ -3,7 +3,7 @@ use Rattle.std.specs.Str.{IsUtf8}
 use Rattle.std.proofs.lemmas.Grind.{common_steps}
 use Rattle.std.proofs.lemmas.Str.{IsUtf8-append}
 use Rattle.hv_typed.specs.Evaluation.{value_of}
-use Rattle.hv_eval.specs.Seen.{held_value}
+use Rattle.hv_eval.specs.Held.{held_value}
 use Rattle.hv_eval.specs.Walks.{chosen_value, optional_value, settled_value}
 use Rattle.hv_eval.proofs.Nodes.{value_of-case}
 use Rattle.hv_eval.proofs.JoinedTexts.{joined-more}

@@ -3,7 +3,7 @@ use Rattle.std.specs.Str.{IsUtf8}
 use Rattle.hv_typed.specs.Values.{both, either, both_of}
 use Rattle.hv_typed.specs.Functions.{all_of, any_of, equals_any, first_known, joined}
 use Rattle.hv_typed.specs.Evaluation.{value_of, values_of, chained, chosen}
-use Rattle.hv_eval.specs.Seen.{held_value}
+use Rattle.hv_eval.specs.Held.{held_value}
 use Rattle.hv_eval.proofs.walk.+memory.Given as goal
 
 abbrev pub invariant-all-loop-expr : goal.invariant-all-loop-expr

@@ -1,7 +1,7 @@
 use Rattle.std.proofs.Common.{arith}
 use Rattle.std.proofs.lemmas.Int.{to_z-of_z}
 use Rattle.std.specs.Int.{int_wrap}
-use Rattle.hv_eval.proofs.texts.low_int.Goals as goal
+use Rattle.hv_seen.proofs.texts.low_int.Goals as goal
 
 pub returns : goal.returns
 unfolding int_wrap

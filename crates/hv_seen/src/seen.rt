@@ -1,12 +1,13 @@
-ghost use Rattle.std.specs.Prelude.{◌≡◌, option_map};
+ghost use Rattle.std.specs.Prelude.{◌≡◌, IfOk, option_map};
 ghost use Rattle.hv_typed.specs.Values.{truth_of, int_of, number_of, text_of, day_of, is_null, truth_value, taken, is_layer_of};
 ghost use Rattle.hv_value.specs.Conversion.{some_int, some_big, some_day};
 ghost use Rattle.hv_value.specs.declared.value.Value.TheVariants as value;
 ghost use Rattle.hv_value.specs.declared.value.Value.TheViews.{out-Value};
-ghost use Rattle.hv_eval.specs.Seen.{seen_value};
+ghost use Rattle.hv_seen.specs.Seen.{seen_value};
 
-use hv_base::{List, Text};
+use hv_base::{Duplicate, List, NoMemory, Text};
 use hv_value::{SqlType, Value, is_day};
+use std::alloc::Global;
 
 /// A value that stands somewhere else, or a scalar.
 #[derive(Clone, Copy)]
@@ -36,8 +37,9 @@ pub fn view(value: &Value) -> Seen<'_>
     }
 }
 
+/// NULL.
 #[tactic(auto, using(crate::proofs::Layers::layers))]
-pub(crate) fn null<'a>() -> Seen<'a>
+pub fn null<'a>() -> Seen<'a>
     ensures { seen_value result ≡ value.Null }
 {
     Seen::Null
@@ -57,9 +59,9 @@ fn is_of(kind: &SqlType, value: &Value) -> bool
     }
 }
 
-// The value at a place of the type: NULL where it isn't of it.
+/// The value at a place of the type: NULL where it isn't of it.
 #[tactic(auto, unfolding(hv_typed::specs::Values::taken))]
-pub(crate) fn taken<'a>(kind: &SqlType, value: &'a Value) -> Seen<'a>
+pub fn taken<'a>(kind: &SqlType, value: &'a Value) -> Seen<'a>
     ensures { seen_value result ≡ taken kind.now value.now }
 {
     if is_of(kind, value) {
@@ -69,8 +71,9 @@ pub(crate) fn taken<'a>(kind: &SqlType, value: &'a Value) -> Seen<'a>
     }
 }
 
+/// The BOOLEAN that is seen, None where it is another value.
 #[tactic(auto, using(crate::proofs::Layers::layers))]
-pub(crate) fn truth(value: &Seen) -> Option<bool>
+pub fn truth(value: &Seen) -> Option<bool>
     ensures { result ≡ truth_of (seen_value value.now) }
 {
     match value {
@@ -79,8 +82,9 @@ pub(crate) fn truth(value: &Seen) -> Option<bool>
     }
 }
 
+/// The INT that is seen.
 #[tactic(auto, using(crate::proofs::Layers::layers))]
-pub(crate) fn int(value: &Seen) -> Option<i32>
+pub fn int(value: &Seen) -> Option<i32>
     ensures { result ≡ int_of (seen_value value.now) }
 {
     match value {
@@ -89,8 +93,9 @@ pub(crate) fn int(value: &Seen) -> Option<i32>
     }
 }
 
+/// The integer of either width that is seen.
 #[tactic(auto, using(crate::proofs::Layers::layers))]
-pub(crate) fn number(value: &Seen) -> Option<i64>
+pub fn number(value: &Seen) -> Option<i64>
     ensures { result ≡ number_of (seen_value value.now) }
 {
     match value {
@@ -100,8 +105,9 @@ pub(crate) fn number(value: &Seen) -> Option<i64>
     }
 }
 
+/// The text that is seen.
 #[tactic(auto, using(crate::proofs::Layers::layers))]
-pub(crate) fn text<'a>(value: &Seen<'a>) -> Option<&'a Text>
+pub fn text<'a>(value: &Seen<'a>) -> Option<&'a Text>
     ensures { option_map (λ text. text.now) result ≡ text_of (seen_value value.now) }
 {
     match value {
@@ -110,8 +116,9 @@ pub(crate) fn text<'a>(value: &Seen<'a>) -> Option<&'a Text>
     }
 }
 
+/// The day number of the DATE that is seen, counted from 1970-01-01.
 #[tactic(auto, using(crate::proofs::Layers::layers))]
-pub(crate) fn day(value: &Seen) -> Option<i32>
+pub fn day(value: &Seen) -> Option<i32>
     ensures { result ≡ day_of (seen_value value.now) }
 {
     match value {
@@ -120,15 +127,17 @@ pub(crate) fn day(value: &Seen) -> Option<i32>
     }
 }
 
+/// Whether NULL is seen.
 #[tactic(auto, using(crate::proofs::Layers::layers))]
-pub(crate) fn is_null(value: &Seen) -> bool
+pub fn is_null(value: &Seen) -> bool
     ensures { result ≡ is_null (seen_value value.now) }
 {
     matches!(value, Seen::Null)
 }
 
+/// A BOOLEAN, or NULL.
 #[tactic(auto, using(crate::proofs::Layers::layers))]
-pub(crate) fn of_truth<'a>(truth: Option<bool>) -> Seen<'a>
+pub fn of_truth<'a>(truth: Option<bool>) -> Seen<'a>
     ensures { seen_value result ≡ truth_value truth }
 {
     match truth {
@@ -137,8 +146,9 @@ pub(crate) fn of_truth<'a>(truth: Option<bool>) -> Seen<'a>
     }
 }
 
+/// An INT, or NULL.
 #[tactic(auto, using(crate::proofs::Layers::layers))]
-pub(crate) fn of_int<'a>(number: Option<i32>) -> Seen<'a>
+pub fn of_int<'a>(number: Option<i32>) -> Seen<'a>
     ensures { seen_value result ≡ some_int number }
 {
     match number {
@@ -147,8 +157,9 @@ pub(crate) fn of_int<'a>(number: Option<i32>) -> Seen<'a>
     }
 }
 
+/// A BIGINT, or NULL.
 #[tactic(auto, using(crate::proofs::Layers::layers))]
-pub(crate) fn of_big<'a>(number: Option<i64>) -> Seen<'a>
+pub fn of_big<'a>(number: Option<i64>) -> Seen<'a>
     ensures { seen_value result ≡ some_big number }
 {
     match number {
@@ -157,12 +168,29 @@ pub(crate) fn of_big<'a>(number: Option<i64>) -> Seen<'a>
     }
 }
 
+/// The DATE of a day number, or NULL.
 #[tactic(auto, using(crate::proofs::Layers::layers))]
-pub(crate) fn of_day<'a>(day: Option<i32>) -> Seen<'a>
+pub fn of_day<'a>(day: Option<i32>) -> Seen<'a>
     ensures { seen_value result ≡ some_day day }
 {
     match day {
         None => Seen::Null,
         Some(day) => Seen::Day(day),
+    }
+}
+
+/// The value itself, copied. NoMemory where memory for a text or an array could not be had.
+#[tactic(auto, using(crate::proofs::Layers::layers))]
+pub fn owned(alloc: Global, value: &Seen) -> Result<Value, NoMemory>
+    ensures { IfOk result (λ made. made ≡ seen_value value.now) }
+{
+    match value {
+        Seen::Null => Ok(Value::Null),
+        Seen::Bool(truth) => Ok(Value::Bool(*truth)),
+        Seen::Int(number) => Ok(Value::Int(*number)),
+        Seen::Big(number) => Ok(Value::Big(*number)),
+        Seen::Str(text) => Ok(Value::Str(text.duplicate(alloc)?)),
+        Seen::Day(day) => Ok(Value::Day(*day)),
+        Seen::Array(items) => Ok(Value::Array(items.duplicate(alloc)?)),
     }
 }

@@ -2,10 +2,8 @@
 use Rattle.hv_value.specs.declared.value.Value.{Value}
 use Rattle.hv_value.specs.declared.value.Value.TheOpen.{Value-F}
 use Rattle.hv_value.specs.declared.value.Value.TheViews.{roll-Value}
-use Rattle.hv_eval.specs.declared.seen.Seen.{Seen}
-use Rattle.hv_eval.specs.declared.seen.Seen.TheVariants as seen
-use Rattle.hv_eval.specs.declared.held.Held.{Held}
-use Rattle.hv_eval.specs.declared.held.Held.TheVariants as held
+use Rattle.hv_seen.specs.declared.seen.Seen.{Seen}
+use Rattle.hv_seen.specs.declared.seen.Seen.TheVariants as seen
 
 abbrev pub seen_layer : Seen → Value-F Value
 seen_layer seen.Null = Value-F.Null
@@ -18,7 +16,3 @@ seen_layer (seen.Array items) = Value-F.Array items.now
 
 abbrev pub seen_value : Seen → Value
 seen_value value = roll-Value (seen_layer value)
-
-abbrev pub held_value : Held → Value
-held_value (held.Seen value) = seen_value value
-held_value (held.Made value) = value

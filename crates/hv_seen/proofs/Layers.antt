@@ -7,6 +7,8 @@ use Rattle.hv_value.specs.declared.value.Value.TheViews.{roll-Value, out-Value, 
 use Rattle.hv_value.specs.declared.value.Value.TheVariants as value
 use Rattle.hv_value.specs.declared.value.Value.TheVariants.{rolls-Null, rolls-Bool, rolls-Int, rolls-Big, rolls-Str, rolls-Day, rolls-Array}
 use Rattle.std.proofs.lemmas.Int.{wraps}
+use Rattle.hv_value.specs.declared.sql_type.SqlType.{SqlType}
+use Rattle.hv_value.specs.Conversion.{converted, from_layer}
 use Rattle.hv_typed.specs.Values.{by, layers_by, by_one, layer_by_one, compare, layers_compare}
 
 pub ruleset layers = (out-roll-Value, rolls-Null, rolls-Bool, rolls-Int, rolls-Big, rolls-Str, rolls-Day, rolls-Array)
@@ -30,3 +32,9 @@ compare-layers x y = λ i. layers_compare (out-roll-Value x i) (out-roll-Value y
 pub ruleset comparisons = (compare-layers)
 
 pub ruleset takes = (rolls-Null, rolls-Bool, rolls-Int, rolls-Big, rolls-Str, rolls-Day, rolls-Array)
+
+pub converted-layer : (x : Value-F Value) (to : SqlType) → converted (roll-Value x) to ≡ from_layer x to
+unfolding converted
+converted-layer x to = λ i. from_layer (out-roll-Value x i) to
+
+pub ruleset casts = (converted-layer)

@@ -5,11 +5,10 @@ ghost use Rattle.hv_typed.specs.Functions.{instr, size_of, part_of};
 ghost use Rattle.hv_text.specs.Characters.{character_count, lowered, raised, trimmed, substring, substring_from};
 ghost use Rattle.hv_text.specs.Patterns.{is_like};
 ghost use Rattle.hv_value.specs.Conversion.{converted};
-ghost use Rattle.hv_eval.specs.Makes.{made_value};
-ghost use Rattle.hv_eval.specs.Seen.{seen_value};
+ghost use Rattle.hv_seen.specs.Makes.{made_value};
+ghost use Rattle.hv_seen.specs.Seen.{seen_value};
 
-use crate::held::owned;
-use crate::seen::{Seen, null, number, of_int, text};
+use crate::seen::{Seen, null, number, of_int, owned, text};
 use hv_base::{NoMemory, Text};
 use hv_text::{find, length, like, lower, substring, substring_from, trim, upper};
 use hv_value::{SqlType, Value, convert};
@@ -17,22 +16,23 @@ use std::alloc::Global;
 
 /// A function of one operand that may make a text or an array.
 #[derive(Clone, Copy)]
-pub(crate) enum Maker {
+pub enum Maker {
     Cast,
     Lower,
     Upper,
     Trim,
 }
 
-// The low 32 bits.
-pub(crate) fn low_int(number: usize) -> i32
+/// The low 32 bits.
+pub fn low_int(number: usize) -> i32
     ensures { result ≡ int_wrap w32 (pos number) }
 {
     let low = (number % 0x1_0000_0000) as u32;
     low.cast_signed()
 }
 
-pub(crate) fn length_of<'a>(value: &Seen) -> Seen<'a>
+/// How many characters the text has, the low 32 bits of their number; NULL where no text is seen.
+pub fn length_of<'a>(value: &Seen) -> Seen<'a>
     ensures { seen_value result ≡ int_value (option_map (λ text. pos (character_count text)) (text_of (seen_value value.now))) }
 {
     match text(value) {
@@ -50,7 +50,8 @@ fn place_in(text: &str, part: &str) -> i32
     }
 }
 
-pub(crate) fn place_of<'a>(value: &Seen, part: &Seen) -> Seen<'a>
+/// The place of the first part in the text, from 1, or 0; NULL where one of them is no text.
+pub fn place_of<'a>(value: &Seen, part: &Seen) -> Seen<'a>
     ensures { seen_value result ≡ int_value (both_of instr (text_of (seen_value value.now)) (text_of (seen_value part.now))) }
 {
     match (text(value), text(part)) {
@@ -59,7 +60,8 @@ pub(crate) fn place_of<'a>(value: &Seen, part: &Seen) -> Seen<'a>
     }
 }
 
-pub(crate) fn is_like(value: &Seen, pattern: &Seen) -> Option<bool>
+/// Whether the text is like the pattern, None where one of them is no text.
+pub fn is_like(value: &Seen, pattern: &Seen) -> Option<bool>
     ensures { result ≡ both_of is_like (text_of (seen_value value.now)) (text_of (seen_value pattern.now)) }
 {
     match (text(value), text(pattern)) {
@@ -68,7 +70,7 @@ pub(crate) fn is_like(value: &Seen, pattern: &Seen) -> Option<bool>
     }
 }
 
-pub(crate) fn lower_of(alloc: Global, value: &Seen) -> Result<Value, NoMemory>
+fn lower_of(alloc: Global, value: &Seen) -> Result<Value, NoMemory>
     ensures { IfOk result (λ made. made ≡ text_value (option_map lowered (text_of (seen_value value.now)))) }
 {
     match text(value) {
@@ -77,7 +79,7 @@ pub(crate) fn lower_of(alloc: Global, value: &Seen) -> Result<Value, NoMemory>
     }
 }
 
-pub(crate) fn upper_of(alloc: Global, value: &Seen) -> Result<Value, NoMemory>
+fn upper_of(alloc: Global, value: &Seen) -> Result<Value, NoMemory>
     ensures { IfOk result (λ made. made ≡ text_value (option_map raised (text_of (seen_value value.now)))) }
 {
     match text(value) {
@@ -86,7 +88,7 @@ pub(crate) fn upper_of(alloc: Global, value: &Seen) -> Result<Value, NoMemory>
     }
 }
 
-pub(crate) fn trimmed_of(alloc: Global, value: &Seen) -> Result<Value, NoMemory>
+fn trimmed_of(alloc: Global, value: &Seen) -> Result<Value, NoMemory>
     ensures { IfOk result (λ made. made ≡ text_value (option_map trimmed (text_of (seen_value value.now)))) }
 {
     match text(value) {
@@ -95,7 +97,8 @@ pub(crate) fn trimmed_of(alloc: Global, value: &Seen) -> Result<Value, NoMemory>
     }
 }
 
-pub(crate) fn rest_from(alloc: Global, value: &Seen, place: &Seen) -> Result<Value, NoMemory>
+/// The characters from a place on; NULL where the text or the place is none.
+pub fn rest_from(alloc: Global, value: &Seen, place: &Seen) -> Result<Value, NoMemory>
     ensures { IfOk result (λ made. made ≡ text_value (both_of substring_from (text_of (seen_value value.now)) (number_of (seen_value place.now)))) }
 {
     match (text(value), number(place)) {
@@ -106,12 +109,8 @@ pub(crate) fn rest_from(alloc: Global, value: &Seen, place: &Seen) -> Result<Val
     }
 }
 
-pub(crate) fn part_from(
-    alloc: Global,
-    value: &Seen,
-    place: &Seen,
-    count: &Seen,
-) -> Result<Value, NoMemory>
+/// At most so many characters from a place on; NULL where the text, the place or the count is none.
+pub fn part_from(alloc: Global, value: &Seen, place: &Seen, count: &Seen) -> Result<Value, NoMemory>
     ensures { IfOk result (λ made. made ≡ text_value (part_of (text_of (seen_value value.now)) (number_of (seen_value place.now)) (number_of (seen_value count.now)))) }
 {
     match (text(value), number(place), number(count)) {
@@ -129,12 +128,8 @@ fn cast(alloc: Global, kind: &SqlType, value: &Seen) -> Result<Value, NoMemory>
     convert(alloc, &value, kind)
 }
 
-pub(crate) fn make(
-    alloc: Global,
-    maker: Maker,
-    kind: &SqlType,
-    value: &Seen,
-) -> Result<Value, NoMemory>
+/// What the function makes of the value.
+pub fn make(alloc: Global, maker: Maker, kind: &SqlType, value: &Seen) -> Result<Value, NoMemory>
     ensures { IfOk result (λ made. made ≡ made_value maker kind.now (seen_value value.now)) }
 {
     match maker {

@@ -5,8 +5,8 @@ use Rattle.hv_value.specs.declared.value.Value.{Value}
 use Rattle.hv_value.specs.Conversion.{converted}
 use Rattle.hv_text.specs.Characters.{lowered, raised, trimmed}
 use Rattle.hv_typed.specs.Values.{text_of, text_value}
-use Rattle.hv_eval.specs.declared.texts.Maker.{Maker}
-use Rattle.hv_eval.specs.declared.texts.Maker.TheVariants as maker
+use Rattle.hv_seen.specs.declared.texts.Maker.{Maker}
+use Rattle.hv_seen.specs.declared.texts.Maker.TheVariants as maker
 
 abbrev pub made_value : Maker → SqlType → Value → Value
 made_value maker.Cast kind v = converted v kind

@@ -2,7 +2,7 @@ ghost use Rattle.std.specs.Prelude.{◌≡◌, option_map};
 ghost use Rattle.std.specs.Ordering.{int_cmp};
 ghost use Rattle.hv_value.specs.Dates.{day_of_text};
 ghost use Rattle.hv_typed.specs.Values.{compare, equal, null_safe_equal, layer_is_nothing};
-ghost use Rattle.hv_eval.specs.Seen.{seen_layer, seen_value};
+ghost use Rattle.hv_seen.specs.Seen.{seen_layer, seen_value};
 
 use crate::seen::Seen;
 use hv_base::Text;
@@ -24,8 +24,10 @@ fn compare_day_to(day: &i32, text: &Text) -> Option<Ordering>
     Some(day.cmp(&read))
 }
 
+/// How the values compare: numbers by number alone, a STRING beside a DATE as a date. None where a side is
+/// NULL, an array, or of another kind.
 #[tactic(auto, using(crate::proofs::Layers::comparisons))]
-pub(crate) fn compare(left: &Seen, right: &Seen) -> Option<Ordering>
+pub fn compare(left: &Seen, right: &Seen) -> Option<Ordering>
     ensures { result ≡ compare (seen_value left.now) (seen_value right.now) }
 {
     match (left, right) {
@@ -42,7 +44,8 @@ pub(crate) fn compare(left: &Seen, right: &Seen) -> Option<Ordering>
     }
 }
 
-pub(crate) fn equal(left: &Seen, right: &Seen) -> Option<bool>
+/// Whether the values are equal, None where they do not compare.
+pub fn equal(left: &Seen, right: &Seen) -> Option<bool>
     ensures { result ≡ equal (seen_value left.now) (seen_value right.now) }
 {
     compare(left, right).map(|order| order.is_eq())
@@ -55,8 +58,9 @@ fn is_nothing(value: &Seen) -> bool
     matches!(value, Seen::Null | Seen::Array(_))
 }
 
+/// `<=>`: two NULLs are equal, and NULL equals nothing else.
 #[tactic(auto, using(crate::proofs::Layers::layers))]
-pub(crate) fn null_safe_equal(left: &Seen, right: &Seen) -> bool
+pub fn null_safe_equal(left: &Seen, right: &Seen) -> bool
     ensures { result ≡ null_safe_equal (seen_value left.now) (seen_value right.now) }
 {
     if is_nothing(left) {

@@ -3,7 +3,7 @@ ghost use Rattle.std.specs.Ordering.{int_eq};
 ghost use Rattle.std.specs.Int.{int_wrap, w32, w64};
 ghost use Rattle.hv_typed.specs.Values.{by, by_one};
 ghost use Rattle.hv_typed.specs.Functions.{calculated, pmod, arithmetic_value, unless_zero};
-ghost use Rattle.hv_eval.specs.Seen.{seen_value};
+ghost use Rattle.hv_seen.specs.Seen.{seen_value};
 
 use crate::seen::{Seen, null, of_big, of_int};
 use hv_typed::Arithmetic;
@@ -220,8 +220,9 @@ fn same_big(number: &i64) -> i64
     *number
 }
 
+/// What an operator gives of two integers: an INT of two INTs, else a BIGINT, wrapped.
 #[tactic(auto, using(crate::proofs::Layers::sums))]
-pub(crate) fn arithmetic<'a>(operator: Arithmetic, left: &Seen, right: &Seen) -> Seen<'a>
+pub fn arithmetic<'a>(operator: Arithmetic, left: &Seen, right: &Seen) -> Seen<'a>
     ensures { seen_value result ≡ arithmetic_value operator (seen_value left.now) (seen_value right.now) }
 {
     match (left, right) {
@@ -233,8 +234,9 @@ pub(crate) fn arithmetic<'a>(operator: Arithmetic, left: &Seen, right: &Seen) ->
     }
 }
 
+/// `pmod`, in the width of the two integers.
 #[tactic(auto, using(crate::proofs::Layers::sums))]
-pub(crate) fn positive_remainder<'a>(left: &Seen, right: &Seen) -> Seen<'a>
+pub fn positive_remainder<'a>(left: &Seen, right: &Seen) -> Seen<'a>
     ensures { seen_value result ≡ by pmod (seen_value left.now) (seen_value right.now) }
 {
     match (left, right) {
@@ -257,22 +259,25 @@ macro_rules! width {
     };
 }
 
+/// `+e`
 #[tactic(auto, using(crate::proofs::Layers::sums))]
-pub(crate) fn plus<'a>(number: &Seen) -> Seen<'a>
+pub fn plus<'a>(number: &Seen) -> Seen<'a>
     ensures { seen_value result ≡ by_one (λ a. a) (seen_value number.now) }
 {
     width!(number, same_int, same_big)
 }
 
+/// `-e`, which wraps at the least.
 #[tactic(auto, using(crate::proofs::Layers::sums))]
-pub(crate) fn minus<'a>(number: &Seen) -> Seen<'a>
+pub fn minus<'a>(number: &Seen) -> Seen<'a>
     ensures { seen_value result ≡ by_one neg_ℤ (seen_value number.now) }
 {
     width!(number, negated_int, negated_big)
 }
 
+/// `abs`, which wraps at the least.
 #[tactic(auto, using(crate::proofs::Layers::sums))]
-pub(crate) fn absolute<'a>(number: &Seen) -> Seen<'a>
+pub fn absolute<'a>(number: &Seen) -> Seen<'a>
     ensures { seen_value result ≡ by_one (λ a. pos (unsigned_abs a)) (seen_value number.now) }
 {
     width!(number, absolute_int, absolute_big)
