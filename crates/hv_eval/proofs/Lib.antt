@@ -1,3 +1,5 @@
-pub mod Groups
 pub mod JoinedTexts
 pub mod Nodes
+pub mod Accumulators
+pub mod Once
+pub mod Parts

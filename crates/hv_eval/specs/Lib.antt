@@ -1,2 +1,4 @@
 pub mod Held
+pub mod Frames
 pub mod Walks
+pub mod Accumulating

@@ -5,16 +5,18 @@ use Rattle.hv_typed.specs.declared.tree.Branch.{Branch}
 use Rattle.hv_typed.specs.declared.tree.Link.{Link}
 use Rattle.hv_typed.specs.declared.tree.TypedExpr.{TypedExpr}
 use Rattle.hv_typed.specs.Values.{or_null}
-use Rattle.hv_typed.specs.Evaluation.{value_of, chained, chosen, or_else}
+use Rattle.hv_typed.specs.Evaluation.{chained, chosen, or_else}
+use Rattle.hv_eval.specs.declared.frame.Scope.{Scope}
+use Rattle.hv_eval.specs.Frames.{value_at}
 
-unfoldable pub chain_value : List (Link TypedExpr) → List Value → Value → Value
-chain_value links row first = chained (λ x. value_of x row) first links
+unfoldable pub chain_value : List (Link TypedExpr) → Scope → Value → Value
+chain_value links at first = chained (value_at at) first links
 
-unfoldable pub chosen_value : List (Branch TypedExpr) → List Value → Option Value → Option Value
-chosen_value branches row operand = chosen (λ x. value_of x row) operand branches
+unfoldable pub chosen_value : List (Branch TypedExpr) → Scope → Option Value → Option Value
+chosen_value branches at operand = chosen (value_at at) operand branches
 
-unfoldable pub optional_value : Option TypedExpr → List Value → Option Value
-optional_value expr row = option_map (λ x. value_of x row) expr
+unfoldable pub optional_value : Option TypedExpr → Scope → Option Value
+optional_value expr at = option_map (value_at at) expr
 
 -- the value of the branch that was met, or else the other value, or NULL
 unfoldable pub settled_value : Option Value → Option Value → Value

@@ -1,22 +1,25 @@
-ghost use Rattle.std.specs.Prelude.{◌≡◌, IfSome, [], not, if◌then◌else◌, pos, slice_get, option_map};
-ghost use Rattle.hv_value.specs.declared.value.Value.TheVariants as value;
-ghost use Rattle.hv_typed.specs.Groups.{aggregate_value};
+ghost use Rattle.std.specs.Prelude.{◌≡◌, IfSome, not, if◌then◌else◌, slice_get, option_map, map};
+ghost use Rattle.hv_typed.specs.Groups.{aggregate_value, row_count};
 ghost use Rattle.hv_typed.specs.Values.{taken_or_null, truth_value};
 ghost use Rattle.hv_typed.specs.Functions.{all_of, any_of, equals_any, first_known, many_value};
-ghost use Rattle.hv_typed.specs.Evaluation.{value_of, values_of, is_met};
+ghost use Rattle.hv_typed.specs.Evaluation.{value_of, value_in, is_met};
+ghost use Rattle.hv_eval.specs.Frames.{value_at, values_at, row_of, group_of};
 ghost use Rattle.hv_eval.specs.Walks.{chain_value, chosen_value, optional_value, settled_value};
 ghost use Rattle.hv_seen.specs.Seen.{seen_value};
 
+use crate::accumulate::{start, step};
+use crate::frame::{Frame, Scope};
 use crate::table::{both, either, one, three, two};
 use hv_base::Boxed;
 use hv_seen::{Seen, arithmetic, equal, is_null, null, of_big, of_truth, taken, truth};
 use hv_typed::{Aggregate, Branch, Link, Many, TypedExpr};
 use hv_value::{SqlType, Value};
 
-pub(crate) fn column<'a>(row: &'a [Value], place: u32, kind: &SqlType) -> Seen<'a>
-    ensures { seen_value result ≡ taken_or_null kind.now (slice_get row.now place) }
+#[tactic(auto, unfolding(crate::specs::Frames::row_of))]
+pub(crate) fn column<'a>(at: &Scope<'a>, place: u32, kind: &SqlType) -> Seen<'a>
+    ensures { seen_value result ≡ taken_or_null kind.now (slice_get (row_of at.now) place) }
 {
-    match row.get(place as usize) {
+    match at.row.get(place as usize) {
         Some(value) => taken(kind, value),
         None => null(),
     }
@@ -57,62 +60,61 @@ pub(crate) fn in_value<'a>(negated: bool, found: Option<bool>) -> Seen<'a>
     }
 }
 
-// The number of no rows.
-#[tactic(auto, using(crate::proofs::Groups::nothing))]
-pub(crate) fn no_rows<'a>() -> Seen<'a>
-    ensures { seen_value result ≡ value.Big (pos 0) }
+// The number of the group's rows.
+#[tactic(auto, unfolding(crate::specs::Frames::group_of))]
+pub(crate) fn count_rows<'a>(at: &Scope) -> Seen<'a>
+    ensures { seen_value result ≡ row_count (group_of at.now) }
 {
-    of_big(Some(0))
-}
-
-#[tactic(auto, using(crate::proofs::Groups::nothing))]
-pub(crate) fn over_nothing<'a>(function: Aggregate, distinct: bool) -> Seen<'a>
-    ensures { seen_value result ≡ aggregate_value function distinct [] }
-{
-    match function {
-        Aggregate::Count => no_rows(),
-        Aggregate::Sum | Aggregate::Min | Aggregate::Max => null(),
-    }
+    of_big(Some(at.group.len() as i64))
 }
 
 /// The value of the expression on the row, without memory: None where a text or an array might have
 /// to be made. What stands in the row or in the expression is lent. An aggregate is over no rows.
-#[cycle(walk)]
-#[tactic(auto, using(crate::proofs::Nodes::nodes), unfolding(hv_typed::specs::Functions::in_value))]
+#[tactic(auto, unfolding(hv_typed::specs::Evaluation::value_of))]
 pub fn value_without_memory<'a>(expr: &'a TypedExpr, row: &'a [Value]) -> Option<Seen<'a>>
     ensures { IfSome result (λ seen. seen_value seen ≡ value_of expr.now row.now) }
 {
+    seen_at(expr, &Scope::alone(Frame::of(row)))
+}
+
+/// The value of the expression there, without memory: None where a text or an array might have to be
+/// made, and of an aggregate with DISTINCT. What stands in the rows or in the expression is lent.
+#[cycle(walk)]
+#[tactic(auto, using(crate::proofs::Nodes::nodes), unfolding(hv_typed::specs::Functions::in_value))]
+pub fn seen_at<'a>(expr: &'a TypedExpr, at: &Scope<'a>) -> Option<Seen<'a>>
+    ensures { IfSome result (λ seen. seen_value seen ≡ value_at at.now expr.now) }
+{
     match expr {
-        TypedExpr::Column(place, kind) => Some(column(row, *place, kind)),
+        TypedExpr::Column(place, kind) => Some(column(at, *place, kind)),
         TypedExpr::Literal(value, kind) => Some(taken(kind, value)),
         TypedExpr::One(function, kind, argument) => {
-            let argument = value_without_memory(argument.get(), row)?;
+            let argument = seen_at(argument.get(), at)?;
             one(*function, kind, &argument).ok()
         }
         TypedExpr::Two(function, kind, left, right) => {
-            let left = value_without_memory(left.get(), row)?;
-            let right = value_without_memory(right.get(), row)?;
+            let left = seen_at(left.get(), at)?;
+            let right = seen_at(right.get(), at)?;
             two(*function, kind, &left, &right)
         }
         TypedExpr::Three(function, _, first, second, third) => {
-            let first = value_without_memory(first.get(), row)?;
-            let second = value_without_memory(second.get(), row)?;
-            let third = value_without_memory(third.get(), row)?;
+            let first = seen_at(first.get(), at)?;
+            let second = seen_at(second.get(), at)?;
+            let third = seen_at(third.get(), at)?;
             three(*function, &first, &second, &third)
         }
-        TypedExpr::Many(function, _, arguments) => many(*function, arguments.as_slice(), row),
+        TypedExpr::Many(function, _, arguments) => many(*function, arguments.as_slice(), at),
         TypedExpr::In {
             value,
             negated,
             among,
         } => {
-            let value = value_without_memory(value.get(), row)?;
-            let found = equals_any(among.as_slice(), &value, row)?;
+            let value = seen_at(value.get(), at)?;
+            let found = equals_any(among.as_slice(), &value, at)?;
             Some(in_value(*negated, found))
         }
         TypedExpr::Chain(_, first, links) => {
-            let first = value_without_memory(first.get(), row)?;
-            chain(links.as_slice(), &first, row)
+            let first = seen_at(first.get(), at)?;
+            chain(links.as_slice(), &first, at)
         }
         TypedExpr::Case {
             operand,
@@ -120,28 +122,51 @@ pub fn value_without_memory<'a>(expr: &'a TypedExpr, row: &'a [Value]) -> Option
             otherwise,
             ..
         } => {
-            let operand = optional(operand, row)?;
-            let found = chosen(branches.as_slice(), &operand, row)?;
-            let otherwise = optional(otherwise, row)?;
+            let operand = optional(operand, at)?;
+            let found = chosen(branches.as_slice(), &operand, at)?;
+            let otherwise = optional(otherwise, at)?;
             Some(settled(&found, &otherwise))
         }
-        TypedExpr::CountRows => Some(no_rows()),
+        TypedExpr::CountRows => Some(count_rows(at)),
         TypedExpr::Aggregate {
             function,
             distinct,
+            argument,
             ..
-        } => Some(over_nothing(*function, *distinct)),
+        } => over_group(*function, *distinct, argument.get(), at),
     }
+}
+
+// Over the group's rows. Whoever keeps each value once takes memory.
+#[cycle(walk)]
+#[tactic(auto, unfolding(hv_typed::specs::Groups::aggregate_value))]
+fn over_group<'a>(
+    function: Aggregate,
+    distinct: bool,
+    argument: &'a TypedExpr,
+    at: &Scope<'a>,
+) -> Option<Seen<'a>>
+    ensures { IfSome result (λ seen. seen_value seen ≡ aggregate_value function distinct (map (value_in argument.now (group_of at.now)) (group_of at.now))) }
+{
+    if distinct {
+        return None;
+    }
+    let mut kept = start(function);
+    for row in at.group {
+        let value = seen_at(argument, &at.on(*row))?;
+        kept = step(function, &kept, &value);
+    }
+    Some(kept)
 }
 
 #[cycle(walk)]
 #[tactic(auto, unfolding(crate::specs::Walks::optional_value))]
-fn optional<'a>(expr: &'a Option<Boxed<TypedExpr>>, row: &'a [Value]) -> Option<Option<Seen<'a>>>
-    ensures { IfSome result (λ found. option_map seen_value found ≡ optional_value expr.now row.now) }
+fn optional<'a>(expr: &'a Option<Boxed<TypedExpr>>, at: &Scope<'a>) -> Option<Option<Seen<'a>>>
+    ensures { IfSome result (λ found. option_map seen_value found ≡ optional_value expr.now at.now) }
 {
     match expr {
         Some(expr) => {
-            let value = value_without_memory(expr.get(), row)?;
+            let value = seen_at(expr.get(), at)?;
             Some(Some(value))
         }
         None => Some(None),
@@ -150,24 +175,24 @@ fn optional<'a>(expr: &'a Option<Boxed<TypedExpr>>, row: &'a [Value]) -> Option<
 
 #[cycle(walk)]
 #[tactic(auto, unfolding(hv_typed::specs::Functions::many_value))]
-fn many<'a>(function: Many, arguments: &'a [TypedExpr], row: &'a [Value]) -> Option<Seen<'a>>
-    ensures { IfSome result (λ seen. seen_value seen ≡ many_value function (values_of arguments.now row.now)) }
+fn many<'a>(function: Many, arguments: &'a [TypedExpr], at: &Scope<'a>) -> Option<Seen<'a>>
+    ensures { IfSome result (λ seen. seen_value seen ≡ many_value function (values_at arguments.now at.now)) }
 {
     match function {
-        Many::And => Some(of_truth(all(arguments, row)?)),
-        Many::Or => Some(of_truth(any(arguments, row)?)),
-        Many::Coalesce => first_known(arguments, row),
+        Many::And => Some(of_truth(all(arguments, at)?)),
+        Many::Or => Some(of_truth(any(arguments, at)?)),
+        Many::Coalesce => first_known(arguments, at),
         Many::Concat | Many::Array => None,
     }
 }
 
 #[cycle(walk)]
-fn all(exprs: &[TypedExpr], row: &[Value]) -> Option<Option<bool>>
-    ensures { IfSome result (λ truth. truth ≡ all_of (values_of exprs.now row.now)) }
+fn all<'a>(exprs: &'a [TypedExpr], at: &Scope<'a>) -> Option<Option<bool>>
+    ensures { IfSome result (λ truth. truth ≡ all_of (values_at exprs.now at.now)) }
 {
     let mut seen = Some(true);
     for expr in exprs {
-        seen = both(seen, truth(&value_without_memory(expr, row)?));
+        seen = both(seen, truth(&seen_at(expr, at)?));
         if seen == Some(false) {
             return Some(seen);
         }
@@ -176,12 +201,12 @@ fn all(exprs: &[TypedExpr], row: &[Value]) -> Option<Option<bool>>
 }
 
 #[cycle(walk)]
-fn any(exprs: &[TypedExpr], row: &[Value]) -> Option<Option<bool>>
-    ensures { IfSome result (λ truth. truth ≡ any_of (values_of exprs.now row.now)) }
+fn any<'a>(exprs: &'a [TypedExpr], at: &Scope<'a>) -> Option<Option<bool>>
+    ensures { IfSome result (λ truth. truth ≡ any_of (values_at exprs.now at.now)) }
 {
     let mut seen = Some(false);
     for expr in exprs {
-        seen = either(seen, truth(&value_without_memory(expr, row)?));
+        seen = either(seen, truth(&seen_at(expr, at)?));
         if seen == Some(true) {
             return Some(seen);
         }
@@ -190,12 +215,12 @@ fn any(exprs: &[TypedExpr], row: &[Value]) -> Option<Option<bool>>
 }
 
 #[cycle(walk)]
-fn equals_any(exprs: &[TypedExpr], value: &Seen, row: &[Value]) -> Option<Option<bool>>
-    ensures { IfSome result (λ truth. truth ≡ equals_any (seen_value value.now) (values_of exprs.now row.now)) }
+fn equals_any<'a>(exprs: &'a [TypedExpr], value: &Seen<'a>, at: &Scope<'a>) -> Option<Option<bool>>
+    ensures { IfSome result (λ truth. truth ≡ equals_any (seen_value value.now) (values_at exprs.now at.now)) }
 {
     let mut found = Some(false);
     for expr in exprs {
-        found = either(found, equal(value, &value_without_memory(expr, row)?));
+        found = either(found, equal(value, &seen_at(expr, at)?));
         if found == Some(true) {
             return Some(found);
         }
@@ -204,11 +229,11 @@ fn equals_any(exprs: &[TypedExpr], value: &Seen, row: &[Value]) -> Option<Option
 }
 
 #[cycle(walk)]
-fn first_known<'a>(exprs: &'a [TypedExpr], row: &'a [Value]) -> Option<Seen<'a>>
-    ensures { IfSome result (λ seen. seen_value seen ≡ first_known (values_of exprs.now row.now)) }
+fn first_known<'a>(exprs: &'a [TypedExpr], at: &Scope<'a>) -> Option<Seen<'a>>
+    ensures { IfSome result (λ seen. seen_value seen ≡ first_known (values_at exprs.now at.now)) }
 {
     for expr in exprs {
-        let value = value_without_memory(expr, row)?;
+        let value = seen_at(expr, at)?;
         if !is_null(&value) {
             return Some(value);
         }
@@ -218,12 +243,12 @@ fn first_known<'a>(exprs: &'a [TypedExpr], row: &'a [Value]) -> Option<Seen<'a>>
 
 #[cycle(walk)]
 #[tactic(auto, unfolding(crate::specs::Walks::chain_value))]
-fn chain<'a>(links: &'a [Link], first: &Seen<'a>, row: &'a [Value]) -> Option<Seen<'a>>
-    ensures { IfSome result (λ seen. seen_value seen ≡ chain_value links.now row.now (seen_value first.now)) }
+fn chain<'a>(links: &'a [Link], first: &Seen<'a>, at: &Scope<'a>) -> Option<Seen<'a>>
+    ensures { IfSome result (λ seen. seen_value seen ≡ chain_value links.now at.now (seen_value first.now)) }
 {
     let mut value = *first;
     for link in links {
-        let operand = value_without_memory(&link.operand, row)?;
+        let operand = seen_at(&link.operand, at)?;
         value = arithmetic(link.operator, &value, &operand);
     }
     Some(value)
@@ -234,14 +259,14 @@ fn chain<'a>(links: &'a [Link], first: &Seen<'a>, row: &'a [Value]) -> Option<Se
 fn chosen<'a>(
     branches: &'a [Branch],
     operand: &Option<Seen<'a>>,
-    row: &'a [Value],
+    at: &Scope<'a>,
 ) -> Option<Option<Seen<'a>>>
-    ensures { IfSome result (λ found. option_map seen_value found ≡ chosen_value branches.now row.now (option_map seen_value operand.now)) }
+    ensures { IfSome result (λ found. option_map seen_value found ≡ chosen_value branches.now at.now (option_map seen_value operand.now)) }
 {
     for branch in branches {
-        let condition = value_without_memory(&branch.condition, row)?;
+        let condition = seen_at(&branch.condition, at)?;
         if is_met(operand, &condition) {
-            let value = value_without_memory(&branch.value, row)?;
+            let value = seen_at(&branch.value, at)?;
             return Some(Some(value));
         }
     }

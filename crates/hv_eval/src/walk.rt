@@ -1,13 +1,17 @@
-ghost use Rattle.std.specs.Prelude.{◌≡◌, IfOk, option_map};
-ghost use Rattle.hv_typed.specs.Values.{text_value};
+ghost use Rattle.std.specs.Prelude.{◌≡◌, IfOk, option_map, map};
+ghost use Rattle.hv_typed.specs.Values.{text_value, truth_of, holds};
 ghost use Rattle.hv_typed.specs.Functions.{all_of, any_of, equals_any, first_known, joined, many_value, one_value, two_value, three_value};
-ghost use Rattle.hv_typed.specs.Evaluation.{value_of, values_of, is_met};
+ghost use Rattle.hv_typed.specs.Evaluation.{value_of, value_in, is_met};
+ghost use Rattle.hv_typed.specs.Groups.{aggregate_value};
+ghost use Rattle.hv_eval.specs.Frames.{value_at, values_at, row_of, group_of};
 ghost use Rattle.hv_eval.specs.Walks.{chain_value, chosen_value, optional_value, settled_value};
 ghost use Rattle.hv_seen.specs.Seen.{seen_value};
 ghost use Rattle.hv_eval.specs.Held.{held_value};
 
+use crate::accumulate::over_all;
+use crate::frame::{Frame, Scope};
 use crate::held::Held;
-use crate::look::{column, in_value, is_met, no_rows, over_nothing, value_without_memory};
+use crate::look::{column, count_rows, in_value, is_met, seen_at};
 use crate::table::{both, either, one, three, two};
 use hv_base::{Boxed, List, NoMemory, Text};
 use hv_seen::{
@@ -132,54 +136,76 @@ fn text_value(text: Option<Text>) -> Value
 
 /// The value of the expression on the row; an aggregate is over no rows. What takes no memory is
 /// done without, and so is the whole where that does.
-pub fn eval(alloc: Global, expr: &TypedExpr, row: &Row) -> Result<Value, NoMemory>
+#[tactic(auto, unfolding(hv_typed::specs::Evaluation::value_of))]
+pub fn eval<'a>(alloc: Global, expr: &'a TypedExpr, row: &'a Row) -> Result<Value, NoMemory>
     ensures { IfOk result (λ value. value ≡ value_of expr.now row.now.values) }
 {
-    let values = row.values.as_slice();
-    match value_without_memory(expr, values) {
+    eval_at(alloc, expr, &Scope::alone(Frame::of(row.values.as_slice())))
+}
+
+/// The value of the expression there. What takes no memory is done without, and so is the whole where
+/// that does.
+pub fn eval_at<'a>(alloc: Global, expr: &'a TypedExpr, at: &Scope<'a>) -> Result<Value, NoMemory>
+    ensures { IfOk result (λ value. value ≡ value_at at.now expr.now) }
+{
+    match seen_at(expr, at) {
         Some(seen) => owned(alloc, &seen),
-        None => held(alloc, expr, values)?.into_value(alloc),
+        None => held(alloc, expr, at)?.into_value(alloc),
+    }
+}
+
+/// Whether the condition is true there, and neither false nor NULL.
+pub fn is_true_at<'a>(
+    alloc: Global,
+    condition: &'a TypedExpr,
+    at: &Scope<'a>,
+) -> Result<bool, NoMemory>
+    ensures { IfOk result (λ holds_there. holds_there ≡ holds (truth_of (value_at at.now condition.now))) }
+{
+    match seen_at(condition, at) {
+        Some(seen) => Ok(truth(&seen) == Some(true)),
+        None => Ok(truth(&held(alloc, condition, at)?.seen()) == Some(true)),
     }
 }
 
 #[cycle(memory)]
 #[tactic(auto, using(crate::proofs::Nodes::nodes), unfolding(hv_typed::specs::Functions::in_value))]
-fn held<'a>(alloc: Global, expr: &'a TypedExpr, row: &'a [Value]) -> Result<Held<'a>, NoMemory>
-    ensures { IfOk result (λ value. held_value value ≡ value_of expr.now row.now) }
+fn held<'a>(alloc: Global, expr: &'a TypedExpr, at: &Scope<'a>) -> Result<Held<'a>, NoMemory>
+    ensures { IfOk result (λ value. held_value value ≡ value_at at.now expr.now) }
 {
     match expr {
-        TypedExpr::Column(place, kind) => Ok(Held::Seen(column(row, *place, kind))),
+        TypedExpr::Column(place, kind) => Ok(Held::Seen(column(at, *place, kind))),
         TypedExpr::Literal(value, kind) => Ok(Held::Seen(taken(kind, value))),
         TypedExpr::One(function, kind, argument) => {
-            let argument = held(alloc, argument.get(), row)?;
+            let argument = held(alloc, argument.get(), at)?;
             one_held(alloc, *function, kind, &argument)
         }
         TypedExpr::Two(function, kind, left, right) => {
-            let left = held(alloc, left.get(), row)?;
-            let right = held(alloc, right.get(), row)?;
+            let left = held(alloc, left.get(), at)?;
+            let right = held(alloc, right.get(), at)?;
             two_held(alloc, *function, kind, &left, &right)
         }
         TypedExpr::Three(function, _, first, second, third) => {
-            let first = held(alloc, first.get(), row)?;
-            let second = held(alloc, second.get(), row)?;
-            let third = held(alloc, third.get(), row)?;
+            let first = held(alloc, first.get(), at)?;
+            let second = held(alloc, second.get(), at)?;
+            let third = held(alloc, third.get(), at)?;
             three_held(alloc, *function, &first, &second, &third)
         }
         TypedExpr::Many(function, _, arguments) => {
-            many(alloc, *function, arguments.as_slice(), row)
+            many(alloc, *function, arguments.as_slice(), at)
         }
         TypedExpr::In {
             value,
             negated,
             among,
         } => {
-            let value = held(alloc, value.get(), row)?;
-            let found = equals_any(alloc, among.as_slice(), &value, row)?;
+            let value = held(alloc, value.get(), at)?;
+            let found = equals_any(alloc, among.as_slice(), &value, at)?;
             Ok(Held::Seen(in_value(*negated, found)))
         }
         TypedExpr::Chain(_, first, links) => {
-            let first = held(alloc, first.get(), row)?;
-            chain(alloc, links.as_slice(), first, row)
+            let first = held(alloc, first.get(), at)?;
+            chain(alloc, links.as_slice(), first, at)
         }
         TypedExpr::Case {
             operand,
@@ -187,18 +213,38 @@ fn held<'a>(alloc: Global, expr: &'a TypedExpr, row: &'a [Value]) -> Result<Held
             otherwise,
             ..
         } => {
-            let operand = optional(alloc, operand, row)?;
-            let found = chosen(alloc, branches.as_slice(), &operand, row)?;
-            let otherwise = optional(alloc, otherwise, row)?;
+            let operand = optional(alloc, operand, at)?;
+            let found = chosen(alloc, branches.as_slice(), &operand, at)?;
+            let otherwise = optional(alloc, otherwise, at)?;
             Ok(settled(found, otherwise))
         }
-        TypedExpr::CountRows => Ok(Held::Seen(no_rows())),
+        TypedExpr::CountRows => Ok(Held::Seen(count_rows(at))),
         TypedExpr::Aggregate {
             function,
             distinct,
+            argument,
             ..
-        } => Ok(Held::Seen(over_nothing(*function, *distinct))),
+        } => {
+            let values = values_over(alloc, argument.get(), at)?;
+            Ok(Held::Made(over_all(alloc, *function, *distinct, values)?))
+        }
     }
+}
+
+// What the argument comes to on each row of the group.
+#[cycle(memory)]
+fn values_over<'a>(
+    alloc: Global,
+    argument: &'a TypedExpr,
+    at: &Scope<'a>,
+) -> Result<Vec<Value>, NoMemory>
+    ensures { IfOk result (λ values. values.items ≡ map (value_in argument.now (group_of at.now)) (group_of at.now)) }
+{
+    let mut values = Vec::with_capacity(alloc, at.group.len())?;
+    for row in at.group {
+        values.push(held(alloc, argument, &at.on(*row))?.into_value(alloc)?)?;
+    }
+    Ok(values)
 }
 
 #[cycle(memory)]
@@ -206,13 +252,13 @@ fn held<'a>(alloc: Global, expr: &'a TypedExpr, row: &'a [Value]) -> Result<Held
 fn optional<'a>(
     alloc: Global,
     expr: &'a Option<Boxed<TypedExpr>>,
-    row: &'a [Value],
+    at: &Scope<'a>,
 ) -> Result<Option<Held<'a>>, NoMemory>
-    ensures { IfOk result (λ found. option_map held_value found ≡ optional_value expr.now row.now) }
+    ensures { IfOk result (λ found. option_map held_value found ≡ optional_value expr.now at.now) }
 {
     match expr {
         Some(expr) => {
-            let value = held(alloc, expr.get(), row)?;
+            let value = held(alloc, expr.get(), at)?;
             Ok(Some(value))
         }
         None => Ok(None),
@@ -225,26 +271,26 @@ fn many<'a>(
     alloc: Global,
     function: Many,
     arguments: &'a [TypedExpr],
-    row: &'a [Value],
+    at: &Scope<'a>,
 ) -> Result<Held<'a>, NoMemory>
-    ensures { IfOk result (λ made. held_value made ≡ many_value function (values_of arguments.now row.now)) }
+    ensures { IfOk result (λ made. held_value made ≡ many_value function (values_at arguments.now at.now)) }
 {
     match function {
-        Many::And => Ok(Held::Seen(of_truth(all(alloc, arguments, row)?))),
-        Many::Or => Ok(Held::Seen(of_truth(any(alloc, arguments, row)?))),
-        Many::Coalesce => first_known(alloc, arguments, row),
-        Many::Concat => Ok(Held::Made(text_value(text_of_all(alloc, arguments, row)?))),
-        Many::Array => Ok(Held::Made(Value::Array(items(alloc, arguments, row)?))),
+        Many::And => Ok(Held::Seen(of_truth(all(alloc, arguments, at)?))),
+        Many::Or => Ok(Held::Seen(of_truth(any(alloc, arguments, at)?))),
+        Many::Coalesce => first_known(alloc, arguments, at),
+        Many::Concat => Ok(Held::Made(text_value(text_of_all(alloc, arguments, at)?))),
+        Many::Array => Ok(Held::Made(Value::Array(items(alloc, arguments, at)?))),
     }
 }
 
 #[cycle(memory)]
-fn all(alloc: Global, exprs: &[TypedExpr], row: &[Value]) -> Result<Option<bool>, NoMemory>
-    ensures { IfOk result (λ truth. truth ≡ all_of (values_of exprs.now row.now)) }
+fn all<'a>(alloc: Global, exprs: &'a [TypedExpr], at: &Scope<'a>) -> Result<Option<bool>, NoMemory>
+    ensures { IfOk result (λ truth. truth ≡ all_of (values_at exprs.now at.now)) }
 {
     let mut seen = Some(true);
     for expr in exprs {
-        seen = both(seen, truth(&held(alloc, expr, row)?.seen()));
+        seen = both(seen, truth(&held(alloc, expr, at)?.seen()));
         if seen == Some(false) {
             return Ok(seen);
         }
@@ -253,12 +299,12 @@ fn all(alloc: Global, exprs: &[TypedExpr], row: &[Value]) -> Result<Option<bool>
 }
 
 #[cycle(memory)]
-fn any(alloc: Global, exprs: &[TypedExpr], row: &[Value]) -> Result<Option<bool>, NoMemory>
-    ensures { IfOk result (λ truth. truth ≡ any_of (values_of exprs.now row.now)) }
+fn any<'a>(alloc: Global, exprs: &'a [TypedExpr], at: &Scope<'a>) -> Result<Option<bool>, NoMemory>
+    ensures { IfOk result (λ truth. truth ≡ any_of (values_at exprs.now at.now)) }
 {
     let mut seen = Some(false);
     for expr in exprs {
-        seen = either(seen, truth(&held(alloc, expr, row)?.seen()));
+        seen = either(seen, truth(&held(alloc, expr, at)?.seen()));
         if seen == Some(true) {
             return Ok(seen);
         }
@@ -267,17 +313,17 @@ fn any(alloc: Global, exprs: &[TypedExpr], row: &[Value]) -> Result<Option<bool>
 }
 
 #[cycle(memory)]
-fn equals_any(
+fn equals_any<'a>(
     alloc: Global,
-    exprs: &[TypedExpr],
-    value: &Held,
-    row: &[Value],
+    exprs: &'a [TypedExpr],
+    value: &Held<'a>,
+    at: &Scope<'a>,
 ) -> Result<Option<bool>, NoMemory>
-    ensures { IfOk result (λ truth. truth ≡ equals_any (held_value value.now) (values_of exprs.now row.now)) }
+    ensures { IfOk result (λ truth. truth ≡ equals_any (held_value value.now) (values_at exprs.now at.now)) }
 {
     let mut found = Some(false);
     for expr in exprs {
-        found = either(found, equal(&value.seen(), &held(alloc, expr, row)?.seen()));
+        found = either(found, equal(&value.seen(), &held(alloc, expr, at)?.seen()));
         if found == Some(true) {
             return Ok(found);
         }
@@ -289,12 +335,12 @@ fn equals_any(
 fn first_known<'a>(
     alloc: Global,
     exprs: &'a [TypedExpr],
-    row: &'a [Value],
+    at: &Scope<'a>,
 ) -> Result<Held<'a>, NoMemory>
-    ensures { IfOk result (λ made. held_value made ≡ first_known (values_of exprs.now row.now)) }
+    ensures { IfOk result (λ made. held_value made ≡ first_known (values_at exprs.now at.now)) }
 {
     for expr in exprs {
-        let value = held(alloc, expr, row)?;
+        let value = held(alloc, expr, at)?;
         if !is_null(&value.seen()) {
             return Ok(value);
         }
@@ -305,12 +351,16 @@ fn first_known<'a>(
 // NULL as soon as an operand is.
 #[cycle(memory)]
 #[tactic(auto, using(crate::proofs::JoinedTexts::texts))]
-fn text_of_all(alloc: Global, exprs: &[TypedExpr], row: &[Value]) -> Result<Option<Text>, NoMemory>
-    ensures { IfOk result (λ text. text ≡ joined (values_of exprs.now row.now)) }
+fn text_of_all<'a>(
+    alloc: Global,
+    exprs: &'a [TypedExpr],
+    at: &Scope<'a>,
+) -> Result<Option<Text>, NoMemory>
+    ensures { IfOk result (λ text. text ≡ joined (values_at exprs.now at.now)) }
 {
     let mut bytes = Vec::new(alloc);
     for expr in exprs {
-        let value = held(alloc, expr, row)?;
+        let value = held(alloc, expr, at)?;
         match text(&value.seen()) {
             Some(text) => bytes.extend_from_slice(text.bytes())?,
             None => return Ok(None),
@@ -320,12 +370,12 @@ fn text_of_all(alloc: Global, exprs: &[TypedExpr], row: &[Value]) -> Result<Opti
 }
 
 #[cycle(memory)]
-fn items(alloc: Global, exprs: &[TypedExpr], row: &[Value]) -> Result<List<Value>, NoMemory>
-    ensures { IfOk result (λ items. items ≡ values_of exprs.now row.now) }
+fn items<'a>(alloc: Global, exprs: &'a [TypedExpr], at: &Scope<'a>) -> Result<List<Value>, NoMemory>
+    ensures { IfOk result (λ items. items ≡ values_at exprs.now at.now) }
 {
     let mut items = Vec::with_capacity(alloc, exprs.len())?;
     for expr in exprs {
-        items.push(held(alloc, expr, row)?.into_value(alloc)?)?;
+        items.push(held(alloc, expr, at)?.into_value(alloc)?)?;
     }
     Ok(List::from_vec(items))
 }
@@ -336,13 +386,13 @@ fn chain<'a>(
     alloc: Global,
     links: &'a [Link],
     first: Held<'a>,
-    row: &'a [Value],
+    at: &Scope<'a>,
 ) -> Result<Held<'a>, NoMemory>
-    ensures { IfOk result (λ made. held_value made ≡ chain_value links.now row.now (held_value first.entry)) }
+    ensures { IfOk result (λ made. held_value made ≡ chain_value links.now at.now (held_value first.entry)) }
 {
     let mut value = first;
     for link in links {
-        let operand = held(alloc, &link.operand, row)?;
+        let operand = held(alloc, &link.operand, at)?;
         value = Held::Seen(arithmetic(link.operator, &value.seen(), &operand.seen()));
     }
     Ok(value)
@@ -353,15 +403,15 @@ fn chain<'a>(
 fn chosen<'a>(
     alloc: Global,
     branches: &'a [Branch],
-    operand: &Option<Held>,
-    row: &'a [Value],
+    operand: &Option<Held<'a>>,
+    at: &Scope<'a>,
 ) -> Result<Option<Held<'a>>, NoMemory>
-    ensures { IfOk result (λ found. option_map held_value found ≡ chosen_value branches.now row.now (option_map held_value operand.now)) }
+    ensures { IfOk result (λ found. option_map held_value found ≡ chosen_value branches.now at.now (option_map held_value operand.now)) }
 {
     for branch in branches {
-        let condition = held(alloc, &branch.condition, row)?;
+        let condition = held(alloc, &branch.condition, at)?;
         if is_met_by(operand, &condition) {
-            let value = held(alloc, &branch.value, row)?;
+            let value = held(alloc, &branch.value, at)?;
             return Ok(Some(value));
         }
     }

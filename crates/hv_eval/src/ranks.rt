@@ -1,0 +1,93 @@
+//! The order of values, of those that are seen.
+
+ghost use Rattle.std.specs.Prelude.{◌≡◌, IsTrue, if◌then◌else◌, not};
+ghost use Rattle.std.specs.Ordering.{is_lt};
+ghost use Rattle.hv_value.specs.Order.{kind_of, truth_of, number_of, width_of, bytes_of, scalar_cmp, value_cmp};
+ghost use Rattle.hv_typed.specs.Values.{layer_is_nothing};
+ghost use Rattle.hv_typed.specs.Groups.{comparable};
+ghost use Rattle.hv_seen.specs.Seen.{seen_layer, seen_value};
+
+use hv_seen::Seen;
+use std::cmp::Ordering;
+
+fn kind(value: &Seen) -> u8
+    ensures { result ≡ kind_of (seen_layer value.now) }
+{
+    match value {
+        Seen::Null => 0,
+        Seen::Bool(_) => 1,
+        Seen::Int(_) => 2,
+        Seen::Big(_) => 2,
+        Seen::Str(_) => 3,
+        Seen::Day(_) => 4,
+        Seen::Array(_) => 5,
+    }
+}
+
+fn truth(value: &Seen) -> bool
+    ensures { result ≡ truth_of (seen_layer value.now) }
+{
+    match value {
+        Seen::Bool(truth) => *truth,
+        _ => false,
+    }
+}
+
+fn number(value: &Seen) -> i64
+    ensures { result ≡ number_of (seen_layer value.now) }
+{
+    match value {
+        Seen::Int(number) => i64::from(*number),
+        Seen::Big(number) => *number,
+        Seen::Day(number) => i64::from(*number),
+        _ => 0,
+    }
+}
+
+fn width(value: &Seen) -> u8
+    ensures { result ≡ width_of (seen_layer value.now) }
+{
+    match value {
+        Seen::Big(_) => 1,
+        _ => 0,
+    }
+}
+
+fn bytes<'a>(value: &Seen<'a>) -> &'a [u8]
+    ensures { result.now ≡ bytes_of (seen_layer value.now) }
+{
+    match value {
+        Seen::Str(text) => text.bytes(),
+        _ => &[],
+    }
+}
+
+#[tactic(auto, unfolding(hv_value::specs::Order::scalar_cmp))]
+fn compare_scalars(left: &Seen, right: &Seen) -> Ordering
+    ensures { result ≡ scalar_cmp (seen_layer left.now) (seen_layer right.now) }
+{
+    kind(left)
+        .cmp(&kind(right))
+        .then(truth(left).cmp(&truth(right)))
+        .then(number(left).cmp(&number(right)))
+        .then(width(left).cmp(&width(right)))
+        .then(bytes(left).cmp(&bytes(right)))
+}
+
+/// Neither NULL nor an array.
+#[tactic(auto, using(hv_seen::proofs::Layers::layers))]
+pub(crate) fn is_comparable(value: &Seen) -> bool
+    ensures { result ≡ comparable (seen_value value.now) }
+{
+    !matches!(value, Seen::Null | Seen::Array(_))
+}
+
+/// Whether the one comes before the other, in the order of values.
+#[tactic(auto, using(crate::proofs::Accumulators::ranks))]
+pub(crate) fn comes_before(left: &Seen, right: &Seen) -> bool
+    requires left { IsTrue (comparable (seen_value left.now)) }
+    requires right { IsTrue (comparable (seen_value right.now)) }
+    ensures { result ≡ is_lt (value_cmp (seen_value left.now) (seen_value right.now)) }
+{
+    compare_scalars(left, right).is_lt()
+}

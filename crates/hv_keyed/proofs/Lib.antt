@@ -1,0 +1,4 @@
+pub mod GroupLaws
+pub mod PartLaws
+pub mod JoinLaws
+pub mod Members
