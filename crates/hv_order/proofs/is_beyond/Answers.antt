@@ -1,4 +1,4 @@
-use Rattle.std.proofs.Common.{◌≡◌, sym, ap, ◌∙◌}
+use Rattle.std.proofs.Common.{sym, ap, ◌∙◌}
 use Rattle.std.specs.Ordering.{is_lt}
 use Rattle.hv_order.proofs.OrderKeys.{beyond, false_of}
 use Rattle.hv_order.proofs.is_beyond.Goals as goal
