@@ -19,8 +19,12 @@ use Rattle.hv_ast.specs.declared.statement.Stmt.{Stmt}
 use Rattle.hv_history.specs.declared.state.Transaction.{Transaction}
 use Rattle.hv_history.specs.declared.state.Table.{Table}
 use Rattle.hv_history.specs.Book.{tree_at}
-use Rattle.hv_book.specs.Briefs.{tree_in, text_tree, shape_at, table_shape}
+use Rattle.hv_book.specs.Briefs.{brief, end_of, tree_in, text_tree, shape_at, table_shape}
 use Rattle.hv_book.proofs.HeldLaws.{HeldFollows, held-next}
+use Rattle.hv_book.proofs.CommitLaws.{AreCommits, IsTold, commits-next, told-of}
+use Rattle.hv_history.specs.declared.state.Ending.{Ending}
+use Rattle.hv_book.specs.declared.notes.TransactionNote.{TransactionNote}
+use Rattle.hv_book.specs.Commits.{touches_by, wrote_by, wrote_in}
 
 -- ---- the notes go on by one entry
 
@@ -53,6 +57,7 @@ pub record Follows (done : List Entry) (state : State) (notes : Notes) : Type 0 
   pub ongoing : OpenFollows notes
   pub held : HeldFollows state notes
   pub sourced : IsSourced done state notes
+  pub commits : AreCommits done state.transactions notes.commits
 
 follows-next : (done : List Entry) (state : State) (notes : Notes) (event : Entry) → Follows done state notes
     → Follows (done ++ event ∷ []) (after state event) (noted state.entries event notes)
@@ -64,6 +69,7 @@ follows-next done state notes event h = record {
   ongoing = open-follows state.entries event notes h.ongoing;
   held = held-next state event notes h.transactions h.held;
   sourced = subst (λ n. IsSourced (done ++ event ∷ []) (after state event) (noted n event notes)) (sym h.entries) (sourced-next done state notes event h.sourced);
+  commits = commits-next done state notes event h.entries h.transactions h.commits;
 }
 
 follows-all : (more done : List Entry) (state : State) (c : Counted) → c.count ≡ state.entries → Follows done state c.notes
@@ -89,6 +95,7 @@ follows xs =
       ongoing = refl;
       held = none-held;
       sourced = record { trees = refl; below = tt; shapes = refl; texts = tt };
+      commits = record { told = tt; below = tt; rising = tt; same = λ passes. refl };
     })
 
 -- ---- bounds
@@ -231,3 +238,32 @@ pub shape-unknown : {A : Type 0} (xs : List Entry) (table : ℕ) (t : Table) →
     → numbered (state_of xs).tables table ≡ Some t → A
 shape-unknown xs table t e is =
     let both : None ≡ Some (table_shape t) = ap (option_map (shape_at xs)) e ∙ shapes-numbered xs table ∙ ap (option_map table_shape) is in cc
+
+-- ---- what a transaction wrote
+
+told-touches : (xs : List Entry) (o : Option Ending) → IsTold xs o → touches_by xs (option_map end_of o) ≡ wrote_by o
+told-touches xs None h = refl
+told-touches xs (Some e) h = h.1
+
+wrote-some : (xs : List Entry) (txn : ℕ) (note : TransactionNote) (o : Option Transaction) → Some note ≡ option_map brief o → numbered (state_of xs).transactions txn ≡ o
+    → touches_by xs note.ending ≡ wrote_in o
+wrote-some xs txn note None e is = cc
+wrote-some xs txn note (Some t) e is =
+    let same : note ≡ brief t = cc in
+    ap (λ (n : TransactionNote). touches_by xs n.ending) same
+    ∙ told-touches xs t.ending (told-of xs (state_of xs).transactions txn t (follows xs).commits.told is)
+
+noted-numbered : (xs : List Entry) (txn : ℕ) → numbered (notes_of xs).transactions txn ≡ option_map brief (numbered (state_of xs).transactions txn)
+noted-numbered xs txn = ap (λ ts. numbered ts txn) (follows xs).transactions ∙ numbered-map brief (state_of xs).transactions txn
+
+pub wrote-known : (xs : List Entry) (txn : ℕ) (note : TransactionNote) → Some note ≡ numbered (notes_of xs).transactions txn
+    → touches_by xs note.ending ≡ wrote_in (numbered (state_of xs).transactions txn)
+wrote-known xs txn note e = wrote-some xs txn note (numbered (state_of xs).transactions txn) (e ∙ noted-numbered xs txn) refl
+
+no-note : (o : Option Transaction) → None ≡ option_map brief o → None ≡ wrote_in o
+no-note None e = refl
+no-note (Some t) e = cc
+
+pub wrote-unknown : (xs : List Entry) (txn : ℕ) → None ≡ numbered (notes_of xs).transactions txn
+    → None ≡ wrote_in (numbered (state_of xs).transactions txn)
+wrote-unknown xs txn e = no-note (numbered (state_of xs).transactions txn) (e ∙ noted-numbered xs txn)

@@ -65,11 +65,11 @@ shapes-front done more [] h = refl
 shapes-front done more (o ∷ os) h =
     ap (λ t. t ∷ map (shape_at (done ++ more)) os) (shape-front done more o h.0) ∙ ap (λ ts. shape_at done o ∷ ts) (shapes-front done more os h.1)
 
-all-below : (ps : List ℕ) (a b : ℕ) → a ≤ b → AllByRecursion (λ (p : ℕ). p < a) ps → AllByRecursion (λ (p : ℕ). p < b) ps
+pub all-below : (ps : List ℕ) (a b : ℕ) → a ≤ b → AllByRecursion (λ (p : ℕ). p < a) ps → AllByRecursion (λ (p : ℕ). p < b) ps
 all-below [] a b le h = tt
 all-below (p ∷ ps) a b le h = let first : p < a = h.0 in (omega (arith, first, le), all-below ps a b le h.1)
 
-all-snoc : {A : Type 0} (P : A → Type 0) (xs : List A) (x : A) → AllByRecursion P xs → P x → AllByRecursion P (xs ++ x ∷ [])
+pub all-snoc : {A : Type 0} (P : A → Type 0) (xs : List A) (x : A) → AllByRecursion P xs → P x → AllByRecursion P (xs ++ x ∷ [])
 all-snoc P [] x h p = (p, tt)
 all-snoc P (y ∷ xs) x h p = (h.0, all-snoc P xs x h.1 p)
 
@@ -100,7 +100,7 @@ tree-same f same (s ∷ ss) zero (suc k) = refl
 tree-same f same (s ∷ ss) (suc n) zero = refl
 tree-same f same (s ∷ ss) (suc n) (suc k) = tree-same f same ss n k
 
-while-same : {B : Type 0} (h : Transaction → B) (f : Transaction → Transaction) → ((t : Transaction) → h (f t) ≡ h t)
+pub while-same : {B : Type 0} (h : Transaction → B) (f : Transaction → Transaction) → ((t : Transaction) → h (f t) ≡ h t)
     → (t : Transaction) → h (while_open f t) ≡ h t
 while-same h f same t = by t.ending
   where
@@ -181,7 +181,7 @@ source-made done state notes h txn =
     tree-made done (numbered notes.opened txn) (numbered state.transactions txn)
     (sym (numbered-map (tree_at done) notes.opened txn) ∙ ap (λ ts. numbered ts txn) h ∙ numbered-map opening_tree state.transactions txn)
 
-length-snoc : (done : List Entry) (event : Entry) → length (done ++ event ∷ []) ≡ length done + 1
+pub length-snoc : (done : List Entry) (event : Entry) → length (done ++ event ∷ []) ≡ length done + 1
 length-snoc done event = length-append done (event ∷ [])
 
 -- an entry that neither opens a transaction nor makes a table

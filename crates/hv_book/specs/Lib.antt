@@ -1,3 +1,4 @@
 pub mod Notes
 pub mod Briefs
 pub mod Index
+pub mod Commits

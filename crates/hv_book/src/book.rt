@@ -1,8 +1,8 @@
 use crate::index::Index;
-use crate::notes::{Held, JobNote, TableNote, TransactionNote, append};
+use crate::notes::{End, Held, JobNote, TableNote, TransactionNote, append};
 use crate::openings::OpeningNotes;
 use hv_ast::Stmt;
-use hv_base::NoMemory;
+use hv_base::{List, NoMemory, Touch};
 use hv_history::{Entry, numbered};
 use std::alloc::Global;
 use std::marker::Model;
@@ -37,6 +37,10 @@ impl Book {
     ghost use Rattle.hv_history.specs.State.{state_of, numbered, created_shape};
     ghost use Rattle.hv_book.specs.Briefs.{brief, brief_table, brief_job, open_from, held_by, given_at, tree_in, text_tree};
     ghost use Rattle.hv_book.specs.Index.{openings_in};
+    ghost use Rattle.std.specs.List.{list_any};
+    ghost use Rattle.std.specs.Prelude.{Bool, List};
+    ghost use Rattle.hv_base.specs.declared.ids.Touch.{Touch};
+    ghost use Rattle.hv_book.specs.Commits.{commits_so, passes_at, touches_at, touches_by, wrote_in, IsRising};
 
     /// The book of no entries. It takes no memory.
     pub fn new(alloc: Global) -> Book
@@ -100,6 +104,46 @@ impl Book {
             ≡ given_at (numbered (state_of self.now.entries).transactions k) }
     {
         self.index.held.as_slice()
+    }
+
+    /// The places of the commits, rising.
+    pub fn commits(&self) -> &[u64]
+        ensures commits { (passes : ℕ → List Touch → Bool)
+            → list_any (commits_so passes) (state_of self.now.entries).transactions
+            ≡ list_any (passes_at passes self.now.entries) result.now }
+        ensures rising { IsRising result.now }
+    {
+        self.index.commits.as_slice()
+    }
+
+    /// What the Commit at this place wrote. None where no Commit stands there.
+    pub fn touches(&self, place: u64) -> Option<&List<Touch>>
+        ensures touches { option_copied result ≡ touches_at self.now.entries place }
+    {
+        match self.entries.get(place as usize) {
+            Some(Entry::Commit { wrote, .. }) => Some(wrote),
+            _ => None,
+        }
+    }
+
+    /// What the transaction of this number wrote, where it committed its writes.
+    pub fn committed(&self, txn: u64) -> Option<&List<Touch>>
+        ensures wrote { option_copied result
+            ≡ wrote_in (numbered (state_of self.now.entries).transactions txn) }
+    {
+        match numbered(&self.index.transactions, txn) {
+            Some(note) => self.touches_by(note.ending),
+            None => None,
+        }
+    }
+
+    fn touches_by(&self, end: Option<End>) -> Option<&List<Touch>>
+        ensures touches { option_copied result ≡ touches_by self.now.entries end }
+    {
+        match end {
+            Some(end) => self.touches(end.at),
+            None => None,
+        }
     }
 
     /// The openings of the store.

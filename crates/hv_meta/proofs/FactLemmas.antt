@@ -1,7 +1,9 @@
 -- What a note says is what the transaction says.
-use Rattle.std.proofs.Common.{◌≡◌, ℕ, suc, ◌+◌, Option, Some, None, List, [], ◌∷◌, length, map, refl, sym, ap, ◌∙◌, arith}
-use Rattle.std.specs.Prelude.{Bool, true, false, not, ◌&&◌, ◌↔◌, IsTrue, IsFalse, IsSomeAnd, IsNone, ◌==◌, is_none, is_some, sum_by}
+use Rattle.std.proofs.Common.{◌≡◌, ℕ, suc, ◌+◌, zero, Option, Some, None, List, [], ◌∷◌, ◌++◌, drop, length, map, refl, sym, ap, ◌∙◌, arith}
+use Rattle.std.specs.Prelude.{Bool, true, false, not, ◌&&◌, ◌||◌, ◌↔◌, IsTrue, IsFalse, IsSomeAnd, IsNone, ◌==◌, is_none, is_some, sum_by}
 use Rattle.std.specs.Option.{option_map}
+use Rattle.std.specs.List.{slice_get, list_any}
+use Rattle.hv_ast.specs.declared.statement.Stmt.{Stmt}
 use Rattle.std.proofs.lemmas.Bool.{eq-eqb, eqb-true}
 use Rattle.std.proofs.lemmas.List.Sums.{sum_by-cons}
 use Rattle.hv_history.specs.declared.state.Transaction.{Transaction}
@@ -11,10 +13,14 @@ use Rattle.hv_history.specs.declared.state.Ending.TheVariants.{Committed, Aborte
 use Rattle.hv_base.specs.declared.ids.Limits.{Limits}
 use Rattle.hv_history.specs.declared.state.Table.{Table}
 use Rattle.hv_history.specs.State.{State, Job, numbered, given_in}
-use Rattle.hv_history.specs.Legal.{is_open, IsRunning, open_one, one_if, is_working, working_one, GivenFits, HasRoom}
-use Rattle.hv_book.specs.Briefs.{brief, brief_table, given_at, given_while, brief_job, end_of, snapshot_place, open_from, open_next}
+use Rattle.hv_history.specs.Legal.{is_open, IsRunning, open_one, one_if, is_working, working_one, GivenFits, HasRoom, CreateFits, is_named, is_create, made_name}
+use Rattle.hv_book.specs.Briefs.{brief, brief_table, tree_in, given_at, given_while, brief_job, end_of, snapshot_place, open_from, open_next}
 use Rattle.hv_meta.specs.declared.facts.TxnState.TheVariants.{Ended}
-use Rattle.hv_meta.specs.States.{ending_place, state_by, noted_by, transaction_state, noted_state, is_unended_note, is_running_note, is_working_note, working_note, is_next_note, is_held}
+use Rattle.hv_meta.specs.States.{ending_place, state_by, noted_by, transaction_state, noted_state, is_unended_note, is_running_note, is_working_note, working_note, is_next_note, is_held, named_in}
+use Rattle.hv_meta.specs.Catalogs.{live_infos, info_in, info_if}
+use Rattle.hv_logic.specs.declared.catalog.TableInfo.{TableInfo}
+use Rattle.hv_book.specs.declared.notes.TableNote.{TableNote}
+use Rattle.std.proofs.lemmas.List.{append-nil}
 
 end-place : (e : Ending) → (end_of e).at ≡ ending_place e
 end-place (Committed place wrote) = refl
@@ -42,15 +48,15 @@ pub noted-unended : (o : Option Transaction) → IsTrue (is_unended_note (option
 noted-unended None = (λ e. cc, λ e. absurd e)
 noted-unended (Some t) = (λ e. sym (mapped-none end_of t.ending) ∙ e, λ e. mapped-none end_of t.ending ∙ e)
 
-and-left : (a b : Bool) → (a && b) ≡ true → a ≡ true
+pub and-left : (a b : Bool) → (a && b) ≡ true → a ≡ true
 and-left true b e = refl
 and-left false b e = e
 
-and-right : (a b : Bool) → (a && b) ≡ true → b ≡ true
+pub and-right : (a b : Bool) → (a && b) ≡ true → b ≡ true
 and-right true b e = e
 and-right false b e = cc
 
-and-both : (a b : Bool) → a ≡ true → b ≡ true → (a && b) ≡ true
+pub and-both : (a b : Bool) → a ≡ true → b ≡ true → (a && b) ≡ true
 and-both true b e h = h
 and-both false b e h = e
 
@@ -127,15 +133,15 @@ next-table (Some t) write = (
   λ h. and-both t.is_live (write == length t.owners + 1) h.0 (eq-eqb write (length t.owners + 1) h.1),
 )
 
-none-is : {A : Type 0} (o : Option A) → is_some o ≡ false → IsNone o
+pub none-is : {A : Type 0} (o : Option A) → is_some o ≡ false → IsNone o
 none-is None e = refl
 none-is (Some x) e = cc
 
-is-none : {A : Type 0} (o : Option A) → IsNone o → is_some o ≡ false
+pub is-none : {A : Type 0} (o : Option A) → IsNone o → is_some o ≡ false
 is-none None e = refl
 is-none (Some x) e = cc
 
-given-open : (t : Transaction) → IsRunning t → given_at (Some t) ≡ t.given
+pub given-open : (t : Transaction) → IsRunning t → given_at (Some t) ≡ t.given
 given-open t running = by t.ending running.unended
   where
     by : (e : Option Ending) → is_none e ≡ true → given_while e t.given ≡ t.given
@@ -163,4 +169,92 @@ module _ (limits : Limits) (state : State) (table write : ℕ) where
         let free : h ≡ false = holds ∙ ap (is_held table) is ∙ ap (λ g. is_some (given_in table g)) (given-open t fits.running) ∙ is-none (given_in table t.given) fits.first in
         and-both r (n && (not h && m)) (running.1 fits.running)
         (and-both n (not h && m) (next ∙ (next-table (numbered state.tables table) write).1 fits.live) (and-both (not h) m ((false-is h).1 free) (room.1 fits.room))),
+  )
+
+-- ---- a table's name
+
+drop-nil : {A : Type 0} (n : ℕ) → drop {A = A} n [] ≡ []
+drop-nil zero = refl
+drop-nil (suc n) = refl
+
+any-at : (name : List ℕ) (ts : List Table) (n : ℕ) → named_in name (slice_get ts n) ≡ false
+    → list_any (is_named name) (drop n ts) ≡ list_any (is_named name) (drop (n + 1) ts)
+any-at name [] zero h = refl
+any-at name [] (suc n) h = ap (list_any (is_named name)) (sym (drop-nil (suc n + 1)))
+any-at name (t ∷ ts) zero h = ap (λ b. b || list_any (is_named name) ts) h
+any-at name (t ∷ ts) (suc n) h =
+    any-at name ts n h ∙ ap (λ k. list_any (is_named name) (drop k (t ∷ ts))) (let at : suc (n + 1) ≡ suc n + 1 = omega arith in at)
+
+pub any-step : (name : List ℕ) (ts : List Table) (i number : ℕ) → number ≡ i + 1 → named_in name (numbered ts number) ≡ false
+    → list_any (is_named name) (drop i ts) ≡ list_any (is_named name) (drop (i + 1) ts)
+any-step name ts i zero e h = absurd (omega (arith, e))
+any-step name ts i (suc n) e h =
+    let same : n ≡ i = omega (arith, e) in
+    any-at name ts i (ap (λ k. named_in name (slice_get ts k)) (sym same) ∙ h)
+
+any-found : (name : List ℕ) (ts : List Table) (n : ℕ) → named_in name (slice_get ts n) ≡ true → list_any (is_named name) (drop n ts) ≡ true
+any-found name [] zero h = cc
+any-found name [] (suc n) h = cc
+any-found name (t ∷ ts) zero h = ap (λ b. b || list_any (is_named name) ts) h
+any-found name (t ∷ ts) (suc n) h = any-found name ts n h
+
+pub any-here : (name : List ℕ) (ts : List Table) (i number : ℕ) → number ≡ i + 1 → named_in name (numbered ts number) ≡ true
+    → list_any (is_named name) (drop i ts) ≡ true
+any-here name ts i zero e h = absurd (omega (arith, e))
+any-here name ts i (suc n) e h =
+    let same : n ≡ i = omega (arith, e) in
+    any-found name ts i (ap (λ k. named_in name (slice_get ts k)) (sym same) ∙ h)
+
+-- ---- the live tables
+
+infos-at : (ts : List Table) (n : ℕ) → live_infos (drop n ts) ≡ info_in (slice_get ts n) ++ live_infos (drop (n + 1) ts)
+infos-at [] zero = refl
+infos-at [] (suc n) = ap live_infos (sym (drop-nil (suc n + 1)))
+infos-at (t ∷ ts) zero = refl
+infos-at (t ∷ ts) (suc n) =
+    infos-at ts n ∙ ap (λ k. info_in (slice_get ts n) ++ live_infos (drop k (t ∷ ts))) (let at : suc (n + 1) ≡ suc n + 1 = omega arith in at)
+
+pub infos-step : (ts : List Table) (i number : ℕ) → number ≡ i + 1
+    → live_infos (drop i ts) ≡ info_in (numbered ts number) ++ live_infos (drop (i + 1) ts)
+infos-step ts i zero e = absurd (omega (arith, e))
+infos-step ts i (suc n) e =
+    let same : n ≡ i = omega (arith, e) in
+    infos-at ts i ∙ ap (λ k. info_in (slice_get ts k) ++ live_infos (drop (i + 1) ts)) (sym same)
+
+pub no-info : (o : Option Table) (infos : List TableInfo) → None ≡ option_map brief_table o → infos ≡ infos ++ info_in o
+no-info None infos e = sym (append-nil infos)
+no-info (Some t) infos e = cc
+
+pub dropped-info : (o : Option Table) (infos : List TableInfo) (note : TableNote) → Some note ≡ option_map brief_table o → note.is_live ≡ false → infos ≡ infos ++ info_in o
+dropped-info None infos note e dead = cc
+dropped-info (Some t) infos note e dead =
+    let same : note ≡ brief_table t = cc in
+    sym (append-nil infos) ∙ ap (λ b. infos ++ info_if b t.info) (sym dead ∙ ap (λ (n : TableNote). n.is_live) same)
+
+-- ---- a table that is made
+
+module _ (state : State) (table : ℕ) where
+  pub create-law : (o : Option Transaction) (tree : Option Stmt) → tree ≡ tree_in o → is_create tree ≡ true → (r h n : Bool)
+      → (IsTrue r ↔ IsSomeAnd o IsRunning) → h ≡ list_any (is_named (made_name tree)) state.tables → (IsTrue n ↔ (table ≡ length state.tables + 1))
+      → (IsTrue (r && (not h && n))) ↔ IsSomeAnd o (CreateFits state table)
+  create-law None tree is made r h n running named next = (λ e. absurd (running.0 (and-left r (not h && n) e)), λ e. absurd e)
+  create-law (Some t) tree is made r h n running named next = (
+    λ e.
+        let rest = and-right r (not h && n) e in
+        record {
+          running = running.0 (and-left r (not h && n) e);
+          create = ap is_create (sym is) ∙ made;
+          absent = ap (λ o. list_any (is_named (made_name o)) state.tables) (sym is) ∙ sym named ∙ (false-is h).0 (and-left (not h) n rest);
+          next = next.0 (and-right (not h) n rest);
+        },
+    λ fits.
+        let free : h ≡ false = named ∙ ap (λ o. list_any (is_named (made_name o)) state.tables) is ∙ fits.absent in
+        and-both r (not h && n) (running.1 fits.running) (and-both (not h) n ((false-is h).1 free) (next.1 fits.next)),
+  )
+
+  pub uncreated : (o : Option Transaction) (tree : Option Stmt) → tree ≡ tree_in o → is_create tree ≡ false → IsTrue false ↔ IsSomeAnd o (CreateFits state table)
+  uncreated None tree is other = (λ e. cc, λ e. absurd e)
+  uncreated (Some t) tree is other = (
+    λ e. cc,
+    λ fits. let both : true ≡ false = sym fits.create ∙ ap is_create (sym is) ∙ other in cc,
   )

@@ -2,9 +2,10 @@
 use Rattle.std.specs.Prelude.{ℕ, ◌+◌, ◌==◌, ◌&&◌, Bool, false, not, is_none, is_some, Option, None, Some, List}
 use Rattle.hv_history.specs.declared.state.Transaction.{Transaction}
 use Rattle.hv_history.specs.declared.state.Ending.{Ending}
+use Rattle.hv_history.specs.declared.state.Table.{Table}
 use Rattle.hv_history.specs.declared.state.Ending.TheVariants.{Committed, Aborted, Made, Dropped}
 use Rattle.hv_history.specs.State.{State, numbered, given_in}
-use Rattle.hv_history.specs.Legal.{is_started, one_if}
+use Rattle.hv_history.specs.Legal.{is_started, one_if, is_named}
 use Rattle.hv_book.specs.declared.notes.End.{End}
 use Rattle.hv_book.specs.declared.notes.TransactionNote.{TransactionNote}
 use Rattle.hv_book.specs.declared.notes.JobNote.{JobNote}
@@ -62,3 +63,8 @@ is_next_note write (Some note) = note.is_live && (write == note.high + 1)
 -- a write id of this table is among these
 abbrev pub is_held : ℕ → List (ℕ × ℕ) → Bool
 is_held table given = is_some (given_in table given)
+
+-- the table is there, is live and has this name
+abbrev pub named_in : List ℕ → Option Table → Bool
+named_in name None = false
+named_in name (Some table) = is_named name table

@@ -34,7 +34,7 @@ fn is_next_note(note: Option<TableNote>, write: u64) -> bool
     }
 }
 
-fn holds(held: &[Held], txn: u64, table: u64) -> bool
+pub fn holds(held: &[Held], txn: u64, table: u64) -> bool
     ensures { result ≡ is_held table (held_by txn held.now) }
 {
     for one in held {

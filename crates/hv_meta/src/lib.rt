@@ -1,8 +1,14 @@
 //! Facts computed from a book.
 #![tactic(auto)]
 
+mod catalogs;
+mod committing;
+mod creating;
 mod facts;
 mod fitting;
 
+pub use catalogs::live_catalog;
+pub use committing::{commit_fits, conflict_fits};
+pub use creating::{create_fits, has_named};
 pub use facts::{TxnState, has_room, is_running, is_unended, load, next_txn, state_of};
 pub use fitting::{boot_fits, fault_fits, full_fits, given_fits, lost_fits, opened_fits};
