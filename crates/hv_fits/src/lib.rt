@@ -4,5 +4,5 @@
 mod fitting;
 mod locks;
 
-pub use fitting::{request_fits, text_fits};
+pub use fitting::fits;
 pub use locks::{blocked_fits, start_fits};
