@@ -1,0 +1,3 @@
+pub mod LockLemmas
+pub mod RequestLemmas
+pub mod Growing

@@ -1,0 +1,60 @@
+-- What the texts of a book say of locks, where each of them runs.
+use Rattle.std.specs.Prelude.{◌≡◌, ℕ, Bool, false, not, if◌then◌else◌, Option, Some, None, List, [], ◌∷◌, map}
+use Rattle.std.specs.List.{AllByRecursion}
+use Rattle.hv_ast.specs.declared.statement.Stmt.{Stmt}
+use Rattle.hv_grammar.specs.Running.{Runs}
+use Rattle.hv_locks.specs.declared.table.Lock.{Lock}
+use Rattle.hv_history.specs.declared.entry.Entry.{Entry}
+use Rattle.hv_history.specs.declared.entry.Entry.TheVariants as entry
+use Rattle.hv_history.specs.declared.state.Statement.{Statement}
+use Rattle.hv_history.specs.declared.state.Transaction.{Transaction}
+use Rattle.hv_history.specs.State.{State, numbered}
+use Rattle.hv_history.specs.Legal.{IsStatement, IsWaiting, IsUnlocked, holds_against}
+use Rattle.hv_meta.specs.declared.facts.TxnState.{TxnState}
+use Rattle.hv_meta.specs.declared.facts.TxnState.TheVariants.{Running}
+
+abbrev pub text_of : Statement → List ℕ
+text_of statement = statement.text
+
+-- a transaction has one statement, whose text runs
+pub record HasOneText (transaction : Transaction) : Type 0 where
+  pub text : List ℕ
+  pub tree : Stmt
+  pub only : map text_of transaction.statements ≡ text ∷ []
+  pub runs : Runs text tree
+
+abbrev pub TextsRun : State → Type 0
+TextsRun state = AllByRecursion HasOneText state.transactions
+
+-- the transaction is there, and holds locks that conflict with these
+abbrev pub holds_at : List Lock → Option Transaction → Bool
+holds_at locks None = false
+holds_at locks (Some transaction) = holds_against locks transaction
+
+-- the transaction of that number does so
+unfoldable pub holds_among : List Lock → List Transaction → ℕ → Bool
+holds_among locks transactions number = holds_at locks (numbered transactions number)
+
+-- the first of these numbers of which the fact holds
+abbrev pub first_among : (ℕ → Bool) → List ℕ → Option ℕ
+first_among is_so [] = None
+first_among is_so (number ∷ numbers) = if is_so number then Some number else first_among is_so numbers
+
+-- it has not ended, and has not started
+abbrev pub is_waiting_state : TxnState → Bool
+is_waiting_state (Running started) = not started
+is_waiting_state _ = false
+
+-- the transaction may start, where there is room for it
+pub record IsReady (state : State) (transaction : Transaction) : Type 0 where
+  pub waiting : IsWaiting transaction
+  pub unlocked : IsUnlocked state transaction
+
+-- what is handed in with an Opened is the tree by which its text runs, or nothing where it doesn't run
+abbrev pub IsTreeOf : List ℕ → Option Stmt → Type 0
+IsTreeOf text (Some tree) = Runs text tree
+IsTreeOf text None = IsStatement text → ⊥
+
+abbrev pub IsHanded : Entry → Option Stmt → Type 0
+IsHanded (entry.Opened txn session number text) tree = IsTreeOf text tree
+IsHanded _ tree = Unit {0}
