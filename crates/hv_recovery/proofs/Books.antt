@@ -1,15 +1,19 @@
 -- A journal reads to one book or is bad at one place.
-use Rattle.std.proofs.Common.{◌≡◌, ◌≢◌, ℕ, zero, suc, ◌≤◌, List, [], ◌∷◌, ◌++◌, length, refl, sym, ap, subst, ◌∙◌, arith}
-use Rattle.std.specs.Prelude.{fold}
+use Rattle.std.proofs.Common.{◌≡◌, ◌≢◌, ℕ, zero, suc, ◌+◌, ◌<◌, ◌≤◌, List, [], ◌∷◌, ◌++◌, length, Option, Some, None, Result, Ok, Err, refl, sym, ap, subst, ◌∙◌, arith, ◌⊎◌, inl, inr}
+use Rattle.std.specs.Prelude.{fold, MatchResult, IfOk, IfErr}
 use Rattle.hv_base.specs.declared.ids.Limits.{Limits}
+use Rattle.hv_base.specs.Told.{Tells}
+use Rattle.hv_shelf.specs.Disk.{Store}
 use Rattle.hv_history.specs.declared.entry.Entry.{Entry}
 use Rattle.hv_history.specs.Journal.{record_of, HasRecord, Leads, IsJournal, place_of}
 use Rattle.hv_history.specs.State.{State, nothing_yet, state_of, after}
 use Rattle.hv_history.specs.Legal.{Fits, AllFit}
 use Rattle.hv_journal.specs.Gates.{Opens}
 use Rattle.hv_journal.proofs.Forms.{one_record}
-use Rattle.hv_journal.proofs.Books.{leads_more, opens_len, reads_once, long_book, journal_reads}
-use Rattle.hv_recovery.specs.Recovery.{IsJournalOf, IsBadGateFor, IsBadJournalAt}
+use Rattle.hv_journal.proofs.Books.{leads_more, place_more, opens_len, reads_once, long_book, journal_reads, short_book}
+use Rattle.hv_recovery.specs.declared.fault.OpenFault.{OpenFault}
+use Rattle.hv_recovery.specs.declared.fault.OpenFault.TheVariants as fault
+use Rattle.hv_recovery.specs.Recovery.{IsJournalOf, IsBadGateFor, IsBadJournalAt, IsFaultFor, IsNoAnswer}
 
 pub fit_more : (limits : Limits) (state : State) (book : List Entry) (e : Entry) → AllFit limits state book → Fits limits (fold after state book) e → AllFit limits state (book ++ e ∷ [])
 fit_more limits state [] e all fits = (fits, tt)
@@ -110,3 +114,25 @@ not_neither limits [] none good = none [] (record { journal = refl; fit = tt })
 not_neither limits (gate ∷ []) none good = none [] (record { journal = refl; fit = tt })
 not_neither limits (gate ∷ next ∷ after) none good =
     goes_on (length (gate ∷ next ∷ after)) limits (gate ∷ next ∷ after) [] (gate ∷ next ∷ after) (omega arith) (omega arith) refl tt none good
+
+-- ---- answers
+
+-- what is answered is all that may be answered
+pub answer_only : {A : Type 0} (r : Result A OpenFault) (entries : A → List Entry) (limits : Limits) (bytes : List ℕ) → IfOk r (λ x. IsJournalOf limits (entries x) bytes) → IfErr r (IsFaultFor limits bytes)
+    → (book : List Entry) → IsJournalOf limits book bytes → MatchResult r (λ x. entries x ≡ book) IsNoAnswer
+answer_only (Ok x) entries limits bytes found bad book is = one_book limits (entries x) book bytes found is
+answer_only (Err fault.Failed) entries limits bytes found bad book is = tt
+answer_only (Err fault.NoMemory) entries limits bytes found bad book is = tt
+answer_only (Err (fault.BadJournal at)) entries limits bytes found bad book is = absurd (not_both limits book bytes at is bad)
+
+pub answer_named : {A : Type 0} (r : Result A OpenFault) (entries : A → List Entry) (limits : Limits) (bytes : List ℕ) → IfOk r (λ x. IsJournalOf limits (entries x) bytes) → IfErr r (IsFaultFor limits bytes)
+    → (at : ℕ) → IsBadJournalAt limits bytes at → MatchResult r (λ _. ⊥) (λ e. (e ≡ fault.BadJournal at) ⊎ IsNoAnswer e)
+answer_named (Ok x) entries limits bytes found bad at is = not_both limits (entries x) bytes at found is
+answer_named (Err fault.Failed) entries limits bytes found bad at is = inr tt
+answer_named (Err fault.NoMemory) entries limits bytes found bad at is = inr tt
+answer_named (Err (fault.BadJournal other)) entries limits bytes found bad at is = inl (ap fault.BadJournal (one_place limits bytes other at bad is))
+
+-- what holds of bytes that were read holds of the journal that is told
+pub tells_by : (told : Option Store) (bytes read : List ℕ) (P : List ℕ → Type 0) → read ≡ bytes → Tells told (λ s. s.journal ≡ bytes) → P read → Tells told (λ s. P s.journal)
+tells_by None bytes read P is same p = tt
+tells_by (Some s) bytes read P is same p = subst P (is ∙ sym same) p

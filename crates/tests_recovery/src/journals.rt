@@ -1,6 +1,5 @@
-use hv_base::NoMemory;
-use hv_journal::{JournalFault, read_records};
-use hv_recovery::journal_bytes;
+use hv_base::{Limits, NoMemory};
+use hv_recovery::{OpenFault, read_journal};
 use hv_shelf::{MemoryShelf, Shelf};
 use std::alloc::Global;
 
@@ -11,20 +10,13 @@ pub fn answered(alloc: Global, bytes: &[u8]) -> Result<Option<String>, NoMemory>
     if shelf.journal_write(0, bytes).is_err() {
         return Ok(None);
     }
-    match journal_bytes(alloc, &mut shelf) {
-        Ok(read) => found(alloc, &read),
-        Err(_) => Ok(None),
-    }
-}
-
-fn found(alloc: Global, bytes: &[u8]) -> Result<Option<String>, NoMemory> {
-    match read_records(alloc, bytes) {
+    match read_journal(alloc, &mut shelf, &Limits::profile()) {
         Ok((book, place)) => {
-            let count = book.len();
+            let count = book.entries().len();
             Ok(Some(format!(in alloc; "{place} {count}")?))
         }
-        Err(JournalFault::BadJournal { at }) => Ok(Some(format!(in alloc; "bad {at}")?)),
-        Err(JournalFault::NoMemory) => Ok(None),
+        Err(OpenFault::BadJournal { at }) => Ok(Some(format!(in alloc; "bad {at}")?)),
+        Err(_) => Ok(None),
     }
 }
 
