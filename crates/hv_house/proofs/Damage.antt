@@ -17,13 +17,13 @@ use Rattle.hv_rowfile.specs.declared.fault.FileFault.TheVariants as file
 use Rattle.hv_rowfile.specs.Layout.{file_spelling, IsFile}
 use Rattle.hv_history.specs.declared.state.Written.{Written}
 use Rattle.hv_stands.specs.Files.{records_of, file_of, own_place}
-use Rattle.hv_stands.specs.Reading.{table_named, written_with}
+use Rattle.hv_stands.specs.Reading.{table_named}
 use Rattle.hv_house.specs.declared.fault.RowFault.{RowFault}
 use Rattle.hv_house.specs.declared.house.House.{House}
-use Rattle.hv_house.specs.declared.known.Known.{Known}
+use Rattle.hv_known.specs.declared.known.Known.{Known}
 use Rattle.hv_house.specs.Faults.{IsDamage}
-use Rattle.hv_house.specs.Meaning.{known_by_name, pair_of, IsSpoiled}
-use Rattle.hv_house.specs.Rows.{IsCommitFile, ReadsUpTo, LacksFile, LacksCommits}
+use Rattle.hv_house.specs.Meaning.{known_by_name, IsSpoiled}
+use Rattle.hv_house.specs.Rows.{written_with, is_among, IsCommitFile, ReadsUpTo, LacksFile, LacksOne, LacksCommits}
 use Rattle.hv_house.proofs.FileRows.{listed, unfolded}
 
 -- damage is passed on
@@ -65,34 +65,33 @@ lacks_listed (Some s) places place own table result has is at of none =
     let here : true ≡ list_any (λ (other : Place). place_eq other own) places = subst (λ (p : Place). true ≡ list_any (λ (other : Place). place_eq other p) places) at (sym has ∙ is) in
     lacks s own table places of here (subst (λ (p : Place). LacksFile p s) at none)
 
-lacks_all : (o : Option Store) (places : List Place) (table : TableId) (given before : ℕ) → before < given → Tells o (λ s. places ≡ places_of table s.tree)
+lacks_all : (o : Option Store) (places : List Place) (table : TableId) (given : ℕ) (lost : List ℕ) (before : ℕ) → before < given → is_among lost (before + 1) ≡ false → Tells o (λ s. places ≡ places_of table s.tree)
     → Tells o (λ s. places ≡ places_of table s.tree → (found : Option Written) → IsCommitFile found (files.get s.tree (own_place table.0 (before + 1))) → ⊥)
-    → Tells o (LacksCommits table.0 given)
-lacks_all None places table given before low are none = tt
-lacks_all (Some s) places table given before low are none = λ writes has. none are (written_with (before + 1) writes) (has (before + 1) (omega (arith, low)))
+    → Tells o (LacksCommits table.0 given lost)
+lacks_all None places table given lost before low kept are none = tt
+lacks_all (Some s) places table given lost before low kept are none = λ writes has. none are (written_with (before + 1) writes) (has (before + 1) (omega (arith, low)) kept)
 
-pub lacks_one : {D : Type 0} (told : D → Option Store) (faults : D → ℕ) (first now : House D) (places : List Place) (table : TableId) (given before : ℕ) (rows : List Found)
-    → ReadsUpTo told faults first now places table given before rows → before < given
-    → Tells (told now.shelf) (λ s. places ≡ places_of table s.tree → (found : Option Written) → IsCommitFile found (files.get s.tree (own_place table.0 (before + 1))) → ⊥)
-    → Tells (told first.shelf) (LacksCommits table.0 given)
-lacks_one told faults first now places table given before rows reads low none =
-    lacks_all (told first.shelf) places table given before low reads.listed
-    (subst (λ (o : Option Store). Tells o (λ s. places ≡ places_of table s.tree → (found : Option Written) → IsCommitFile found (files.get s.tree (own_place table.0 (before + 1))) → ⊥)) reads.asked.store none)
+lacks_told : (o : Option Store) (places : List Place) (table : TableId) (given : ℕ) (lost : List ℕ) (before : ℕ) → before < given
+    → Tells o (λ s. places ≡ places_of table s.tree) → Tells o (LacksOne table lost (before + 1) places) → Tells o (LacksCommits table.0 given lost)
+lacks_told None places table given lost before low are none = tt
+lacks_told (Some s) places table given lost before low are none = lacks_all (Some s) places table given lost before low none.0 are none.1
+
+pub lacks_one : {D : Type 0} (told : D → Option Store) (faults : D → ℕ) (first now : House D) (places : List Place) (table : TableId) (given : ℕ) (lost : List ℕ) (before : ℕ) (rows : List Found)
+    → ReadsUpTo told faults first now places table given lost before rows → before < given
+    → Tells (told now.shelf) (LacksOne table lost (before + 1) places) → Tells (told first.shelf) (LacksCommits table.0 given lost)
+lacks_one told faults first now places table given lost before rows reads low none =
+    lacks_told (told first.shelf) places table given lost before low reads.listed
+    (subst (λ (o : Option Store). Tells o (LacksOne table lost (before + 1) places)) reads.asked.store none)
+
+-- a write id that isn't lost
+pub lacks_kept : (o : Option Store) (places : List Place) (table : TableId) (lost : List ℕ) (write : ℕ) → is_among lost write ≡ false
+    → Tells o (λ s. places ≡ places_of table s.tree → (found : Option Written) → IsCommitFile found (files.get s.tree (own_place table.0 write)) → ⊥)
+    → Tells o (LacksOne table lost write places)
+lacks_kept None places table lost write kept none = tt
+lacks_kept (Some s) places table lost write kept none = (kept, none)
 
 -- the table that a statement names
-spoiled_of : {D : Type 0} (told : D → Option Store) (house : House D) (tree : Stmt) (info : TableInfo) (given : ℕ) (found : Option Known)
-    → found ≡ known_by_name (table_named tree) house.tables.items → Some (info, given) ≡ option_map pair_of found
-    → Tells (told house.shelf) (LacksCommits info.table.0 given) → IsSpoiled told house tree
-spoiled_of told house tree info given None is pair none = cc
-spoiled_of told house tree info given (Some known) is pair none =
-    let both : (info, given) ≡ (known.info, known.given) = cc in
-    record {
-      known = known;
-      named = sym is;
-      lacks = subst (λ (p : TableInfo × ℕ). Tells (told house.shelf) (LacksCommits p.0.table.0 p.1)) both none;
-    }
-
-pub spoiled : {D : Type 0} (told : D → Option Store) (house : House D) (tree : Stmt) (info : TableInfo) (given : ℕ)
-    → Some (info, given) ≡ option_map pair_of (known_by_name (table_named tree) house.tables.items)
-    → Tells (told house.shelf) (LacksCommits info.table.0 given) → IsSpoiled told house tree
-spoiled told house tree info given pair none = spoiled_of told house tree info given (known_by_name (table_named tree) house.tables.items) refl pair none
+pub spoiled : {D : Type 0} (told : D → Option Store) (house : House D) (tree : Stmt) (known : Known)
+    → Some known ≡ known_by_name (table_named tree) house.tables.items
+    → Tells (told house.shelf) (LacksCommits known.info.table.0 known.given known.lost) → IsSpoiled told house tree
+spoiled told house tree known is none = record { known = known; named = sym is; lacks = none }

@@ -1,5 +1,5 @@
 -- The rows of the files that stand.
-use Rattle.std.proofs.Common.{◌≡◌, ℕ, suc, ◌+◌, ◌-◌, ◌<◌, ◌≤◌, ◌==◌, Bool, true, false, Option, Some, None, List, [], ◌∷◌, ◌++◌, length, is_some, refl, sym, ap, ◌∙◌, subst, append_assoc, append-nil, arith}
+use Rattle.std.proofs.Common.{◌≡◌, ℕ, suc, ◌+◌, ◌-◌, ◌<◌, ◌≤◌, ◌==◌, Bool, true, false, cond, Option, Some, None, List, [], ◌∷◌, ◌++◌, length, is_some, refl, sym, ap, ◌∙◌, subst, append_assoc, append-nil, arith}
 use Rattle.std.specs.FinMap as files
 use Rattle.std.specs.Ordering.{eq_by_cmp}
 use Rattle.std.specs.Cmp.{eq_by_cmp_equiv, first_so}
@@ -20,11 +20,10 @@ use Rattle.hv_table.proofs.DecimalLemmas.{length-fixed_digits}
 use Rattle.hv_dirs.specs.Names.{own_name}
 use Rattle.hv_stands.specs.Files.{insert_record, records_of, file_of, own_place}
 use Rattle.hv_stands.specs.Sound.{IsWhole}
-use Rattle.hv_stands.specs.Reading.{written_with, inserts_in, rows_at, rows_from}
 use Rattle.hv_house.specs.Faults.{IsShort}
 use Rattle.hv_house.specs.declared.house.House.{House}
 use Rattle.hv_house.specs.House.{IsAsked}
-use Rattle.hv_house.specs.Rows.{found_of, found_in, IsCommitFile, AddsRows, HasCommits, ReadsUpTo}
+use Rattle.hv_house.specs.Rows.{found_of, found_in, written_with, inserts_in, is_among, rows_at, rows_from, IsCommitFile, AddsRows, HasCommits, AddsOne, ReadsUpTo}
 
 -- ---- a file's rows
 
@@ -117,34 +116,57 @@ both-tell : (P Q R : Store → Type 0) (o : Option Store) → ((s : Store) → P
 both-tell P Q R None f p q = tt
 both-tell P Q R (Some s) f p q = f s p q
 
-rows-step : (writes : List Written) (before given : ℕ) → before < given
-    → rows_from writes before (given - before) ≡ rows_at writes (before + 1) ++ rows_from writes (before + 1) (given - (before + 1))
-rows-step writes before given low =
-    let next : given - before ≡ suc (given - (before + 1)) = omega arith in ap (rows_from writes before) next
+rows-step : (lost : List ℕ) (writes : List Written) (before given : ℕ) → before < given
+    → rows_from lost writes before (given - before) ≡ rows_at lost writes (before + 1) ++ rows_from lost writes (before + 1) (given - (before + 1))
+rows-step lost writes before given low =
+    let next : given - before ≡ suc (given - (before + 1)) = omega arith in ap (rows_from lost writes before) next
 
-pub reads-begin : {D : Type 0} (told : D → Option Store) (faults : D → ℕ) (first now : House D) (places : List Place) (table : TableId) (given : ℕ) (rows : List Found)
+pub reads-begin : {D : Type 0} (told : D → Option Store) (faults : D → ℕ) (first now : House D) (places : List Place) (table : TableId) (given : ℕ) (lost : List ℕ) (rows : List Found)
     → IsAsked told first now → faults first.shelf ≤ faults now.shelf → Tells (told first.shelf) (λ s. places ≡ places_of table s.tree) → rows ≡ []
-    → ReadsUpTo told faults first now places table given 0 rows
-reads-begin told faults first now places table given rows asked later are none = record {
+    → ReadsUpTo told faults first now places table given lost 0 rows
+reads-begin told faults first now places table given lost rows asked later are none = record {
   asked = asked;
   later = later;
   listed = are;
   read = both-tell (λ s. places ≡ places_of table s.tree) (λ s. places ≡ places_of table s.tree)
-      (λ s. (writes : List Written) → HasCommits table.0 given writes s → rows ++ rows_from writes 0 (given - 0) ≡ rows_from writes 0 given)
+      (λ s. (writes : List Written) → HasCommits table.0 given lost writes s → rows ++ rows_from lost writes 0 (given - 0) ≡ rows_from lost writes 0 given)
       (told first.shelf) (λ s p q writes has.
       let all : given - 0 ≡ given = omega arith in
-      ap (λ (xs : List Found). xs ++ rows_from writes 0 (given - 0)) none ∙ ap (rows_from writes 0) all) are are;
+      ap (λ (xs : List Found). xs ++ rows_from lost writes 0 (given - 0)) none ∙ ap (rows_from lost writes 0) all) are are;
 }
 
-pub reads-next : {D : Type 0} (told : D → Option Store) (faults : D → ℕ) (first now next : House D) (places : List Place) (table : TableId) (given before : ℕ) (rows more : List Found)
-    → ReadsUpTo told faults first now places table given before rows → before < given → IsAsked told now next → faults now.shelf ≤ faults next.shelf
-    → Tells (told now.shelf) (λ s. places ≡ places_of table s.tree → AddsRows (own_place table.0 (before + 1)) rows more s)
-    → ReadsUpTo told faults first next places table given (before + 1) more
-reads-next told faults first now next places table given before rows more reads low asked later adds =
+adds-read : (table : TableId) (lost : List ℕ) (write : ℕ) (places : List Place) (before now : List Found) (s : Store) → is_among lost write ≡ false
+    → (places ≡ places_of table s.tree → AddsRows (own_place table.0 write) before now s) → AddsOne table lost write places before now s
+adds-read table lost write places before now s kept adds = λ are writes file.
+    adds are (written_with write writes) (file kept)
+    ∙ ap (λ b. before ++ cond b [] (inserts_in (written_with write writes))) (sym kept)
+
+adds-skipped : (table : TableId) (lost : List ℕ) (write : ℕ) (places : List Place) (rows : List Found) (s : Store) → is_among lost write ≡ true
+    → AddsOne table lost write places rows rows s
+adds-skipped table lost write places rows s passed = λ are writes file.
+    sym (append-nil rows) ∙ ap (λ b. rows ++ cond b [] (inserts_in (written_with write writes))) (sym passed)
+
+pub one-read : (o : Option Store) (table : TableId) (lost : List ℕ) (write : ℕ) (places : List Place) (before now : List Found) → is_among lost write ≡ false
+    → Tells o (λ s. places ≡ places_of table s.tree → AddsRows (own_place table.0 write) before now s) → Tells o (AddsOne table lost write places before now)
+one-read None table lost write places before now kept adds = tt
+one-read (Some s) table lost write places before now kept adds = adds-read table lost write places before now s kept adds
+
+pub one-skipped : (o : Option Store) (table : TableId) (lost : List ℕ) (write : ℕ) (places : List Place) (rows : List Found) → is_among lost write ≡ true
+    → Tells o (AddsOne table lost write places rows rows)
+one-skipped None table lost write places rows passed = tt
+one-skipped (Some s) table lost write places rows passed = adds-skipped table lost write places rows s passed
+
+pub reads-next : {D : Type 0} (told : D → Option Store) (faults : D → ℕ) (first now next : House D) (places : List Place) (table : TableId) (given : ℕ) (lost : List ℕ) (before : ℕ) (rows more : List Found)
+    → ReadsUpTo told faults first now places table given lost before rows → before < given → IsAsked told now next → faults now.shelf ≤ faults next.shelf
+    → Tells (told now.shelf) (AddsOne table lost (before + 1) places rows more)
+    → ReadsUpTo told faults first next places table given lost (before + 1) more
+reads-next told faults first now next places table given lost before rows more reads low asked later adds =
     let same : told now.shelf ≡ told first.shelf = reads.asked.store in
-    let adds_first = subst (λ (o : Option Store). Tells o (λ s. places ≡ places_of table s.tree → AddsRows (own_place table.0 (before + 1)) rows more s)) same adds in
-    let added = both-tell (λ s. places ≡ places_of table s.tree → AddsRows (own_place table.0 (before + 1)) rows more s) (λ s. places ≡ places_of table s.tree)
-    (AddsRows (own_place table.0 (before + 1)) rows more) (told first.shelf) (λ s p q. p q) adds_first reads.listed in
+    let adds_first = subst (λ (o : Option Store). Tells o (AddsOne table lost (before + 1) places rows more)) same adds in
+    let Adds : Store → Type 0 = λ s. (writes : List Written) → (is_among lost (before + 1) ≡ false → IsCommitFile (written_with (before + 1) writes) (files.get s.tree (own_place table.0 (before + 1))))
+    → more ≡ rows ++ rows_at lost writes (before + 1) in
+    let added = both-tell (AddsOne table lost (before + 1) places rows more) (λ s. places ≡ places_of table s.tree) Adds (told first.shelf)
+    (λ s p q. p q) adds_first reads.listed in
     record {
       asked = record {
         store = asked.store ∙ reads.asked.store;
@@ -155,24 +177,24 @@ reads-next told faults first now next places table given before rows more reads 
       };
       later = omega (arith, reads.later, later);
       listed = reads.listed;
-      read = both-tell (AddsRows (own_place table.0 (before + 1)) rows more)
-          (λ s. (writes : List Written) → HasCommits table.0 given writes s → rows ++ rows_from writes before (given - before) ≡ rows_from writes 0 given)
-          (λ s. (writes : List Written) → HasCommits table.0 given writes s → more ++ rows_from writes (before + 1) (given - (before + 1)) ≡ rows_from writes 0 given)
+      read = both-tell Adds
+          (λ s. (writes : List Written) → HasCommits table.0 given lost writes s → rows ++ rows_from lost writes before (given - before) ≡ rows_from lost writes 0 given)
+          (λ s. (writes : List Written) → HasCommits table.0 given lost writes s → more ++ rows_from lost writes (before + 1) (given - (before + 1)) ≡ rows_from lost writes 0 given)
           (told first.shelf)
           (λ s p q writes has.
-          ap (λ (xs : List Found). xs ++ rows_from writes (before + 1) (given - (before + 1))) (p (written_with (before + 1) writes) (has (before + 1) (omega arith)))
-          ∙ append_assoc rows (rows_at writes (before + 1)) (rows_from writes (before + 1) (given - (before + 1)))
-          ∙ ap (λ (xs : List Found). rows ++ xs) (sym (rows-step writes before given low)) ∙ q writes has)
+          ap (λ (xs : List Found). xs ++ rows_from lost writes (before + 1) (given - (before + 1))) (p writes (λ kept. has (before + 1) (omega arith) kept))
+          ∙ append_assoc rows (rows_at lost writes (before + 1)) (rows_from lost writes (before + 1) (given - (before + 1)))
+          ∙ ap (λ (xs : List Found). rows ++ xs) (sym (rows-step lost writes before given low)) ∙ q writes has)
           added reads.read;
     }
 
-pub reads-all : {D : Type 0} (told : D → Option Store) (faults : D → ℕ) (first now : House D) (places : List Place) (table : TableId) (given before : ℕ) (rows : List Found)
-    → ReadsUpTo told faults first now places table given before rows → before ≡ given
-    → Tells (told first.shelf) (λ s. (writes : List Written) → HasCommits table.0 given writes s → rows ≡ rows_from writes 0 given)
-reads-all told faults first now places table given before rows reads at =
-    both-tell (λ s. (writes : List Written) → HasCommits table.0 given writes s → rows ++ rows_from writes before (given - before) ≡ rows_from writes 0 given)
-    (λ s. places ≡ places_of table s.tree) (λ s. (writes : List Written) → HasCommits table.0 given writes s → rows ≡ rows_from writes 0 given) (told first.shelf)
+pub reads-all : {D : Type 0} (told : D → Option Store) (faults : D → ℕ) (first now : House D) (places : List Place) (table : TableId) (given : ℕ) (lost : List ℕ) (before : ℕ) (rows : List Found)
+    → ReadsUpTo told faults first now places table given lost before rows → before ≡ given
+    → Tells (told first.shelf) (λ s. (writes : List Written) → HasCommits table.0 given lost writes s → rows ≡ rows_from lost writes 0 given)
+reads-all told faults first now places table given lost before rows reads at =
+    both-tell (λ s. (writes : List Written) → HasCommits table.0 given lost writes s → rows ++ rows_from lost writes before (given - before) ≡ rows_from lost writes 0 given)
+    (λ s. places ≡ places_of table s.tree) (λ s. (writes : List Written) → HasCommits table.0 given lost writes s → rows ≡ rows_from lost writes 0 given) (told first.shelf)
     (λ s p q writes has.
     let none : given - before ≡ 0 = omega (arith, at) in
-    sym (append-nil rows) ∙ ap (λ (n : ℕ). rows ++ rows_from writes before n) (sym none) ∙ p writes has)
+    sym (append-nil rows) ∙ ap (λ (n : ℕ). rows ++ rows_from lost writes before n) (sym none) ∙ p writes has)
     reads.read reads.listed

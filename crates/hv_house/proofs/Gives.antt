@@ -3,14 +3,13 @@ use Rattle.std.proofs.Common.{◌≡◌, ℕ, zero, suc, ◌+◌, ◌-◌, ◌<�
 use Rattle.std.specs.Prelude.{slice_set, slice_index_or, nat_eq}
 use Rattle.std.specs.Cmp.Lexicographic.{pointwise}
 use Rattle.std.specs.List.{AllByRecursion}
-use Rattle.hv_logic.specs.declared.catalog.TableInfo.{TableInfo}
 use Rattle.hv_dirs.specs.Names.{write_end}
 use Rattle.std.specs.Option.{option_map}
 use Rattle.hv_history.specs.State.{numbered, changed}
 use Rattle.hv_history.proofs.NumberLemmas.{numbered-some, place-some, put_changed}
-use Rattle.hv_house.specs.declared.known.Known.{Known}
+use Rattle.hv_known.specs.declared.known.Known.{Known}
 use Rattle.hv_house.specs.House.{next_write, with_next, known_of_name, HasNumbers}
-use Rattle.hv_house.specs.Meaning.{known_by_name, pair_of}
+use Rattle.hv_house.specs.Meaning.{known_by_name}
 
 index-any : (xs : List Known) (n : ℕ) (a b : Known) → n < length xs → slice_index_or xs n a ≡ slice_index_or xs n b
 index-any [] n a b p = absurd (omega arith)
@@ -24,12 +23,12 @@ next-at xs number y first last is =
 
 pub gave : (xs ys : List Known) (number : ℕ) (x y : Known) → ys ≡ xs → 1 ≤ number → number ≤ length xs
     → x ≡ slice_index_or ys (number - 1) x → y ≡ slice_index_or xs (number - 1) y
-    → slice_set ys (number - 1) (record { info = x.info; given = y.given + 1 }) ≡ changed with_next xs number
+    → slice_set ys (number - 1) (record { info = x.info; given = y.given + 1; lost = x.lost }) ≡ changed with_next xs number
 gave xs ys number x y e first last at was =
     let here : x ≡ slice_index_or xs (number - 1) x = at ∙ ap (λ (zs : List Known). slice_index_or zs (number - 1) x) e in
     let same : y ≡ x = was ∙ index-any xs (number - 1) y x (omega arith) ∙ sym here in
-    ap (λ (zs : List Known). slice_set zs (number - 1) (record { info = x.info; given = y.given + 1 })) e
-    ∙ ap (λ (z : Known). slice_set xs (number - 1) (record { info = x.info; given = z.given + 1 })) same
+    ap (λ (zs : List Known). slice_set zs (number - 1) (record { info = x.info; given = y.given + 1; lost = x.lost })) e
+    ∙ ap (λ (z : Known). slice_set xs (number - 1) (record { info = x.info; given = z.given + 1; lost = x.lost })) same
     ∙ put_changed (λ f. f) with_next xs xs number (number - 1) x refl (place-some xs number (number - 1) (omega arith) (omega arith)).1 here
 
 -- ---- the next write id of a table that is found by its name has a name
@@ -54,13 +53,13 @@ unfolding AllSmall
 small-by-name None tables all = tt
 small-by-name (Some name) tables all = small-named name tables all
 
-small-pair : (o : Option Known) (pair : TableInfo × ℕ) → AllSmall o → option_map pair_of o ≡ Some pair → pair.1 < write_end
+small-one : (o : Option Known) (known : Known) → AllSmall o → o ≡ Some known → known.given < write_end
 unfolding AllSmall
-small-pair None pair small e = cc
-small-pair (Some known) pair small e =
-    let same : (known.info, known.given) ≡ pair = cc in
-    omega (arith, small, ap (λ (p : TableInfo × ℕ). p.1) same)
+small-one None known small e = cc
+small-one (Some first) known small e =
+    let same : first ≡ known = cc in
+    omega (arith, small, ap (λ (k : Known). k.given) same)
 
-pub known-small : (o : Option (List ℕ)) (tables : List Known) → AllByRecursion HasNumbers tables → (r : Option (TableInfo × ℕ)) (pair : TableInfo × ℕ)
-    → r ≡ option_map pair_of (known_by_name o tables) → r ≡ Some pair → pair.1 < write_end
-known-small o tables all r pair is some = small-pair (known_by_name o tables) pair (small-by-name o tables all) (sym is ∙ some)
+pub known-small : (o : Option (List ℕ)) (tables : List Known) → AllByRecursion HasNumbers tables → (r : Option Known) (known : Known)
+    → r ≡ known_by_name o tables → r ≡ Some known → known.given < write_end
+known-small o tables all r known is some = small-one (known_by_name o tables) known (small-by-name o tables all) (sym is ∙ some)

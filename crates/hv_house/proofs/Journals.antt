@@ -1,5 +1,5 @@
 -- The journal behind a noted entry.
-use Rattle.std.proofs.Common.{◌≡◌, ℕ, ◌+◌, ◌*◌, ◌<◌, ◌≤◌, Option, Some, None, List, [], ◌∷◌, ◌++◌, length, refl, sym, ap, ◌∙◌, subst, arith}
+use Rattle.std.proofs.Common.{◌≡◌, ℕ, ◌+◌, ◌*◌, ◌^◌, ◌<◌, ◌≤◌, Option, Some, None, List, [], ◌∷◌, ◌++◌, length, refl, sym, ap, ◌∙◌, subst, arith}
 use Rattle.std.proofs.lemmas.List.{length-append}
 use Rattle.hv_base.specs.Told.{Tells, Moves}
 use Rattle.hv_shelf.specs.Disk.{Store}
@@ -7,12 +7,8 @@ use Rattle.hv_history.specs.declared.entry.Entry.{Entry}
 use Rattle.hv_history.specs.Spelling.{entry_spelling}
 use Rattle.hv_history.specs.Journal.{record_of, place_of}
 use Rattle.hv_journal.specs.Appending.{Holds, KeepsTree}
-use Rattle.hv_history.specs.declared.entry.Entry.TheVariants.{Boot}
-use Rattle.hv_history.specs.State.{state_of, acted}
-use Rattle.hv_stands.specs.Sound.{IsSound}
 use Rattle.hv_house.specs.declared.house.House.{House}
-use Rattle.hv_house.specs.House.{entries_of, IsKept, Knows, IsReady, IsNoted}
-use Rattle.hv_house.specs.Booting.{IsBooted}
+use Rattle.hv_house.specs.House.{entries_of, IsKept, IsNoted}
 use Rattle.hv_journal.proofs.Books.{place_more, leads_len}
 use Rattle.hv_journal.proofs.Lengths.{length-record}
 
@@ -25,8 +21,8 @@ pub noted_place : (book : List Entry) (e : Entry) (place now : ℕ) → place �
     → now ≡ place_of (book ++ e ∷ [])
 noted_place book e place now at is = omega (arith, place_more book e, at, is)
 
-pub noted_near : (book : List Entry) (e : Entry) (place now : ℕ) → place ≤ length book * 65541 → length (entry_spelling e) ≤ 65536
-    → now ≡ place + length (record_of e) + 1 → now ≤ length (book ++ e ∷ []) * 65541
+pub noted_near : (book : List Entry) (e : Entry) (place now : ℕ) → place ≤ 2 ^ 62 + length book * 65541 → length (entry_spelling e) ≤ 65536
+    → now ≡ place + length (record_of e) + 1 → now ≤ 2 ^ 62 + length (book ++ e ∷ []) * 65541
 noted_near book e place now near short is = omega (arith, length-append book (e ∷ []), length-record e, near, short, is)
 
 pub record_short : (e : Entry) → length (entry_spelling e) ≤ 65536 → length (record_of e) ≤ 65540
@@ -44,7 +40,7 @@ pub noted : {D : Type 0} (told : D → Option Store) (event : Entry) (before now
 noted told event before now kept short room entries place holds opened tree = record {
   kept = record {
     place = noted_place (entries_of before) event before.place now.place kept.place place ∙ ap place_of (sym entries);
-    near = subst (λ (b : List Entry). now.place ≤ length b * 65541) (sym entries)
+    near = subst (λ (b : List Entry). now.place ≤ 2 ^ 62 + length b * 65541) (sym entries)
         (noted_near (entries_of before) event before.place now.place kept.near short place);
     few = omega (arith, ap length entries, length-append (entries_of before) (event ∷ []), room);
     opened = omega (arith, ap length entries, length-append (entries_of before) (event ∷ []), kept.opened, opened);
@@ -52,20 +48,4 @@ noted told event before now kept short room entries place holds opened tree = re
   };
   entries = entries;
   tree = tree;
-}
-
--- the history of an opening alone
-boot_sound : IsSound (state_of (Boot 0 ∷ []))
-unfolding acted
-boot_sound = record { ended = tt; no_jobs = refl; tables = record { live = tt; in_order = tt; plain = tt; few = tt; written = tt } }
-
-booted_knows : {D : Type 0} (house : House D) → house.opened ≡ 0 → house.tables.items ≡ [] → Knows (state_of (Boot 0 ∷ [])) house
-unfolding acted
-booted_knows house opened tables = record { opened = opened; tables = tables }
-
-pub booted_ready : {D : Type 0} (told : D → Option Store) (before now : House D) → IsBooted told before now → IsReady told now
-booted_ready told before now booted = record {
-  kept = booted.kept;
-  knows = subst (λ (b : List Entry). Knows (state_of b) now) (sym booted.entries) (booted_knows now booted.opened booted.tables);
-  sound = subst (λ (b : List Entry). IsSound (state_of b)) (sym booted.entries) boot_sound;
 }

@@ -5,6 +5,7 @@ use Rattle.hv_base.specs.declared.ids.TxnId.{TxnId}
 use Rattle.hv_base.specs.declared.ids.TableId.{TableId}
 use Rattle.hv_base.specs.declared.ids.WriteId.{WriteId}
 use Rattle.hv_history.specs.declared.entry.Entry.TheVariants as entry
+use Rattle.hv_history.specs.declared.entry.Cause.TheVariants as cause
 use Rattle.hv_history.specs.Spelling.{entry_spelling}
 use Rattle.hv_bytes.proofs.Lengths.{length-four, length-eight, length-text}
 
@@ -20,3 +21,9 @@ short_given txn table write = grind (arith, length-append, length-eight)
 
 pub short_create : (txn : TxnId) (table : TableId) → length (entry_spelling (entry.Create txn table)) ≤ 65536
 short_create txn table = grind (arith, length-append, length-eight)
+
+pub short_lost : (txn : TxnId) → length (entry_spelling (entry.Abort txn cause.Lost)) ≤ 65536
+short_lost txn = grind (arith, length-append, length-eight)
+
+pub short_boot : (run : ℕ) → length (entry_spelling (entry.Boot run)) ≤ 65536
+short_boot run = grind (arith, length-append, length-eight)

@@ -3,5 +3,7 @@ pub mod Journals
 pub mod Gives
 pub mod FileRows
 pub mod Stays
-pub mod Halts
 pub mod Damage
+pub mod Openings
+pub mod Boots
+pub mod Faithful

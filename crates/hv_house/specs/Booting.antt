@@ -1,62 +1,145 @@
 -- How a store is opened.
-use Rattle.std.specs.Prelude.{◌≡◌, ◌⊎◌, ◌≤◌, Option, [], ◌∷◌, length, Result, Ok, Err}
+use Rattle.std.specs.Prelude.{◌≡◌, ◌⊎◌, ℕ, ◌+◌, ◌≤◌, ◌<◌, Option, List, [], ◌∷◌, ◌++◌, length, map, Result, Ok, Err}
+use Rattle.hv_base.specs.declared.ids.TxnId.{TxnId}
 use Rattle.hv_base.specs.Told.{Tells, Moves}
 use Rattle.hv_shelf.specs.Disk.{Store}
 use Rattle.hv_history.specs.declared.entry.Entry.{Entry}
-use Rattle.hv_history.specs.declared.entry.Entry.TheVariants.{Boot}
-use Rattle.hv_history.specs.Journal.{Reads, IsJournal}
-use Rattle.hv_journal.specs.Appending.{KeepsTree}
+use Rattle.hv_history.specs.declared.entry.Entry.TheVariants.{Boot, Abort}
+use Rattle.hv_history.specs.declared.entry.Cause.TheVariants.{Lost}
+use Rattle.hv_history.specs.State.{State, nothing_yet, state_of}
+use Rattle.hv_history.specs.Journal.{IsJournal}
+use Rattle.hv_history.specs.Legal.{is_open, load, HasRoom, profile, AllFit}
+use Rattle.hv_recovery.specs.Recovery.{IsJournalOf, IsBadJournalAt}
+use Rattle.hv_known.specs.Known.{marked_from}
+use Rattle.hv_recovery.specs.declared.fault.OpenFault.{OpenFault}
+use Rattle.hv_recovery.specs.declared.fault.OpenFault.TheVariants as opening
 use Rattle.hv_house.specs.declared.fault.HouseFault.{HouseFault}
 use Rattle.hv_house.specs.declared.fault.HouseFault.TheVariants as house
 use Rattle.hv_house.specs.declared.boot.BootFault.{BootFault}
 use Rattle.hv_house.specs.declared.boot.BootFault.TheVariants as fault
 use Rattle.hv_house.specs.declared.house.House.{House}
-use Rattle.hv_house.specs.House.{entries_of, IsKept}
+use Rattle.hv_house.specs.declared.boot.Left.{Left}
+use Rattle.hv_known.specs.Known.{all_known}
+use Rattle.hv_house.specs.House.{entries_of, IsFaithful, Leaves}
+
+-- ---- the opening of a book
+
+-- the numbers of the transactions that are open
+abbrev pub open_numbers : State → List ℕ
+open_numbers state = marked_from 1 (map is_open state.transactions)
+
+abbrev pub lost_entry : ℕ → Entry
+lost_entry number = Abort (record { 0 = number }) Lost
+
+-- a Boot, and each transaction that an earlier run left open is aborted as lost
+abbrev pub opening_entries : State → List Entry
+opening_entries state = Boot state.openings.count ∷ map lost_entry (open_numbers state)
+
+-- the book with its opening
+abbrev pub opening_of : List Entry → List Entry
+opening_of book = book ++ opening_entries (state_of book)
+
+-- A store that opens: its journal reads to this legal book, and the book's files stand.
+pub record OpensTo (book : List Entry) (store : Store) : Type 0 where
+  pub journal : IsJournal book store.journal
+  pub faithful : IsFaithful book store
+
+-- ---- why a store isn't opened
 
 abbrev pub boot_fault : HouseFault → BootFault
 boot_fault house.Store = fault.Store
 boot_fault house.NoMemory = fault.NoMemory
 
+abbrev pub open_fault : OpenFault → BootFault
+open_fault (opening.BadJournal at) = fault.BadJournal at
+open_fault opening.Failed = fault.Store
+open_fault opening.NoMemory = fault.NoMemory
+
 abbrev pub IsBootStore : BootFault → Type 0
 IsBootStore fault.Store = Unit {0}
 IsBootStore _ = ⊥
 
-abbrev pub BootFails : {T : Type 0} → Result T BootFault → Type 0
-BootFails (Ok x) = ⊥
-BootFails (Err e) = IsBootStore e
+-- the journal has no room for its opening
+pub record IsFullAt (entries : ℕ) (bytes : List ℕ) : Type 0 where
+  pub book : List Entry
+  pub reads : IsJournalOf profile book bytes
+  pub count : entries ≡ length book
+  pub full : profile.entries < load (state_of book) + 1
 
--- nothing is kept yet
-pub record IsFresh {D : Type 0} (house : House D) : Type 0 where
-  pub place : house.place ≡ 0
-  pub entries : entries_of house ≡ []
-  pub opened : house.opened ≡ 0
-  pub tables : house.tables.items ≡ []
+-- the journal reads to this book, whose entries fit, and has room for its opening
+pub record CanOpenAs (book : List Entry) (store : Store) : Type 0 where
+  pub reads : IsJournalOf profile book store.journal
+  pub room : HasRoom profile (state_of book) 1
 
--- the journal was empty, and has the opening now
-pub record IsBooted {D : Type 0} (told : D → Option Store) (before now : House D) : Type 0 where
-  pub kept : IsKept told now
-  pub entries : entries_of now ≡ Boot 0 ∷ []
-  pub opened : now.opened ≡ 0
-  pub tables : now.tables.items ≡ []
-  pub empty : Tells (told before.shelf) (λ s. length s.journal ≤ 1)
-  pub tree : Moves KeepsTree (told before.shelf) (told now.shelf)
+abbrev pub CanOpen : Store → Type 0
+CanOpen store = (book : List Entry) × CanOpenAs book store
 
--- a journal is bad where it has an entry or more, and the store is then as it was
+-- the journal reads to no book whose entries fit; the book that it reads to has no room for its opening
+abbrev pub HasNoBook : Store → Type 0
+HasNoBook store = (book : List Entry) → IsJournalOf profile book store.journal → ⊥
+
+abbrev pub HasFullBook : Store → Type 0
+HasFullBook store = (book : List Entry) → IsJournalOf profile book store.journal → profile.entries < load (state_of book) + 1
+
+-- a journal that is bad, and one that is full, are left as they are, and no other is called so
 abbrev pub IsBootFault : Option Store → Option Store → BootFault → Type 0
-IsBootFault before now (fault.BadJournal at) = (at ≡ 0) × (now ≡ before) × Tells before (λ s. 2 ≤ length s.journal)
+IsBootFault before now (fault.BadJournal at) = (now ≡ before) × Tells before (λ s. IsBadJournalAt profile s.journal at) × Tells before HasNoBook
+IsBootFault before now (fault.Full entries) = (now ≡ before) × Tells before (λ s. IsFullAt entries s.journal) × Tells before HasFullBook
 IsBootFault before now _ = Unit {0}
 
--- What an opening that stopped leaves of a journal that was empty: it is empty; and where the store failed, it may
--- read to one entry.
-abbrev pub LeavesEmpty : BootFault → Option Store → Type 0
-LeavesEmpty fault.NoMemory told = Tells told (λ s. IsJournal [] s.journal)
-LeavesEmpty fault.Store told = Tells told (λ s. IsJournal [] s.journal ⊎ ((e : Entry) × Reads (e ∷ []) s.journal))
-LeavesEmpty (fault.BadJournal at) told = Unit {0}
+-- the journal reads to this book, or, where the store failed, to it and the next of these entries
+abbrev pub LeavesFront : BootFault → List Entry → List Entry → List ℕ → Type 0
+LeavesFront fault.Store book more bytes =
+    IsJournal book bytes ⊎ ((e : Entry) × (rest : List Entry) × (more ≡ e ∷ rest) × IsJournal (book ++ e ∷ []) bytes)
+LeavesFront _ book more bytes = IsJournal book bytes
 
--- the journal has no entry
-abbrev pub IsUnwritten : Option Store → Type 0
-IsUnwritten told = Tells told (λ s. length s.journal ≤ 1)
+-- the book with a front of these entries
+pub record IsCutShort (why : BootFault) (book opening : List Entry) (bytes : List ℕ) : Type 0 where
+  pub front : List Entry
+  pub more : List Entry
+  pub parts : opening ≡ front ++ more
+  pub leaves : LeavesFront why (book ++ front) more bytes
 
--- a journal that has an entry or more is left as it is
-abbrev pub SparesHistory : Option Store → Option Store → Type 0
-SparesHistory before now = Tells before (λ s. 2 ≤ length s.journal → now ≡ before)
+-- what an opening that stopped leaves of a journal that read to this book
+abbrev pub IsCutOpening : BootFault → List Entry → List ℕ → Type 0
+IsCutOpening why book bytes = IsCutShort why book (opening_entries (state_of book)) bytes
+
+abbrev pub CutsOpening : HouseFault → List Entry → List Entry → Option Store → Type 0
+CutsOpening why book opening told = Tells told (λ s. IsCutShort (boot_fault why) book opening s.journal)
+
+-- the journal read to a book whose entries fit, and a front of its opening was noted
+abbrev pub StopsOpening : Option Store → Option Store → BootFault → Type 0
+StopsOpening before now why = Moves (λ s t. (book : List Entry) → IsJournalOf profile book s.journal → IsCutOpening why book t.journal) before now
+
+-- some of these transactions were aborted as lost, and the next one wasn't
+pub record LosesSome {D : Type 0} (told : D → Option Store) (why : HouseFault) (open_ : List ℕ) (before now : House D) : Type 0 where
+  pub lost : List ℕ
+  pub next : ℕ
+  pub more : List ℕ
+  pub parts : open_ ≡ lost ++ next ∷ more
+  pub entries : entries_of now ≡ entries_of before ++ map lost_entry lost
+  pub leaves : Leaves why (lost_entry next) (told now.shelf) (entries_of now)
+
+-- a book that was read has no room for its opening
+abbrev pub IsRaiseFault : List Entry → Option Store → Option Store → BootFault → Type 0
+IsRaiseFault book before now (fault.BadJournal at) = ⊥
+IsRaiseFault book before now (fault.Full entries) = (now ≡ before) × (entries ≡ length book) × (profile.entries < load (state_of book) + 1)
+IsRaiseFault book before now _ = Unit {0}
+
+-- what is learned of a book
+pub record IsLearned (book : List Entry) (found : Left) : Type 0 where
+  pub runs : found.runs ≡ (state_of book).openings.count
+  pub opened : found.opened ≡ length (state_of book).transactions
+  pub few : found.opened ≤ length book
+  pub open_are : found.unended.items ≡ open_numbers (state_of book)
+  pub tables : found.tables.items ≡ all_known (state_of book)
+
+-- the book of an opened store is one that its journal read to, with its opening
+pub record IsOpening (told : Option Store) (book now : List Entry) : Type 0 where
+  pub fit : AllFit profile nothing_yet book
+  pub room : HasRoom profile (state_of book) 1
+  pub reads : Tells told (λ s. IsJournalOf profile book s.journal)
+  pub now_is : now ≡ opening_of book
+
+abbrev pub Opens : Option Store → List Entry → Type 0
+Opens told now = (book : List Entry) × IsOpening told book now

@@ -1,19 +1,25 @@
 -- What a house holds of a store's history, for one thread of statements.
-use Rattle.std.specs.Prelude.{◌≡◌, ℕ, ◌+◌, ◌*◌, ◌<◌, ◌≤◌, Option, Some, None, List, [], ◌∷◌, ◌++◌, length, map, if◌then◌else◌, nat_eq}
+use Rattle.std.specs.Prelude.{◌≡◌, ℕ, ◌+◌, ◌*◌, ◌^◌, ◌<◌, ◌≤◌, Option, Some, None, List, [], ◌∷◌, ◌++◌, length, map, if◌then◌else◌, nat_eq}
 use Rattle.std.specs.Cmp.Lexicographic.{pointwise}
 use Rattle.hv_base.specs.Told.{Tells, Moves}
 use Rattle.hv_shelf.specs.Disk.{Store}
 use Rattle.hv_history.specs.declared.entry.Entry.{Entry}
 use Rattle.hv_history.specs.declared.state.Table.{Table}
-use Rattle.hv_history.specs.State.{State, state_of}
+use Rattle.hv_base.specs.declared.ids.TxnId.{TxnId}
+use Rattle.hv_base.specs.declared.ids.TableId.{TableId}
+use Rattle.hv_base.specs.declared.ids.WriteId.{WriteId}
+use Rattle.std.specs.Option.{option_map}
+use Rattle.hv_history.specs.declared.entry.Entry.TheVariants as entry
+use Rattle.hv_history.specs.State.{State, state_of, numbered}
 use Rattle.hv_history.specs.Journal.{place_of}
 use Rattle.hv_history.specs.Legal.{IsLegal, profile}
 use Rattle.hv_journal.specs.Appending.{Holds, HoldsOneMore, KeepsTree}
 use Rattle.hv_dirs.specs.Names.{write_end}
 use Rattle.hv_stands.specs.Files.{Stands}
-use Rattle.hv_stands.specs.Sound.{IsSound}
+use Rattle.hv_stands.specs.Sound.{IsIdle}
 use Rattle.hv_stands.specs.Endings.{statement_entries}
-use Rattle.hv_house.specs.declared.known.Known.{Known}
+use Rattle.hv_known.specs.declared.known.Known.{Known}
+use Rattle.hv_known.specs.Known.{all_known}
 use Rattle.hv_house.specs.declared.fault.HouseFault.{HouseFault}
 use Rattle.hv_house.specs.declared.fault.HouseFault.TheVariants as fault
 use Rattle.hv_house.specs.declared.house.House.{House}
@@ -28,10 +34,6 @@ record_limit = 65541
 -- the most entries of a journal
 abbrev pub book_limit : ℕ
 book_limit = 131072
-
--- what is kept of a table
-abbrev pub known_of : Table → Known
-known_of table = record { info = table.info; given = length table.owners }
 
 -- the write id that is given next, and the table then
 abbrev pub next_write : Known → ℕ
@@ -55,7 +57,7 @@ entries_of house = house.book.entries
 -- the journal is the book's, and its closed gate stands where the house has it
 pub record IsKept {D : Type 0} (told : D → Option Store) (house : House D) : Type 0 where
   pub place : house.place ≡ place_of (entries_of house)
-  pub near : house.place ≤ length (entries_of house) * record_limit
+  pub near : house.place ≤ 2 ^ 62 + length (entries_of house) * record_limit
   pub few : length (entries_of house) ≤ book_limit
   pub opened : house.opened ≤ length (entries_of house)
   pub reads : Holds (told house.shelf) (entries_of house)
@@ -63,21 +65,21 @@ pub record IsKept {D : Type 0} (told : D → Option Store) (house : House D) : T
 -- what the house keeps of this state
 pub record Knows {D : Type 0} (state : State) (house : House D) : Type 0 where
   pub opened : house.opened ≡ length state.transactions
-  pub tables : house.tables.items ≡ map known_of state.tables
+  pub tables : house.tables.items ≡ all_known state
 
--- between two statements: the history is sound
+-- between two statements: no transaction is open
 pub record IsReady {D : Type 0} (told : D → Option Store) (house : House D) : Type 0 where
   pub kept : IsKept told house
   pub knows : Knows (state_of (entries_of house)) house
-  pub sound : IsSound (state_of (entries_of house))
+  pub idle : IsIdle (state_of (entries_of house))
 
 -- behind the Opened and the Start of a statement over this book
 pub record IsBegun {D : Type 0} (told : D → Option Store) (book : List Entry) (number : ℕ) (text : List ℕ) (house : House D) : Type 0 where
   pub kept : IsKept told house
   pub entries : entries_of house ≡ book ++ statement_entries book number text []
   pub opened : house.opened ≡ length (state_of book).transactions + 1
-  pub tables : house.tables.items ≡ map known_of (state_of book).tables
-  pub sound : IsSound (state_of book)
+  pub tables : house.tables.items ≡ all_known (state_of book)
+  pub idle : IsIdle (state_of book)
 
 -- a legal book whose files stand in the store
 pub record IsFaithful (book : List Entry) (store : Store) : Type 0 where
@@ -109,16 +111,23 @@ pub record IsBeside {D : Type 0} (before now : House D) : Type 0 where
   pub opened : now.opened ≡ before.opened
   pub tables : now.tables ≡ before.tables
 
--- What a call that was refused leaves of the journal: it reads to the book; and where the store failed, to the book or
--- to the book and one further entry.
-abbrev pub Leaves : HouseFault → Option Store → List Entry → Type 0
-Leaves fault.NoMemory told book = Holds told book
-Leaves fault.Store told book = (e : Entry) × HoldsOneMore told book e
+-- What a call that was to note this entry, and was refused, leaves of the journal: it reads to the book; and where the
+-- store failed, to the book or to the book and the entry.
+abbrev pub Leaves : HouseFault → Entry → Option Store → List Entry → Type 0
+Leaves fault.NoMemory event told book = Holds told book
+Leaves fault.Store event told book = HoldsOneMore told book event
 
--- an entry wasn't noted: the book is as it was
-pub record IsHalted {D : Type 0} (told : D → Option Store) (why : HouseFault) (before now : House D) : Type 0 where
+-- the entry wasn't noted: the book is as it was, and so are the files
+pub record IsHalted {D : Type 0} (told : D → Option Store) (event : Entry) (why : HouseFault) (before now : House D) : Type 0 where
   pub entries : entries_of now ≡ entries_of before
-  pub leaves : Leaves why (told now.shelf) (entries_of before)
+  pub tree : Moves KeepsTree (told before.shelf) (told now.shelf)
+  pub leaves : Leaves why event (told now.shelf) (entries_of before)
+
+-- the next write id of this table wasn't noted
+pub record IsHaltedGiving {D : Type 0} (told : D → Option Store) (why : HouseFault) (txn : TxnId) (table : TableId) (before now : House D) : Type 0 where
+  pub write : WriteId
+  pub next : option_map next_write (numbered before.tables.items table.0) ≡ Some write.0
+  pub halted : IsHalted told (entry.Given txn table write) why before now
 
 -- the journal is as it was
 abbrev pub KeepsJournal : Store → Store → Type 0

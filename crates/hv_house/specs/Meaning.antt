@@ -7,28 +7,25 @@ use Rattle.hv_logic.specs.declared.catalog.TableInfo.{TableInfo}
 use Rattle.hv_logic.specs.declared.effect.Found.{Found}
 use Rattle.hv_logic.specs.declared.seen.Seen.{Seen}
 use Rattle.hv_history.specs.declared.state.Written.{Written}
-use Rattle.hv_stands.specs.Reading.{table_named, reads_rows, rows_from}
-use Rattle.hv_house.specs.declared.known.Known.{Known}
+use Rattle.hv_stands.specs.Reading.{table_named, reads_rows}
+use Rattle.hv_known.specs.declared.known.Known.{Known}
 use Rattle.hv_house.specs.declared.house.House.{House}
 use Rattle.hv_house.specs.House.{known_of_name}
-use Rattle.hv_house.specs.Rows.{HasCommits, LacksCommits}
+use Rattle.hv_house.specs.Rows.{rows_from, HasCommits, LacksCommits}
 
 abbrev pub known_by_name : Option (List ℕ) → List Known → Option Known
 known_by_name None tables = None
 known_by_name (Some name) tables = known_of_name name tables
 
-abbrev pub pair_of : Known → TableInfo × ℕ
-pair_of known = (known.info, known.given)
-
 -- a statement that reads a table has the rows of all its commits
-abbrev pub AreRead : Stmt → ℕ → ℕ → List Found → Store → Type 0
-AreRead tree table given rows store =
-    (writes : List Written) → reads_rows tree ≡ true → HasCommits table given writes store → rows ≡ rows_from writes 0 given
+abbrev pub AreRead : Stmt → ℕ → ℕ → List ℕ → List Found → Store → Type 0
+AreRead tree table given lost rows store =
+    (writes : List Written) → reads_rows tree ≡ true → HasCommits table given lost writes store → rows ≡ rows_from lost writes 0 given
 
 -- of the table that a statement names, its rows where it reads them
 abbrev pub SeesRows : {D : Type 0} → (D → Option Store) → House D → Stmt → Known → List Found → Type 0
 SeesRows told house tree known rows =
-    Tells (told house.shelf) (AreRead tree known.info.table.0 known.given rows) × (reads_rows tree ≡ false → rows ≡ [])
+    Tells (told house.shelf) (AreRead tree known.info.table.0 known.given known.lost rows) × (reads_rows tree ≡ false → rows ≡ [])
 
 abbrev pub IsSeenOf : {D : Type 0} → (D → Option Store) → House D → Stmt → Option Known → List Seen → Type 0
 IsSeenOf told house tree None seen = seen ≡ []
@@ -43,4 +40,4 @@ IsSeen told house tree seen = IsSeenOf told house tree (known_by_name (table_nam
 pub record IsSpoiled {D : Type 0} (told : D → Option Store) (house : House D) (tree : Stmt) : Type 0 where
   pub known : Known
   pub named : known_by_name (table_named tree) house.tables.items ≡ Some known
-  pub lacks : Tells (told house.shelf) (LacksCommits known.info.table.0 known.given)
+  pub lacks : Tells (told house.shelf) (LacksCommits known.info.table.0 known.given known.lost)

@@ -1,17 +1,26 @@
-ghost use Rattle.std.specs.Prelude.{◌≡◌, ◌≤◌, ◌∷◌, [], length, IfOk, OnOk, IfErr, IsErrOf};
+ghost use Rattle.std.specs.Prelude.{◌≡◌, ◌≤◌, ◌<◌, ◌+◌, ◌^◌, ◌++◌, ◌∷◌, [], length, map, List, IfOk, OnOk, IfErr, IsErrOf};
 ghost use Rattle.hv_base.specs.Told.{Tells, Moves, StaysTold};
+ghost use Rattle.hv_history.specs.declared.entry.Entry.{Entry};
 ghost use Rattle.hv_history.specs.declared.entry.Entry.TheVariants.{Boot};
-ghost use Rattle.hv_journal.specs.Appending.{KeepsTree, StaysShort};
+ghost use Rattle.hv_history.specs.Journal.{place_of, IsJournal};
+ghost use Rattle.hv_history.specs.State.{state_of, nothing_yet};
+ghost use Rattle.hv_history.specs.Legal.{profile, AllFit, HasRoom};
+ghost use Rattle.hv_journal.specs.Appending.{Holds, KeepsTree};
+ghost use Rattle.hv_recovery.specs.Recovery.{IsJournalOf};
 ghost use Rattle.hv_house.specs.Faults.{StoreCause};
 ghost use Rattle.hv_house.specs.declared.fault.HouseFault.TheVariants.{Store};
-ghost use Rattle.hv_house.specs.House.{entries_of, IsKept, IsReady, IsHalted};
-ghost use Rattle.hv_house.specs.Booting.{boot_fault, IsFresh, IsBooted, IsBootFault, IsBootStore, BootFails, LeavesEmpty, IsUnwritten, SparesHistory};
+ghost use Rattle.hv_known.specs.Known.{all_known};
+ghost use Rattle.hv_house.specs.House.{entries_of, book_limit, IsKept, IsReady, IsBeside};
+ghost use Rattle.hv_house.specs.Booting.{boot_fault, lost_entry, opening_of, IsLearned, LosesSome, CutsOpening, IsCutOpening, IsRaiseFault, Opens, IsBootFault, IsBootStore, StopsOpening};
 
 use crate::fault::HouseFault;
 use crate::house::House;
+use hv_base::{Limits, NoMemory, TxnId};
 use hv_book::Book;
-use hv_history::Entry;
+use hv_history::{Cause, Entry};
 use hv_journal::open_empty;
+use hv_known::{Known, Tally};
+use hv_recovery::{OpenFault, read_journal};
 use hv_shelf::Shelf;
 use std::alloc::Global;
 use thiserror::Error;
@@ -19,9 +28,13 @@ use thiserror::Error;
 /// Why a store was not opened.
 #[derive(Clone, Copy, Debug, PartialEq, Eq, Error)]
 pub enum BootFault {
-    /// The journal is bad at this byte. So far any journal but an empty one is, at byte 0.
+    /// The journal is bad at this byte: there is no gate, or an open one behind which no record stands
+    /// whose entry fits.
     #[error("bad journal at byte {at}")]
     BadJournal { at: u64 },
+    /// The journal has so many entries that there is no room for its opening.
+    #[error("the journal is full")]
+    Full { entries: u64 },
     #[error("the store failed")]
     Store,
     #[error("out of memory")]
@@ -39,84 +52,189 @@ impl From<HouseFault> for BootFault {
     }
 }
 
+impl From<OpenFault> for BootFault {
+    ghost use Rattle.hv_house.specs.Booting.{open_fault};
+
+    ghost from_gives = { λ fault e. e ≡ open_fault fault };
+
+    fn from(fault: OpenFault) -> BootFault {
+        match fault {
+            OpenFault::BadJournal { at } => BootFault::BadJournal { at },
+            OpenFault::Failed => BootFault::Store,
+            OpenFault::NoMemory => BootFault::NoMemory,
+        }
+    }
+}
+
+/// The limits of this project's profile.
+const LIMITS: Limits = Limits { entries: 131_072 };
+
+/// More bytes than any journal has that was read into memory.
+const MOST_BYTES: u64 = 1 << 62;
+
+/// What is learned of a book that was left: how often it was opened, which transactions are open, and
+/// what is known of its tables.
+#[derive(Drop)]
+struct Left {
+    runs: u64,
+    opened: u64,
+    unended: Vec<u64>,
+    tables: Vec<Known>,
+}
+
+fn learn(alloc: Global, book: &Book) -> Result<Left, NoMemory>
+    requires fit { AllFit profile nothing_yet book.now.entries }
+    ensures learned { IfOk result (IsLearned book.now.entries) }
+{
+    let tally = Tally::of(alloc, book)?;
+    Ok(Left {
+        runs: tally.runs,
+        opened: tally.texts.len() as u64,
+        unended: tally.open_transactions(alloc)?,
+        tables: tally.known(alloc)?,
+    })
+}
+
 impl<D: Shelf + Drop> House<D> {
-    /// A house over a store of which nothing is known yet.
-    fn over(alloc: Global, shelf: D) -> House<D>
-        ensures shelf { result.shelf ≡ shelf }
-        ensures fresh { IsFresh result }
-    {
-        House {
-            shelf,
-            place: 0,
-            buffer: Vec::new(alloc),
-            book: Book::new(alloc),
-            opened: 0,
-            tables: Vec::new(alloc),
-        }
-    }
-
-    /// Makes the journal one of no entry, where it is empty, and notes the opening.
-    #[tactic(auto, using(hv_base::proofs::ToldLemmas::stays_same, crate::proofs::Stays::stays_of, hv_base::proofs::ToldLemmas::stays_stays))]
-    fn begin(&mut self) -> Result<(), BootFault>
-        requires fresh { IsFresh self.old }
-        ensures booted { OnOk result (IsBooted D.told self.old self.new) }
-        ensures bad { IfErr result (IsBootFault (D.told self.old.shelf) (D.told self.new.shelf)) }
-        ensures stopped { IsUnwritten (D.told self.old.shelf)
-            → IfErr result (λ fault. LeavesEmpty fault (D.told self.new.shelf)) }
-        ensures kept { SparesHistory (D.told self.old.shelf) (D.told self.new.shelf) }
-        ensures tree { Moves KeepsTree (D.told self.old.shelf) (D.told self.new.shelf) }
-        ensures tells { StaysTold (D.told self.old.shelf) (D.told self.new.shelf) }
-        ensures cause { StoreCause (D.faults self.old.shelf) (D.faults self.new.shelf)
-            (BootFails result) }
-    {
-        let Ok(length) = self.shelf.journal_len() else {
-            return Err(BootFault::Store);
-        };
-        if length > 1 {
-            return Err(BootFault::BadJournal { at: 0 });
-        }
-        self.make_journal()?;
-        self.note(Entry::Boot { run: 0 }, None)?;
-        Ok(())
-    }
-
+    /// Makes the journal one of no entry where it has no gate yet.
     fn make_journal(&mut self) -> Result<(), HouseFault>
-        requires fresh { IsFresh self.old }
-        ensures kept { OnOk result (IsKept D.told self.new) }
-        ensures fresh { IsFresh self.new }
-        ensures short { Moves StaysShort (D.told self.old.shelf) (D.told self.new.shelf) }
+        requires journal { Tells (D.told self.old.shelf)
+            (λ s. IsJournal (entries_of self.old) s.journal) }
+        requires place { self.old.place ≡ place_of (entries_of self.old) }
+        ensures holds { OnOk result (Holds (D.told self.new.shelf) (entries_of self.old)) }
+        ensures beside { IsBeside self.old self.new }
+        ensures journal { IfErr result (λ _. Tells (D.told self.new.shelf)
+            (λ s. IsJournal (entries_of self.old) s.journal)) }
         ensures tree { Moves KeepsTree (D.told self.old.shelf) (D.told self.new.shelf) }
         ensures cause { StoreCause (D.faults self.old.shelf) (D.faults self.new.shelf)
             (IsErrOf result Store) }
     {
-        open_empty(&mut self.shelf)?;
+        let Ok(length) = self.shelf.journal_len() else {
+            return Err(HouseFault::Store);
+        };
+        if length <= 1 {
+            open_empty(&mut self.shelf)?;
+        }
         Ok(())
     }
 
-    /// Opens a store whose journal is empty: of no byte or of one.
+    /// Aborts these transactions as lost.
+    fn lose(&mut self, unended: &[u64]) -> Result<(), HouseFault>
+        requires kept { IsKept D.told self.old }
+        requires room { length (entries_of self.old) + length unended.now ≤ book_limit }
+        ensures kept { OnOk result (IsKept D.told self.new) }
+        ensures entries { OnOk result
+            (entries_of self.new ≡ entries_of self.old ++ map lost_entry unended.now) }
+        ensures opened { self.new.opened ≡ self.old.opened }
+        ensures tables { self.new.tables ≡ self.old.tables }
+        ensures tree { Moves KeepsTree (D.told self.old.shelf) (D.told self.new.shelf) }
+        ensures halted { IfErr result (λ fault.
+            LosesSome D.told fault unended.now self.old self.new) }
+        ensures cause { StoreCause (D.faults self.old.shelf) (D.faults self.new.shelf)
+            (IsErrOf result Store) }
+    {
+        for i in 0..unended.len() {
+            self.note(
+                Entry::Abort {
+                    txn: TxnId(unended[i]),
+                    cause: Cause::Lost,
+                },
+                None,
+            )?;
+        }
+        Ok(())
+    }
+
+    /// Notes the opening of a book that was read.
+    fn begin(&mut self, runs: u64, unended: &[u64]) -> Result<(), HouseFault>
+        requires near { self.old.place ≤ 2 ^ 62 }
+        requires place { self.old.place ≡ place_of (entries_of self.old) }
+        requires opened { self.old.opened ≤ length (entries_of self.old) }
+        requires journal { Tells (D.told self.old.shelf)
+            (λ s. IsJournal (entries_of self.old) s.journal) }
+        requires room { length (entries_of self.old) + length unended.now + 1 ≤ book_limit }
+        ensures kept { OnOk result (IsKept D.told self.new) }
+        ensures entries { OnOk result (entries_of self.new
+            ≡ entries_of self.old ++ Boot runs ∷ map lost_entry unended.now) }
+        ensures opened { self.new.opened ≡ self.old.opened }
+        ensures tables { self.new.tables ≡ self.old.tables }
+        ensures tree { Moves KeepsTree (D.told self.old.shelf) (D.told self.new.shelf) }
+        ensures halted { IfErr result (λ fault. CutsOpening fault
+            (entries_of self.old) (Boot runs ∷ map lost_entry unended.now) (D.told self.new.shelf)) }
+        ensures cause { StoreCause (D.faults self.old.shelf) (D.faults self.new.shelf)
+            (IsErrOf result Store) }
+    {
+        self.make_journal()?;
+        self.note(Entry::Boot { run: runs }, None)?;
+        self.lose(unended)
+    }
+
+    /// Opens a store over the book that its journal was read to.
+    fn raise(alloc: Global, shelf: D, book: Book, place: u64) -> Result<House<D>, (BootFault, D)>
+        requires fit { AllFit profile nothing_yet book.entries }
+        requires place { place ≡ place_of book.entries }
+        requires journal { Tells (D.told shelf) (λ s. IsJournal book.entries s.journal) }
+        ensures ready { IfOk result (IsReady D.told) }
+        ensures opened { IfOk result (λ house. (entries_of house ≡ opening_of book.entries)
+            × HasRoom profile (state_of book.entries) 1) }
+        ensures tree { IfOk result (λ house. Moves KeepsTree (D.told shelf) (D.told house.shelf)) }
+        ensures full { IfErr result (λ x.
+            IsRaiseFault book.entries (D.told shelf) (D.told x.1) x.0) }
+        ensures stopped { IfErr result (λ x. Tells (D.told x.1)
+            (λ s. IsCutOpening x.0 book.entries s.journal)) }
+        ensures same_tree { IfErr result (λ x. Moves KeepsTree (D.told shelf) (D.told x.1)) }
+        ensures later { IfOk result (λ house. D.faults shelf ≤ D.faults house.shelf) }
+        ensures cause { IfErr result (λ x.
+            StoreCause (D.faults shelf) (D.faults x.1) (IsBootStore x.0)) }
+    {
+        let entries = book.entries().len() as u64;
+        if place > MOST_BYTES {
+            return Err((BootFault::NoMemory, shelf));
+        }
+        match learn(alloc, &book) {
+            Ok(found) => {
+                if entries + found.unended.len() as u64 + 1 > LIMITS.entries {
+                    return Err((BootFault::Full { entries }, shelf));
+                }
+                let mut house = House {
+                    shelf,
+                    place,
+                    buffer: Vec::new(alloc),
+                    book,
+                    opened: found.opened,
+                    tables: found.tables,
+                };
+                match house.begin(found.runs, &found.unended) {
+                    Ok(()) => Ok(house),
+                    Err(fault) => Err((fault.into(), house.close())),
+                }
+            }
+            Err(NoMemory) => Err((BootFault::NoMemory, shelf)),
+        }
+    }
+
+    /// Opens a store: the book that its journal reads to goes on by a `Boot`, and each transaction
+    /// that an earlier run left open is aborted as lost.
     ///
     /// # Errors
-    /// `BadJournal` where the journal has more bytes, and the store is as it was; `Store` where the
-    /// store failed. The store is given back.
+    /// `BadJournal` where the journal is bad, and `Full` where it has no room for its opening; the
+    /// store is then as it was. `Store` where the store failed. The store is given back.
     pub fn boot(alloc: Global, shelf: D) -> Result<House<D>, (BootFault, D)>
         ensures ready { IfOk result (IsReady D.told) }
-        ensures booted { IfOk result (λ house. entries_of house ≡ Boot 0 ∷ []) }
-        ensures empty { IfOk result (λ _. Tells (D.told shelf) (λ s. length s.journal ≤ 1)) }
+        ensures opened { IfOk result (λ house. Opens (D.told shelf) (entries_of house)) }
         ensures tree { IfOk result (λ house. Moves KeepsTree (D.told shelf) (D.told house.shelf)) }
         ensures bad { IfErr result (λ x. IsBootFault (D.told shelf) (D.told x.1) x.0) }
-        ensures stopped { IsUnwritten (D.told shelf)
-            → IfErr result (λ x. LeavesEmpty x.0 (D.told x.1)) }
-        ensures kept { IfErr result (λ x. SparesHistory (D.told shelf) (D.told x.1)) }
+        ensures stopped { IfErr result (λ x. StopsOpening (D.told shelf) (D.told x.1) x.0) }
         ensures same_tree { IfErr result (λ x. Moves KeepsTree (D.told shelf) (D.told x.1)) }
         ensures tells { IfErr result (λ x. StaysTold (D.told shelf) (D.told x.1)) }
         ensures later { IfOk result (λ house. D.faults shelf ≤ D.faults house.shelf) }
         ensures cause { IfErr result (λ x.
             StoreCause (D.faults shelf) (D.faults x.1) (IsBootStore x.0)) }
     {
-        let mut house = House::over(alloc, shelf);
-        match house.begin() {
-            Ok(()) => Ok(house),
-            Err(fault) => Err((fault, house.close())),
+        let mut shelf = shelf;
+        match read_journal(alloc, &mut shelf, &LIMITS) {
+            Ok((book, place)) => House::raise(alloc, shelf, book, place),
+            Err(fault) => Err((fault.into(), shelf)),
         }
     }
 

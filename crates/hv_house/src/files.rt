@@ -7,10 +7,10 @@ ghost use Rattle.hv_rowfile.specs.Layout.{CanWrite, IsFile};
 ghost use Rattle.hv_history.specs.declared.state.Written.{Written};
 ghost use Rattle.hv_dirs.specs.Names.{write_end};
 ghost use Rattle.hv_stands.specs.Files.{own_place, records_of, file_of};
-ghost use Rattle.hv_stands.specs.Reading.{inserted_rows, rows_from};
+ghost use Rattle.hv_stands.specs.Reading.{inserted_rows};
 ghost use Rattle.hv_house.specs.Faults.{StoreCause, StoreFails, IsStoreFault, IsShort, IsShortDamage, IsDamage};
 ghost use Rattle.hv_house.specs.House.{IsAsked, IsBeside, KeepsJournal};
-ghost use Rattle.hv_house.specs.Rows.{found_of, found_in, IsCommitFile, AddsRows, HasCommits, LacksFile, LacksCommits};
+ghost use Rattle.hv_house.specs.Rows.{found_of, found_in, IsCommitFile, AddsRows, AddsOne, is_among, rows_from, HasCommits, LacksFile, LacksOne, LacksCommits};
 ghost use Rattle.hv_house.specs.declared.fault.HouseFault.TheVariants.{Store};
 ghost use Rattle.hv_house.specs.declared.fault.RowFault.{RowFault};
 
@@ -103,6 +103,13 @@ fn insert_records(alloc: Global, rows: &[Found]) -> Result<Vec<Rec>, NoMemory>
     Ok(recs)
 }
 
+/// Whether a write id is one of these.
+fn is_among(ids: &[u64], write: u64) -> bool
+    ensures { result ≡ is_among ids.now write }
+{
+    ids.contains(&write)
+}
+
 impl<D: Shelf> House<D> {
     /// Appends the rows of the file at `place`.
     fn read_file(
@@ -160,20 +167,49 @@ impl<D: Shelf> House<D> {
         }
     }
 
-    /// The rows that stand in a table, from the files of the write ids that were given in it.
+    /// The same where the write id isn't lost.
+    fn read_next(
+        &mut self,
+        alloc: Global,
+        places: &[Place],
+        table: TableId,
+        lost: &[u64],
+        write: u64,
+        rows: &mut Vec<Found>,
+    ) -> Result<(), RowFault>
+        requires { write < write_end }
+        ensures asked { IsAsked D.told self.old self.new }
+        ensures rows { OnOk result (Tells (D.told self.old.shelf)
+            (AddsOne table lost.now write places.now rows.old.items rows.new.items)) }
+        ensures damage { IfErr result (λ fault. IsDamage fault
+            → Tells (D.told self.old.shelf) (LacksOne table lost.now write places.now)) }
+        ensures short { IfErr result IsShortDamage }
+        ensures cause { StoreCause (D.faults self.old.shelf) (D.faults self.new.shelf)
+            (StoreFails result) }
+    {
+        if is_among(lost, write) {
+            Ok(())
+        } else {
+            self.read_own(alloc, places, table, write, rows)
+        }
+    }
+
+    /// The rows that stand in a table, from the files of the write ids that were given in it but for
+    /// those that are lost.
     pub fn read_rows(
         &mut self,
         alloc: Global,
         table: TableId,
         given: u64,
+        lost: &[u64],
     ) -> Result<Vec<Found>, RowFault>
         requires { given < write_end }
         ensures asked { IsAsked D.told self.old self.new }
         ensures rows { IfOk result (λ rows. Tells (D.told self.old.shelf) (λ s.
-            (writes : List Written) → HasCommits table.0 given writes s
-            → rows.items ≡ rows_from writes 0 given)) }
+            (writes : List Written) → HasCommits table.0 given lost.now writes s
+            → rows.items ≡ rows_from lost.now writes 0 given)) }
         ensures damage { IfErr result (λ fault. IsDamage fault
-            → Tells (D.told self.old.shelf) (LacksCommits table.0 given)) }
+            → Tells (D.told self.old.shelf) (LacksCommits table.0 given lost.now)) }
         ensures short { IfErr result IsShortDamage }
         ensures cause { StoreCause (D.faults self.old.shelf) (D.faults self.new.shelf)
             (StoreFails result) }
@@ -181,7 +217,7 @@ impl<D: Shelf> House<D> {
         let places = self.shelf.list(alloc, table)?;
         let mut rows = Vec::new(alloc);
         for before in 0..given {
-            self.read_own(alloc, &places, table, before + 1, &mut rows)?;
+            self.read_next(alloc, &places, table, lost, before + 1, &mut rows)?;
         }
         Ok(rows)
     }

@@ -1,4 +1,4 @@
-ghost use Rattle.std.specs.Prelude.{◌≡◌, ◌<◌, ◌≤◌, ◌+◌, ◌++◌, ◌∷◌, [], length, None, Some, IfOk, OnOk, IfErr, IsErrOf, option_map};
+ghost use Rattle.std.specs.Prelude.{◌≡◌, ◌<◌, ◌≤◌, ◌+◌, ◌++◌, ◌∷◌, [], length, None, Some, IfOk, OnOk, IfErr, IsErrOf, option_map, true, false};
 ghost use Rattle.std.specs.List.{AllByRecursion};
 ghost use Rattle.hv_history.specs.State.{numbered, changed};
 ghost use Rattle.hv_base.specs.Told.{Moves, StaysTold};
@@ -10,17 +10,18 @@ ghost use Rattle.hv_grammar.specs.Texts.{tree_of};
 ghost use Rattle.hv_journal.specs.Appending.{Holds, KeepsTree};
 ghost use Rattle.hv_house.specs.declared.fault.HouseFault.TheVariants.{Store};
 ghost use Rattle.hv_house.specs.Faults.{StoreCause};
-ghost use Rattle.hv_house.specs.House.{entries_of, entry_limit, book_limit, HasNumbers, next_write, with_next, IsKept, IsNoted, IsHalted};
+ghost use Rattle.hv_house.specs.House.{entries_of, entry_limit, book_limit, HasNumbers, next_write, with_next, IsKept, IsNoted, IsHalted, IsHaltedGiving};
 
 use crate::fault::HouseFault;
-use crate::known::Known;
 use hv_ast::Stmt;
 use hv_base::{List, TableId, Text, Touch, TxnId, WriteId};
 use hv_book::Book;
 use hv_history::{Cause, Entry};
 use hv_journal::{append, record_length};
+use hv_known::Known;
 use hv_logic::TableInfo;
 use hv_shelf::Shelf;
+use std::alloc::Global;
 
 /// The warehouse over a store: the store, the place of its journal's closed gate, the journal's
 /// entries, and what is known of the tables without asking them.
@@ -37,6 +38,9 @@ pub struct House<D> {
     /// The tables, by number.
     pub tables: Vec<Known>,
 }
+
+/// The most entries of a journal.
+const MOST_ENTRIES: usize = 131_072;
 
 fn discard<T: Drop>(_value: T) {}
 
@@ -56,7 +60,7 @@ impl<D: Shelf> House<D> {
         ensures opened { self.new.opened ≡ self.old.opened }
         ensures tables { self.new.tables ≡ self.old.tables }
         ensures tree { Moves KeepsTree (D.told self.old.shelf) (D.told self.new.shelf) }
-        ensures halted { IfErr result (λ fault. IsHalted D.told fault self.old self.new) }
+        ensures halted { IfErr result (λ fault. IsHalted D.told entry.now fault self.old self.new) }
         ensures cause { StoreCause (D.faults self.old.shelf) (D.faults self.new.shelf)
             (IsErrOf result Store) }
     {
@@ -79,7 +83,7 @@ impl<D: Shelf> House<D> {
         ensures tables { self.new.tables ≡ self.old.tables }
         ensures tree { Moves KeepsTree (D.told self.old.shelf) (D.told self.new.shelf) }
         ensures tells { StaysTold (D.told self.old.shelf) (D.told self.new.shelf) }
-        ensures halted { IfErr result (λ fault. IsHalted D.told fault self.old self.new) }
+        ensures halted { IfErr result (λ fault. IsHalted D.told entry fault self.old self.new) }
         ensures cause { StoreCause (D.faults self.old.shelf) (D.faults self.new.shelf)
             (IsErrOf result Store) }
     {
@@ -94,6 +98,14 @@ impl<D: Shelf> House<D> {
                 Err(fault)
             }
         }
+    }
+
+    /// Whether the journal has room for all entries of a statement.
+    pub fn has_room(&self) -> bool
+        ensures room { result ≡ true → length (entries_of self.now) + 4 ≤ book_limit }
+        ensures full { result ≡ false → book_limit < length (entries_of self.now) + 4 }
+    {
+        self.book.entries().len() + 4 <= MOST_ENTRIES
     }
 
     /// Takes up a statement as the next transaction. `tree` is that of its text.
@@ -116,7 +128,7 @@ impl<D: Shelf> House<D> {
         ensures opened { OnOk result (self.new.opened ≡ self.old.opened + 1) }
         ensures tables { self.new.tables ≡ self.old.tables }
         ensures tells { StaysTold (D.told self.old.shelf) (D.told self.new.shelf) }
-        ensures halted { IfErr result (λ fault. IsHalted D.told fault self.old self.new) }
+        ensures halted { IfErr result (λ fault. IsHalted D.told (entries.Opened (record { 0 = self.old.opened + 1 }) session number text) fault self.old self.new) }
         ensures cause { StoreCause (D.faults self.old.shelf) (D.faults self.new.shelf)
             (IsErrOf result Store) }
     {
@@ -141,7 +153,7 @@ impl<D: Shelf> House<D> {
         ensures opened { self.new.opened ≡ self.old.opened }
         ensures tables { self.new.tables ≡ self.old.tables }
         ensures tells { StaysTold (D.told self.old.shelf) (D.told self.new.shelf) }
-        ensures halted { IfErr result (λ fault. IsHalted D.told fault self.old self.new) }
+        ensures halted { IfErr result (λ fault. IsHalted D.told (entries.Start txn 0) fault self.old self.new) }
         ensures cause { StoreCause (D.faults self.old.shelf) (D.faults self.new.shelf)
             (IsErrOf result Store) }
     {
@@ -164,7 +176,8 @@ impl<D: Shelf> House<D> {
         ensures tables { OnOk result
             (self.new.tables.items ≡ changed with_next self.old.tables.items table.0) }
         ensures tells { StaysTold (D.told self.old.shelf) (D.told self.new.shelf) }
-        ensures halted { IfErr result (λ fault. IsHalted D.told fault self.old self.new) }
+        ensures halted { IfErr result (λ fault.
+            IsHaltedGiving D.told fault txn table self.old self.new) }
         ensures cause { StoreCause (D.faults self.old.shelf) (D.faults self.new.shelf)
             (IsErrOf result Store) }
     {
@@ -185,7 +198,7 @@ impl<D: Shelf> House<D> {
         ensures opened { self.new.opened ≡ self.old.opened }
         ensures tables { self.new.tables ≡ self.old.tables }
         ensures tells { StaysTold (D.told self.old.shelf) (D.told self.new.shelf) }
-        ensures halted { IfErr result (λ fault. IsHalted D.told fault self.old self.new) }
+        ensures halted { IfErr result (λ fault. IsHalted D.told (entries.Commit txn wrote) fault self.old self.new) }
         ensures cause { StoreCause (D.faults self.old.shelf) (D.faults self.new.shelf)
             (IsErrOf result Store) }
     {
@@ -201,7 +214,7 @@ impl<D: Shelf> House<D> {
         ensures opened { self.new.opened ≡ self.old.opened }
         ensures tables { self.new.tables ≡ self.old.tables }
         ensures tells { StaysTold (D.told self.old.shelf) (D.told self.new.shelf) }
-        ensures halted { IfErr result (λ fault. IsHalted D.told fault self.old self.new) }
+        ensures halted { IfErr result (λ fault. IsHalted D.told (entries.Abort txn cause) fault self.old self.new) }
         ensures cause { StoreCause (D.faults self.old.shelf) (D.faults self.new.shelf)
             (IsErrOf result Store) }
     {
@@ -210,23 +223,30 @@ impl<D: Shelf> House<D> {
 
     /// Makes the table that this describes.
     #[tactic(auto, using(crate::proofs::Lengths::short_create, hv_base::proofs::ToldLemmas::stays_same))]
-    pub fn create(&mut self, txn: TxnId, info: TableInfo) -> Result<(), HouseFault>
+    pub fn create(&mut self, alloc: Global, txn: TxnId, info: TableInfo) -> Result<(), HouseFault>
         requires kept { IsKept D.told self.old }
         requires room { length (entries_of self.old) < book_limit }
         ensures noted { OnOk result
             (IsNoted D.told (entries.Create txn info.table) self.old self.new) }
         ensures opened { self.new.opened ≡ self.old.opened }
         ensures tables { OnOk result (self.new.tables.items
-            ≡ self.old.tables.items ++ record { info = info; given = 0 } ∷ []) }
+            ≡ self.old.tables.items ++ record { info = info; given = 0; lost = [] } ∷ []) }
         ensures tells { StaysTold (D.told self.old.shelf) (D.told self.new.shelf) }
-        ensures halted { IfErr result (λ fault. IsHalted D.told fault self.old self.new) }
+        ensures halted { IfErr result (λ fault. IsHalted D.told (entries.Create txn info.table) fault self.old self.new) }
         ensures cause { StoreCause (D.faults self.old.shelf) (D.faults self.new.shelf)
             (IsErrOf result Store) }
     {
         let table = info.table;
         self.tables.reserve(1)?;
         self.note(Entry::Create { txn, table }, None)?;
-        self.tables.push(Known { info, given: 0 }).unwrap();
+        let lost = List::empty(alloc);
+        self.tables
+            .push(Known {
+                info,
+                given: 0,
+                lost,
+            })
+            .unwrap();
         Ok(())
     }
 }

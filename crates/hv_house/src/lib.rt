@@ -11,4 +11,3 @@ mod meaning;
 pub use boot::BootFault;
 pub use fault::{HouseFault, RowFault};
 pub use house::House;
-pub use known::Known;

@@ -1,4 +1,4 @@
-ghost use Rattle.std.specs.Prelude.{◌≡◌, ◌<◌, false, [], Some, List, IfOk, IfErr, option_map};
+ghost use Rattle.std.specs.Prelude.{◌≡◌, ◌<◌, false, [], Some, List, IfOk, IfErr};
 ghost use Rattle.std.specs.Option.{option_copied};
 ghost use Rattle.std.specs.List.{AllByRecursion};
 ghost use Rattle.hv_base.specs.Told.{Tells};
@@ -11,14 +11,15 @@ ghost use Rattle.hv_stands.specs.Reading.{first_name, table_named, reads_rows};
 ghost use Rattle.hv_house.specs.Faults.{StoreCause, StoreFails, IsShortDamage, IsDamage};
 ghost use Rattle.hv_house.specs.House.{HasNumbers, IsAsked};
 ghost use Rattle.hv_house.specs.Rows.{LacksCommits};
-ghost use Rattle.hv_house.specs.Meaning.{known_by_name, pair_of, AreRead, IsSeen, IsSpoiled};
+ghost use Rattle.hv_house.specs.Meaning.{known_by_name, AreRead, IsSeen, IsSpoiled};
 
 use crate::fault::RowFault;
 use crate::house::House;
-use crate::known::{Known, find};
+use crate::known::find;
 use hv_ast::{Query, Source, Stmt};
-use hv_base::{Duplicate, List, NoMemory, TableId, Text};
-use hv_logic::{Found, Meaning, Seen, TableInfo, meaning_of};
+use hv_base::{List, NoMemory, TableId, Text};
+use hv_known::Known;
+use hv_logic::{Found, Meaning, Seen, meaning_of};
 use hv_shelf::Shelf;
 use std::alloc::Global;
 
@@ -57,19 +58,15 @@ fn reads_rows(tree: &Stmt) -> bool
 }
 
 /// What is known of the table that a statement names.
-fn known_in(
-    alloc: Global,
-    tree: &Stmt,
-    tables: &[Known],
-) -> Result<Option<(TableInfo, u64)>, NoMemory>
+fn known_in(alloc: Global, tree: &Stmt, tables: &[Known]) -> Result<Option<Known>, NoMemory>
     requires built { IsBuilt tree.now }
-    ensures { IfOk result (λ known. known ≡ option_map pair_of (known_by_name (table_named tree.now) tables.now)) }
+    ensures { IfOk result (λ known. known ≡ known_by_name (table_named tree.now) tables.now) }
 {
     let Some(name) = table_named(tree) else {
         return Ok(None);
     };
     match find(name, tables) {
-        Some(known) => Ok(Some((known.info.duplicate(alloc)?, known.given))),
+        Some(known) => Ok(Some(known.copy(alloc)?)),
         None => Ok(None),
     }
 }
@@ -82,20 +79,21 @@ impl<D: Shelf> House<D> {
         tree: &Stmt,
         table: TableId,
         given: u64,
+        lost: &[u64],
     ) -> Result<List<Found>, RowFault>
         requires { given < write_end }
         ensures asked { IsAsked D.told self.old self.new }
         ensures short { IfErr result IsShortDamage }
         ensures rows { IfOk result (λ rows. Tells (D.told self.old.shelf)
-            (AreRead tree.now table.0 given rows)) }
+            (AreRead tree.now table.0 given lost.now rows)) }
         ensures none { IfOk result (λ rows. reads_rows tree.now ≡ false → rows ≡ []) }
         ensures damage { IfErr result (λ fault. IsDamage fault
-            → Tells (D.told self.old.shelf) (LacksCommits table.0 given)) }
+            → Tells (D.told self.old.shelf) (LacksCommits table.0 given lost.now)) }
         ensures cause { StoreCause (D.faults self.old.shelf) (D.faults self.new.shelf)
             (StoreFails result) }
     {
         if reads_rows(tree) {
-            Ok(List::from_vec(self.read_rows(alloc, table, given)?))
+            Ok(List::from_vec(self.read_rows(alloc, table, given, lost)?))
         } else {
             Ok(List::empty(alloc))
         }
@@ -114,8 +112,10 @@ impl<D: Shelf> House<D> {
             (StoreFails result) }
     {
         let mut seen = Vec::new(alloc);
-        if let Some((info, given)) = known_in(alloc, tree, &self.tables)? {
-            let rows = self.rows_for(alloc, tree, info.table, given)?;
+        if let Some(known) = known_in(alloc, tree, &self.tables)? {
+            let lost = known.lost.as_slice();
+            let rows = self.rows_for(alloc, tree, known.info.table, known.given, lost)?;
+            let info = known.info;
             seen.push(Seen { info, rows })?;
         }
         Ok(seen)

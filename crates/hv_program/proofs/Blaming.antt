@@ -1,12 +1,12 @@
 -- Why a run ends with a fault, and that it ends well where there is none.
-use Rattle.std.proofs.Common.{◌≡◌, ◌⊎◌, ℕ, ◌≤◌, ◌==◌, ◌||◌, Bool, false, true, IsTrue, IsSome, Result, Ok, Err, IfErr, IsErrAnd, Option, Some, None, List, [], ◌∷◌, length, refl, sym, ◌∙◌, subst, arith, inl, inr}
+use Rattle.std.proofs.Common.{◌≡◌, ◌⊎◌, ℕ, ◌≤◌, ◌==◌, ◌||◌, Bool, false, true, IsTrue, IsSome, Result, Ok, Err, IfErr, IsErrAnd, Option, Some, None, List, [], ◌∷◌, refl, sym, ◌∙◌, subst, arith, inl, inr}
 use Rattle.std.proofs.lemmas.Bool.{eqb-true}
 use Rattle.hv_base.specs.Faults.{Rose}
 use Rattle.hv_shelf.specs.Disk.{Store}
 use Rattle.hv_script.specs.Words.{command_of}
 use Rattle.hv_script.specs.Script.{refused_line}
 use Rattle.hv_script.specs.declared.words.Command.{Command}
-use Rattle.hv_house.specs.Booting.{IsBootStore}
+use Rattle.hv_house.specs.Booting.{IsBootStore, CanOpen}
 use Rattle.hv_house.specs.declared.boot.BootFault.{BootFault}
 use Rattle.hv_house.specs.declared.boot.BootFault.TheVariants as boot
 use Rattle.hv_program.specs.declared.stop.Stop.{Stop}
@@ -74,6 +74,11 @@ blames-store status sink store store' why is same rose = record { sink_failed = 
 pub blames-memory : (status sink store store' : ℕ) → status ≡ 7 → BlamesOf status sink sink store store'
 blames-memory status sink store store' is = blames-none status sink sink store store' (λ e. omega (arith, is, e)) (λ e. omega (arith, is, e))
 
+pub blames-full : (status : ℕ) (line : List ℕ) (a b : Option (List ℕ)) (sink sink' store store' : ℕ) → IsSaid 9 line a b sink sink' status
+    → BlamesOf status sink sink' store store'
+blames-full status line a b sink sink' store store' (inl said) = blames-none status sink sink' store store' (λ e. omega (arith, said.0, e)) (λ e. omega (arith, said.0, e))
+blames-full status line a b sink sink' store store' (inr cut) = record { sink_failed = λ e. cut.1.cause; store_failed = λ e. absurd (omega (arith, cut.0, e)) }
+
 pub blames-said : (status wanted : ℕ) (line : List ℕ) (a b : Option (List ℕ)) (sink sink' store store' : ℕ) → wanted ≡ 6 → IsSaidOrNot wanted line a b sink sink' status
     → BlamesOf status sink sink' store store'
 blames-said status wanted line a b sink sink' store store' is (inl (inl said)) =
@@ -113,10 +118,10 @@ causes-read before now status stop.Sink is h rose = cc
 causes-read before now status stop.Store is h rose = cc
 causes-read before now status stop.NoMemory is h rose = causes-memory before now status is
 
-pub causes-served : (before now : Counts) (status : ℕ) → IsTrue (is_one_of (0 ∷ 1 ∷ 4 ∷ 5 ∷ 6 ∷ 7 ∷ []) status) → BlamesOf status before.sink now.sink before.store now.store
+pub causes-served : (before now : Counts) (status : ℕ) → IsTrue (is_one_of (0 ∷ 1 ∷ 4 ∷ 5 ∷ 6 ∷ 7 ∷ 9 ∷ []) status) → BlamesOf status before.sink now.sink before.store now.store
     → HasCauses before now status
 causes-served before now status only h = record {
-  source = λ e. absurd (let wrong : IsTrue (is_one_of (0 ∷ 1 ∷ 4 ∷ 5 ∷ 6 ∷ 7 ∷ []) 3) = subst (λ n. IsTrue (is_one_of (0 ∷ 1 ∷ 4 ∷ 5 ∷ 6 ∷ 7 ∷ []) n)) e only in cc);
+  source = λ e. absurd (let wrong : IsTrue (is_one_of (0 ∷ 1 ∷ 4 ∷ 5 ∷ 6 ∷ 7 ∷ 9 ∷ []) 3) = subst (λ n. IsTrue (is_one_of (0 ∷ 1 ∷ 4 ∷ 5 ∷ 6 ∷ 7 ∷ 9 ∷ []) n)) e only in cc);
   sink = h.sink_failed;
   store = h.store_failed;
 }
@@ -130,18 +135,18 @@ other k n rest not_this h = by (split (k == n) rest h)
     by (inl e) = absurd (not_this (sym (eqb-true k n e)))
     by (inr e) = e
 
-the-rest : (n : ℕ) → (n ≡ 2 → ⊥) → (n ≡ 3 → ⊥) → (n ≡ 4 → ⊥) → (n ≡ 5 → ⊥) → (n ≡ 6 → ⊥) → (n ≡ 8 → ⊥)
-    → IsTrue (is_one_of (0 ∷ 1 ∷ 2 ∷ 3 ∷ 4 ∷ 5 ∷ 6 ∷ 7 ∷ 8 ∷ []) n) → IsTrue (is_one_of (0 ∷ 1 ∷ 7 ∷ []) n)
-the-rest n two three four five six eight h =
-    keep (0 == n) (is_one_of (1 ∷ 2 ∷ 3 ∷ 4 ∷ 5 ∷ 6 ∷ 7 ∷ 8 ∷ []) n) (is_one_of (1 ∷ 7 ∷ []) n)
-    (keep (1 == n) (is_one_of (2 ∷ 3 ∷ 4 ∷ 5 ∷ 6 ∷ 7 ∷ 8 ∷ []) n) (is_one_of (7 ∷ []) n)
+the-rest : (n : ℕ) → (n ≡ 2 → ⊥) → (n ≡ 3 → ⊥) → (n ≡ 4 → ⊥) → (n ≡ 5 → ⊥) → (n ≡ 6 → ⊥) → (n ≡ 8 → ⊥) → (n ≡ 9 → ⊥)
+    → IsTrue (is_one_of (0 ∷ 1 ∷ 2 ∷ 3 ∷ 4 ∷ 5 ∷ 6 ∷ 7 ∷ 8 ∷ 9 ∷ []) n) → IsTrue (is_one_of (0 ∷ 1 ∷ 7 ∷ []) n)
+the-rest n two three four five six eight nine h =
+    keep (0 == n) (is_one_of (1 ∷ 2 ∷ 3 ∷ 4 ∷ 5 ∷ 6 ∷ 7 ∷ 8 ∷ 9 ∷ []) n) (is_one_of (1 ∷ 7 ∷ []) n)
+    (keep (1 == n) (is_one_of (2 ∷ 3 ∷ 4 ∷ 5 ∷ 6 ∷ 7 ∷ 8 ∷ 9 ∷ []) n) (is_one_of (7 ∷ []) n)
     (λ h2.
-    let h3 = other 2 n (is_one_of (3 ∷ 4 ∷ 5 ∷ 6 ∷ 7 ∷ 8 ∷ []) n) two h2 in
-    let h4 = other 3 n (is_one_of (4 ∷ 5 ∷ 6 ∷ 7 ∷ 8 ∷ []) n) three h3 in
-    let h5 = other 4 n (is_one_of (5 ∷ 6 ∷ 7 ∷ 8 ∷ []) n) four h4 in
-    let h6 = other 5 n (is_one_of (6 ∷ 7 ∷ 8 ∷ []) n) five h5 in
-    let h7 = other 6 n (is_one_of (7 ∷ 8 ∷ []) n) six h6 in
-    keep (7 == n) (is_one_of (8 ∷ []) n) false (λ h8. other 8 n false eight h8) h7)) h
+    let h3 = other 2 n (is_one_of (3 ∷ 4 ∷ 5 ∷ 6 ∷ 7 ∷ 8 ∷ 9 ∷ []) n) two h2 in
+    let h4 = other 3 n (is_one_of (4 ∷ 5 ∷ 6 ∷ 7 ∷ 8 ∷ 9 ∷ []) n) three h3 in
+    let h5 = other 4 n (is_one_of (5 ∷ 6 ∷ 7 ∷ 8 ∷ 9 ∷ []) n) four h4 in
+    let h6 = other 5 n (is_one_of (6 ∷ 7 ∷ 8 ∷ 9 ∷ []) n) five h5 in
+    let h7 = other 6 n (is_one_of (7 ∷ 8 ∷ 9 ∷ []) n) six h6 in
+    keep (7 == n) (is_one_of (8 ∷ 9 ∷ []) n) false (λ h8. other 9 n false nine (other 8 n (is_one_of (9 ∷ []) n) eight h8)) h7)) h
 
 some-none : (o : Option Command) → IsSome o → o ≡ None → ⊥
 some-none None is e = cc
@@ -152,11 +157,12 @@ not-both o line none some = let wrong : None ≡ Some line = sym none ∙ some i
 
 completes-told : (words : List (List ℕ)) (script : List ℕ) (sink : Option (List ℕ)) (s : Store) (after : Outside) (counts counts' : Counts) (status : ℕ)
     → Refuses words (record { source = Some script; sink = sink; store = Some s }) after status → HasCauses counts counts' status
-    → IsSome (command_of words) → IsFaultless counts counts' → refused_line script ≡ None → length s.journal ≤ 1
+    → IsSome (command_of words) → IsFaultless counts counts' → refused_line script ≡ None → CanOpen s
     → IsTrue (is_one_of (0 ∷ 1 ∷ 7 ∷ []) status)
 completes-told words script sink s after counts counts' status h causes some ok fine small =
     the-rest status (λ e. some-none (command_of words) some (h.bad_words e).words_are) (λ e. ok.source (causes.source e)) (λ e. ok.sink (causes.sink e)) (λ e. ok.store (causes.store e))
-    (λ e. omega (arith, (h.bad_journal e).journal, small)) (λ e. not-both (refused_line script) (h.refused_script e).line fine (h.refused_script e).refused) h.only
+    (λ e. (h.bad_journal e).shut small.0 small.1.reads) (λ e. not-both (refused_line script) (h.refused_script e).line fine (h.refused_script e).refused)
+    (λ e. omega (arith, (h.full_journal e).shut small.0 small.1.reads, small.1.room)) h.only
 
 pub completes : (words : List (List ℕ)) (source sink : Option (List ℕ)) (told : Option Store) (after : Outside) (counts counts' : Counts) (status : ℕ)
     → Refuses words (record { source = source; sink = sink; store = told }) after status → HasCauses counts counts' status

@@ -1,79 +1,57 @@
 -- What serving a script's statements leaves, by its status.
-use Rattle.std.proofs.Common.{◌≡◌, ℕ, zero, suc, ◌≤◌, Bool, true, false, Result, Ok, Err, IfOk, IfErr, Option, Some, None, List, [], ◌∷◌, ◌++◌, length, refl, sym, ap, ◌∙◌, subst, arith, inl, inr, lit≤}
-use Rattle.std.specs.FinMap as tree
+use Rattle.std.proofs.Common.{◌≡◌, ℕ, Bool, true, false, Result, Ok, Err, IfOk, IfErr, Option, Some, None, List, [], ◌∷◌, ◌++◌, refl, sym, ap, ◌∙◌, subst, arith, ◌⊎◌, ◌+◌, ◌<◌, inl, inr}
 use Rattle.hv_base.specs.Told.{Tells, Moves, StaysTold}
-use Rattle.hv_shelf.specs.declared.place.Place.{Place}
-use Rattle.hv_shelf.specs.Disk.{Tree, Store}
+use Rattle.hv_shelf.specs.Disk.{Store}
 use Rattle.hv_history.specs.declared.entry.Entry.{Entry}
-use Rattle.hv_history.specs.declared.entry.Entry.TheVariants.{Boot}
-use Rattle.hv_history.specs.declared.state.Table.{Table}
-use Rattle.hv_history.specs.State.{state_of, numbered, acted}
-use Rattle.hv_history.specs.Legal.{IsLegal, profile}
-use Rattle.hv_history.specs.Journal.{Reads}
+use Rattle.hv_history.specs.State.{state_of}
+use Rattle.hv_history.specs.Legal.{load, HasRoom, IsLegal, profile}
+use Rattle.hv_history.specs.Journal.{Reads, IsJournal}
+use Rattle.hv_base.specs.Sink.{Gains, GainsPart}
 use Rattle.hv_journal.specs.Appending.{Holds, KeepsTree}
-use Rattle.hv_stands.specs.Files.{Stands, made_in, made_at}
+use Rattle.hv_stands.specs.Files.{Stands}
 use Rattle.hv_house.specs.House.{IsFaithful}
 use Rattle.hv_house.specs.declared.boot.BootFault.{BootFault}
 use Rattle.hv_house.specs.declared.boot.BootFault.TheVariants as boot
-use Rattle.hv_house.specs.Booting.{LeavesEmpty, IsUnwritten}
+use Rattle.hv_house.specs.Booting.{opening_of, OpensTo, Opens, StopsOpening, IsCutOpening, HasNoBook, HasFullBook}
+use Rattle.hv_house.proofs.Faithful.{Opening, opened-faithful, one-journal}
+use Rattle.hv_house.proofs.Boots.{reads-journal}
+use Rattle.hv_recovery.specs.Recovery.{IsJournalOf}
 use Rattle.hv_program.specs.declared.stop.Stop.{Stop}
 use Rattle.hv_program.specs.declared.stop.Stop.TheVariants as stop
-use Rattle.hv_program.specs.Statements.{opening_book, GoesOneByOne}
+use Rattle.hv_program.specs.Lines.{full_line}
+use Rattle.hv_program.specs.Statements.{GoesOneByOne}
 use Rattle.hv_program.specs.Running.{Prints, CutsOff, StopsIn, Halts, HasAll}
-use Rattle.hv_program.specs.Results.{IsEmptyStore, IsBookOf, HasBook, IsServed, IsCutOff, IsStopped, IsUnopened, StopsForMemory, StopsForStore}
-use Rattle.hv_program.specs.Serving.{ran_status, ServedOf, Serves}
+use Rattle.hv_program.specs.Results.{IsBookOf, HasBook, IsServed, IsCutOff, IsStopped, IsUnopened, OpensLater, StopsForMemory, StopsForStore}
+use Rattle.hv_program.specs.Serving.{ran_status, IsCutFull, ServedOf, Serves, IsSaid}
 
 pub tells-still : {A : Type 0} (a b : Option A) (x : A) → StaysTold a b → a ≡ Some x → (y : A) × (b ≡ Some y)
 tells-still a (Some y) x stays e = (y, refl)
 tells-still None None x stays e = cc
 tells-still (Some z) None x stays e = absurd stays
 
--- ---- the opening of an empty store
+-- ---- an opening
 
-none_numbered : (n : ℕ) → numbered {A = Table} [] n ≡ None
-none_numbered zero = refl
-none_numbered (suc n) = refl
-
-nothing_made : (place : Place) → made_at [] place ≡ None
-unfolding made_at
-nothing_made place = ap (λ o. made_in o place) (none_numbered place.table.0)
-
-no_tables : (state_of (Boot 0 ∷ [])).tables ≡ []
-unfolding acted
-no_tables = refl
-
-opening-stands : (files : Tree) → ((place : Place) → tree.get files place ≡ None) → Stands (state_of (Boot 0 ∷ [])) files
-opening-stands files none = record {
-  each = λ place. none place ∙ sym (ap (λ (tables : List Table). made_at tables place) no_tables ∙ nothing_made place);
-}
-
-opening-legal : IsLegal profile (Boot 0 ∷ [])
-opening-legal = record { fit = (record { next = refl; room = lit≤ tt }, tt); truthful = (tt, tt) }
-
-opening-faithful : (start : List Entry) (store begun : Store) → start ≡ Boot 0 ∷ [] → begun.tree ≡ store.tree → IsEmptyStore store → IsFaithful start begun
-opening-faithful start store begun e same empty =
-    let none : (place : Place) → tree.get begun.tree place ≡ None = λ place. ap (λ (t : Tree). tree.get t place) same ∙ empty.files place in
-    subst (λ book. IsFaithful book begun) (sym e) (record { stands = opening-stands begun.tree none; legal = opening-legal })
+opening-faithful : (start : List Entry) (book : List Entry) (store begun : Store) → Opening book start → begun.tree ≡ store.tree → OpensTo book store → IsFaithful start begun
+opening-faithful start book store begun is same opens =
+    let faithful : IsFaithful (opening_of book) store = opened-faithful book store is.room opens.faithful in
+    subst (λ b. IsFaithful b begun) (sym is.now_is)
+    (record { stands = subst (Stands (state_of (opening_of book))) (sym same) faithful.stands; legal = faithful.legal })
 
 -- ---- what is left by a result
 
-book-of : (start book : List Entry) (texts : List (List ℕ)) → start ≡ opening_book → IsLegal profile book → (more : List Entry) → book ≡ start ++ more
-    → GoesOneByOne start book 1 texts → IsBookOf texts book
-book-of start book texts e legal more grown one = record {
-  legal = legal;
-  begins = (more, grown ∙ ap (λ (s : List Entry). s ++ more) e);
-  one_by_one = subst (λ (s : List Entry). GoesOneByOne s book 1 texts) e one;
-}
+book-of : (start book : List Entry) (texts : List (List ℕ)) → IsLegal profile book → (more : List Entry) → book ≡ start ++ more
+    → GoesOneByOne start book 1 texts → IsBookOf start texts book
+book-of start book texts legal more grown one = record { legal = legal; begins = (more, grown); one_by_one = one }
 
 has-book : (book : List Entry) (store : Store) → Reads book store.journal → IsFaithful book store → HasBook book store
 has-book book store reads faithful = record { reads = reads; stands = faithful.stands }
 
 all-served : (texts : List (List ℕ)) (refused : Bool) (written now : List ℕ) (store : Store) (start book : List Entry)
-    → start ≡ opening_book → IsFaithful book store → Reads book store.journal → Prints start book texts (Some written) (Some now) refused
-    → IsServed texts written now store refused
-all-served texts refused written now store start book e faithful reads h = record {
+    → IsFaithful book store → Reads book store.journal → Prints start book texts (Some written) (Some now) refused
+    → IsServed start texts written now store refused
+all-served texts refused written now store start book faithful reads h = record {
   book = book;
-  is_book = book-of start book texts e faithful.legal h.grows.0 h.grows.1 h.one_by_one;
+  is_book = book-of start book texts faithful.legal h.grows.0 h.grows.1 h.one_by_one;
   has_book = has-book book store reads faithful;
   output = h.output;
   wrote = h.written;
@@ -81,15 +59,15 @@ all-served texts refused written now store start book e faithful reads h = recor
 }
 
 cut-off : (texts : List (List ℕ)) (written now : List ℕ) (store : Store) (start book : List Entry)
-    → start ≡ opening_book → HasAll book store → CutsOff start book texts (Some written) (Some now)
-    → IsCutOff texts written now store
-cut-off texts written now store start book e has h = record {
+    → HasAll book store → CutsOff start book texts (Some written) (Some now)
+    → IsCutOff start texts written now store
+cut-off texts written now store start book has h = record {
   front = h.front;
   text = h.text;
   behind = h.behind;
   texts_are = h.texts_are;
   book = book;
-  is_book = book-of start book (h.front ++ h.text ∷ []) e has.1.legal h.grows.0 h.grows.1 h.one_by_one;
+  is_book = book-of start book (h.front ++ h.text ∷ []) has.1.legal h.grows.0 h.grows.1 h.one_by_one;
   has_book = has-book book store has.0 has.1;
   output = h.output;
   refused = h.refused;
@@ -101,15 +79,15 @@ cut-off texts written now store start book e has h = record {
 }
 
 stopped : (texts : List (List ℕ)) (written now : List ℕ) (start book : List Entry) (Keeps : List Entry → Type 0)
-    → start ≡ opening_book → StopsIn start book texts (Some written) (Some now) → Keeps book
-    → IsStopped texts written now Keeps
-stopped texts written now start book Keeps e h keeps = record {
+    → StopsIn start book texts (Some written) (Some now) → Keeps book
+    → IsStopped start texts written now Keeps
+stopped texts written now start book Keeps h keeps = record {
   front = h.front;
   text = h.text;
   behind = h.behind;
   texts_are = h.texts_are;
   done = h.done;
-  is_done = book-of start h.done h.front e h.legal h.grows.0 h.grows.1 h.one_by_one;
+  is_done = book-of start h.done h.front h.legal h.grows.0 h.grows.1 h.one_by_one;
   book = book;
   halfway = h.halfway;
   output = h.output;
@@ -121,8 +99,8 @@ stopped texts written now start book Keeps e h keeps = record {
 
 -- ---- by the status
 
-served-zero : (texts : List (List ℕ)) (written now : List ℕ) (before after : Store) → IsServed texts written now after false → ServedOf 0 texts written now before after
-served-zero texts written now before after h = record {
+served-zero : (opened : List Entry) (texts : List (List ℕ)) (written now : List ℕ) (before after : Store) → IsServed (opening_of opened) texts written now after false → ServedOf 0 opened texts written now before after
+served-zero opened texts written now before after h = record {
   accepted = λ e. h;
   refused = λ e. absurd (omega (arith, e));
   source = λ e. omega (arith, e);
@@ -131,8 +109,8 @@ served-zero texts written now before after h = record {
   memory = λ e. absurd (omega (arith, e));
 }
 
-served-one : (texts : List (List ℕ)) (written now : List ℕ) (before after : Store) → IsServed texts written now after true → ServedOf 1 texts written now before after
-served-one texts written now before after h = record {
+served-one : (opened : List Entry) (texts : List (List ℕ)) (written now : List ℕ) (before after : Store) → IsServed (opening_of opened) texts written now after true → ServedOf 1 opened texts written now before after
+served-one opened texts written now before after h = record {
   accepted = λ e. absurd (omega (arith, e));
   refused = λ e. h;
   source = λ e. omega (arith, e);
@@ -141,8 +119,9 @@ served-one texts written now before after h = record {
   memory = λ e. absurd (omega (arith, e));
 }
 
-served-four : (texts : List (List ℕ)) (written now : List ℕ) (before after : Store) → IsCutOff texts written now after → ServedOf 4 texts written now before after
-served-four texts written now before after h = record {
+served-cut : (opened : List Entry) (texts : List (List ℕ)) (written now : List ℕ) (before after : Store)
+    → IsCutOff (opening_of opened) texts written now after ⊎ IsCutFull opened written now before after → ServedOf 4 opened texts written now before after
+served-cut opened texts written now before after h = record {
   accepted = λ e. absurd (omega (arith, e));
   refused = λ e. absurd (omega (arith, e));
   source = λ e. omega (arith, e);
@@ -151,8 +130,11 @@ served-four texts written now before after h = record {
   memory = λ e. absurd (omega (arith, e));
 }
 
-served-five : (texts : List (List ℕ)) (written now : List ℕ) (before after : Store) → StopsForStore texts written now before after → ServedOf 5 texts written now before after
-served-five texts written now before after h = record {
+served-four : (opened : List Entry) (texts : List (List ℕ)) (written now : List ℕ) (before after : Store) → IsCutOff (opening_of opened) texts written now after → ServedOf 4 opened texts written now before after
+served-four opened texts written now before after h = served-cut opened texts written now before after (inl h)
+
+served-five : (opened : List Entry) (texts : List (List ℕ)) (written now : List ℕ) (before after : Store) → StopsForStore opened texts written now before after → ServedOf 5 opened texts written now before after
+served-five opened texts written now before after h = record {
   accepted = λ e. absurd (omega (arith, e));
   refused = λ e. absurd (omega (arith, e));
   source = λ e. omega (arith, e);
@@ -161,8 +143,8 @@ served-five texts written now before after h = record {
   memory = λ e. absurd (omega (arith, e));
 }
 
-served-seven : (texts : List (List ℕ)) (written now : List ℕ) (before after : Store) → StopsForMemory texts written now before after → ServedOf 7 texts written now before after
-served-seven texts written now before after h = record {
+served-seven : (opened : List Entry) (texts : List (List ℕ)) (written now : List ℕ) (before after : Store) → StopsForMemory opened texts written now before after → ServedOf 7 opened texts written now before after
+served-seven opened texts written now before after h = record {
   accepted = λ e. absurd (omega (arith, e));
   refused = λ e. absurd (omega (arith, e));
   source = λ e. omega (arith, e);
@@ -171,22 +153,22 @@ served-seven texts written now before after h = record {
   memory = λ e. h;
 }
 
-served-by : (texts : List (List ℕ)) (ran : Result Bool Stop) (written now : List ℕ) (before after : Store) (start book : List Entry)
-    → start ≡ opening_book → IfOk ran (λ _. Reads book after.journal) → IfOk ran (λ _. IsFaithful book after)
-    → IfOk ran (λ refused. Prints start book texts (Some written) (Some now) refused)
-    → IfErr ran (λ why. Halts why start book texts (Some written) (Some now) (Some after))
-    → ServedOf (ran_status ran) texts written now before after
-served-by texts (Ok false) written now before after start book e reads shows prints halts =
-    served-zero texts written now before after (all-served texts false written now after start book e shows reads prints)
-served-by texts (Ok true) written now before after start book e reads shows prints halts =
-    served-one texts written now before after (all-served texts true written now after start book e shows reads prints)
-served-by texts (Err stop.Source) written now before after start book e reads shows prints halts = absurd halts
-served-by texts (Err stop.Sink) written now before after start book e reads shows prints halts =
-    served-four texts written now before after (cut-off texts written now after start book e halts.1 halts.0)
-served-by texts (Err stop.Store) written now before after start book e reads shows prints halts =
-    served-five texts written now before after (inl (stopped texts written now start book _ e halts.0 halts.1))
-served-by texts (Err stop.NoMemory) written now before after start book e reads shows prints halts =
-    served-seven texts written now before after (inl (stopped texts written now start book _ e halts.0 halts.1))
+served-by : (opened : List Entry) (texts : List (List ℕ)) (ran : Result Bool Stop) (written now : List ℕ) (before after : Store) (book : List Entry)
+    → IfOk ran (λ _. Reads book after.journal) → IfOk ran (λ _. IsFaithful book after)
+    → IfOk ran (λ refused. Prints (opening_of opened) book texts (Some written) (Some now) refused)
+    → IfErr ran (λ why. Halts why (opening_of opened) book texts (Some written) (Some now) (Some after))
+    → ServedOf (ran_status ran) opened texts written now before after
+served-by opened texts (Ok false) written now before after book reads shows prints halts =
+    served-zero opened texts written now before after (all-served texts false written now after (opening_of opened) book shows reads prints)
+served-by opened texts (Ok true) written now before after book reads shows prints halts =
+    served-one opened texts written now before after (all-served texts true written now after (opening_of opened) book shows reads prints)
+served-by opened texts (Err stop.Source) written now before after book reads shows prints halts = absurd halts
+served-by opened texts (Err stop.Sink) written now before after book reads shows prints halts =
+    served-four opened texts written now before after (cut-off texts written now after (opening_of opened) book halts.1 halts.0)
+served-by opened texts (Err stop.Store) written now before after book reads shows prints halts =
+    served-five opened texts written now before after (inl (stopped texts written now (opening_of opened) book _ halts.0 halts.1))
+served-by opened texts (Err stop.NoMemory) written now before after book reads shows prints halts =
+    served-seven opened texts written now before after (inl (stopped texts written now (opening_of opened) book _ halts.0 halts.1.1))
 
 -- ---- with what the outside tells
 
@@ -197,37 +179,116 @@ ok_tells : {A B : Type 0} (ran : Result B Stop) (P : B → A → Type 0) (x : A)
 ok_tells (Ok b) P x h = h
 ok_tells (Err why) P x h = tt
 
-record IsDone (status : ℕ) (texts : List (List ℕ)) (written : List ℕ) (before : Store) (sink : Option (List ℕ)) (told : Option Store) : Type 0 where
+record IsDone (status : ℕ) (opened : List Entry) (texts : List (List ℕ)) (written : List ℕ) (before : Store) (sink : Option (List ℕ)) (told : Option Store) : Type 0 where
   now : List ℕ
   store : Store
   sink_tells : sink ≡ Some now
   store_tells : told ≡ Some store
-  served : ServedOf status texts written now before store
+  served : ServedOf status opened texts written now before store
 
-ended : (texts : List (List ℕ)) (ran : Result Bool Stop) (sink sink' : Option (List ℕ)) (told begun told' : Option Store) (start book : List Entry)
-    → start ≡ opening_book → Moves KeepsTree told begun
+-- the book that was opened is the one to which the store opens
+same-opened : (told : Option Store) (store : Store) (opened start : List Entry) → told ≡ Some store → OpensTo opened store → Opens told start → Opening opened start
+same-opened told store opened start at opens is =
+    let reads : IsJournalOf profile is.0 store.journal =
+    subst (λ (o : Option Store). Tells o (λ s. IsJournalOf profile is.0 s.journal)) at is.1.reads in
+    let same : is.0 ≡ opened = one-journal is.0 opened store.journal reads.journal opens.journal in
+    record { room = subst (λ b. HasRoom profile (state_of b) 1) same is.1.room; now_is = is.1.now_is ∙ ap opening_of same }
+
+-- what the store told, and what it tells
+ended-told : (opened : List Entry) (texts : List (List ℕ)) (ran : Result Bool Stop) (w n : List ℕ) (s b s' : Store) (start book : List Entry)
+    → Opening opened start → b.tree ≡ s.tree → OpensTo opened s
+    → IfOk ran (λ _. Reads book s'.journal)
+    → (IsFaithful start b → IfOk ran (λ _. IsFaithful book s'))
+    → (IsFaithful start b → IfOk ran (λ refused. Prints start book texts (Some w) (Some n) refused))
+    → (IsFaithful start b → IfErr ran (λ why. Halts why start book texts (Some w) (Some n) (Some s')))
+    → ServedOf (ran_status ran) opened texts w n s s'
+ended-told opened texts ran w n s b s' start book is same opens reads shows prints halts =
+    let begins = opening-faithful start opened s b is same opens in
+    served-by opened texts ran w n s s' book reads (shows begins)
+    (subst (λ x. IfOk ran (λ refused. Prints x book texts (Some w) (Some n) refused)) is.now_is (prints begins))
+    (subst (λ x. IfErr ran (λ why. Halts why x book texts (Some w) (Some n) (Some s'))) is.now_is (halts begins))
+
+none-some : {A : Type 0} (x : A) (o : Option A) → o ≡ None → o ≡ Some x → ⊥
+none-some x o none some = let wrong : None ≡ Some x = sym none ∙ some in cc
+
+-- what the outside tells then
+record AreTold (sink sink' : Option (List ℕ)) (told begun told' : Option Store) (written : List ℕ) (store : Store) : Type 0 where
+  n : List ℕ
+  b : Store
+  s' : Store
+  sink_is : Some written ≡ sink
+  sink_now : Some n ≡ sink'
+  told_is : Some store ≡ told
+  begun_is : Some b ≡ begun
+  told_now : Some s' ≡ told'
+  tree : b.tree ≡ store.tree
+
+moved-to : (told begun : Option Store) (store : Store) → told ≡ Some store → Moves KeepsTree told begun → (b : Store) × (begun ≡ Some b) × (b.tree ≡ store.tree)
+moved-to None begun store at moves = absurd (none-some store None refl at)
+moved-to (Some s) None store at moves = absurd moves
+moved-to (Some s) (Some b) store at moves = (b, refl, moves ∙ ap (λ (x : Store). x.tree) (same_some s store at))
+
+are-told : (sink sink' : Option (List ℕ)) (told begun told' : Option Store) (written : List ℕ) (store : Store) → StaysTold sink sink' → Moves KeepsTree told begun
+    → StaysTold begun told' → sink ≡ Some written → told ≡ Some store → AreTold sink sink' told begun told' written store
+are-told sink sink' told begun told' written store heard moves stays at_sink at_told =
+    let now = tells-still sink sink' written heard at_sink in
+    let then = moved-to told begun store at_told moves in
+    let last = tells-still begun told' then.0 stays then.1 in
+    record {
+      n = now.0;
+      b = then.0;
+      s' = last.0;
+      sink_is = sym at_sink;
+      sink_now = sym now.1;
+      told_is = sym at_told;
+      begun_is = sym then.1;
+      told_now = sym last.1;
+      tree = then.2;
+    }
+
+-- what a run was promised, by what is told
+record Promised (ran : Result Bool Stop) (texts : List (List ℕ)) (start book : List Entry) (sink sink' : Option (List ℕ)) (told begun told' : Option Store) : Type 0 where
+  is : Opens told start
+  reads : IfOk ran (λ _. Holds told' book)
+  shows : Tells begun (IsFaithful start) → IfOk ran (λ _. Tells told' (IsFaithful book))
+  prints : Tells begun (IsFaithful start) → IfOk ran (λ refused. Tells begun (λ _. Prints start book texts sink sink' refused))
+  halts : Tells begun (IsFaithful start) → IfErr ran (λ why. Tells begun (λ _. Halts why start book texts sink sink' told'))
+
+promised-some : (opened : List Entry) (texts : List (List ℕ)) (ran : Result Bool Stop) (w n : List ℕ) (s b s' : Store) (start book : List Entry)
+    → Promised ran texts start book (Some w) (Some n) (Some s) (Some b) (Some s') → b.tree ≡ s.tree → OpensTo opened s → ServedOf (ran_status ran) opened texts w n s s'
+promised-some opened texts ran w n s b s' start book h same opens =
+    ended-told opened texts ran w n s b s' start book (same-opened (Some s) s opened start refl opens h.is) same opens h.reads h.shows h.prints h.halts
+
+promised-told : (opened : List Entry) (texts : List (List ℕ)) (ran : Result Bool Stop) (sink sink' : Option (List ℕ)) (told begun told' : Option Store) (start book : List Entry)
+    (written : List ℕ) (store : Store) → Promised ran texts start book sink sink' told begun told' → OpensTo opened store
+    → (are : AreTold sink sink' told begun told' written store) → ServedOf (ran_status ran) opened texts written are.n store are.s'
+promised-told opened texts ran sink sink' told begun told' start book written store h opens are =
+    promised-some opened texts ran written are.n store are.b are.s' start book
+    (subst (λ x. Promised ran texts start book x (Some are.n) (Some store) (Some are.b) (Some are.s')) (sym are.sink_is)
+    (subst (λ x. Promised ran texts start book sink x (Some store) (Some are.b) (Some are.s')) (sym are.sink_now)
+    (subst (λ x. Promised ran texts start book sink sink' x (Some are.b) (Some are.s')) (sym are.told_is)
+    (subst (λ x. Promised ran texts start book sink sink' told x (Some are.s')) (sym are.begun_is)
+    (subst (λ x. Promised ran texts start book sink sink' told begun x) (sym are.told_now) h)))))
+    are.tree opens
+
+ended : (opened : List Entry) (texts : List (List ℕ)) (ran : Result Bool Stop) (sink sink' : Option (List ℕ)) (told begun told' : Option Store) (start book : List Entry)
+    → Opens told start → Moves KeepsTree told begun
     → IfOk ran (λ _. Holds told' book)
     → (Tells begun (IsFaithful start) → IfOk ran (λ _. Tells told' (IsFaithful book)))
     → (Tells begun (IsFaithful start) → IfOk ran (λ refused. Tells begun (λ _. Prints start book texts sink sink' refused)))
     → (Tells begun (IsFaithful start) → IfErr ran (λ why. Tells begun (λ _. Halts why start book texts sink sink' told')))
     → StaysTold begun told' → StaysTold sink sink'
-    → (written : List ℕ) (store : Store) → sink ≡ Some written → told ≡ Some store → IsEmptyStore store
-    → IsDone (ran_status ran) texts written store sink' told'
-ended texts ran None sink' told begun told' start book e same reads shows prints halts stays heard written store at_sink at_told empty = cc
-ended texts ran (Some w) None told begun told' start book e same reads shows prints halts stays heard written store at_sink at_told empty = absurd heard
-ended texts ran (Some w) (Some n) None begun told' start book e same reads shows prints halts stays heard written store at_sink at_told empty = cc
-ended texts ran (Some w) (Some n) (Some s) None told' start book e same reads shows prints halts stays heard written store at_sink at_told empty = absurd same
-ended texts ran (Some w) (Some n) (Some s) (Some b) None start book e same reads shows prints halts stays heard written store at_sink at_told empty = absurd stays
-ended texts ran (Some w) (Some n) (Some s) (Some b) (Some s') start book e same reads shows prints halts stays heard written store at_sink at_told empty =
-    let is : s ≡ store = same_some s store at_told in
-    let begins = opening-faithful start s b e same (subst IsEmptyStore (sym is) empty) in
-    let there : ServedOf (ran_status ran) texts w n s s' = served-by texts ran w n s s' start book e reads (shows begins) (prints begins) (halts begins) in
+    → (written : List ℕ) (store : Store) → sink ≡ Some written → told ≡ Some store → OpensTo opened store
+    → IsDone (ran_status ran) opened texts written store sink' told'
+ended opened texts ran sink sink' told begun told' start book is same reads shows prints halts stays heard written store at_sink at_told opens =
+    let are : AreTold sink sink' told begun told' written store = are-told sink sink' told begun told' written store heard same stays at_sink at_told in
     record {
-      now = n;
-      store = s';
-      sink_tells = refl;
-      store_tells = refl;
-      served = subst (λ x. ServedOf (ran_status ran) texts written n x s') is (subst (λ v. ServedOf (ran_status ran) texts v n s s') (same_some w written at_sink) there);
+      now = are.n;
+      store = are.s';
+      sink_tells = sym are.sink_now;
+      store_tells = sym are.told_now;
+      served = promised-told opened texts ran sink sink' told begun told' start book written store
+          (record { is = is; reads = reads; shows = shows; prints = prints; halts = halts }) opens are;
     }
 
 ok_then : (ran : Result Bool Stop) (A B : Type 0) → (A → B) → IfOk ran (λ _. A) → IfOk ran (λ _. B)
@@ -235,38 +296,43 @@ ok_then (Ok b) A B f a = f a
 ok_then (Err why) A B f a = tt
 
 Serves-ran : (texts : List (List ℕ)) (ran : Result Bool Stop) (sink sink' : Option (List ℕ)) (told begun told' : Option Store) (start book : List Entry) (IsReadyNow : Type 0)
-    → start ≡ opening_book → Moves KeepsTree told begun
+    → Opens told start → Moves KeepsTree told begun
     → (IsReadyNow → Holds told' book) → IfOk ran (λ _. IsReadyNow)
     → (Tells begun (IsFaithful start) → IfOk ran (λ _. Tells told' (IsFaithful book)))
     → (Tells begun (IsFaithful start) → IfOk ran (λ refused. Tells begun (λ _. Prints start book texts sink sink' refused)))
     → (Tells begun (IsFaithful start) → IfErr ran (λ why. Tells begun (λ _. Halts why start book texts sink sink' told')))
     → StaysTold begun told' → StaysTold sink sink'
     → Serves (ran_status ran) texts sink sink' told told'
-Serves-ran texts ran sink sink' told begun told' start book R e same holds ready shows prints halts stays heard = λ written store at_sink at_told empty.
-    let done = ended texts ran sink sink' told begun told' start book e same (ok_then ran R (Holds told' book) holds ready) shows prints halts stays heard written store at_sink at_told empty in
+Serves-ran texts ran sink sink' told begun told' start book R is same holds ready shows prints halts stays heard = λ written store opened at_sink at_told opens.
+    let done = ended opened texts ran sink sink' told begun told' start book is same (ok_then ran R (Holds told' book) holds ready) shows prints halts stays heard written store at_sink at_told opens in
     record { now = done.now; store = done.store; sink_tells = done.sink_tells; store_tells = done.store_tells; served = done.served }
 
 pub Serves-run : (status : ℕ) (texts given : List (List ℕ)) (ran : Result Bool Stop) (sink sink' : Option (List ℕ)) (told begun told' closed : Option Store)
     (start book : List Entry) (IsReadyNow : Type 0)
     → status ≡ ran_status ran → given ≡ texts → closed ≡ told'
-    → start ≡ opening_book → Moves KeepsTree told begun
+    → Opens told start → Moves KeepsTree told begun
     → (IsReadyNow → Holds told' book) → IfOk ran (λ _. IsReadyNow)
     → (Tells begun (IsFaithful start) → IfOk ran (λ _. Tells told' (IsFaithful book)))
     → (Tells begun (IsFaithful start) → IfOk ran (λ refused. Tells begun (λ _. Prints start book given sink sink' refused)))
     → (Tells begun (IsFaithful start) → IfErr ran (λ why. Tells begun (λ _. Halts why start book given sink sink' told')))
     → StaysTold begun told' → StaysTold sink sink'
     → Serves status texts sink sink' told closed
-Serves-run status texts given ran sink sink' told begun told' closed start book R status_is texts_are closed_is e same holds ready shows prints halts stays heard =
+Serves-run status texts given ran sink sink' told begun told' closed start book R status_is texts_are closed_is is same holds ready shows prints halts stays heard =
     let there : Serves (ran_status ran) given sink sink' told told' =
-    Serves-ran given ran sink sink' told begun told' start book R e same holds ready shows prints halts stays heard in
+    Serves-ran given ran sink sink' told begun told' start book R is same holds ready shows prints halts stays heard in
     let by_texts : Serves (ran_status ran) texts sink sink' told told' = subst (λ t. Serves (ran_status ran) t sink sink' told told') texts_are there in
     let by_close : Serves (ran_status ran) texts sink sink' told closed = subst (λ w. Serves (ran_status ran) texts sink sink' told w) (sym closed_is) by_texts in
     subst (λ n. Serves n texts sink sink' told closed) (sym status_is) by_close
 
 -- ---- an opening that stopped
 
-unwritten : (told : Option Store) (store : Store) → told ≡ Some store → IsEmptyStore store → IsUnwritten told
-unwritten told store e empty = subst IsUnwritten (sym e) empty.journal
+cut-opening : (why : BootFault) (told told' : Option Store) (store : Store) (opened : List Entry) → told ≡ Some store → OpensTo opened store → StopsOpening told told' why
+    → Tells told' (λ s. IsCutOpening why opened s.journal)
+cut-opening why None told' store opened at opens stops = cc
+cut-opening why (Some s) None store opened at opens stops = tt
+cut-opening why (Some s) (Some t) store opened at opens stops =
+    let one : s ≡ store = same_some s store at in
+    stops opened (record { journal = subst (λ (x : Store). IsJournal opened x.journal) (sym one) opens.journal; fit = opens.faithful.legal.fit })
 
 unopened : (written : List ℕ) (before : Store) (told told' : Option Store) (Keeps : List ℕ → Type 0) → told ≡ Some before → Moves KeepsTree told told'
     → Tells told' (λ s. Keeps s.journal) → (after : Store) × (told' ≡ Some after) × IsUnopened written written before after Keeps
@@ -276,36 +342,100 @@ unopened written before (Some s) (Some s') Keeps e tree keeps =
     (s', refl, record { wrote = refl; files = tree ∙ ap (λ (x : Store). x.tree) (same_some s before e); keeps = keeps })
 
 Serves-five : (texts : List (List ℕ)) (sink : Option (List ℕ)) (told told' : Option Store) → Moves KeepsTree told told'
-    → (IsUnwritten told → LeavesEmpty boot.Store told') → Serves 5 texts sink sink told told'
-Serves-five texts sink told told' tree leaves = λ written store at_sink at_told empty.
-    let there = unopened written store told told' _ at_told tree (leaves (unwritten told store at_told empty)) in
-    record { now = written; store = there.0; sink_tells = at_sink; store_tells = there.1; served = served-five texts written written store there.0 (inr there.2) }
+    → StopsOpening told told' boot.Store → Serves 5 texts sink sink told told'
+Serves-five texts sink told told' tree stops = λ written store opened at_sink at_told opens.
+    let there = unopened written store told told' _ at_told tree (cut-opening boot.Store told told' store opened at_told opens stops) in
+    record { now = written; store = there.0; sink_tells = at_sink; store_tells = there.1; served = served-five opened texts written written store there.0 (inr there.2) }
 
 Serves-seven : (texts : List (List ℕ)) (sink : Option (List ℕ)) (told told' : Option Store) → Moves KeepsTree told told'
-    → (IsUnwritten told → LeavesEmpty boot.NoMemory told') → Serves 7 texts sink sink told told'
-Serves-seven texts sink told told' tree leaves = λ written store at_sink at_told empty.
-    let there = unopened written store told told' _ at_told tree (leaves (unwritten told store at_told empty)) in
-    record { now = written; store = there.0; sink_tells = at_sink; store_tells = there.1; served = served-seven texts written written store there.0 (inr there.2) }
+    → StopsOpening told told' boot.NoMemory → Serves 7 texts sink sink told told'
+Serves-seven texts sink told told' tree stops = λ written store opened at_sink at_told opens.
+    let there = unopened written store told told' _ at_told tree (cut-opening boot.NoMemory told told' store opened at_told opens stops) in
+    record { now = written; store = there.0; sink_tells = at_sink; store_tells = there.1; served = served-seven opened texts written written store there.0 (inr there.2) }
 
 pub Serves-store : (status : ℕ) (texts : List (List ℕ)) (sink : Option (List ℕ)) (told told' : Option Store) (why : BootFault) → status ≡ 5 → why ≡ boot.Store → Moves KeepsTree told told'
-    → (IsUnwritten told → LeavesEmpty why told') → Serves status texts sink sink told told'
-Serves-store status texts sink told told' why e is tree leaves =
+    → StopsOpening told told' why → Serves status texts sink sink told told'
+Serves-store status texts sink told told' why e is tree stops =
     subst (λ n. Serves n texts sink sink told told') (sym e)
-    (Serves-five texts sink told told' tree (λ h. subst (λ f. LeavesEmpty f told') is (leaves h)))
+    (Serves-five texts sink told told' tree (subst (StopsOpening told told') is stops))
 
 pub Serves-memory : (status : ℕ) (texts : List (List ℕ)) (sink : Option (List ℕ)) (told told' : Option Store) (why : BootFault) → status ≡ 7 → why ≡ boot.NoMemory → Moves KeepsTree told told'
-    → (IsUnwritten told → LeavesEmpty why told') → Serves status texts sink sink told told'
-Serves-memory status texts sink told told' why e is tree leaves =
+    → StopsOpening told told' why → Serves status texts sink sink told told'
+Serves-memory status texts sink told told' why e is tree stops =
     subst (λ n. Serves n texts sink sink told told') (sym e)
-    (Serves-seven texts sink told told' tree (λ h. subst (λ f. LeavesEmpty f told') is (leaves h)))
+    (Serves-seven texts sink told told' tree (subst (StopsOpening told told') is stops))
 
--- ---- a journal that isn't empty
+-- ---- a journal that isn't opened
 
-never-empty : (told : Option Store) (store : Store) → Tells told (λ s. 2 ≤ length s.journal) → told ≡ Some store → IsEmptyStore store → ⊥
-never-empty told store long e empty =
-    let there : Tells (Some store) (λ s. 2 ≤ length s.journal) = subst (λ (o : Option Store). Tells o (λ s. 2 ≤ length s.journal)) e long in
-    omega (arith, there, empty.journal)
+never-opens : (told : Option Store) (store : Store) (opened : List Entry) → told ≡ Some store → OpensTo opened store → Tells told HasNoBook → ⊥
+never-opens told store opened at opens shut =
+    let here : HasNoBook store = subst (λ (o : Option Store). Tells o HasNoBook) at shut in
+    here opened (record { journal = opens.journal; fit = opens.faithful.legal.fit })
 
-pub Serves-bad : (status : ℕ) (texts : List (List ℕ)) (sink sink' : Option (List ℕ)) (told told' : Option Store) → Tells told (λ s. 2 ≤ length s.journal)
+pub Serves-bad : (status : ℕ) (texts : List (List ℕ)) (sink sink' : Option (List ℕ)) (told told' : Option Store) → Tells told HasNoBook
     → Serves status texts sink sink' told told'
-Serves-bad status texts sink sink' told told' long = λ written store at_sink at_told empty. absurd (never-empty told store long at_told empty)
+Serves-bad status texts sink sink' told told' shut = λ written store opened at_sink at_told opens. absurd (never-opens told store opened at_told opens shut)
+
+served-nine : (opened : List Entry) (texts : List (List ℕ)) (written now : List ℕ) (before after : Store) → ServedOf 9 opened texts written now before after
+served-nine opened texts written now before after = record {
+  accepted = λ e. absurd (omega (arith, e));
+  refused = λ e. absurd (omega (arith, e));
+  source = λ e. omega (arith, e);
+  sink = λ e. absurd (omega (arith, e));
+  store = λ e. absurd (omega (arith, e));
+  memory = λ e. absurd (omega (arith, e));
+}
+
+full-book : (told : Option Store) (store : Store) (opened : List Entry) → told ≡ Some store → OpensTo opened store → Tells told HasFullBook
+    → profile.entries < load (state_of opened) + 1
+full-book told store opened at opens full =
+    let here : HasFullBook store = subst (λ (o : Option Store). Tells o HasFullBook) at full in
+    here opened (record { journal = opens.journal; fit = opens.faithful.legal.fit })
+
+-- a content that a move made, where it was told
+moved : {A : Type 0} (P : A → A → Type 0) (a b : Option A) (x : A) → a ≡ Some x → Moves P a b → (y : A) × (b ≡ Some y) × P x y
+moved P None b x e m = cc
+moved P (Some z) None x e m = absurd m
+moved P (Some z) (Some y) x e m = (y, refl, subst (λ w. P w y) (same_some z x e) m)
+
+pub Serves-full : (status : ℕ) (texts : List (List ℕ)) (sink sink' : Option (List ℕ)) (told told' : Option Store) (faults faults' : ℕ) → told' ≡ told → Tells told HasFullBook
+    → IsSaid 9 full_line sink sink' faults faults' status → Serves status texts sink sink' told told'
+Serves-full status texts sink sink' told told' faults faults' same full (inl said) = λ written store opened at_sink at_told opens.
+    let there = moved (Gains full_line) sink sink' written at_sink said.1.wrote in
+    record {
+      now = there.0;
+      store = store;
+      sink_tells = there.1;
+      store_tells = same ∙ at_told;
+      served = subst (λ n. ServedOf n opened texts written there.0 store store) (sym said.0) (served-nine opened texts written there.0 store store);
+    }
+Serves-full status texts sink sink' told told' faults faults' same full (inr cut) = λ written store opened at_sink at_told opens.
+    let there = moved (GainsPart full_line) sink sink' written at_sink cut.1.wrote in
+    record {
+      now = there.0;
+      store = store;
+      sink_tells = there.1;
+      store_tells = same ∙ at_told;
+      served = subst (λ n. ServedOf n opened texts written there.0 store store) (sym cut.0)
+          (served-cut opened texts written there.0 store store
+          (inr (record { full = full-book told store opened at_told opens full; wrote = there.2; store_same = refl })));
+    }
+
+-- ---- what is left opens again
+
+opens-later : (start : List Entry) (texts : List (List ℕ)) (book : List Entry) (store : Store) → IsBookOf start texts book → HasBook book store → OpensLater start store
+opens-later start texts book store is has = record {
+  book = book;
+  opens = record {
+    journal = reads-journal book store.journal has.reads;
+    faithful = record { stands = has.stands; legal = is.legal };
+  };
+  begins = is.begins;
+}
+
+pub done-opens : (start : List Entry) (texts : List (List ℕ)) (written now : List ℕ) (store : Store) (refused : Bool)
+    → IsServed start texts written now store refused → OpensLater start store
+done-opens start texts written now store refused is = opens-later start texts is.book store is.is_book is.has_book
+
+pub cut-opens : (start : List Entry) (texts : List (List ℕ)) (written now : List ℕ) (store : Store) → IsCutOff start texts written now store → OpensLater start store
+cut-opens start texts written now store is = opens-later start (is.front ++ is.text ∷ []) is.book store is.is_book is.has_book

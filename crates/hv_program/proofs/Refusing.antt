@@ -2,9 +2,8 @@
 use Rattle.std.proofs.Common.{◌≡◌, ℕ, ◌+◌, ◌≤◌, ◌==◌, ◌||◌, Bool, true, false, cond, nat_lt, Result, Ok, Err, IfErr, IsTrue, IsSome, is_some, not, codes, Option, Some, None, List, [], ◌∷◌, ◌++◌, length, refl, sym, ap, ◌∙◌, subst, arith, ◌⊎◌, inl, inr}
 use Rattle.std.specs.Prelude.{count_by}
 use Rattle.std.proofs.lemmas.List.{append-nil, length-append, take-append-le}
-use Rattle.std.proofs.lemmas.Bool.{ltb-true, ltb-false, lt-ltb}
+use Rattle.std.proofs.lemmas.Bool.{ltb-true, ltb-false, lt-ltb, eqb-true}
 use Rattle.hv_base.specs.Told.{Tells, Moves}
-use Rattle.hv_base.specs.Sink.{Gains}
 use Rattle.hv_shelf.specs.Disk.{Store}
 use Rattle.hv_script.specs.Words.{command_of}
 use Rattle.hv_script.specs.declared.words.Command.{Command}
@@ -17,59 +16,16 @@ use Rattle.hv_program.specs.declared.stop.Stop.TheVariants as stop
 use Rattle.hv_program.specs.Stops.{status_of_stop}
 use Rattle.hv_program.specs.Reading.{TakesUpTo}
 use Rattle.hv_program.specs.Headline.{Outside}
-use Rattle.hv_program.specs.Serving.{ran_status, IsSaid, IsSaidOrNot, IsClosed, Opens}
-use Rattle.hv_program.specs.Lines.{words_line, script_line, journal_line}
+use Rattle.hv_program.specs.Serving.{ran_status, IsSaid, IsSaidOrNot, IsClosed, IsFilled, Opens}
+use Rattle.hv_program.specs.Lines.{words_line, script_line, journal_line, full_line}
+use Rattle.hv_history.specs.declared.entry.Entry.{Entry}
+use Rattle.hv_history.specs.Legal.{profile}
+use Rattle.hv_recovery.specs.Recovery.{IsJournalOf, IsBadJournalAt}
+use Rattle.hv_house.specs.declared.boot.BootFault.{BootFault}
+use Rattle.hv_house.specs.declared.boot.BootFault.TheVariants as boot
+use Rattle.hv_house.specs.Booting.{CanOpen, IsFullAt, HasNoBook, HasFullBook, IsBootFault}
+use Rattle.hv_house.specs.Booting as boots
 use Rattle.hv_program.specs.Refused.{is_one_of, IsBadWords, IsRefusedScript, Refuses}
-
--- ---- serving
-
-tells-all : (P : Store → Type 0) (told : Option Store) → ((s : Store) → P s) → Tells told P
-tells-all P None all = tt
-tells-all P (Some s) all = all s
-
-tells-then : {A : Type 0} (P Q : A → Type 0) (o : Option A) → ((x : A) → P x → Q x) → Tells o P → Tells o Q
-tells-then P Q None f p = tt
-tells-then P Q (Some x) f p = f x p
-
-empty-journal : (told : Option Store) (status : ℕ) → Tells told (λ s. length s.journal ≤ 1)
-    → Tells told (λ s. 2 ≤ length s.journal → IsTrue (is_one_of (4 ∷ 5 ∷ 6 ∷ 7 ∷ []) status))
-empty-journal told status small =
-    tells-then (λ s. length s.journal ≤ 1) (λ s. 2 ≤ length s.journal → IsTrue (is_one_of (4 ∷ 5 ∷ 6 ∷ 7 ∷ []) status)) told
-    (λ s low high. absurd (omega (arith, low, high))) small
-
-pub opens-ran : (ran : Result Bool Stop) (sink sink' : Option (List ℕ)) (told told' : Option Store) → Tells told (λ s. length s.journal ≤ 1)
-    → IfErr ran (λ why. IsTrue (is_one_of (4 ∷ 5 ∷ 7 ∷ []) (status_of_stop why))) → Opens sink sink' told told' (ran_status ran)
-opens-ran (Ok false) sink sink' told told' small why = record { bad = λ e. absurd (omega (arith, e)); at_journal = empty-journal told 0 small; only = refl }
-opens-ran (Ok true) sink sink' told told' small why = record { bad = λ e. absurd (omega (arith, e)); at_journal = empty-journal told 1 small; only = refl }
-opens-ran (Err stop.Source) sink sink' told told' small why = cc
-opens-ran (Err stop.Sink) sink sink' told told' small why = record { bad = λ e. absurd (omega (arith, e)); at_journal = empty-journal told 4 small; only = refl }
-opens-ran (Err stop.Store) sink sink' told told' small why = record { bad = λ e. absurd (omega (arith, e)); at_journal = empty-journal told 5 small; only = refl }
-opens-ran (Err stop.NoMemory) sink sink' told told' small why = record { bad = λ e. absurd (omega (arith, e)); at_journal = empty-journal told 7 small; only = refl }
-
-pub opens-run : (ran : Result Bool Stop) (status : ℕ) (sink sink' : Option (List ℕ)) (told told' : Option Store) → status ≡ ran_status ran
-    → Tells told (λ s. length s.journal ≤ 1)
-    → IfErr ran (λ why. IsTrue (is_one_of (4 ∷ 5 ∷ 7 ∷ []) (status_of_stop why))) → Opens sink sink' told told' status
-opens-run ran status sink sink' told told' is small why = subst (Opens sink sink' told told') (sym is) (opens-ran ran sink sink' told told' small why)
-
-opens-five : (sink sink' : Option (List ℕ)) (told told' : Option Store) → Opens sink sink' told told' 5
-opens-five sink sink' told told' = record {
-  bad = λ e. absurd (omega (arith, e));
-  at_journal = tells-all (λ s. 2 ≤ length s.journal → IsTrue (is_one_of (4 ∷ 5 ∷ 6 ∷ 7 ∷ []) 5)) told (λ s h. refl);
-  only = refl;
-}
-
-opens-seven : (sink sink' : Option (List ℕ)) (told told' : Option Store) → Opens sink sink' told told' 7
-opens-seven sink sink' told told' = record {
-  bad = λ e. absurd (omega (arith, e));
-  at_journal = tells-all (λ s. 2 ≤ length s.journal → IsTrue (is_one_of (4 ∷ 5 ∷ 6 ∷ 7 ∷ []) 7)) told (λ s h. refl);
-  only = refl;
-}
-
-pub opens-store : (status : ℕ) (sink sink' : Option (List ℕ)) (told told' : Option Store) → status ≡ 5 → Opens sink sink' told told' status
-opens-store status sink sink' told told' is = subst (Opens sink sink' told told') (sym is) (opens-five sink sink' told told')
-
-pub opens-memory : (status : ℕ) (sink sink' : Option (List ℕ)) (told told' : Option Store) → status ≡ 7 → Opens sink sink' told told' status
-opens-memory status sink sink' told told' is = subst (Opens sink sink' told told') (sym is) (opens-seven sink sink' told told')
 
 -- ---- one of some statuses
 
@@ -85,33 +41,114 @@ pub split : (b rest : Bool) → b || rest ≡ true → (b ≡ true) ⊎ (rest �
 split true rest h = inl refl
 split false rest h = inr h
 
--- ---- a journal that isn't empty
+-- ---- serving
+
+tells-all : (P : Store → Type 0) (told : Option Store) → ((s : Store) → P s) → Tells told P
+tells-all P None all = tt
+tells-all P (Some s) all = all s
+
+tells-then : {A : Type 0} (P Q : A → Type 0) (o : Option A) → ((x : A) → P x → Q x) → Tells o P → Tells o Q
+tells-then P Q None f p = tt
+tells-then P Q (Some x) f p = f x p
+
+-- the store of a run that was opened could be opened
+pub could-open : (told : Option Store) (now : List Entry) → boots.Opens told now → Tells told CanOpen
+could-open told now is =
+    tells-then (λ s. IsJournalOf profile is.0 s.journal) CanOpen told (λ s reads. (is.0, record { reads = reads; room = is.1.room })) is.1.reads
+
+none-of-two : (n : ℕ) → (n ≡ 0 → ⊥) → (n ≡ 1 → ⊥) → (Goal : Type 0) → IsTrue (is_one_of (0 ∷ 1 ∷ []) n) → Goal
+none-of-two n not_zero not_one Goal h = first (split (0 == n) ((1 == n) || false) h)
+  where
+    second : ((1 == n) ≡ true) ⊎ (false ≡ true) → Goal
+    second (inl e) = absurd (not_one (sym (eqb-true 1 n e)))
+    second (inr e) = absurd (let wrong : false ≡ true = e in cc)
+
+    first : ((0 == n) ≡ true) ⊎ ((1 == n) || false ≡ true) → Goal
+    first (inl e) = absurd (not_zero (sym (eqb-true 0 n e)))
+    first (inr e) = second (split (1 == n) false e)
+
+opens-well : (n : ℕ) (sink sink' : Option (List ℕ)) (told told' : Option Store) → (n ≡ 6 → ⊥) → (n ≡ 9 → ⊥) → Tells told CanOpen
+    → IsTrue (is_one_of (0 ∷ 1 ∷ 4 ∷ 5 ∷ 6 ∷ 7 ∷ 9 ∷ []) n) → Opens sink sink' told told' n
+opens-well n sink sink' told told' six nine can only = record { bad = λ e. absurd (six e); full = λ e. absurd (nine e); opened = λ h. can; only = only }
+
+pub opens-ran : (ran : Result Bool Stop) (sink sink' : Option (List ℕ)) (told told' : Option Store) → Tells told CanOpen
+    → IfErr ran (λ why. IsTrue (is_one_of (4 ∷ 5 ∷ 7 ∷ []) (status_of_stop why))) → Opens sink sink' told told' (ran_status ran)
+opens-ran (Ok false) sink sink' told told' can why = opens-well 0 sink sink' told told' (λ e. omega (arith, e)) (λ e. omega (arith, e)) can refl
+opens-ran (Ok true) sink sink' told told' can why = opens-well 1 sink sink' told told' (λ e. omega (arith, e)) (λ e. omega (arith, e)) can refl
+opens-ran (Err stop.Source) sink sink' told told' can why = cc
+opens-ran (Err stop.Sink) sink sink' told told' can why = opens-well 4 sink sink' told told' (λ e. omega (arith, e)) (λ e. omega (arith, e)) can refl
+opens-ran (Err stop.Store) sink sink' told told' can why = opens-well 5 sink sink' told told' (λ e. omega (arith, e)) (λ e. omega (arith, e)) can refl
+opens-ran (Err stop.NoMemory) sink sink' told told' can why = opens-well 7 sink sink' told told' (λ e. omega (arith, e)) (λ e. omega (arith, e)) can refl
+
+pub opens-run : (ran : Result Bool Stop) (status : ℕ) (sink sink' : Option (List ℕ)) (told told' : Option Store) (now : List Entry) → status ≡ ran_status ran
+    → boots.Opens told now
+    → IfErr ran (λ why. IsTrue (is_one_of (4 ∷ 5 ∷ 7 ∷ []) (status_of_stop why))) → Opens sink sink' told told' status
+opens-run ran status sink sink' told told' now is opened why =
+    subst (Opens sink sink' told told') (sym is) (opens-ran ran sink sink' told told' (could-open told now opened) why)
+
+-- a run that did no statement
+opens-none : (n : ℕ) (sink sink' : Option (List ℕ)) (told told' : Option Store) → (n ≡ 6 → ⊥) → (n ≡ 9 → ⊥) → (n ≡ 0 → ⊥) → (n ≡ 1 → ⊥)
+    → IsTrue (is_one_of (0 ∷ 1 ∷ 4 ∷ 5 ∷ 6 ∷ 7 ∷ 9 ∷ []) n) → Opens sink sink' told told' n
+opens-none n sink sink' told told' six nine not_zero not_one only =
+    record { bad = λ e. absurd (six e); full = λ e. absurd (nine e); opened = none-of-two n not_zero not_one _; only = only }
 
 opens-four : (sink sink' : Option (List ℕ)) (told told' : Option Store) → Opens sink sink' told told' 4
-opens-four sink sink' told told' = record {
-  bad = λ e. absurd (omega (arith, e));
-  at_journal = tells-all (λ s. 2 ≤ length s.journal → IsTrue (is_one_of (4 ∷ 5 ∷ 6 ∷ 7 ∷ []) 4)) told (λ s h. refl);
-  only = refl;
-}
+opens-four sink sink' told told' =
+    opens-none 4 sink sink' told told' (λ e. omega (arith, e)) (λ e. omega (arith, e)) (λ e. omega (arith, e)) (λ e. omega (arith, e)) refl
+
+pub opens-store : (status : ℕ) (sink sink' : Option (List ℕ)) (told told' : Option Store) → status ≡ 5 → Opens sink sink' told told' status
+opens-store status sink sink' told told' is =
+    subst (Opens sink sink' told told') (sym is)
+    (opens-none 5 sink sink' told told' (λ e. omega (arith, e)) (λ e. omega (arith, e)) (λ e. omega (arith, e)) (λ e. omega (arith, e)) refl)
+
+pub opens-memory : (status : ℕ) (sink sink' : Option (List ℕ)) (told told' : Option Store) → status ≡ 7 → Opens sink sink' told told' status
+opens-memory status sink sink' told told' is =
+    subst (Opens sink sink' told told') (sym is)
+    (opens-none 7 sink sink' told told' (λ e. omega (arith, e)) (λ e. omega (arith, e)) (λ e. omega (arith, e)) (λ e. omega (arith, e)) refl)
+
+-- ---- a journal that is bad, and one that is full
 
 opens-six : (sink sink' : Option (List ℕ)) (told told' : Option Store) → IsClosed sink sink' told told' → Opens sink sink' told told' 6
 opens-six sink sink' told told' closed = record {
   bad = λ e. closed;
-  at_journal = tells-all (λ s. 2 ≤ length s.journal → IsTrue (is_one_of (4 ∷ 5 ∷ 6 ∷ 7 ∷ []) 6)) told (λ s h. refl);
+  full = λ e. absurd (omega (arith, e));
+  opened = none-of-two 6 (λ e. omega (arith, e)) (λ e. omega (arith, e)) _;
   only = refl;
 }
 
-pub opens-bad : (status at : ℕ) (sink sink' : Option (List ℕ)) (faults faults' : ℕ) (told told' : Option Store) → at ≡ 0 → told' ≡ told → Tells told (λ s. 2 ≤ length s.journal)
+opens-nine : (sink sink' : Option (List ℕ)) (told told' : Option Store) → IsFilled sink sink' told told' → Opens sink sink' told told' 9
+opens-nine sink sink' told told' filled = record {
+  bad = λ e. absurd (omega (arith, e));
+  full = λ e. filled;
+  opened = none-of-two 9 (λ e. omega (arith, e)) (λ e. omega (arith, e)) _;
+  only = refl;
+}
+
+pub opens-bad : (status at : ℕ) (sink sink' : Option (List ℕ)) (faults faults' : ℕ) (told told' : Option Store)
+    → (told' ≡ told) × Tells told (λ s. IsBadJournalAt profile s.journal at) × Tells told HasNoBook
     → IsSaidOrNot 6 (journal_line at) sink sink' faults faults' status → Opens sink sink' told told' status
-opens-bad status at sink sink' faults faults' told told' first same bad (inl (inl said)) =
+opens-bad status at sink sink' faults faults' told told' bad (inl (inl said)) =
     subst (Opens sink sink' told told') (sym said.0)
-    (opens-six sink sink' told told' (record {
-      journal = bad;
-      same = same;
-      wrote = subst (λ (n : ℕ). Moves (Gains (journal_line n)) sink sink') first said.1.wrote;
-    }))
-opens-bad status at sink sink' faults faults' told told' first same bad (inl (inr cut)) = subst (Opens sink sink' told told') (sym cut.0) (opens-four sink sink' told told')
-opens-bad status at sink sink' faults faults' told told' first same bad (inr unsaid) = opens-memory status sink sink' told told' unsaid.0
+    (opens-six sink sink' told told' (record { at = at; journal = bad.1; shut = bad.2; same = bad.0; wrote = said.1.wrote }))
+opens-bad status at sink sink' faults faults' told told' bad (inl (inr cut)) = subst (Opens sink sink' told told') (sym cut.0) (opens-four sink sink' told told')
+opens-bad status at sink sink' faults faults' told told' bad (inr unsaid) = opens-memory status sink sink' told told' unsaid.0
+
+pub opens-full : (status entries : ℕ) (sink sink' : Option (List ℕ)) (faults faults' : ℕ) (told told' : Option Store)
+    → (told' ≡ told) × Tells told (λ s. IsFullAt entries s.journal) × Tells told HasFullBook
+    → IsSaid 9 full_line sink sink' faults faults' status → Opens sink sink' told told' status
+opens-full status entries sink sink' faults faults' told told' full (inl said) =
+    subst (Opens sink sink' told told') (sym said.0)
+    (opens-nine sink sink' told told' (record { entries = entries; journal = full.1; shut = full.2; same = full.0; wrote = said.1.wrote }))
+opens-full status entries sink sink' faults faults' told told' full (inr cut) = subst (Opens sink sink' told told') (sym cut.0) (opens-four sink sink' told told')
+
+-- what boot says of a journal that it doesn't open
+pub bad-found : (told told' : Option Store) (why : BootFault) (at : ℕ) → why ≡ boot.BadJournal at → IsBootFault told told' why
+    → (told' ≡ told) × Tells told (λ s. IsBadJournalAt profile s.journal at) × Tells told HasNoBook
+bad-found told told' why at is h = subst (IsBootFault told told') is h
+
+pub full-found : (told told' : Option Store) (why : BootFault) (entries : ℕ) → why ≡ boot.Full entries → IsBootFault told told' why
+    → (told' ≡ told) × Tells told (λ s. IsFullAt entries s.journal) × Tells told HasFullBook
+full-found told told' why entries is h = subst (IsBootFault told told') is h
 
 -- ---- the whole
 
@@ -134,7 +171,8 @@ module _ (words : List (List ℕ)) (before after : Outside) where
     refused_script = λ e. absurd (omega (arith, e));
     at_words = λ e. refl;
     at_script = λ some. none-not-some none some _;
-    at_journal = λ some. none-not-some none some _;
+    at_journal = none-of-two 2 (λ e. omega (arith, e)) (λ e. omega (arith, e)) _;
+    full_journal = λ e. absurd (omega (arith, e));
     only = refl;
   }
 
@@ -145,7 +183,8 @@ module _ (words : List (List ℕ)) (before after : Outside) where
     refused_script = λ e. absurd (omega (arith, e));
     at_words = λ e. refl;
     at_script = λ some. none-not-some none some _;
-    at_journal = λ some. none-not-some none some _;
+    at_journal = none-of-two 4 (λ e. omega (arith, e)) (λ e. omega (arith, e)) _;
+    full_journal = λ e. absurd (omega (arith, e));
     only = refl;
   }
 
@@ -162,33 +201,28 @@ module _ (words : List (List ℕ)) (before after : Outside) where
   all-lines n h None = tt
   all-lines n h (Some script) = λ line e. h
 
-  all-journals : (n : ℕ) → IsTrue (is_one_of (3 ∷ 4 ∷ 5 ∷ 6 ∷ 7 ∷ []) n) → (source : Option (List ℕ)) (told : Option Store)
-      → Tells source (λ script. refused_line script ≡ None → Tells told (λ s. 2 ≤ length s.journal → IsTrue (is_one_of (3 ∷ 4 ∷ 5 ∷ 6 ∷ 7 ∷ []) n)))
-  all-journals n h None told = tt
-  all-journals n h (Some script) None = λ e. tt
-  all-journals n h (Some script) (Some s) = λ e low. h
-
-  refuses-quiet : (n : ℕ) → IsSome (command_of words) → (n ≡ 2 → ⊥) → (n ≡ 6 → ⊥) → (n ≡ 8 → ⊥)
-      → IsTrue (is_one_of (3 ∷ 4 ∷ 7 ∷ 8 ∷ []) n) → IsTrue (is_one_of (3 ∷ 4 ∷ 5 ∷ 6 ∷ 7 ∷ []) n)
-      → IsTrue (is_one_of (0 ∷ 1 ∷ 2 ∷ 3 ∷ 4 ∷ 5 ∷ 6 ∷ 7 ∷ 8 ∷ []) n) → Refuses words before after n
-  refuses-quiet n some two six eight lines journals all = record {
+  refuses-quiet : (n : ℕ) → IsSome (command_of words) → (n ≡ 0 → ⊥) → (n ≡ 1 → ⊥) → (n ≡ 2 → ⊥) → (n ≡ 6 → ⊥) → (n ≡ 8 → ⊥) → (n ≡ 9 → ⊥)
+      → IsTrue (is_one_of (3 ∷ 4 ∷ 7 ∷ 8 ∷ []) n)
+      → IsTrue (is_one_of (0 ∷ 1 ∷ 2 ∷ 3 ∷ 4 ∷ 5 ∷ 6 ∷ 7 ∷ 8 ∷ 9 ∷ []) n) → Refuses words before after n
+  refuses-quiet n some not_zero not_one two six eight nine lines all = record {
     bad_words = λ e. absurd (two e);
     bad_journal = λ e. absurd (six e);
     refused_script = λ e. absurd (eight e);
     at_words = λ none. some-not-none some none _;
     at_script = λ is. all-lines n lines before.source;
-    at_journal = λ is. all-journals n journals before.source before.store;
+    at_journal = none-of-two n not_zero not_one _;
+    full_journal = λ e. absurd (nine e);
     only = all;
   }
 
   refuses-three : IsSome (command_of words) → Refuses words before after 3
-  refuses-three some = refuses-quiet 3 some (λ e. omega (arith, e)) (λ e. omega (arith, e)) (λ e. omega (arith, e)) refl refl refl
+  refuses-three some = refuses-quiet 3 some (λ e. omega (arith, e)) (λ e. omega (arith, e)) (λ e. omega (arith, e)) (λ e. omega (arith, e)) (λ e. omega (arith, e)) (λ e. omega (arith, e)) refl refl
 
   refuses-sink : IsSome (command_of words) → Refuses words before after 4
-  refuses-sink some = refuses-quiet 4 some (λ e. omega (arith, e)) (λ e. omega (arith, e)) (λ e. omega (arith, e)) refl refl refl
+  refuses-sink some = refuses-quiet 4 some (λ e. omega (arith, e)) (λ e. omega (arith, e)) (λ e. omega (arith, e)) (λ e. omega (arith, e)) (λ e. omega (arith, e)) (λ e. omega (arith, e)) refl refl
 
   refuses-seven : IsSome (command_of words) → Refuses words before after 7
-  refuses-seven some = refuses-quiet 7 some (λ e. omega (arith, e)) (λ e. omega (arith, e)) (λ e. omega (arith, e)) refl refl refl
+  refuses-seven some = refuses-quiet 7 some (λ e. omega (arith, e)) (λ e. omega (arith, e)) (λ e. omega (arith, e)) (λ e. omega (arith, e)) (λ e. omega (arith, e)) (λ e. omega (arith, e)) refl refl
 
   pub refuses-memory : (status : ℕ) → IsSome (command_of words) → status ≡ 7 → Refuses words before after status
   refuses-memory status some e = subst (Refuses words before after) (sym e) (refuses-seven some)
@@ -208,9 +242,8 @@ module _ (words : List (List ℕ)) (before after : Outside) where
     refused_script = λ e. refused;
     at_words = λ none. some-not-none refused.words_are none _;
     at_script = λ is. all-lines 8 refl before.source;
-    at_journal = λ is. tells-then (λ script. refused_line script ≡ Some refused.line)
-        (λ script. refused_line script ≡ None → Tells before.store (λ s. 2 ≤ length s.journal → IsTrue (is_one_of (3 ∷ 4 ∷ 5 ∷ 6 ∷ 7 ∷ []) 8)))
-        before.source (λ script line none. absurd (let no_line : Some refused.line ≡ None = sym line ∙ none in cc)) refused.refused;
+    at_journal = none-of-two 8 (λ e. omega (arith, e)) (λ e. omega (arith, e)) _;
+    full_journal = λ e. absurd (omega (arith, e));
     only = refl;
   }
 
@@ -223,41 +256,35 @@ module _ (words : List (List ℕ)) (before after : Outside) where
   refuses-script status line some refused store faults faults' (inr unsaid) = refuses-memory status some unsaid.0
 
   -- a script that is served
-  wider-journals : (n : ℕ) → IsTrue (is_one_of (4 ∷ 5 ∷ 6 ∷ 7 ∷ []) n) → IsTrue (is_one_of (3 ∷ 4 ∷ 5 ∷ 6 ∷ 7 ∷ []) n)
-  wider-journals n h = more (3 == n) (is_one_of (4 ∷ 5 ∷ 6 ∷ 7 ∷ []) n) h
-
-  wider : (n : ℕ) → IsTrue (is_one_of (0 ∷ 1 ∷ 4 ∷ 5 ∷ 6 ∷ 7 ∷ []) n) → IsTrue (is_one_of (0 ∷ 1 ∷ 2 ∷ 3 ∷ 4 ∷ 5 ∷ 6 ∷ 7 ∷ 8 ∷ []) n)
-  wider n h =
-      keep (0 == n) (is_one_of (1 ∷ 4 ∷ 5 ∷ 6 ∷ 7 ∷ []) n) (is_one_of (1 ∷ 2 ∷ 3 ∷ 4 ∷ 5 ∷ 6 ∷ 7 ∷ 8 ∷ []) n)
-      (keep (1 == n) (is_one_of (4 ∷ 5 ∷ 6 ∷ 7 ∷ []) n) (is_one_of (2 ∷ 3 ∷ 4 ∷ 5 ∷ 6 ∷ 7 ∷ 8 ∷ []) n)
-      (λ low.
-      more (2 == n) (is_one_of (3 ∷ 4 ∷ 5 ∷ 6 ∷ 7 ∷ 8 ∷ []) n)
-      (more (3 == n) (is_one_of (4 ∷ 5 ∷ 6 ∷ 7 ∷ 8 ∷ []) n)
-      (keep (4 == n) (is_one_of (5 ∷ 6 ∷ 7 ∷ []) n) (is_one_of (5 ∷ 6 ∷ 7 ∷ 8 ∷ []) n)
-      (keep (5 == n) (is_one_of (6 ∷ 7 ∷ []) n) (is_one_of (6 ∷ 7 ∷ 8 ∷ []) n)
-      (keep (6 == n) (is_one_of (7 ∷ []) n) (is_one_of (7 ∷ 8 ∷ []) n)
-      (keep (7 == n) false (is_one_of (8 ∷ []) n) (λ e. cc)))) low)))) h
+  wider : (n : ℕ) → IsTrue (is_one_of (0 ∷ 1 ∷ 4 ∷ 5 ∷ 6 ∷ 7 ∷ 9 ∷ []) n) → IsTrue (is_one_of (0 ∷ 1 ∷ 2 ∷ 3 ∷ 4 ∷ 5 ∷ 6 ∷ 7 ∷ 8 ∷ 9 ∷ []) n)
+  wider n h = keep (0 == n) (is_one_of (1 ∷ 4 ∷ 5 ∷ 6 ∷ 7 ∷ 9 ∷ []) n) (is_one_of (1 ∷ 2 ∷ 3 ∷ 4 ∷ 5 ∷ 6 ∷ 7 ∷ 8 ∷ 9 ∷ []) n) (λ h0. keep (1 == n) (is_one_of (4 ∷ 5 ∷ 6 ∷ 7 ∷ 9 ∷ []) n) (is_one_of (2 ∷ 3 ∷ 4 ∷ 5 ∷ 6 ∷ 7 ∷ 8 ∷ 9 ∷ []) n) (λ h1. more (2 == n) (is_one_of (3 ∷ 4 ∷ 5 ∷ 6 ∷ 7 ∷ 8 ∷ 9 ∷ []) n) (more (3 == n) (is_one_of (4 ∷ 5 ∷ 6 ∷ 7 ∷ 8 ∷ 9 ∷ []) n) (keep (4 == n) (is_one_of (5 ∷ 6 ∷ 7 ∷ 9 ∷ []) n) (is_one_of (5 ∷ 6 ∷ 7 ∷ 8 ∷ 9 ∷ []) n) (λ h4. keep (5 == n) (is_one_of (6 ∷ 7 ∷ 9 ∷ []) n) (is_one_of (6 ∷ 7 ∷ 8 ∷ 9 ∷ []) n) (λ h5. keep (6 == n) (is_one_of (7 ∷ 9 ∷ []) n) (is_one_of (7 ∷ 8 ∷ 9 ∷ []) n) (λ h6. keep (7 == n) (is_one_of (9 ∷ []) n) (is_one_of (8 ∷ 9 ∷ []) n) (λ h7. more (8 == n) (is_one_of (9 ∷ []) n) (keep (9 == n) false false (λ h9. h9) h7)) h6) h5) h4) h1))) h0) h
 
   pub refuses-served : (status : ℕ) → IsSome (command_of words) → Tells before.source (λ script. refused_line script ≡ None)
       → Opens before.sink after.sink before.store after.store status → Refuses words before after status
   refuses-served status some fine opens = record {
-    bad_words = λ e. absurd (let wrong : IsTrue (is_one_of (0 ∷ 1 ∷ 4 ∷ 5 ∷ 6 ∷ 7 ∷ []) 2) = subst (λ (n : ℕ). IsTrue (is_one_of (0 ∷ 1 ∷ 4 ∷ 5 ∷ 6 ∷ 7 ∷ []) n)) e opens.only in cc);
+    bad_words = λ e. absurd (let wrong : IsTrue (is_one_of (0 ∷ 1 ∷ 4 ∷ 5 ∷ 6 ∷ 7 ∷ 9 ∷ []) 2) = subst (λ (n : ℕ). IsTrue (is_one_of (0 ∷ 1 ∷ 4 ∷ 5 ∷ 6 ∷ 7 ∷ 9 ∷ []) n)) e opens.only in cc);
     bad_journal = λ e. let closed = opens.bad e in record {
       words_are = some;
       unrefused = fine;
+      at = closed.at;
       journal = closed.journal;
+      shut = closed.shut;
       says = record { wrote = closed.wrote; store_same = closed.same };
     };
-    refused_script = λ e. absurd (let wrong : IsTrue (is_one_of (0 ∷ 1 ∷ 4 ∷ 5 ∷ 6 ∷ 7 ∷ []) 8) = subst (λ (n : ℕ). IsTrue (is_one_of (0 ∷ 1 ∷ 4 ∷ 5 ∷ 6 ∷ 7 ∷ []) n)) e opens.only in cc);
+    refused_script = λ e. absurd (let wrong : IsTrue (is_one_of (0 ∷ 1 ∷ 4 ∷ 5 ∷ 6 ∷ 7 ∷ 9 ∷ []) 8) = subst (λ (n : ℕ). IsTrue (is_one_of (0 ∷ 1 ∷ 4 ∷ 5 ∷ 6 ∷ 7 ∷ 9 ∷ []) n)) e opens.only in cc);
     at_words = λ none. some-not-none some none _;
     at_script = λ is. tells-then (λ script. refused_line script ≡ None)
         (λ script. (line : ℕ) → refused_line script ≡ Some line → IsTrue (is_one_of (3 ∷ 4 ∷ 7 ∷ 8 ∷ []) status))
         before.source (λ script none line e. absurd (let no_line : None ≡ Some line = sym none ∙ e in cc)) fine;
-    at_journal = λ is. tells-then (λ script. refused_line script ≡ None)
-        (λ script. refused_line script ≡ None → Tells before.store (λ s. 2 ≤ length s.journal → IsTrue (is_one_of (3 ∷ 4 ∷ 5 ∷ 6 ∷ 7 ∷ []) status)))
-        before.source
-        (λ script none e. tells-then (λ s. 2 ≤ length s.journal → IsTrue (is_one_of (4 ∷ 5 ∷ 6 ∷ 7 ∷ []) status))
-        (λ s. 2 ≤ length s.journal → IsTrue (is_one_of (3 ∷ 4 ∷ 5 ∷ 6 ∷ 7 ∷ []) status)) before.store (λ s f low. wider-journals status (f low)) opens.at_journal) fine;
+    at_journal = opens.opened;
+    full_journal = λ e. let filled = opens.full e in record {
+      words_are = some;
+      unrefused = fine;
+      entries = filled.entries;
+      journal = filled.journal;
+      shut = filled.shut;
+      says = record { wrote = filled.wrote; store_same = filled.same };
+    };
     only = wider status opens.only;
   }
 

@@ -1,18 +1,21 @@
 -- What was printed stays true as the book goes on, and one more reply.
-use Rattle.std.proofs.Common.{◌≡◌, ℕ, ◌+◌, Bool, false, ◌||◌, Option, Some, None, List, [], ◌∷◌, ◌++◌, length, fold, inl, inr, refl, sym, ap, ◌∙◌, subst, arith, append_assoc}
+use Rattle.std.proofs.Common.{◌≡◌, ℕ, zero, suc, ◌+◌, ◌<◌, ◌≤◌, Bool, false, ◌||◌, Option, Some, None, List, [], ◌∷◌, ◌++◌, length, fold, inl, inr, refl, sym, ap, ◌∙◌, subst, arith, append_assoc}
 use Rattle.std.specs.List.{Contains}
 use Rattle.std.specs.Option.{option_map}
 use Rattle.std.proofs.Math.Bool.{or_assoc, or-false}
-use Rattle.std.proofs.lemmas.List.{append-nil}
+use Rattle.std.proofs.lemmas.List.{append-nil, length-append}
 use Rattle.std.proofs.lemmas.List.Elements.{Contains-append_left, Contains-append_right}
 use Rattle.hv_history.specs.declared.entry.Entry.{Entry}
 use Rattle.hv_history.specs.declared.state.Transaction.{Transaction}
 use Rattle.hv_history.specs.declared.state.Ending.{Ending}
-use Rattle.hv_history.specs.State.{State, numbered, after, state_of, nothing_yet}
+use Rattle.hv_history.specs.declared.entry.Entry.TheVariants as entry
+use Rattle.hv_history.specs.declared.state.Ending.TheVariants.{Aborted, Made, Dropped}
+use Rattle.hv_history.specs.State.{State, numbered, changed, changed_at, while_open, opened, started, given_id, committed, ended, acted, after, state_of, nothing_yet}
 use Rattle.hv_history.specs.Answers.{answer, answer_in, ending_text}
 use Rattle.hv_history.proofs.StateLaws.{ended-stays-all, answer-stays}
 use Rattle.hv_stands.specs.Endings.{is_refused, is_refused_transaction, next_number, opening}
-use Rattle.hv_session.specs.Answered.{WentThrough, IsAnswered}
+use Rattle.hv_session.specs.Answered.{WentThrough}
+use Rattle.hv_program.specs.Running.{IsTaken}
 use Rattle.hv_stands.specs.Endings.{statement_entries}
 use Rattle.hv_program.specs.Output.{IsAnswerIn, IsReply, IsOutput}
 use Rattle.hv_program.specs.Statements.{GoesOn, GoesOneByOne}
@@ -44,77 +47,113 @@ refusal-stays book more txn text e =
 
 -- ---- a reply, and replies, as the book goes on
 
-IsAnswerIn-more : (book more : List Entry) (number : ℕ) (text reply : List ℕ) (refused : Bool)
-    → IsAnswerIn book number text reply refused → IsAnswerIn (book ++ more) number text reply refused
-IsAnswerIn-more book more number text reply refused h = record {
+IsAnswerIn-more : (start book more : List Entry) (number : ℕ) (text reply : List ℕ) (refused : Bool)
+    → IsAnswerIn start book number text reply refused → IsAnswerIn start (book ++ more) number text reply refused
+IsAnswerIn-more start book more number text reply refused h = record {
   txn = h.txn;
+  own = h.own;
   was_opened = Contains-append_left book more _ h.was_opened;
   answer_is = answer-stays book more h.txn.0 reply h.answer_is;
   refusal = refusal-stays book more h.txn.0 reply h.answer_is ∙ h.refusal;
 }
 
-IsReply-more : (book more : List Entry) (number : ℕ) (text reply : List ℕ) (refused : Bool)
-    → IsReply book number text reply refused → IsReply (book ++ more) number text reply refused
-IsReply-more book more number text reply refused (inl h) = inl (IsAnswerIn-more book more number text reply refused h)
-IsReply-more book more number text reply refused (inr h) = inr h
+IsReply-more : (start book more : List Entry) (number : ℕ) (text reply : List ℕ) (refused : Bool)
+    → IsReply start book number text reply refused → IsReply start (book ++ more) number text reply refused
+IsReply-more start book more number text reply refused (inl h) = inl (IsAnswerIn-more start book more number text reply refused h)
+IsReply-more start book more number text reply refused (inr h) = inr h
 
-pub IsOutput-more : (book more : List Entry) (number : ℕ) (texts : List (List ℕ)) (output : List ℕ) (refused : Bool)
-    → IsOutput book number texts output refused → IsOutput (book ++ more) number texts output refused
-IsOutput-more book more number [] output refused h = h
-IsOutput-more book more number (text ∷ texts) output refused h =
-    (h.0, h.1, h.2, h.3, IsReply-more book more number text h.0 h.2 h.4, IsOutput-more book more (number + 1) texts h.1 h.3 h.5, h.6, h.7)
+pub IsOutput-more : (start book more : List Entry) (number : ℕ) (texts : List (List ℕ)) (output : List ℕ) (refused : Bool)
+    → IsOutput start book number texts output refused → IsOutput start (book ++ more) number texts output refused
+IsOutput-more start book more number [] output refused h = h
+IsOutput-more start book more number (text ∷ texts) output refused h =
+    (h.0, h.1, h.2, h.3, IsReply-more start book more number text h.0 h.2 h.4, IsOutput-more start book more (number + 1) texts h.1 h.3 h.5, h.6, h.7)
 
 -- ---- one reply more
 
-pub IsOutput-then : (book : List Entry) (number : ℕ) (texts : List (List ℕ)) (output : List ℕ) (refused : Bool) (text reply : List ℕ) (this : Bool)
-    → IsOutput book number texts output refused → IsReply book (number + length texts) text reply this
-    → IsOutput book number (texts ++ text ∷ []) (output ++ reply) (refused || this)
-IsOutput-then book number [] output refused text reply this h r =
-    let here : IsReply book number text reply this = subst (λ n. IsReply book n text reply this) (omega arith) r in
+pub IsOutput-then : (start book : List Entry) (number : ℕ) (texts : List (List ℕ)) (output : List ℕ) (refused : Bool) (text reply : List ℕ) (this : Bool)
+    → IsOutput start book number texts output refused → IsReply start book (number + length texts) text reply this
+    → IsOutput start book number (texts ++ text ∷ []) (output ++ reply) (refused || this)
+IsOutput-then start book number [] output refused text reply this h r =
+    let here : IsReply start book number text reply this = subst (λ n. IsReply start book n text reply this) (omega arith) r in
     (reply, [], this, false, here, (refl, refl), ap (λ o. o ++ reply) h.0 ∙ sym (append-nil reply), ap (λ b. b || this) h.1 ∙ sym (or-false this))
-IsOutput-then book number (first ∷ texts) output refused text reply this h r =
-    let there : IsReply book (number + 1 + length texts) text reply this = subst (λ n. IsReply book n text reply this) (omega arith) r in (
+IsOutput-then start book number (first ∷ texts) output refused text reply this h r =
+    let there : IsReply start book (number + 1 + length texts) text reply this = subst (λ n. IsReply start book n text reply this) (omega arith) r in (
       h.0,
       h.1 ++ reply,
       h.2,
       h.3 || this,
       h.4,
-      IsOutput-then book (number + 1) texts h.1 h.3 text reply this h.5 there,
+      IsOutput-then start book (number + 1) texts h.1 h.3 text reply this h.5 there,
       ap (λ o. o ++ reply) h.6 ∙ append_assoc h.0 h.1 reply,
       ap (λ b. b || this) h.7 ∙ or_assoc h.2 h.3 this,
     )
 
 -- ---- what a statement answered is its reply in the book behind it
 
-went : (before now : List Entry) (number : ℕ) (text reply : List ℕ) (refused : Bool)
-    → WentThrough before now number text reply refused → IsAnswerIn now number text reply refused
-went before now number text reply refused h =
+-- transactions are never fewer
+counted-at : {A : Type 0} (f : A → A) (xs : List A) (n : ℕ) → length (changed_at f xs n) ≡ length xs
+counted-at f [] n = refl
+counted-at f (x ∷ xs) zero = refl
+counted-at f (x ∷ xs) (suc n) = let h = counted-at f xs n in omega (arith, h)
+
+counted-same : {A : Type 0} (f : A → A) (xs : List A) (n : ℕ) → length (changed f xs n) ≡ length xs
+counted-same f xs zero = refl
+counted-same f xs (suc n) = counted-at f xs n
+
+grows-one : (s : State) (event : Entry) → length s.transactions ≤ length (after s event).transactions
+unfolding acted
+grows-one s (entry.Boot run) = omega arith
+grows-one s (entry.Opened txn session number text) = omega (arith, length-append s.transactions (opened session number text ∷ []))
+grows-one s (entry.Start txn statement) = omega (arith, counted-same (while_open (started s statement)) s.transactions txn.0)
+grows-one s (entry.Given txn table write) = omega (arith, counted-same (while_open (given_id table.0 write.0)) s.transactions txn.0)
+grows-one s (entry.Commit txn wrote) = omega (arith, counted-same (while_open (committed s.entries wrote)) s.transactions txn.0)
+grows-one s (entry.Abort txn cause) = omega (arith, counted-same (while_open (ended (Aborted s.entries cause))) s.transactions txn.0)
+grows-one s (entry.Create txn table) = omega (arith, counted-same (while_open (ended (Made s.entries table.0))) s.transactions txn.0)
+grows-one s (entry.Drop txn table) = omega (arith, counted-same (while_open (ended (Dropped s.entries table.0))) s.transactions txn.0)
+grows-one s event = omega arith
+
+grows-all : (s : State) (more : List Entry) → length s.transactions ≤ length (fold after s more).transactions
+grows-all s [] = omega arith
+grows-all s (event ∷ more) = let one = grows-one s event in let rest = grows-all (after s event) more in omega (arith, one, rest)
+
+grown-transactions : (start before : List Entry) → (more : List Entry) → before ≡ start ++ more → length (state_of start).transactions < next_number before
+grown-transactions start before more is =
+    let all = grows-all (state_of start) more in
+    omega (arith, all, ap (λ b. length (state_of b).transactions) is, ap (λ (s : State). length s.transactions) (fold-append after nothing_yet start more))
+
+went : (start before now : List Entry) (number : ℕ) (text reply : List ℕ) (refused : Bool) → (more : List Entry) → before ≡ start ++ more
+    → WentThrough before now number text reply refused → IsAnswerIn start now number text reply refused
+went start before now number text reply refused more grows h =
     let opens : Contains now (opening before number text) =
     subst (λ b. Contains b (opening before number text)) (sym h.book)
     (Contains-append_right before _ _ (0, omega arith, refl)) in
     record {
       txn = record { 0 = next_number before };
+      own = grown-transactions start before more grows;
       was_opened = opens;
       answer_is = ap (λ b. answer (state_of b) (next_number before)) h.book ∙ h.goes.answered;
       refusal = ap (λ b. is_refused (state_of b) (next_number before)) h.book ∙ h.goes.ends;
     }
 
-pub IsReply-answered : (before now : List Entry) (number : ℕ) (text reply : List ℕ) (refused : Bool)
-    → IsAnswered before now number text reply refused → IsReply now number text reply refused
-IsReply-answered before now number text reply refused (inl h) = inl (went before now number text reply refused h)
-IsReply-answered before now number text reply refused (inr h) = inr (record { line = h.fault; refusal = h.is_refused })
+pub IsReply-answered : (start before now : List Entry) (number : ℕ) (text reply : List ℕ) (refused : Bool) → (more : List Entry) → before ≡ start ++ more
+    → IsTaken before now number text reply refused → IsReply start now number text reply refused
+IsReply-answered start before now number text reply refused more grows (inl (inl h)) = inl (went start before now number text reply refused more grows h)
+IsReply-answered start before now number text reply refused more grows (inl (inr h)) = inr (inl (record { line = h.fault; refusal = h.is_refused }))
+IsReply-answered start before now number text reply refused more grows (inr h) = inr (inr h.full)
 
 pub grown : (before now : List Entry) (number : ℕ) (text reply : List ℕ) (refused : Bool)
-    → IsAnswered before now number text reply refused → (more : List Entry) × (now ≡ before ++ more)
-grown before now number text reply refused (inl h) = (statement_entries before number text h.ends, h.book)
+    → IsTaken before now number text reply refused → (more : List Entry) × (now ≡ before ++ more)
+grown before now number text reply refused (inl (inl h)) = (statement_entries before number text h.ends, h.book)
+grown before now number text reply refused (inl (inr h)) = ([], h.book ∙ sym (append-nil before))
 grown before now number text reply refused (inr h) = ([], h.book ∙ sym (append-nil before))
 
 -- ---- the statements in the book, and one more
 
 pub GoesOn-answered : (before now : List Entry) (number : ℕ) (text reply : List ℕ) (refused : Bool)
-    → IsAnswered before now number text reply refused → GoesOn before now number text
-GoesOn-answered before now number text reply refused (inl h) = inl (h.ends, h.ending, h.book)
-GoesOn-answered before now number text reply refused (inr h) = inr ((h.fault.fault, h.fault.found), h.book)
+    → IsTaken before now number text reply refused → GoesOn before now number text
+GoesOn-answered before now number text reply refused (inl (inl h)) = inl (h.ends, h.ending, h.book)
+GoesOn-answered before now number text reply refused (inl (inr h)) = inr (inl ((h.fault.fault, h.fault.found), h.book))
+GoesOn-answered before now number text reply refused (inr h) = inr (inr (h.lacks, h.book))
 
 pub GoesOneByOne-then : (a b c : List Entry) (number : ℕ) (texts : List (List ℕ)) (text : List ℕ)
     → GoesOneByOne a b number texts → GoesOn b c (number + length texts) text → GoesOneByOne a c number (texts ++ text ∷ [])

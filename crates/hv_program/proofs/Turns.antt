@@ -1,26 +1,26 @@
 -- One statement more.
-use Rattle.std.proofs.Common.{◌≡◌, ℕ, zero, suc, ◌+◌, ◌<◌, ◌≤◌, Bool, false, ◌||◌, Option, Some, None, Result, Ok, Err, IfErr, IsErrAnd, List, [], ◌∷◌, ◌++◌, length, get_or, take, drop, refl, sym, ap, ◌∙◌, subst, arith, append_assoc}
+use Rattle.std.proofs.Common.{◌≡◌, ℕ, zero, suc, ◌+◌, ◌<◌, Bool, false, ◌||◌, Option, Some, None, Result, Ok, Err, IfErr, IsErrAnd, List, [], ◌∷◌, ◌++◌, length, get_or, take, drop, refl, sym, ap, ◌∙◌, subst, arith, append_assoc, inl, inr}
 use Rattle.std.proofs.lemmas.List.{append-nil, take_more, length-take-le}
 use Rattle.hv_base.specs.Told.{Tells, Moves, StaysTold}
 use Rattle.hv_base.specs.Sink.{Gains, GainsPart}
 use Rattle.hv_base.proofs.ToldLemmas.{Moves-then, Moves-same}
 use Rattle.hv_shelf.specs.Disk.{Store}
-use Rattle.hv_house.specs.Booting.{SparesHistory}
 use Rattle.hv_history.specs.declared.entry.Entry.{Entry}
-use Rattle.hv_session.specs.Answered.{IsAnswered}
-use Rattle.hv_program.specs.Output.{IsReply, IsOutput}
-use Rattle.hv_house.specs.House.{IsFaithful, Leaves}
+use Rattle.hv_program.specs.Output.{IsReply, IsOutput, IsFullIn}
+use Rattle.hv_house.specs.House.{IsFaithful}
 use Rattle.hv_house.specs.declared.house.House.{House}
 use Rattle.hv_house.specs.declared.fault.HouseFault.{HouseFault}
 use Rattle.hv_house.specs.House.{entries_of}
-use Rattle.hv_session.specs.Halting.{IsHalfway, HasStopped}
+use Rattle.hv_session.specs.Halting.{IsHalfway, LeavesSome, HasStopped}
 use Rattle.hv_house.specs.declared.fault.HouseFault.TheVariants as fault
 use Rattle.hv_history.specs.Journal.{Reads}
+use Rattle.hv_session.proofs.Halfway.{leaves-book}
+use Rattle.hv_journal.specs.Appending.{Holds}
 use Rattle.hv_history.specs.Legal.{IsLegal, profile}
 use Rattle.hv_program.specs.declared.stop.Stop.{Stop}
 use Rattle.hv_program.specs.declared.stop.Stop.TheVariants as stop
 use Rattle.hv_program.specs.Stops.{stop_of}
-use Rattle.hv_program.specs.Running.{IsShort, AreShort, Prints, EndsWithin, CutsOff, StopsIn, Halts, HasAll}
+use Rattle.hv_program.specs.Running.{IsShort, AreShort, Prints, EndsWithin, CutsOff, StopsIn, Halts, HasAll, IsTaken}
 use Rattle.hv_program.specs.Statements.{GoesOn, GoesOneByOne}
 use Rattle.hv_program.proofs.Replies.{IsOutput-more, IsOutput-then, IsReply-answered, grown, GoesOn-answered, GoesOneByOne-then}
 
@@ -34,19 +34,6 @@ AreShort-at (text ∷ texts) (suc i) d h below = AreShort-at texts i d h.1 (omeg
 pub StaysTold-is : {A : Type 0} (a b c : Option A) → StaysTold a b → c ≡ b → StaysTold a c
 StaysTold-is a b c stays same = subst (StaysTold a) (sym same) stays
 
--- ---- a store that has a history
-
-pub spares-same : (told : Option Store) → SparesHistory told told
-spares-same None = tt
-spares-same (Some s) = λ long. refl
-
-pub spares-empty : (told told' : Option Store) → Tells told (λ s. length s.journal ≤ 1) → SparesHistory told told'
-spares-empty None told' low = tt
-spares-empty (Some s) told' low = λ long. absurd (omega (arith, low, long))
-
-pub spares-is : (told told' closed : Option Store) → SparesHistory told told' → closed ≡ told' → SparesHistory told closed
-spares-is told told' closed spares same = subst (SparesHistory told) (sym same) spares
-
 -- ---- what is printed
 
 pub Prints-none : (book : List Entry) (texts : List (List ℕ)) (sink : Option (List ℕ)) → texts ≡ [] → Prints book book texts sink sink false
@@ -55,7 +42,7 @@ Prints-none book texts sink e = record {
   grows = ([], sym (append-nil book));
   output = [];
   written = Moves-same (Gains []) (λ x. sym (append-nil x)) sink;
-  is_output = subst (λ t. IsOutput book 1 t [] false) (sym e) (refl, refl);
+  is_output = subst (λ t. IsOutput book book 1 t [] false) (sym e) (refl, refl);
 }
 
 pub Tells-always : (a : Option Store) (P : Type 0) → P → Tells a (λ _. P)
@@ -81,25 +68,25 @@ more_written x y z some more p q = q ∙ ap (λ w. w ++ more) p ∙ append_assoc
 
 Prints-turn : (start before now : List Entry) (texts : List (List ℕ)) (a b c : Option (List ℕ)) (refused : Bool) (number : ℕ) (text reply : List ℕ) (this : Bool)
     → number ≡ 1 + length texts → Moves (Gains reply) b c
-    → Prints start before texts a b refused → IsAnswered before now number text reply this
+    → Prints start before texts a b refused → IsTaken before now number text reply this
     → Prints start now (texts ++ text ∷ []) a c (refused || this)
 Prints-turn start before now texts a b c refused number text reply this at wrote h said =
     let more = grown before now number text reply this said in
-    let earlier : IsOutput now 1 texts h.output refused =
-    subst (λ w. IsOutput w 1 texts h.output refused) (sym more.1) (IsOutput-more before more.0 1 texts h.output refused h.is_output) in
-    let reply_is = subst (λ n. IsReply now n text reply this) at (IsReply-answered before now number text reply this said) in
+    let earlier : IsOutput start now 1 texts h.output refused =
+    subst (λ w. IsOutput start w 1 texts h.output refused) (sym more.1) (IsOutput-more start before more.0 1 texts h.output refused h.is_output) in
+    let reply_is = subst (λ n. IsReply start now n text reply this) at (IsReply-answered start before now number text reply this h.grows.0 h.grows.1 said) in
     record {
       one_by_one = GoesOneByOne-then start before now 1 texts text h.one_by_one
           (subst (λ n. GoesOn before now n text) at (GoesOn-answered before now number text reply this said));
       grows = (h.grows.0 ++ more.0, more.1 ∙ ap (λ w. w ++ more.0) h.grows.1 ∙ append_assoc start h.grows.0 more.0);
       output = h.output ++ reply;
       written = Moves-then (Gains h.output) (Gains reply) (Gains (h.output ++ reply)) (λ x y z p q. more_written x y z h.output reply p q) a b c h.written wrote;
-      is_output = IsOutput-then now 1 texts h.output refused text reply this earlier reply_is;
+      is_output = IsOutput-then start now 1 texts h.output refused text reply this earlier reply_is;
     }
 
 pub Prints-next : (told told' : Option Store) (start before now : List Entry) (texts : List (List ℕ)) (i : ℕ) (text reply : List ℕ) (refused this : Bool) (a b c : Option (List ℕ)) (bytes : List ℕ)
     → i < length texts → text ≡ get_or texts i text → StaysTold told told' → bytes ≡ reply → Moves (Gains bytes) b c
-    → Tells told (λ _. Prints start before (take i texts) a b refused) → Tells told' (λ _. IsAnswered before now (i + 1) text reply this)
+    → Tells told (λ _. Prints start before (take i texts) a b refused) → Tells told' (λ _. IsTaken before now (i + 1) text reply this)
     → Tells told (λ _. Prints start now (take (i + 1) texts) a c (refused || this))
 Prints-next told told' start before now texts i text reply refused this a b c bytes below is stays same wrote_bytes =
     let wrote : Moves (Gains reply) b c = subst (λ w. Moves (Gains w) b c) same wrote_bytes in
@@ -107,7 +94,7 @@ Prints-next told told' start before now texts i text reply refused this a b c by
     ap (λ t. take i texts ++ t ∷ []) is ∙ sym (take_more texts i text below) in
     let number : i + 1 ≡ 1 + length (take i texts) = omega (arith, length-take-le i texts (omega arith)) in
     Tells-both told told' _ _ _ stays
-    (λ (h : Prints start before (take i texts) a b refused) (said : IsAnswered before now (i + 1) text reply this).
+    (λ (h : Prints start before (take i texts) a b refused) (said : IsTaken before now (i + 1) text reply this).
     subst (λ t. Prints start now t a c (refused || this)) taken (Prints-turn start before now (take i texts) a b c refused (i + 1) text reply this number wrote h said))
 
 -- ---- where the run stops at a statement
@@ -128,7 +115,7 @@ within x y z output reply p q = record { count = q.count; short = q.short; gaine
 
 Prints-cut : (start before now : List Entry) (texts front behind : List (List ℕ)) (a b c : Option (List ℕ)) (refused : Bool) (number : ℕ) (text reply : List ℕ) (this : Bool)
     → number ≡ 1 + length front → texts ≡ front ++ text ∷ behind → Moves (GainsPart reply) b c
-    → Prints start before front a b refused → IsAnswered before now number text reply this
+    → Prints start before front a b refused → IsTaken before now number text reply this
     → CutsOff start now texts a c
 Prints-cut start before now texts front behind a b c refused number text reply this at are wrote h said =
     let more = grown before now number text reply this said in
@@ -143,10 +130,10 @@ Prints-cut start before now texts front behind a b c refused number text reply t
       grows = (h.grows.0 ++ more.0, more.1 ∙ ap (λ w. w ++ more.0) h.grows.1 ∙ append_assoc start h.grows.0 more.0);
       output = h.output;
       refused = refused;
-      is_output = subst (λ w. IsOutput w 1 front h.output refused) (sym more.1) (IsOutput-more before more.0 1 front h.output refused h.is_output);
+      is_output = subst (λ w. IsOutput start w 1 front h.output refused) (sym more.1) (IsOutput-more start before more.0 1 front h.output refused h.is_output);
       reply = reply;
       this = this;
-      is_reply = subst (λ n. IsReply now n text reply this) (sym later) (IsReply-answered before now number text reply this said);
+      is_reply = subst (λ n. IsReply start now n text reply this) (sym later) (IsReply-answered start before now number text reply this h.grows.0 h.grows.1 said);
       written = Moves-then (Gains h.output) (GainsPart reply) (EndsWithin h.output reply) (λ x y z p q. within x y z h.output reply p q) a b c h.written wrote;
     }
 
@@ -168,8 +155,8 @@ Prints-stopped told why start before now texts front behind a b refused number t
       halfway = subst (λ n. IsHalfway (entries_of before) (entries_of now) n text) later stopped.halfway;
       output = h.output;
       refused = refused;
-      is_output = subst (λ w. IsOutput w 1 front h.output refused) (sym stopped.halfway.book)
-          (IsOutput-more (entries_of before) stopped.halfway.added 1 front h.output refused h.is_output);
+      is_output = subst (λ w. IsOutput start w 1 front h.output refused) (sym stopped.halfway.book)
+          (IsOutput-more start (entries_of before) stopped.halfway.added 1 front h.output refused h.is_output);
       written = h.written;
     }
 
@@ -180,7 +167,7 @@ number_at texts i below = omega (arith, length-take-le i texts (omega arith))
 pub Halts-cut : (result : Result Bool Stop) (told told' told_now : Option Store) (start before now : List Entry) (texts : List (List ℕ)) (i : ℕ) (text reply : List ℕ) (refused this : Bool) (a b c : Option (List ℕ)) (bytes : List ℕ)
     → IsErrAnd result (λ e. e ≡ stop.Sink)
     → i < length texts → text ≡ get_or texts i text → StaysTold told told' → bytes ≡ reply → Moves (GainsPart bytes) b c
-    → Tells told (λ _. Prints start before (take i texts) a b refused) → Tells told' (λ _. IsAnswered before now (i + 1) text reply this)
+    → Tells told (λ _. Prints start before (take i texts) a b refused) → Tells told' (λ _. IsTaken before now (i + 1) text reply this)
     → Tells told_now (λ s. Reads now s.journal) → Tells told_now (IsFaithful now)
     → IfErr result (λ why. Tells told (λ _. Halts why start now texts a c told_now))
 Halts-cut result told told' told_now start before now texts i text reply refused this a b c bytes err below is stays same wrote_bytes h said reads shows =
@@ -188,12 +175,12 @@ Halts-cut result told told' told_now start before now texts i text reply refused
     let both : Tells told_now (HasAll now) = Tells-and told_now (λ s. Reads now s.journal) (IsFaithful now) reads shows in
     passed_up result stop.Sink (λ why. Tells told (λ _. Halts why start now texts a c told_now)) err
     (Tells-both told told' _ _ _ stays
-    (λ (p : Prints start before (take i texts) a b refused) (q : IsAnswered before now (i + 1) text reply this).
+    (λ (p : Prints start before (take i texts) a b refused) (q : IsTaken before now (i + 1) text reply this).
     (Prints-cut start before now texts (take i texts) (drop (suc i) texts) a b c refused (i + 1) text reply this (number_at texts i below) (split_at texts i text below is) wrote p q, both)) h said)
 
 -- a statement wasn't done to its end
 halts : {D : Type 0} (told : D → Option Store) (why : HouseFault) (start : List Entry) (before now : House D) (texts : List (List ℕ)) (a b : Option (List ℕ))
-    → StopsIn start (entries_of now) texts a b → Leaves why (told now.shelf) (entries_of now)
+    → StopsIn start (entries_of now) texts a b → LeavesSome why (told now.shelf) (entries_of now)
     → Halts (stop_of why) start (entries_of now) texts a b (told now.shelf)
 halts told fault.Store start before now texts a b stopped leaves = (stopped, leaves)
 halts told fault.NoMemory start before now texts a b stopped leaves = (stopped, leaves)
@@ -211,3 +198,22 @@ Halts-stopped told why result first start before now texts i text refused a b er
     halts told why start before now texts a b
     (Prints-stopped told why start before now texts (take i texts) (drop (suc i) texts) a b refused (i + 1) text (number_at texts i below) (split_at texts i text below is) faithful.legal p stopped)
     stopped.leaves) h shows)
+
+-- ---- no room for a statement
+
+pub full-taken : (told : Option Store) (book : List Entry) (number : ℕ) (text reply : List ℕ) (refused : Bool) → 131072 < length book + 4 → IsFullIn reply refused
+    → Tells told (λ _. IsTaken book book number text reply refused)
+full-taken told book number text reply refused lacks full = Tells-always told _ (inr (record { book = refl; lacks = lacks; full = full }))
+
+pub full-stopped : {D T : Type 0} (told : D → Option Store) (house : House D) (number : ℕ) (text : List ℕ) (result : Result T HouseFault)
+    → Holds (told house.shelf) (entries_of house) → IfErr result (λ why. HasStopped told why house house number text)
+full-stopped told house number text (Ok x) reads = tt
+full-stopped told house number text (Err why) reads = record {
+  halfway = record {
+    added = [];
+    book = sym (append-nil (entries_of house));
+    beginning = inl refl;
+    legal = record { fit = tt; truthful = tt };
+  };
+  leaves = leaves-book why (told house.shelf) (entries_of house) reads;
+}

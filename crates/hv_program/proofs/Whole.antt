@@ -16,11 +16,13 @@ use Rattle.hv_program.specs.declared.stop.Stop.TheVariants as stop
 use Rattle.hv_program.specs.Stops.{status_of_stop}
 use Rattle.hv_program.specs.Running.{IsShort, AreShort}
 use Rattle.hv_program.specs.Reading.{TakesUpTo}
-use Rattle.hv_program.specs.Lines.{words_line, script_line}
+use Rattle.hv_program.specs.Lines.{words_line, script_line, full_line}
 use Rattle.hv_program.specs.Refused.{is_one_of}
-use Rattle.hv_program.specs.Results.{IsEmptyStore}
+use Rattle.hv_history.specs.declared.entry.Entry.{Entry}
+use Rattle.hv_house.specs.Booting.{OpensTo, opening_of}
+use Rattle.hv_program.specs.Results.{IsCutOff}
 use Rattle.hv_program.specs.Headline.{IsWhole, IsLineOf, IsCutLine, IsUnread, IsAfter, Headline}
-use Rattle.hv_program.specs.Serving.{ServedOf, Serves, IsSaid, IsSaidOrNot}
+use Rattle.hv_program.specs.Serving.{ServedOf, Serves, IsCutFull, IsSaid, IsSaidOrNot}
 use Rattle.hv_program.proofs.Ends.{tells-still}
 
 -- ---- a script that isn't refused
@@ -85,11 +87,11 @@ short-texts script texts e same = subst AreShort (sym same) (taken script e).sho
 
 pub Headline-by : (words : List (List ℕ)) (source source' sink sink' : Option (List ℕ)) (told told' : Option Store) (status : ℕ)
     → StaysTold source source' → StaysTold sink sink' → StaysTold told told'
-    → ((script left written now : List ℕ) (store store' : Store) → source ≡ Some script → source' ≡ Some left
-    → sink ≡ Some written → sink' ≡ Some now → told ≡ Some store → told' ≡ Some store' → IsEmptyStore store
-    → IsAfter words status script left written now store store')
+    → ((script left written now : List ℕ) (store store' : Store) (book : List Entry) → source ≡ Some script → source' ≡ Some left
+    → sink ≡ Some written → sink' ≡ Some now → told ≡ Some store → told' ≡ Some store' → OpensTo book store
+    → IsAfter words book status script left written now store store')
     → Headline words (record { source = source; sink = sink; store = told }) (record { source = source'; sink = sink'; store = told' }) status
-Headline-by words source source' sink sink' told told' status read heard stays by = λ script written store at_source at_sink at_store empty.
+Headline-by words source source' sink sink' told told' status read heard stays by = λ script written store book at_source at_sink at_store opens.
     let left = tells-still source source' script read at_source in
     let now = tells-still sink sink' written heard at_sink in
     let after = tells-still told told' store stays at_store in
@@ -100,7 +102,7 @@ Headline-by words source source' sink sink' told told' status read heard stays b
       source_tells = left.1;
       sink_tells = now.1;
       store_tells = after.1;
-      is_after = by script left.0 written now.0 store after.0 at_source left.1 at_sink now.1 at_store after.1 empty;
+      is_after = by script left.0 written now.0 store after.0 book at_source left.1 at_sink now.1 at_store after.1 opens;
     }
 
 -- what a move made of a content that was told
@@ -123,8 +125,8 @@ three-or-seven stop.Sink status h e = cc
 three-or-seven stop.Store status h e = cc
 three-or-seven stop.NoMemory status h e = inr e
 
-module _ (words : List (List ℕ)) (script left written now : List ℕ) (before after : Store) where
-  quiet : (n : ℕ) → (n ≡ 0 → ⊥) → (n ≡ 1 → ⊥) → (n ≡ 3 → ⊥) → (n ≡ 4 → ⊥) → (n ≡ 5 → ⊥) → (n ≡ 7 → ⊥) → IsAfter words n script left written now before after
+module _ (words : List (List ℕ)) (book : List Entry) (script left written now : List ℕ) (before after : Store) where
+  quiet : (n : ℕ) → (n ≡ 0 → ⊥) → (n ≡ 1 → ⊥) → (n ≡ 3 → ⊥) → (n ≡ 4 → ⊥) → (n ≡ 5 → ⊥) → (n ≡ 7 → ⊥) → IsAfter words book n script left written now before after
   quiet n zero_ one three four five seven = record {
     accepted = λ e. absurd (zero_ e);
     refused = λ e. absurd (one e);
@@ -134,13 +136,13 @@ module _ (words : List (List ℕ)) (script left written now : List ℕ) (before 
     no_memory = λ e. absurd (seven e);
   }
 
-  after-two : IsAfter words 2 script left written now before after
+  after-two : IsAfter words book 2 script left written now before after
   after-two = quiet 2 (λ e. omega (arith, e)) (λ e. omega (arith, e)) (λ e. omega (arith, e)) (λ e. omega (arith, e)) (λ e. omega (arith, e)) (λ e. omega (arith, e))
 
-  after-eight : IsAfter words 8 script left written now before after
+  after-eight : IsAfter words book 8 script left written now before after
   after-eight = quiet 8 (λ e. omega (arith, e)) (λ e. omega (arith, e)) (λ e. omega (arith, e)) (λ e. omega (arith, e)) (λ e. omega (arith, e)) (λ e. omega (arith, e))
 
-  after-three : IsUnread written now before after → IsAfter words 3 script left written now before after
+  after-three : IsUnread written now before after → IsAfter words book 3 script left written now before after
   after-three h = record {
     accepted = λ e. absurd (omega (arith, e));
     refused = λ e. absurd (omega (arith, e));
@@ -150,7 +152,7 @@ module _ (words : List (List ℕ)) (script left written now : List ℕ) (before 
     no_memory = λ e. absurd (omega (arith, e));
   }
 
-  after-four : IsCutLine words script written now before after → IsAfter words 4 script left written now before after
+  after-four : IsCutLine words book script written now before after → IsAfter words book 4 script left written now before after
   after-four h = record {
     accepted = λ e. absurd (omega (arith, e));
     refused = λ e. absurd (omega (arith, e));
@@ -160,7 +162,7 @@ module _ (words : List (List ℕ)) (script left written now : List ℕ) (before 
     no_memory = λ e. absurd (omega (arith, e));
   }
 
-  after-seven : IsUnread written now before after → IsAfter words 7 script left written now before after
+  after-seven : IsUnread written now before after → IsAfter words book 7 script left written now before after
   after-seven h = record {
     accepted = λ e. absurd (omega (arith, e));
     refused = λ e. absurd (omega (arith, e));
@@ -170,39 +172,44 @@ module _ (words : List (List ℕ)) (script left written now : List ℕ) (before 
     no_memory = λ e. inr h;
   }
 
-  after-line : (status wanted : ℕ) (line : List ℕ) (sink sink' : Option (List ℕ)) (faults faults' : ℕ) → IsLineOf words script line → IsAfter words wanted script left written now before after
+  after-line : (status wanted : ℕ) (line : List ℕ) (sink sink' : Option (List ℕ)) (faults faults' : ℕ) → IsLineOf words book script line → IsAfter words book wanted script left written now before after
       → after ≡ before → sink ≡ Some written → sink' ≡ Some now → IsSaid wanted line sink sink' faults faults' status
-      → IsAfter words status script left written now before after
+      → IsAfter words book status script left written now before after
   after-line status wanted line sink sink' faults faults' is well same at_sink at_now (inl said) =
-      subst (λ n. IsAfter words n script left written now before after) (sym said.0) well
+      subst (λ n. IsAfter words book n script left written now before after) (sym said.0) well
   after-line status wanted line sink sink' faults faults' is well same at_sink at_now (inr cut) =
-      subst (λ n. IsAfter words n script left written now before after) (sym cut.0)
+      subst (λ n. IsAfter words book n script left written now before after) (sym cut.0)
       (after-four (record { line = line; is_line = is; wrote = between (GainsPart line) sink sink' written now at_sink at_now cut.1.wrote; store_same = same }))
 
-  after-said : (status wanted : ℕ) (line : List ℕ) (sink sink' : Option (List ℕ)) (faults faults' : ℕ) → IsLineOf words script line → IsAfter words wanted script left written now before after
+  after-said : (status wanted : ℕ) (line : List ℕ) (sink sink' : Option (List ℕ)) (faults faults' : ℕ) → IsLineOf words book script line → IsAfter words book wanted script left written now before after
       → after ≡ before → sink ≡ Some written → sink' ≡ Some now → IsSaidOrNot wanted line sink sink' faults faults' status
-      → IsAfter words status script left written now before after
+      → IsAfter words book status script left written now before after
   after-said status wanted line sink sink' faults faults' is well same at_sink at_now (inl said) = after-line status wanted line sink sink' faults faults' is well same at_sink at_now said
   after-said status wanted line sink sink' faults faults' is well same at_sink at_now (inr unsaid) =
-      subst (λ n. IsAfter words n script left written now before after) (sym unsaid.0)
+      subst (λ n. IsAfter words book n script left written now before after) (sym unsaid.0)
       (after-seven (record { wrote = still sink sink' written now unsaid.1 at_sink at_now; store_same = same }))
 
-  after-unread : (status : ℕ) → (status ≡ 3) ⊎ (status ≡ 7) → IsUnread written now before after → IsAfter words status script left written now before after
-  after-unread status (inl e) unread = subst (λ n. IsAfter words n script left written now before after) (sym e) (after-three unread)
-  after-unread status (inr e) unread = subst (λ n. IsAfter words n script left written now before after) (sym e) (after-seven unread)
+  after-unread : (status : ℕ) → (status ≡ 3) ⊎ (status ≡ 7) → IsUnread written now before after → IsAfter words book status script left written now before after
+  after-unread status (inl e) unread = subst (λ n. IsAfter words book n script left written now before after) (sym e) (after-three unread)
+  after-unread status (inr e) unread = subst (λ n. IsAfter words book n script left written now before after) (sym e) (after-seven unread)
 
-  after-memory : (status : ℕ) → status ≡ 7 → IsUnread written now before after → IsAfter words status script left written now before after
-  after-memory status e unread = subst (λ n. IsAfter words n script left written now before after) (sym e) (after-seven unread)
+  after-memory : (status : ℕ) → status ≡ 7 → IsUnread written now before after → IsAfter words book status script left written now before after
+  after-memory status e unread = subst (λ n. IsAfter words book n script left written now before after) (sym e) (after-seven unread)
 
-  after-served : (status : ℕ) (texts : List (List ℕ)) → IsWhole script left → texts ≡ texts_of script → ServedOf status texts written now before after
-      → IsAfter words status script left written now before after
+  cut-by : IsWhole script left → (IsCutOff (opening_of book) (texts_of script) written now after ⊎ IsCutFull book written now before after)
+      → (IsWhole script left × IsCutOff (opening_of book) (texts_of script) written now after) ⊎ IsCutLine words book script written now before after
+  cut-by whole (inl cut) = inl (whole, cut)
+  cut-by whole (inr full) = inr (record { line = full_line; is_line = inr (inr (whole.unrefused, full.full, refl)); wrote = full.wrote; store_same = full.store_same })
+
+  after-served : (status : ℕ) (texts : List (List ℕ)) → IsWhole script left → texts ≡ texts_of script → ServedOf status book texts written now before after
+      → IsAfter words book status script left written now before after
   after-served status texts whole same h =
-      let served : ServedOf status (texts_of script) written now before after = subst (λ t. ServedOf status t written now before after) same h in
+      let served : ServedOf status book (texts_of script) written now before after = subst (λ t. ServedOf status book t written now before after) same h in
       record {
         accepted = λ e. record { whole = whole; served = served.accepted e };
         refused = λ e. record { whole = whole; served = served.refused e };
         source_failed = λ e. absurd (served.source e);
-        sink_failed = λ e. inl (whole, served.sink e);
+        sink_failed = λ e. cut-by whole (served.sink e);
         store_failed = λ e. (whole, served.store e);
         no_memory = λ e. inl (whole, served.memory e);
       }
@@ -214,17 +221,17 @@ pub Headline-words : (words : List (List ℕ)) (source sink sink' : Option (List
     → Headline words (record { source = source; sink = sink; store = told }) (record { source = source; sink = sink'; store = told }) status
 Headline-words words source sink sink' told faults faults' status none heard said =
     Headline-by words source source sink sink' told told status (stays_same source) heard (stays_same told)
-    (λ script left written now store store' at_source at_left at_sink at_now at_store at_after empty.
-    after-line words script left written now store store' status 2 words_line sink sink' faults faults' (inl (none, refl))
-    (after-two words script left written now store store') (one_content told store store' at_store at_after) at_sink at_now said)
+    (λ script left written now store store' book at_source at_left at_sink at_now at_store at_after opens.
+    after-line words book script left written now store store' status 2 words_line sink sink' faults faults' (inl (none, refl))
+    (after-two words book script left written now store store') (one_content told store store' at_store at_after) at_sink at_now said)
 
 pub Headline-unread : (words : List (List ℕ)) (source source' sink : Option (List ℕ)) (told : Option Store) (status : ℕ) (why : Stop)
     → StaysTold source source' → status ≡ status_of_stop why → IsTrue (is_one_of (3 ∷ 7 ∷ []) (status_of_stop why))
     → Headline words (record { source = source; sink = sink; store = told }) (record { source = source'; sink = sink; store = told }) status
 Headline-unread words source source' sink told status why read e h =
     Headline-by words source source' sink sink told told status read (stays_same sink) (stays_same told)
-    (λ script left written now store store' at_source at_left at_sink at_now at_store at_after empty.
-    after-unread words script left written now store store' status (three-or-seven why status h e)
+    (λ script left written now store store' book at_source at_left at_sink at_now at_store at_after opens.
+    after-unread words book script left written now store store' status (three-or-seven why status h e)
     (record { wrote = one_content sink written now at_sink at_now; store_same = one_content told store store' at_store at_after }))
 
 pub Headline-memory : (words : List (List ℕ)) (source source' sink : Option (List ℕ)) (told : Option Store) (status : ℕ)
@@ -232,8 +239,8 @@ pub Headline-memory : (words : List (List ℕ)) (source source' sink : Option (L
     → Headline words (record { source = source; sink = sink; store = told }) (record { source = source'; sink = sink; store = told }) status
 Headline-memory words source source' sink told status read e =
     Headline-by words source source' sink sink told told status read (stays_same sink) (stays_same told)
-    (λ script left written now store store' at_source at_left at_sink at_now at_store at_after empty.
-    after-memory words script left written now store store' status e
+    (λ script left written now store store' book at_source at_left at_sink at_now at_store at_after opens.
+    after-memory words book script left written now store store' status e
     (record { wrote = one_content sink written now at_sink at_now; store_same = one_content told store store' at_store at_after }))
 
 tells-here : {A : Type 0} (P : A → Type 0) (o : Option A) (x : A) → o ≡ Some x → Tells o P → P x
@@ -245,10 +252,10 @@ pub Headline-refused : (words : List (List ℕ)) (source source' sink sink' : Op
     → Headline words (record { source = source; sink = sink; store = told }) (record { source = source'; sink = sink'; store = told }) status
 Headline-refused words source source' sink sink' told faults faults' status line some refused read heard said =
     Headline-by words source source' sink sink' told told status read heard (stays_same told)
-    (λ script left written now store store' at_source at_left at_sink at_now at_store at_after empty.
-    after-said words script left written now store store' status 8 (script_line line) sink sink' faults faults'
-    (inr (some, (line, tells-here (λ s. refused_line s ≡ Some line) source script at_source refused, refl)))
-    (after-eight words script left written now store store') (one_content told store store' at_store at_after) at_sink at_now said)
+    (λ script left written now store store' book at_source at_left at_sink at_now at_store at_after opens.
+    after-said words book script left written now store store' status 8 (script_line line) sink sink' faults faults'
+    (inr (inl (some, (line, tells-here (λ s. refused_line s ≡ Some line) source script at_source refused, refl))))
+    (after-eight words book script left written now store store') (one_content told store store' at_store at_after) at_sink at_now said)
 
 is-whole : (bytes script left : List ℕ) → TakesUpTo 16777217 bytes script left → refused_line bytes ≡ None → (bytes ≡ script) × IsWhole script left
 is-whole bytes script left read fine =
@@ -264,13 +271,13 @@ pub Headline-served : (words : List (List ℕ)) (bytes given : List ℕ) (texts 
     → Headline words (record { source = source; sink = sink; store = told }) (record { source = source'; sink = sink'; store = told' }) status
 Headline-served words bytes given texts source source' sink sink' told told' status given_is moves fine same read heard stays serves =
     Headline-by words source source' sink sink' told told' status read heard stays
-    (λ script left written now store store' at_source at_left at_sink at_now at_store at_after empty.
+    (λ script left written now store store' book at_source at_left at_sink at_now at_store at_after opens.
     let takes : TakesUpTo 16777217 given script left =
     between (TakesUpTo 16777217 given) source source' script left at_source at_left
     (subst (λ b. Moves (TakesUpTo 16777217 b) source source') (sym given_is) moves) in
     let whole = is-whole given script left takes fine in
-    let served = serves written store at_sink at_store empty in
-    let here : ServedOf status texts written now store store' =
-    subst (λ x. ServedOf status texts written now store x) (one_content told' store' served.store at_after served.store_tells)
-    (subst (λ x. ServedOf status texts written x store served.store) (one_content sink' now served.now at_now served.sink_tells) served.served) in
-    after-served words script left written now store store' status texts whole.1 (same ∙ ap texts_of whole.0) here)
+    let served = serves written store book at_sink at_store opens in
+    let here : ServedOf status book texts written now store store' =
+    subst (λ x. ServedOf status book texts written now store x) (one_content told' store' served.store at_after served.store_tells)
+    (subst (λ x. ServedOf status book texts written x store served.store) (one_content sink' now served.now at_now served.sink_tells) served.served) in
+    after-served words book script left written now store store' status texts whole.1 (same ∙ ap texts_of whole.0) here)

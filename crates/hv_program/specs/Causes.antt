@@ -1,9 +1,10 @@
 -- Why a run ends with a fault, and that it ends well where there is none.
-use Rattle.std.specs.Prelude.{◌≡◌, ℕ, ◌≤◌, IsTrue, IsSome, None, List, [], ◌∷◌, length}
+use Rattle.std.specs.Prelude.{◌≡◌, ℕ, IsTrue, IsSome, None, List, [], ◌∷◌}
 use Rattle.hv_base.specs.Faults.{Rose}
 use Rattle.hv_base.specs.Told.{Tells}
 use Rattle.hv_script.specs.Words.{command_of}
 use Rattle.hv_script.specs.Script.{refused_line}
+use Rattle.hv_house.specs.Booting.{CanOpen}
 use Rattle.hv_program.specs.Headline.{Outside}
 use Rattle.hv_program.specs.Refused.{is_one_of}
 
@@ -25,10 +26,10 @@ pub record IsFaultless (before now : Counts) : Type 0 where
   pub sink : Rose before.sink now.sink → ⊥
   pub store : Rose before.store now.store → ⊥
 
--- A script that isn't refused, over a store whose journal is empty, is done to its end where no device fails and
+-- A script that isn't refused, over a store that can be opened, is done to its end where no device fails and
 -- memory doesn't run out.
 abbrev pub Completes : List (List ℕ) → Outside → Counts → Counts → ℕ → Type 0
 Completes words before counts counts' status =
     IsSome (command_of words) → IsFaultless counts counts'
     → Tells before.source (λ script. refused_line script ≡ None
-    → Tells before.store (λ s. length s.journal ≤ 1 → IsTrue (is_one_of (0 ∷ 1 ∷ 7 ∷ []) status)))
+    → Tells before.store (λ s. CanOpen s → IsTrue (is_one_of (0 ∷ 1 ∷ 7 ∷ []) status)))

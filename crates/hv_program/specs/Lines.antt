@@ -10,3 +10,6 @@ script_line line = codes "hive: script refused at line " ++ decimal line ++ code
 
 unfoldable pub journal_line : ℕ → List ℕ
 journal_line at = codes "hive: bad journal at byte " ++ decimal at ++ codes "\n"
+
+unfoldable pub full_line : List ℕ
+full_line = codes "hive: journal full\n"

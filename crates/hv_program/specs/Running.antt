@@ -1,5 +1,5 @@
 -- What the statements of a script have done, one after another.
-use Rattle.std.specs.Prelude.{◌≡◌, ℕ, ◌+◌, ◌≤◌, Bool, Option, List, [], ◌∷◌, ◌++◌, length}
+use Rattle.std.specs.Prelude.{◌≡◌, ◌⊎◌, ℕ, ◌+◌, ◌≤◌, Bool, Option, List, [], ◌∷◌, ◌++◌, length}
 use Rattle.std.specs.List.{AllByRecursion}
 use Rattle.hv_base.specs.Told.{Tells, Moves}
 use Rattle.hv_base.specs.Sink.{Gains, GainsPart}
@@ -8,12 +8,13 @@ use Rattle.hv_history.specs.declared.entry.Entry.{Entry}
 use Rattle.hv_history.specs.Legal.{IsLegal, profile}
 use Rattle.hv_history.specs.Journal.{Reads}
 use Rattle.hv_house.specs.declared.fault.HouseFault.TheVariants as fault
-use Rattle.hv_house.specs.House.{Leaves, IsFaithful}
-use Rattle.hv_session.specs.Halting.{IsHalfway}
+use Rattle.hv_house.specs.House.{IsFaithful}
+use Rattle.hv_session.specs.Halting.{IsHalfway, LeavesSome}
 use Rattle.hv_program.specs.declared.stop.Stop.{Stop}
 use Rattle.hv_program.specs.declared.stop.Stop.TheVariants as stop
-use Rattle.hv_program.specs.Output.{IsReply, IsOutput}
-use Rattle.hv_program.specs.Statements.{GoesOneByOne}
+use Rattle.hv_session.specs.Answered.{IsAnswered}
+use Rattle.hv_program.specs.Output.{IsReply, IsOutput, IsFullIn}
+use Rattle.hv_program.specs.Statements.{LacksRoom, GoesOneByOne}
 
 abbrev pub IsShort : List ℕ → Type 0
 IsShort text = length text ≤ 32768
@@ -22,13 +23,24 @@ IsShort text = length text ≤ 32768
 abbrev pub AreShort : List (List ℕ) → Type 0
 AreShort texts = AllByRecursion IsShort texts
 
+-- nothing was noted, since there was no room
+pub record IsFullFor (before now : List Entry) (reply : List ℕ) (refused : Bool) : Type 0 where
+  pub book : now ≡ before
+  pub lacks : LacksRoom before
+  pub full : IsFullIn reply refused
+
+-- a statement was taken up, or there was no room for it
+abbrev pub IsTaken : List Entry → List Entry → ℕ → List ℕ → List ℕ → Bool → Type 0
+IsTaken before now number text reply refused =
+    IsAnswered before now number text reply refused ⊎ IsFullFor before now reply refused
+
 -- the book went on by these statements, and their replies were written
 pub record Prints (book book' : List Entry) (texts : List (List ℕ)) (before now : Option (List ℕ)) (refused : Bool) : Type 0 where
   pub one_by_one : GoesOneByOne book book' 1 texts
   pub grows : (more : List Entry) × (book' ≡ book ++ more)
   pub output : List ℕ
   pub written : Moves (Gains output) before now
-  pub is_output : IsOutput book' 1 texts output refused
+  pub is_output : IsOutput book book' 1 texts output refused
 
 -- a front of the reply was written behind what was written before
 abbrev pub EndsWithin : List ℕ → List ℕ → List ℕ → List ℕ → Type 0
@@ -44,10 +56,10 @@ pub record CutsOff (book book' : List Entry) (texts : List (List ℕ)) (before n
   pub grows : (more : List Entry) × (book' ≡ book ++ more)
   pub output : List ℕ
   pub refused : Bool
-  pub is_output : IsOutput book' 1 front output refused
+  pub is_output : IsOutput book book' 1 front output refused
   pub reply : List ℕ
   pub this : Bool
-  pub is_reply : IsReply book' (length front + 1) text reply this
+  pub is_reply : IsReply book book' (length front + 1) text reply this
   pub written : Moves (EndsWithin output reply) before now
 
 -- the run stopped in this statement
@@ -63,7 +75,7 @@ pub record StopsIn (book book' : List Entry) (texts : List (List ℕ)) (before n
   pub halfway : IsHalfway done book' (length front + 1) text
   pub output : List ℕ
   pub refused : Bool
-  pub is_output : IsOutput book' 1 front output refused
+  pub is_output : IsOutput book book' 1 front output refused
   pub written : Moves (Gains output) before now
 
 abbrev pub HasAll : List Entry → Store → Type 0
@@ -73,5 +85,5 @@ HasAll book store = Reads book store.journal × IsFaithful book store
 abbrev pub Halts : Stop → List Entry → List Entry → List (List ℕ) → Option (List ℕ) → Option (List ℕ) → Option Store → Type 0
 Halts stop.Source book book' texts before now told = ⊥
 Halts stop.Sink book book' texts before now told = CutsOff book book' texts before now × Tells told (HasAll book')
-Halts stop.Store book book' texts before now told = StopsIn book book' texts before now × Leaves fault.Store told book'
-Halts stop.NoMemory book book' texts before now told = StopsIn book book' texts before now × Leaves fault.NoMemory told book'
+Halts stop.Store book book' texts before now told = StopsIn book book' texts before now × LeavesSome fault.Store told book'
+Halts stop.NoMemory book book' texts before now told = StopsIn book book' texts before now × LeavesSome fault.NoMemory told book'

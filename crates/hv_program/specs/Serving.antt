@@ -1,13 +1,18 @@
 -- What serving the statements of a script promises, by the status.
-use Rattle.std.specs.Prelude.{◌≡◌, ◌⊎◌, ℕ, ◌≤◌, Bool, true, false, IsTrue, Result, Ok, Err, if◌then◌else◌, Option, Some, List, [], ◌∷◌, length}
+use Rattle.std.specs.Prelude.{◌≡◌, ◌⊎◌, ℕ, ◌+◌, ◌<◌, Bool, true, false, IsTrue, Result, Ok, Err, if◌then◌else◌, Option, Some, List, [], ◌∷◌}
 use Rattle.hv_base.specs.Told.{Tells, Moves}
 use Rattle.hv_base.specs.Faults.{Rose}
 use Rattle.hv_base.specs.Sink.{Gains, GainsPart}
 use Rattle.hv_shelf.specs.Disk.{Store}
 use Rattle.hv_program.specs.declared.stop.Stop.{Stop}
 use Rattle.hv_program.specs.Stops.{status_of_stop}
-use Rattle.hv_program.specs.Lines.{journal_line}
-use Rattle.hv_program.specs.Results.{IsEmptyStore, IsServed, IsCutOff, StopsForMemory, StopsForStore}
+use Rattle.hv_history.specs.declared.entry.Entry.{Entry}
+use Rattle.hv_history.specs.State.{state_of}
+use Rattle.hv_history.specs.Legal.{load, profile}
+use Rattle.hv_recovery.specs.Recovery.{IsBadJournalAt}
+use Rattle.hv_house.specs.Booting.{opening_of, OpensTo, IsFullAt, CanOpen, HasNoBook, HasFullBook}
+use Rattle.hv_program.specs.Lines.{journal_line, full_line}
+use Rattle.hv_program.specs.Results.{IsServed, IsCutOff, StopsForMemory, StopsForStore}
 use Rattle.hv_program.specs.Refused.{is_one_of}
 
 -- 0 where no reply is a refusal, and 1 where one is
@@ -15,28 +20,34 @@ abbrev pub ran_status : Result Bool Stop → ℕ
 ran_status (Ok refused) = if refused then 1 else 0
 ran_status (Err stop) = status_of_stop stop
 
+-- a front of the line was written that the journal has no room, and the store is as it was
+pub record IsCutFull (book : List Entry) (written now : List ℕ) (before after : Store) : Type 0 where
+  pub full : profile.entries < load (state_of book) + 1
+  pub wrote : GainsPart full_line written now
+  pub store_same : after ≡ before
+
 -- what was written, what the book has, and which files stand, by the status
-pub record ServedOf (status : ℕ) (texts : List (List ℕ)) (written now : List ℕ) (before after : Store) : Type 0 where
-  pub accepted : status ≡ 0 → IsServed texts written now after false
-  pub refused : status ≡ 1 → IsServed texts written now after true
+pub record ServedOf (status : ℕ) (book : List Entry) (texts : List (List ℕ)) (written now : List ℕ) (before after : Store) : Type 0 where
+  pub accepted : status ≡ 0 → IsServed (opening_of book) texts written now after false
+  pub refused : status ≡ 1 → IsServed (opening_of book) texts written now after true
   pub source : status ≡ 3 → ⊥
-  pub sink : status ≡ 4 → IsCutOff texts written now after
-  pub store : status ≡ 5 → StopsForStore texts written now before after
-  pub memory : status ≡ 7 → StopsForMemory texts written now before after
+  pub sink : status ≡ 4 → IsCutOff (opening_of book) texts written now after ⊎ IsCutFull book written now before after
+  pub store : status ≡ 5 → StopsForStore book texts written now before after
+  pub memory : status ≡ 7 → StopsForMemory book texts written now before after
 
 -- what the sink and the store tell then
-pub record IsAfterServing (status : ℕ) (texts : List (List ℕ)) (written : List ℕ) (before : Store) (sink : Option (List ℕ)) (told : Option Store) : Type 0 where
+pub record IsAfterServing (status : ℕ) (book : List Entry) (texts : List (List ℕ)) (written : List ℕ) (before : Store) (sink : Option (List ℕ)) (told : Option Store) : Type 0 where
   pub now : List ℕ
   pub store : Store
   pub sink_tells : sink ≡ Some now
   pub store_tells : told ≡ Some store
-  pub served : ServedOf status texts written now before store
+  pub served : ServedOf status book texts written now before store
 
--- over a store that is empty
+-- over a store that opens to a book
 abbrev pub Serves : ℕ → List (List ℕ) → Option (List ℕ) → Option (List ℕ) → Option Store → Option Store → Type 0
 Serves status texts sink sink' told told' =
-    (written : List ℕ) (store : Store) → sink ≡ Some written → told ≡ Some store → IsEmptyStore store
-    → IsAfterServing status texts written store sink' told'
+    (written : List ℕ) (store : Store) (book : List Entry) → sink ≡ Some written → told ≡ Some store → OpensTo book store
+    → IsAfterServing status book texts written store sink' told'
 
 -- the sink and the store are blamed only where they failed
 pub record BlamesOf (status sink sink' store store' : ℕ) : Type 0 where
@@ -60,13 +71,23 @@ abbrev pub IsSaidOrNot : ℕ → List ℕ → Option (List ℕ) → Option (List
 IsSaidOrNot wanted line sink sink' faults faults' status =
     IsSaid wanted line sink sink' faults faults' status ⊎ ((status ≡ 7) × (sink' ≡ sink))
 
--- a journal that isn't empty is refused, and the store is then as it was
+-- a journal that is bad, and one that is full, is refused, and the store is then as it was
 pub record IsClosed (sink sink' : Option (List ℕ)) (told told' : Option Store) : Type 0 where
-  pub journal : Tells told (λ s. 2 ≤ length s.journal)
+  pub at : ℕ
+  pub journal : Tells told (λ s. IsBadJournalAt profile s.journal at)
+  pub shut : Tells told HasNoBook
   pub same : told' ≡ told
-  pub wrote : Moves (Gains (journal_line 0)) sink sink'
+  pub wrote : Moves (Gains (journal_line at)) sink sink'
+
+pub record IsFilled (sink sink' : Option (List ℕ)) (told told' : Option Store) : Type 0 where
+  pub entries : ℕ
+  pub journal : Tells told (λ s. IsFullAt entries s.journal)
+  pub shut : Tells told HasFullBook
+  pub same : told' ≡ told
+  pub wrote : Moves (Gains full_line) sink sink'
 
 pub record Opens (sink sink' : Option (List ℕ)) (told told' : Option Store) (status : ℕ) : Type 0 where
   pub bad : status ≡ 6 → IsClosed sink sink' told told'
-  pub at_journal : Tells told (λ s. 2 ≤ length s.journal → IsTrue (is_one_of (4 ∷ 5 ∷ 6 ∷ 7 ∷ []) status))
-  pub only : IsTrue (is_one_of (0 ∷ 1 ∷ 4 ∷ 5 ∷ 6 ∷ 7 ∷ []) status)
+  pub full : status ≡ 9 → IsFilled sink sink' told told'
+  pub opened : IsTrue (is_one_of (0 ∷ 1 ∷ []) status) → Tells told CanOpen
+  pub only : IsTrue (is_one_of (0 ∷ 1 ∷ 4 ∷ 5 ∷ 6 ∷ 7 ∷ 9 ∷ []) status)

@@ -1,21 +1,22 @@
 -- The statements of a script in the book, one after another.
-use Rattle.std.specs.Prelude.{◌≡◌, ◌⊎◌, ℕ, ◌+◌, List, [], ◌∷◌, ◌++◌}
+use Rattle.std.specs.Prelude.{◌≡◌, ◌⊎◌, ℕ, ◌+◌, ◌<◌, List, [], ◌∷◌, ◌++◌, length}
 use Rattle.hv_grammar.specs.Running.{IsRefused}
 use Rattle.hv_history.specs.declared.entry.Entry.{Entry}
-use Rattle.hv_history.specs.declared.entry.Entry.TheVariants.{Boot}
+use Rattle.hv_house.specs.House.{book_limit}
 use Rattle.hv_stands.specs.Endings.{statement_entries}
 use Rattle.hv_session.specs.Halting.{IsEnding, next_txn}
 
--- the book of an opening alone
-abbrev pub opening_book : List Entry
-opening_book = Boot 0 ∷ []
+-- fewer than four entries have room behind this book: no statement is taken up then
+abbrev pub LacksRoom : List Entry → Type 0
+LacksRoom before = book_limit < length before + 4
 
 -- The book went on by one statement: by its entries from its opening to its end; or by none, where its text is
--- refused.
+-- refused, or where there is no room.
 abbrev pub GoesOn : List Entry → List Entry → ℕ → List ℕ → Type 0
 GoesOn before now number text =
     ((ends : List Entry) × IsEnding (next_txn before) ends × (now ≡ before ++ statement_entries before number text ends))
     ⊎ (IsRefused text × (now ≡ before))
+    ⊎ (LacksRoom before × (now ≡ before))
 
 -- The same by these statements, of which the first has this number: each has one opening at most, and the next one's
 -- opening stands behind its end.

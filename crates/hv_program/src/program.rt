@@ -1,9 +1,8 @@
 ghost use Rattle.std.specs.Prelude.{◌≡◌, ◌≤◌, [], ◌∷◌, length, map};
 ghost use Rattle.std.specs.String.{string_bytes};
 ghost use Rattle.hv_base.specs.Told.{StaysTold};
-ghost use Rattle.hv_house.specs.Booting.{SparesHistory};
 ghost use Rattle.hv_program.specs.Headline.{Headline};
-ghost use Rattle.hv_program.specs.Lines.{script_line, journal_line};
+ghost use Rattle.hv_program.specs.Lines.{script_line, journal_line, full_line};
 ghost use Rattle.hv_program.specs.Refused.{is_one_of, Refuses};
 ghost use Rattle.hv_program.specs.Causes.{HasCauses, Completes};
 ghost use Rattle.hv_program.specs.Running.{AreShort};
@@ -67,6 +66,16 @@ fn bad_journal<O: Sink>(alloc: Global, sink: &mut O, at: u64) -> u8
     }
 }
 
+#[tactic(auto, unfolding(crate::specs::Lines::full_line))]
+fn full_journal<O: Sink>(sink: &mut O) -> u8
+    ensures stopped { 2 ≤ result }
+    ensures said { IsSaid 9 full_line (O.written sink.old) (O.written sink.new)
+        (O.faults sink.old) (O.faults sink.new) result }
+    ensures heard { StaysTold (O.written sink.old) (O.written sink.new) }
+{
+    said(sink, b"hive: journal full\n", 9)
+}
+
 fn status_of(ran: Result<bool, Stop>) -> u8
     ensures value { result ≡ ran_status ran }
 {
@@ -92,7 +101,6 @@ fn serve<O: Sink, D: Shelf + Drop>(
         (D.told shelf) (D.told result.shelf) result.status }
     ensures blames { BlamesOf result.status (O.faults sink.old) (O.faults sink.new)
         (D.faults shelf) (D.faults result.shelf) }
-    ensures kept { SparesHistory (D.told shelf) (D.told result.shelf) }
     ensures heard { StaysTold (O.written sink.old) (O.written sink.new) }
     ensures tells { StaysTold (D.told shelf) (D.told result.shelf) }
 {
@@ -106,6 +114,10 @@ fn serve<O: Sink, D: Shelf + Drop>(
         }
         Err((BootFault::BadJournal { at }, shelf)) => Ended {
             status: bad_journal(alloc, sink, at),
+            shelf,
+        },
+        Err((BootFault::Full { .. }, shelf)) => Ended {
+            status: full_journal(sink),
             shelf,
         },
         Err((BootFault::Store, shelf)) => Ended {
@@ -124,7 +136,8 @@ fn serve<O: Sink, D: Shelf + Drop>(
 ///
 /// The status is 0 where all was done and no reply is a refusal, 1 where all was done and one is, 2
 /// for words that are no command, 3, 4 and 5 where the source, the sink or the store failed, 6 for
-/// a journal that isn't empty, 7 for want of memory, and 8 for a script that is refused.
+/// a journal that is bad, 7 for want of memory, 8 for a script that is refused, and 9 for a journal
+/// that has no room for its opening.
 pub fn hive<R: Threads + Wait + Sync, I: Source, O: Sink, D: Shelf + Send + Drop, G: Gate + Sync>(
     _rt: &R,
     alloc: Global,
@@ -148,7 +161,6 @@ pub fn hive<R: Threads + Wait + Sync, I: Source, O: Sink, D: Shelf + Send + Drop
           sink = O.written sink.new;
           store = D.told result.shelf;
         }) result.status }
-    ensures kept { SparesHistory (D.told shelf) (D.told result.shelf) }
     ensures faults { HasCauses
         (record { source = I.faults source.old; sink = O.faults sink.old; store = D.faults shelf })
         (record {

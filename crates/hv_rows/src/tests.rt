@@ -52,7 +52,61 @@ fn a_table_two_rows_and_a_query(rt: HostRuntime) -> Result<(), Fail> {
     assert_eq!(rt; shelf.files().len(), 1);
     let file = shelf.files().get(&place).ok_or("no file")?;
     assert_eq!(rt; file.as_slice(), ROWS.as_slice());
-    runs(&rt, alloc, shelf, "", 6, "hive: bad journal at byte 0\n")?;
+    Ok(())
+}
+
+/// Three runs over one store: each finds what the ones before it acknowledged.
+#[test]
+fn three_runs(rt: HostRuntime) -> Result<(), Fail> {
+    let alloc = rt.alloc();
+    let shelf = runs(&rt, alloc, empty(alloc)?, FIRST, 0, ALL)?;
+    let shelf = runs(
+        &rt,
+        alloc,
+        shelf,
+        "SELECT * FROM t; CREATE TABLE t (a INT); INSERT INTO t VALUES (0,'z'); CREATE TABLE u (b STRING);",
+        1,
+        "a\ts\n1\tx\n2\ty\nFAILED 18 TableExists\nOK inserted 1 deleted 0\nOK\n",
+    )?;
+    let shelf = runs(
+        &rt,
+        alloc,
+        shelf,
+        "INSERT INTO u VALUES ('q'); SELECT * FROM t; SELECT * FROM u;",
+        0,
+        "OK inserted 1 deleted 0\na\ts\n0\tz\n1\tx\n2\ty\nb\nq\n",
+    )?;
+    runs(&rt, alloc, shelf, "", 0, "")?;
+    Ok(())
+}
+
+/// An answer comes from the table's file and not from the text in the journal: the text's byte x in
+/// the file is put again as z.
+#[test]
+fn answers_come_from_files(rt: HostRuntime) -> Result<(), Fail> {
+    let alloc = rt.alloc();
+    let mut shelf = runs(&rt, alloc, empty(alloc)?, FIRST, 0, ALL)?;
+    let place = Place {
+        table: TableId(1),
+        partition: Text::of(alloc, "")?,
+        dir: Text::of(alloc, "delta_0000001_0000001_0000")?,
+        bucket: 0,
+    };
+    let mut rows = Vec::from_slice(alloc, ROWS.as_slice())?;
+    for byte in rows.iter_mut() {
+        if *byte == b'x' {
+            *byte = b'z';
+        }
+    }
+    shelf.put(&place, &rows).ok().ok_or("no put")?;
+    runs(
+        &rt,
+        alloc,
+        shelf,
+        "SELECT * FROM t;",
+        0,
+        "a\ts\n1\tz\n2\ty\n",
+    )?;
     Ok(())
 }
 
@@ -297,11 +351,12 @@ fn a_journal_that_fails(rt: HostRuntime) -> Result<(), Fail> {
     Ok(())
 }
 
-/// The journal's length is asked once, INSERT puts one file, and SELECT lists and gets it.
+/// The journal is read once and its length asked once, INSERT puts one file, and SELECT lists and gets it.
 #[test]
 fn a_store_that_fails(rt: HostRuntime) -> Result<(), Fail> {
     let alloc = rt.alloc();
     let rows = [
+        (Op::JournalRead, ""),
         (Op::JournalLen, ""),
         (Op::Put, CREATED),
         (Op::List, INSERTED),
@@ -311,9 +366,71 @@ fn a_store_that_fails(rt: HostRuntime) -> Result<(), Fail> {
         fails(&rt, alloc, op, 0, 5, printed)?;
         fails(&rt, alloc, op, 1, 0, ALL)?;
     }
-    for op in [Op::JournalRead, Op::Rename, Op::Remove] {
+    for op in [Op::Rename, Op::Remove] {
         fails(&rt, alloc, op, 0, 0, ALL)?;
     }
+    Ok(())
+}
+
+const NO_TABLE: &str = "FAILED 10 NoTable\n";
+
+const NO_ROWS: &str = "a\ts\n";
+
+const ROWS_READ: &str = "a\ts\n1\tx\n2\ty\n";
+
+/// Runs the first script over a store where one call fails, and reads the table in a second run and
+/// a third.
+fn left<R: Threads + Wait + Sync + Abort>(
+    rt: &R,
+    alloc: Global,
+    op: Op,
+    nth: u64,
+    first: (u8, &str),
+    found: &str,
+) -> Result<(), Fail> {
+    let shelf = MemoryShelf::new(alloc, vec![in alloc; Planned { op, nth }]?)?;
+    let shelf = runs(rt, alloc, shelf, FIRST, first.0, first.1)?;
+    let status = if found == NO_TABLE { 1 } else { 0 };
+    let shelf = runs(rt, alloc, shelf, "SELECT * FROM t;", status, found)?;
+    runs(rt, alloc, shelf, "SELECT * FROM t;", status, found)?;
+    Ok(())
+}
+
+/// A store whose journal failed at any call opens again: what was acknowledged is there, and nothing
+/// half. Where only the sync failed, the entry stands already.
+#[test]
+fn what_a_failed_journal_leaves(rt: HostRuntime) -> Result<(), Fail> {
+    let alloc = rt.alloc();
+    for nth in 0..24 {
+        let first = match nth {
+            0..=8 => (5, ""),
+            9..=16 => (5, CREATED),
+            17..=22 => (5, INSERTED),
+            _ => (0, ALL),
+        };
+        let written = match nth {
+            0..=8 => NO_TABLE,
+            9..=16 => NO_ROWS,
+            _ => ROWS_READ,
+        };
+        let synced = match nth {
+            0..=7 => NO_TABLE,
+            8..=15 => NO_ROWS,
+            _ => ROWS_READ,
+        };
+        left(&rt, alloc, Op::JournalWrite, nth, first, written)?;
+        left(&rt, alloc, Op::JournalSync, nth, first, synced)?;
+    }
+    Ok(())
+}
+
+#[test]
+fn what_a_failed_store_leaves(rt: HostRuntime) -> Result<(), Fail> {
+    let alloc = rt.alloc();
+    left(&rt, alloc, Op::JournalLen, 0, (5, ""), NO_TABLE)?;
+    left(&rt, alloc, Op::Put, 0, (5, CREATED), NO_ROWS)?;
+    left(&rt, alloc, Op::List, 0, (5, INSERTED), ROWS_READ)?;
+    left(&rt, alloc, Op::Get, 0, (5, INSERTED), ROWS_READ)?;
     Ok(())
 }
 

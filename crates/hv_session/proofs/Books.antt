@@ -3,19 +3,17 @@ use Rattle.std.proofs.Common.{◌≡◌, ℕ, zero, suc, ◌+◌, ◌<◌, List,
 use Rattle.std.specs.List.{slice_get, AllByRecursion}
 use Rattle.std.specs.Option.{option_map}
 use Rattle.std.specs.Prelude.{◌≤◌, sum_by}
-use Rattle.std.proofs.lemmas.List.{length-append}
 use Rattle.std.proofs.lemmas.List.Sums.{sum_by-cons}
 use Rattle.hv_history.specs.declared.entry.Entry.{Entry}
 use Rattle.hv_history.specs.declared.state.Table.{Table}
-use Rattle.hv_history.specs.declared.state.Written.{Written}
-use Rattle.hv_history.specs.State.{State, after, state_of, nothing_yet, numbered, changed, changed_at, owned, written_to}
+use Rattle.hv_history.specs.State.{State, after, state_of, nothing_yet, numbered}
 use Rattle.hv_history.specs.declared.state.Transaction.{Transaction}
 use Rattle.hv_history.specs.Legal.{one_if, open_one, working_one, AllFit, AllTruthful, IsLegalFrom, IsLegal, profile}
 use Rattle.hv_dirs.specs.Names.{write_end}
-use Rattle.hv_stands.specs.Sound.{HasEnded, HasFewOwners, IsSound}
+use Rattle.hv_stands.specs.Sound.{HasEnded, HasFewOwners, IsIdle}
 use Rattle.hv_stands.specs.Endings.{HasSpace}
-use Rattle.hv_stands.specs.Laws.{tables_inserted}
-use Rattle.hv_house.specs.House.{known_of, with_next, HasNumbers, book_limit}
+use Rattle.hv_known.specs.Known.{known_of}
+use Rattle.hv_house.specs.House.{HasNumbers, book_limit}
 
 -- ---- entries are counted
 
@@ -34,10 +32,10 @@ none-open (t ∷ ts) h =
     let none : open_one t ≡ 0 = ap one_if h.0 in
     omega (arith, sum_by-cons open_one t ts, none, none-open ts h.1)
 
-pub space-left : (book : List Entry) → IsSound (state_of book) → length book + 4 ≤ book_limit → HasSpace book
-space-left book sound few =
-    let idle : sum_by working_one (state_of book).jobs ≡ 0 = ap (sum_by working_one) sound.no_jobs in
-    omega (arith, entries-counted book, none-open (state_of book).transactions sound.ended, idle, few)
+pub space-left : (book : List Entry) → IsIdle (state_of book) → length book + 4 ≤ book_limit → HasSpace book
+space-left book at_rest few =
+    let idle : sum_by working_one (state_of book).jobs ≡ 0 = ap (sum_by working_one) at_rest.sound.no_jobs in
+    omega (arith, entries-counted book, none-open (state_of book).transactions at_rest.ended, idle, few)
 
 -- ---- legal books go on
 
@@ -74,28 +72,7 @@ pub numbered-map : {A B : Type 0} (f : A → B) (xs : List A) (n : ℕ) → numb
 numbered-map f xs zero = refl
 numbered-map f xs (suc n) = get-map f xs n
 
--- two changes at a place, seen through a map
-mapped_at : {A B : Type 0} (f : A → B) (g h : A → A) (k : B → B) → ((x : A) → f (g (h x)) ≡ k (f x)) → (xs : List A) (n : ℕ)
-    → map f (changed_at g (changed_at h xs n) n) ≡ changed_at k (map f xs) n
-mapped_at f g h k same [] n = refl
-mapped_at f g h k same (x ∷ xs) zero = ap (λ y. y ∷ map f xs) (same x)
-mapped_at f g h k same (x ∷ xs) (suc n) = ap (λ ys. f x ∷ ys) (mapped_at f g h k same xs n)
-
-pub mapped : {A B : Type 0} (f : A → B) (g h : A → A) (k : B → B) → ((x : A) → f (g (h x)) ≡ k (f x)) → (xs : List A) (n : ℕ)
-    → map f (changed g (changed h xs n) n) ≡ changed k (map f xs) n
-mapped f g h k same xs zero = refl
-mapped f g h k same xs (suc n) = mapped_at f g h k same xs n
-
-next-known : (txn : ℕ) (written : Written) (table : Table) → known_of (written_to written (owned txn table)) ≡ with_next (known_of table)
-next-known txn written table =
-    ap (λ (n : ℕ). record { info = table.info; given = n }) (length-append table.owners (txn ∷ []) ∙ omega arith)
-
-pub known-inserted : (tables : List Table) (txn number : ℕ) (written : Written)
-    → map known_of (tables_inserted tables txn number written) ≡ changed with_next (map known_of tables) number
-known-inserted tables txn number written =
-    mapped known_of (written_to written) (owned txn) with_next (next-known txn written) tables number
-
-pub numbers-known : (most : ℕ) (tables : List Table) → most + 1 < write_end → AllByRecursion (HasFewOwners most) tables
-    → AllByRecursion HasNumbers (map known_of tables)
-numbers-known most [] small few = tt
-numbers-known most (table ∷ tables) small few = (omega (arith, few.0, small), numbers-known most tables small few.1)
+pub numbers-known : (s : State) (most : ℕ) (tables : List Table) → most + 1 < write_end → AllByRecursion (HasFewOwners most) tables
+    → AllByRecursion HasNumbers (map (known_of s) tables)
+numbers-known s most [] small few = tt
+numbers-known s most (table ∷ tables) small few = (omega (arith, few.0, small), numbers-known s most tables small few.1)

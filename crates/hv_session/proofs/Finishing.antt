@@ -22,7 +22,7 @@ use Rattle.hv_history.specs.declared.state.Written.{Written}
 use Rattle.hv_history.specs.State.{numbered, changed, written_by}
 use Rattle.hv_stands.specs.Files.{own_place, file_of, records_of}
 use Rattle.hv_house.specs.declared.house.House.{House}
-use Rattle.hv_house.specs.declared.known.Known.{Known}
+use Rattle.hv_known.specs.declared.known.Known.{Known}
 use Rattle.hv_house.specs.House.{entries_of, next_write, with_next, IsNoted, IsAsked, IsBeside}
 use Rattle.hv_house.specs.Meaning.{IsSeen, IsSpoiled}
 use Rattle.hv_session.specs.Ends.{Inserts, KnownOf, next_written, Refuses, EndsAs}

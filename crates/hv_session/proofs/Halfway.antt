@@ -1,5 +1,5 @@
 -- What was noted of a statement where the run stopped in it, and what the journal holds then.
-use Rattle.std.proofs.Common.{◌≡◌, ℕ, ◌+◌, ◌≤◌, Option, Some, None, Result, Ok, Err, List, [], ◌∷◌, ◌++◌, length, refl, sym, ap, ◌∙◌, subst, append_assoc, ◌⊎◌, inl, inr}
+use Rattle.std.proofs.Common.{◌≡◌, ℕ, ◌+◌, ◌<◌, ◌≤◌, Option, Some, None, Result, Ok, Err, List, [], ◌∷◌, ◌++◌, length, refl, sym, ap, ◌∙◌, subst, append_assoc, ◌⊎◌, inl, inr}
 use Rattle.std.specs.Prelude.{IfErr}
 use Rattle.std.proofs.lemmas.List.{append-nil}
 use Rattle.std.specs.Option.{option_map}
@@ -19,7 +19,7 @@ use Rattle.hv_history.specs.declared.state.Transaction.{Transaction}
 use Rattle.hv_history.specs.Legal.{IsLegalFrom, GivenFits, profile}
 use Rattle.hv_logic.specs.declared.meaning.Meaning.{Meaning}
 use Rattle.hv_journal.specs.Appending.{Holds, HoldsOneMore}
-use Rattle.hv_stands.specs.Sound.{IsSound}
+use Rattle.hv_stands.specs.Sound.{IsIdle}
 use Rattle.hv_stands.specs.Endings.{HasSpace, main_session, next_number, opening, statement_entries}
 use Rattle.hv_stands.specs.Laws.{meant}
 use Rattle.hv_stands.proofs.Endings.{running, behind_opened, behind_start, of-last, legal-last, legal-none, opens-legal, begins-legal}
@@ -27,11 +27,16 @@ use Rattle.hv_stands.proofs.Inserts.{given-fits}
 use Rattle.hv_house.specs.declared.fault.HouseFault.{HouseFault}
 use Rattle.hv_house.specs.declared.fault.HouseFault.TheVariants as fault
 use Rattle.hv_house.specs.declared.house.House.{House}
-use Rattle.hv_house.specs.declared.known.Known.{Known}
-use Rattle.hv_house.specs.House.{entries_of, known_of, next_write, book_limit, IsKept, IsReady, IsNoted, IsAsked, IsBeside, IsHalted, Leaves, KeepsJournal}
+use Rattle.hv_known.specs.declared.known.Known.{Known}
+use Rattle.hv_known.specs.Known.{known_of}
+use Rattle.hv_stands.proofs.Numbers.{numbered-map}
+use Rattle.std.specs.List.{AllByRecursion}
+use Rattle.hv_dirs.specs.Names.{write_end}
+use Rattle.hv_stands.proofs.Soundness.{all-numbered}
+use Rattle.hv_house.specs.House.{HasNumbers, entries_of, next_write, book_limit, IsKept, IsReady, IsNoted, IsAsked, IsBeside, IsHalted, IsHaltedGiving, Leaves, KeepsJournal}
 use Rattle.hv_session.specs.Started.{IsStarted}
-use Rattle.hv_session.specs.Halting.{next_txn, GivesId, IsUnended, HasStopped}
-use Rattle.hv_session.proofs.Books.{numbered-map, space-left}
+use Rattle.hv_session.specs.Halting.{next_txn, GivesId, LeavesSome, IsUnended, HasStopped}
+use Rattle.hv_session.proofs.Books.{space-left}
 
 -- ---- the journal
 
@@ -39,9 +44,16 @@ holds-one-more : (o : Option Store) (book : List Entry) (e : Entry) → Holds o 
 holds-one-more None book e holds = tt
 holds-one-more (Some s) book e holds = inl holds
 
-pub leaves-book : (why : HouseFault) (o : Option Store) (book : List Entry) → Holds o book → Leaves why o book
-leaves-book fault.NoMemory o book holds = holds
-leaves-book fault.Store o book holds = (entry.Boot 0, holds-one-more o book (entry.Boot 0) holds)
+leaves-event : (why : HouseFault) (event : Entry) (o : Option Store) (book : List Entry) → Holds o book → Leaves why event o book
+leaves-event fault.NoMemory event o book holds = holds
+leaves-event fault.Store event o book holds = holds-one-more o book event holds
+
+pub leaves-book : (why : HouseFault) (o : Option Store) (book : List Entry) → Holds o book → LeavesSome why o book
+leaves-book why o book holds = (entry.Boot 0, leaves-event why (entry.Boot 0) o book holds)
+
+leaves-halted : {D : Type 0} (told : D → Option Store) (event : Entry) (why : HouseFault) (before now : House D) → IsHalted told event why before now
+    → LeavesSome why (told now.shelf) (entries_of now)
+leaves-halted told event why before now halted = (event, subst (Leaves why event (told now.shelf)) (sym halted.entries) halted.leaves)
 
 pub keeps-holds : (a b : Option Store) (book : List Entry) → Moves KeepsJournal a b → Holds a book → Holds b book
 keeps-holds None None book moves holds = tt
@@ -62,6 +74,34 @@ module _ {D : Type 0} (told : D → Option Store) where
             (subst (Holds (told asked.shelf)) (sym same) (subst (λ (o : Option Store). Holds o (entries_of before)) (sym only.store) kept.reads));
       }
 
+  -- what was to end it wasn't noted
+  pub halted-unended : (event : Entry) (before now : House D) (why : HouseFault) (txn : TxnId) → IsHalted told event why before now → IsUnended told why before now txn
+  halted-unended event before now why txn halted = record {
+    noted = inl halted.entries;
+    leaves = leaves-halted told event why before now halted;
+  }
+
+  pub halted-if : {T : Type 0} (event : Entry) (before now : House D) (txn : TxnId) (result : Result T HouseFault) → IfErr result (λ why. IsHalted told event why before now)
+      → IfErr result (λ why. IsUnended told why before now txn)
+  halted-if event before now txn (Ok x) halted = tt
+  halted-if event before now txn (Err why) halted = halted-unended event before now why txn halted
+
+  pub halted-ends : {T : Type 0} (event : Entry) (before now : House D) (txn : TxnId) (why same : HouseFault) (result : Result T HouseFault) → result ≡ Err same → same ≡ why
+      → IsHalted told event why before now → IfErr result (λ fault. IsUnended told fault before now txn)
+  halted-ends {T = T} event before now txn why same result is e halted =
+      subst (λ (r : Result T HouseFault). IfErr r (λ fault. IsUnended told fault before now txn)) (sym is)
+      (subst (λ (w : HouseFault). IsUnended told w before now txn) (sym e) (halted-unended event before now why txn halted))
+
+  -- nothing was noted
+  pub kept-ends : {T : Type 0} (before : House D) (txn : TxnId) (result : Result T HouseFault) → IsKept told before → IfErr result (λ why. IsUnended told why before before txn)
+  kept-ends before txn (Ok x) kept = tt
+  kept-ends before txn (Err why) kept = record { noted = inl refl; leaves = leaves-book why (told before.shelf) (entries_of before) kept.reads }
+
+  pub giving-ends : {T : Type 0} (table : TableId) (before now : House D) (txn : TxnId) (why same : HouseFault) (result : Result T HouseFault) → result ≡ Err same → same ≡ why
+      → IsHaltedGiving told why txn table before now → IfErr result (λ fault. IsUnended told fault before now txn)
+  giving-ends table before now txn why same result is e halted =
+      halted-ends (entry.Given txn table halted.write) before now txn why same result is e halted.halted
+
   -- ---- the write id of its rows was noted
 
   module _ (before given : House D) (txn : TxnId) (table : TableId) (known : Known) (write : WriteId)
@@ -79,6 +119,13 @@ module _ {D : Type 0} (told : D → Option Store) where
           named = named;
           entries = same ∙ noted.entries ∙ ap (λ (w : WriteId). entries_of before ++ entry.Given txn table w ∷ []) id;
         }
+
+    pub given-ends : {T : Type 0} (result : Result T HouseFault) → IfErr result (λ why. IsUnended told why before given txn)
+    given-ends (Ok x) = tt
+    given-ends (Err why) = record {
+      noted = inr (gives-id given refl);
+      leaves = leaves-book why (told given.shelf) (entries_of given) noted.kept.reads;
+    }
 
     -- its file was to be put
     put-holds : (put : House D) → IsBeside given put → Moves KeepsJournal (told given.shelf) (told put.shelf) → Holds (told put.shelf) (entries_of put)
@@ -99,18 +146,27 @@ module _ {D : Type 0} (told : D → Option Store) where
     put-ends put (Err why) beside journal = put-unended put why beside journal
 
     -- its commit was to be noted
-    pub commit-unended : (put now : House D) (why : HouseFault) → IsBeside given put → IsHalted told why put now
+    pub commit-unended : (event : Entry) (put now : House D) (why : HouseFault) → IsBeside given put → IsHalted told event why put now
         → IsUnended told why before now txn
-    commit-unended put now why beside halted = record {
+    commit-unended event put now why beside halted = record {
       noted = inr (gives-id now (halted.entries ∙ ap (λ b. b.entries) beside.book));
-      leaves = subst (Leaves why (told now.shelf)) (sym halted.entries) halted.leaves;
+      leaves = leaves-halted told event why put now halted;
     }
 
-    pub commit-ends : {T : Type 0} (put now : House D) (why same : HouseFault) (result : Result T HouseFault) → result ≡ Err same → same ≡ why
-        → IsBeside given put → IsHalted told why put now → IfErr result (λ fault. IsUnended told fault before now txn)
-    commit-ends {T = T} put now why same result is e beside halted =
+    pub commit-ends : {T : Type 0} (event : Entry) (put now : House D) (why same : HouseFault) (result : Result T HouseFault) → result ≡ Err same → same ≡ why
+        → IsBeside given put → IsHalted told event why put now → IfErr result (λ fault. IsUnended told fault before now txn)
+    commit-ends {T = T} event put now why same result is e beside halted =
         subst (λ (r : Result T HouseFault). IfErr r (λ fault. IsUnended told fault before now txn)) (sym is)
-        (subst (λ (w : HouseFault). IsUnended told w before now txn) (sym e) (commit-unended put now why beside halted))
+        (subst (λ (w : HouseFault). IsUnended told w before now txn) (sym e) (commit-unended event put now why beside halted))
+
+-- the next write id of a table has a name
+pub number-fits : (tables : List Known) (n write : ℕ) (known : Known) → AllByRecursion HasNumbers tables → numbered tables n ≡ Some known
+    → option_map next_write (numbered tables n) ≡ Some write → write < write_end
+number-fits tables n write known all named next =
+    let fits : known.given + 1 < write_end = all-numbered HasNumbers tables n known named all in
+    let number : Some (known.given + 1) ≡ Some write = sym (ap (option_map next_write) named) ∙ next in
+    let is : known.given + 1 ≡ write = cc in
+    subst (λ w. w < write_end) is fits
 
 -- ---- what was noted of it is legal
 
@@ -120,24 +176,24 @@ record IsTableOf (s : State) (id : ℕ) (known : Known) : Type 0 where
   here : numbered s.tables id ≡ Some table
   given : known.given ≡ length table.owners
 
-table-of : (s : State) (id : ℕ) (known : Known) (o : Option Table) → numbered s.tables id ≡ o → option_map known_of o ≡ Some known → IsTableOf s id known
+table-of : (s : State) (id : ℕ) (known : Known) (o : Option Table) → numbered s.tables id ≡ o → option_map (known_of s) o ≡ Some known → IsTableOf s id known
 table-of s id known None at e = cc
 table-of s id known (Some table) at e =
-    let same : known_of table ≡ known = cc in
+    let same : known_of s table ≡ known = cc in
     record { table = table; here = at; given = ap (λ (k : Known). k.given) (sym same) }
 
-given-legal : (book : List Entry) (number : ℕ) (text : List ℕ) (tree : Stmt) (table : TableId) (known : Known) → IsSound (state_of book) → HasSpace book
+given-legal : (book : List Entry) (number : ℕ) (text : List ℕ) (tree : Stmt) (table : TableId) (known : Known) → IsIdle (state_of book) → HasSpace book
     → Runs text tree → IsTableOf (state_of book) table.0 known
     → IsLegalFrom profile (state_of book) (statement_entries book number text (entry.Given (next_txn book) table (record { 0 = known.given + 1 }) ∷ []))
-given-legal book number text tree table known sound space is here =
+given-legal book number text tree table known at_rest space is here =
     let s : State = state_of book in
     let m : Option Meaning = meant book tree in
     let t : Transaction = running s number text m [] [] None in
-    begins-legal s number text tree m (entry.Given (next_txn book) table (record { 0 = known.given + 1 }) ∷ []) sound space is refl
+    begins-legal s number text tree m (entry.Given (next_txn book) table (record { 0 = known.given + 1 }) ∷ []) at_rest space is refl
     (legal-last (behind_start s number text m) (entry.Given (next_txn book) table (record { 0 = known.given + 1 }))
     (of-last s (s.entries + 1 + 1) s.tables t (GivenFits profile (behind_start s number text m) table.0 (known.given + 1))
     (subst (λ (n : ℕ). GivenFits profile (behind_start s number text m) table.0 (n + 1) t) (sym here.given)
-    (given-fits s number text m table.0 here.table sound space here.here)))
+    (given-fits s number text m table.0 here.table at_rest space here.here)))
     tt)
 
 -- ---- its opening alone was noted
@@ -157,7 +213,7 @@ module _ {D : Type 0} (told : D → Option Store) (number : ℕ) (text : List �
   unended-stopped before started now tree txn why ready room is begun unended = by unended.noted
     where
       space : HasSpace (entries_of before)
-      space = space-left (entries_of before) ready.sound room
+      space = space-left (entries_of before) ready.idle room
 
       by : (entries_of now ≡ entries_of started) ⊎ GivesId started now txn → HasStopped told why before now number text
       by (inl e) = record {
@@ -166,7 +222,7 @@ module _ {D : Type 0} (told : D → Option Store) (number : ℕ) (text : List �
           book = e ∙ begun.entries;
           beginning = inr (inr (inl refl));
           legal =
-              begins-legal (state_of (entries_of before)) number text tree (meant (entries_of before) tree) [] ready.sound space is refl
+              begins-legal (state_of (entries_of before)) number text tree (meant (entries_of before) tree) [] ready.idle space is refl
               (legal-none (behind_start (state_of (entries_of before)) number text (meant (entries_of before) tree)));
         };
         leaves = unended.leaves;
@@ -174,10 +230,10 @@ module _ {D : Type 0} (told : D → Option Store) (number : ℕ) (text : List �
       by (inr gives) =
           let write : WriteId = record { 0 = gives.known.given + 1 } in
           let same : txn ≡ next_txn (entries_of before) = λ i. record { 0 = begun.txn_is i } in
-          let known : option_map known_of (numbered (state_of (entries_of before)).tables gives.table.0) ≡ Some gives.known =
+          let known : option_map (known_of (state_of (entries_of before))) (numbered (state_of (entries_of before)).tables gives.table.0) ≡ Some gives.known =
           sym (ap (λ ts. numbered ts.items gives.table.0) begun.tables
           ∙ ap (λ (ks : List Known). numbered ks gives.table.0) ready.knows.tables
-          ∙ numbered-map known_of (state_of (entries_of before)).tables gives.table.0)
+          ∙ numbered-map (known_of (state_of (entries_of before))) (state_of (entries_of before)).tables gives.table.0)
           ∙ gives.named in
           let here = table-of (state_of (entries_of before)) gives.table.0 gives.known (numbered (state_of (entries_of before)).tables gives.table.0) refl known in
           record {
@@ -190,7 +246,7 @@ module _ {D : Type 0} (told : D → Option Store) (number : ℕ) (text : List �
                   ∙ append_assoc (entries_of before) (statement_entries (entries_of before) number text [])
                   (entry.Given (next_txn (entries_of before)) gives.table write ∷ []);
               beginning = inr (inr (inr (gives.table, write, refl)));
-              legal = given-legal (entries_of before) number text tree gives.table gives.known ready.sound space is here;
+              legal = given-legal (entries_of before) number text tree gives.table gives.known ready.idle space is here;
             };
             leaves = unended.leaves;
           }
@@ -211,45 +267,45 @@ module _ {D : Type 0} (told : D → Option Store) (number : ℕ) (text : List �
       ∙ ap (λ (n : ℕ). entries_of before ++ entry.Opened (record { 0 = n + 1 }) session number text ∷ []) ready.knows.opened
       ∙ ap (λ (s : List ℕ). entries_of before ++ entry.Opened (record { 0 = next_number (entries_of before) }) s number text ∷ []) named
 
-  stopped-opened : (before opened now : House D) (session : List ℕ) (tree : Stmt) (why : HouseFault) → IsReady told before
+  stopped-opened : (before opened now : House D) (session : List ℕ) (tree : Stmt) (event : Entry) (why : HouseFault) → IsReady told before
       → length (entries_of before) + 4 ≤ book_limit → Runs text tree → session ≡ main_session
       → IsNoted told (entry.Opened (record { 0 = before.opened + 1 }) session number text) before opened
-      → IsHalted told why opened now → HasStopped told why before now number text
-  stopped-opened before opened now session tree why ready room is named noted halted = record {
+      → IsHalted told event why opened now → HasStopped told why before now number text
+  stopped-opened before opened now session tree event why ready room is named noted halted = record {
     halfway = record {
       added = opening (entries_of before) number text ∷ [];
       book = halted.entries ∙ noted-opening before opened session ready named noted;
       beginning = inr (inl refl);
-      legal = opening-legal (entries_of before) number text tree (space-left (entries_of before) ready.sound room) is;
+      legal = opening-legal (entries_of before) number text tree (space-left (entries_of before) ready.idle room) is;
     };
-    leaves = subst (Leaves why (told now.shelf)) (sym halted.entries) halted.leaves;
+    leaves = leaves-halted told event why opened now halted;
   }
 
-  stopped-unopened : (before now : House D) (why : HouseFault) → IsHalted told why before now → HasStopped told why before now number text
-  stopped-unopened before now why halted = record {
+  stopped-unopened : (event : Entry) (before now : House D) (why : HouseFault) → IsHalted told event why before now → HasStopped told why before now number text
+  stopped-unopened event before now why halted = record {
     halfway = record {
       added = [];
       book = halted.entries ∙ sym (append-nil (entries_of before));
       beginning = inl refl;
       legal = legal-none (state_of (entries_of before));
     };
-    leaves = subst (Leaves why (told now.shelf)) (sym halted.entries) halted.leaves;
+    leaves = leaves-halted told event why before now halted;
   }
 
-  pub start-stopped : {T : Type 0} (before opened now : House D) (session : List ℕ) (tree : Stmt) (why same : HouseFault) (result : Result T HouseFault)
+  pub start-stopped : {T : Type 0} (before opened now : House D) (session : List ℕ) (tree : Stmt) (event : Entry) (why same : HouseFault) (result : Result T HouseFault)
       → result ≡ Err same → same ≡ why → IsReady told before → length (entries_of before) + 4 ≤ book_limit → Runs text tree → session ≡ main_session
       → IsNoted told (entry.Opened (record { 0 = before.opened + 1 }) session number text) before opened
-      → IsHalted told why opened now → IfErr result (λ fault. HasStopped told fault before now number text)
-  start-stopped {T = T} before opened now session tree why same result is e ready room runs named noted halted =
+      → IsHalted told event why opened now → IfErr result (λ fault. HasStopped told fault before now number text)
+  start-stopped {T = T} before opened now session tree event why same result is e ready room runs named noted halted =
       subst (λ (r : Result T HouseFault). IfErr r (λ fault. HasStopped told fault before now number text)) (sym is)
       (subst (λ (w : HouseFault). HasStopped told w before now number text) (sym e)
-      (stopped-opened before opened now session tree why ready room runs named noted halted))
+      (stopped-opened before opened now session tree event why ready room runs named noted halted))
 
-  pub open-stopped : {T : Type 0} (before now : House D) (why same : HouseFault) (result : Result T HouseFault)
-      → result ≡ Err same → same ≡ why → IsHalted told why before now → IfErr result (λ fault. HasStopped told fault before now number text)
-  open-stopped {T = T} before now why same result is e halted =
+  pub open-stopped : {T : Type 0} (event : Entry) (before now : House D) (why same : HouseFault) (result : Result T HouseFault)
+      → result ≡ Err same → same ≡ why → IsHalted told event why before now → IfErr result (λ fault. HasStopped told fault before now number text)
+  open-stopped {T = T} event before now why same result is e halted =
       subst (λ (r : Result T HouseFault). IfErr r (λ fault. HasStopped told fault before now number text)) (sym is)
-      (subst (λ (w : HouseFault). HasStopped told w before now number text) (sym e) (stopped-unopened before now why halted))
+      (subst (λ (w : HouseFault). HasStopped told w before now number text) (sym e) (stopped-unopened event before now why halted))
 
   -- nothing was noted of it
   pub stopped-before : (before : House D) (why : HouseFault) → IsReady told before → HasStopped told why before before number text

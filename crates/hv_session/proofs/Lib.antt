@@ -1,5 +1,6 @@
 pub mod Shorts
 pub mod Books
+pub mod Permuted
 pub mod Stores
 pub mod Seeing
 pub mod Idle

@@ -1,5 +1,5 @@
 -- A statement from its Start to its end: what the house is then, and that the reply is its answer.
-use Rattle.std.proofs.Common.{◌≡◌, ℕ, ◌+◌, ◌<◌, ◌≤◌, Bool, true, false, Option, Some, None, List, [], ◌∷◌, ◌++◌, length, map, refl, sym, ap, ◌∙◌, subst, arith, append_assoc, ◌⊎◌, inl, inr}
+use Rattle.std.proofs.Common.{◌≡◌, ℕ, ◌+◌, ◌<◌, ◌≤◌, Bool, true, false, is_none, Option, Some, None, List, [], ◌∷◌, ◌++◌, length, map, refl, sym, ap, ◌∙◌, subst, arith, append_assoc, ◌⊎◌, inl, inr}
 use Rattle.std.specs.FinMap as files
 use Rattle.std.specs.List.{AllByRecursion}
 use Rattle.std.specs.Option.{option_map}
@@ -29,31 +29,38 @@ use Rattle.hv_history.specs.declared.entry.Cause.TheVariants as cause
 use Rattle.hv_history.specs.declared.state.Table.{Table}
 use Rattle.hv_history.specs.declared.state.Written.{Written}
 use Rattle.hv_history.specs.declared.entry.FilePlace.{FilePlace}
-use Rattle.hv_history.specs.State.{state_of, numbered, changed, seen_tables}
+use Rattle.hv_history.specs.declared.state.Ending.{Ending}
+use Rattle.hv_history.specs.declared.state.Ending.TheVariants.{Committed, Aborted, Made, Dropped}
+use Rattle.hv_history.specs.declared.state.Transaction.{Transaction}
+use Rattle.hv_history.specs.State.{nothing_yet, after, state_of, numbered, changed, seen_tables}
+use Rattle.hv_history.specs.Legal.{profile}
 use Rattle.hv_history.specs.Answers.{listing, counts_line, ok_line, cause_text}
 use Rattle.hv_dirs.specs.Names.{write_end}
 use Rattle.hv_stands.specs.Files.{Stands, own_place, file_of, records_of}
-use Rattle.hv_stands.specs.Sound.{IsSound, AreSound, AreInserts}
-use Rattle.hv_stands.specs.Endings.{next_number, statement_entries, HasSpace, Goes}
-use Rattle.hv_stands.specs.Laws.{meant, committing, IsCauseOf, made_table, next_table, inserting, tables_inserted}
-use Rattle.hv_stands.proofs.Forms.{made-columns-plain}
+use Rattle.hv_stands.specs.Sound.{HasEnded, IsSound, IsIdle}
+use Rattle.hv_stands.specs.Endings.{next_number, statement_entries, HasSpace, is_abort, Goes}
+use Rattle.hv_stands.specs.Laws.{meant, committing, IsCauseOf, IsQuiet, made_table, next_table, inserting, tables_inserted}
 use Rattle.hv_stands.proofs.Written.{inserts-written}
 use Rattle.hv_stands.proofs.Queries.{queries-end}
 use Rattle.hv_stands.proofs.Refusals.{refusals-end}
 use Rattle.hv_stands.proofs.Creates.{tables-made}
 use Rattle.hv_stands.proofs.Inserts.{nothing-inserted, rows-inserted}
 use Rattle.hv_stands.proofs.Tables.{changed-table}
-use Rattle.hv_stands.proofs.Soundness.{soundness-later, tables-made-sound, tables-inserted-sound}
-use Rattle.hv_stands.proofs.StandingFiles.{made-files-stand, inserted-files-stand}
+use Rattle.hv_stands.proofs.Numbers.{numbered-map, numbered-last}
+use Rattle.hv_stands.proofs.Keeping.{sound-all}
+use Rattle.hv_stands.proofs.Endings.{fold-append}
+use Rattle.hv_stands.proofs.Statements.{quiet-statements-stand, inserted-files-stand}
 use Rattle.hv_house.specs.declared.house.House.{House}
-use Rattle.hv_house.specs.declared.known.Known.{Known}
-use Rattle.hv_house.specs.House.{entries_of, known_of, with_next, HasNumbers, book_limit, IsKept, Knows, IsReady, IsFaithful, IsNoted, IsAsked}
+use Rattle.hv_known.specs.declared.known.Known.{Known}
+use Rattle.hv_known.specs.Known.{is_unfinished, is_undone, is_marked, known_of, all_known}
+use Rattle.hv_known.proofs.Staying.{known-quiet, known-made, known-inserted}
+use Rattle.hv_house.specs.House.{entries_of, with_next, HasNumbers, book_limit, IsKept, Knows, IsReady, IsFaithful, IsNoted, IsAsked}
 use Rattle.hv_house.specs.Meaning.{IsSeen, IsSpoiled}
 use Rattle.hv_session.specs.Started.{IsStarted}
 use Rattle.hv_session.specs.Ends.{IsDone, Commits, Refuses, PutsFile, Inserts, KnownOf, next_written, ChangesRows, next_id, Makes, EndsAs, CanEnd}
 use Rattle.hv_session.specs.Halting.{IsEnding, next_txn}
 use Rattle.hv_session.specs.Answered.{WentThrough, AddsAtMost, HasRun}
-use Rattle.hv_session.proofs.Books.{entries-counted, space-left, legal-goes-on, map-append, length-map, numbered-map, known-inserted, numbers-known}
+use Rattle.hv_session.proofs.Books.{entries-counted, space-left, legal-goes-on, length-map, numbers-known}
 use Rattle.hv_session.proofs.Seeing.{Lists, meant-or-listing, meant-told, unspoiled}
 use Rattle.hv_stands.proofs.BuiltMeanings.{MeansSomething, built-means}
 use Rattle.hv_session.proofs.Idle.{Leaves, idle-leaves}
@@ -61,7 +68,29 @@ use Rattle.hv_session.proofs.Stores.{became, untold, tells-none, tells-some, tol
 
 leaves : (book added : List Entry) (number : ℕ) (text reply : List ℕ) (refused : Bool) (tables : List Table)
     → Goes book added number text reply refused tables → Leaves book added tables
-leaves book added number text reply refused tables goes = record { tables_are = goes.tables_are; jobs = goes.jobs; count = goes.count; ended = goes.ended }
+leaves book added number text reply refused tables goes = record {
+  fit = goes.legal.fit;
+  tables_are = goes.tables_are;
+  count = goes.count;
+  ended = goes.ended;
+  last = goes.last;
+  transactions = goes.transactions;
+}
+
+-- a transaction that has ended, and wasn't aborted, has committed
+done-by : (o : Option Ending) → is_none o ≡ false → is_abort o ≡ false → is_unfinished o ≡ false
+done-by None ended kept = cc
+done-by (Some (Committed place wrote)) ended kept = refl
+done-by (Some (Aborted place cause)) ended kept = cc
+done-by (Some (Made place table)) ended kept = refl
+done-by (Some (Dropped place table)) ended kept = refl
+
+done-marked : (ts : List Transaction) (last : Transaction) (now : List Transaction) → now ≡ ts ++ last ∷ [] → HasEnded last → is_abort last.ending ≡ false
+    → is_marked (numbered (map is_undone now) (length ts + 1)) ≡ false
+done-marked ts last now are ended kept =
+    ap (λ xs. is_marked (numbered (map is_undone xs) (length ts + 1))) are
+    ∙ ap is_marked (numbered-map is_undone (ts ++ last ∷ []) (length ts + 1) ∙ ap (option_map is_undone) (numbered-last ts last))
+    ∙ done-by last.ending ended kept
 
 module _ {D : Type 0} (told : D → Option Store) (h0 h3 h4 h5 : House D) (number : ℕ) (text : List ℕ) (tree : Stmt) (txn : TxnId) where
   abbrev book : List Entry
@@ -79,7 +108,7 @@ module _ {D : Type 0} (told : D → Option Store) (h0 h3 h4 h5 : House D) (numbe
     txn-is : txn ≡ record { 0 = next_number book }
     txn-is = λ i. record { 0 = given.started.txn_is i }
 
-    tables-known : h4.tables.items ≡ map known_of (state_of book).tables
+    tables-known : h4.tables.items ≡ all_known (state_of book)
     tables-known = ap (λ ts. ts.items) (given.asked.tables ∙ given.started.tables) ∙ given.ready.knows.tables
 
     opened-one : h4.opened ≡ h0.opened + 1
@@ -93,44 +122,38 @@ module _ {D : Type 0} (told : D → Option Store) (h0 h3 h4 h5 : House D) (numbe
     entries-five ends e =
         e ∙ ap (λ (b : List Entry). b ++ ends) entries-four ∙ append_assoc book (statement_entries book number text []) ends
 
-    small : (state_of book).entries + 1 < write_end
+    small : (state_of book).entries + 4 < write_end
     small = omega (arith, entries-counted book, given.few)
 
     pub numbers : AllByRecursion HasNumbers h4.tables.items
-    numbers = subst (AllByRecursion HasNumbers) (sym tables-known) (numbers-known (state_of book).entries (state_of book).tables small given.ready.sound.tables.few)
+    numbers =
+        subst (AllByRecursion HasNumbers) (sym tables-known)
+        (numbers-known (state_of book) (state_of book).entries (state_of book).tables (omega (arith, small)) given.ready.idle.sound.tables.few)
 
     space : HasSpace book
-    space = space-left book given.ready.sound given.few
+    space = space-left book given.ready.idle given.few
 
     -- ---- the house behind the statement
 
     ready-behind : (ends : List Entry) (tables : List Table) → IsKept told h5 → entries_of h5 ≡ entries_of h4 ++ ends
-        → Leaves book (statement_entries book number text ends) tables → AreSound ((state_of book).entries + 1) tables
-        → h5.opened ≡ h4.opened → h5.tables.items ≡ map known_of tables → IsReady told h5
-    ready-behind ends tables kept noted left sound opened known =
+        → Leaves book (statement_entries book number text ends) tables
+        → h5.opened ≡ h4.opened → h5.tables.items ≡ all_known (state_of (book ++ statement_entries book number text ends)) → IsReady told h5
+    ready-behind ends tables kept noted left opened known =
         let added = statement_entries book number text ends in
         let is : entries_of h5 ≡ book ++ added = entries-five ends noted in
-        let more : (state_of book).entries + 1 < (state_of (book ++ added)).entries =
-        omega (arith, entries-counted book, entries-counted (book ++ added), length-append book added) in
         let knows : Knows (state_of (book ++ added)) h5 = record {
           opened = opened ∙ opened-one ∙ ap (λ (n : ℕ). n + 1) given.ready.knows.opened ∙ sym left.count;
-          tables = known ∙ ap (map known_of) (sym left.tables_are);
+          tables = known;
         } in
-        let whole : IsSound (state_of (book ++ added)) = record {
-          ended = left.ended given.ready.sound.ended;
-          no_jobs = left.jobs ∙ given.ready.sound.no_jobs;
-          tables = subst (AreSound (state_of (book ++ added)).entries) (sym left.tables_are)
-              (soundness-later ((state_of book).entries + 1) (state_of (book ++ added)).entries tables sound more);
+        let whole : IsIdle (state_of (book ++ added)) = record {
+          sound = subst IsSound (sym (fold-append after nothing_yet book added)) (sound-all profile (state_of book) added left.fit given.ready.idle.sound);
+          ended = left.ended given.ready.idle.ended;
         } in
         record {
           kept = kept;
           knows = subst (λ (b : List Entry). Knows (state_of b) h5) (sym is) knows;
-          sound = subst (λ (b : List Entry). IsSound (state_of b)) (sym is) whole;
+          idle = subst (λ (b : List Entry). IsIdle (state_of b)) (sym is) whole;
         }
-
-    -- the tables that were sound stay so
-    same-sound : AreSound ((state_of book).entries + 1) (state_of book).tables
-    same-sound = soundness-later (state_of book).entries ((state_of book).entries + 1) (state_of book).tables given.ready.sound.tables (omega arith)
 
     -- ---- what the store shows behind it
 
@@ -191,17 +214,17 @@ module _ {D : Type 0} (told : D → Option Store) (h0 h3 h4 h5 : House D) (numbe
         (subst (λ (o : Option Store). Moves KeepsTree (told h0.shelf) o) (sym given.asked.store) given.started.tree) tree
 
     noted-ran : (event : Entry) (reply : List ℕ) (refused : Bool) (tables : List Table)
-        → IsNoted told event h4 h5 → h5.opened ≡ h4.opened → h5.tables.items ≡ map known_of tables
-        → Leaves book (statement_entries book number text (event ∷ [])) tables → AreSound ((state_of book).entries + 1) tables
+        → IsNoted told event h4 h5 → h5.opened ≡ h4.opened → h5.tables.items ≡ all_known (state_of (book ++ statement_entries book number text (event ∷ [])))
+        → Leaves book (statement_entries book number text (event ∷ [])) tables
         → ((s : Store) → told h0.shelf ≡ Some s → IsFaithful book s → IsEnding (next_txn book) (event ∷ []))
         → ((s : Store) → told h0.shelf ≡ Some s → IsFaithful book s
         → Goes book (statement_entries book number text (event ∷ [])) number text reply refused tables
         × Stands (state_of (book ++ statement_entries book number text (event ∷ []))) s.tree)
         → Ran (event ∷ []) reply refused
-    noted-ran event reply refused tables noted opened known left sound ending goes =
+    noted-ran event reply refused tables noted opened known left ending goes =
         let through = keeps-five noted.tree in
         record {
-          ready = ready-behind (event ∷ []) tables noted.kept noted.entries left sound opened known;
+          ready = ready-behind (event ∷ []) tables noted.kept noted.entries left opened known;
           noted = noted.entries;
           short = omega arith;
           through = any-of KeepsTree (told h0.shelf) (told h5.shelf) through;
@@ -209,17 +232,23 @@ module _ {D : Type 0} (told : D → Option Store) (h0 h3 h4 h5 : House D) (numbe
               let now = became KeepsTree (told h0.shelf) (told h5.shelf) s through e in
               let went = goes s e faithful in
               shown (event ∷ []) reply refused tables s now.now now.tells noted.entries faithful (ending s e faithful) went.0
-              (still-stands (state_of (book ++ statement_entries book number text (event ∷ []))) (state_of (book ++ statement_entries book number text (event ∷ [])))
-              s.tree now.now.tree refl now.made went.1);
+              (still-stands (state_of (book ++ statement_entries book number text (event ∷ []))) s.tree now.now.tree now.made went.1);
         }
 
-    -- the tables are as before
-    same-tables : (event : Entry) (reply : List ℕ) (refused : Bool) (s : Store) → IsFaithful book s
-        → Goes book (statement_entries book number text (event ∷ [])) number text reply refused (state_of book).tables
-        → Goes book (statement_entries book number text (event ∷ [])) number text reply refused (state_of book).tables
+    -- no file is written
+    quiet : (event : Entry) (reply : List ℕ) (refused : Bool) (tables : List Table) (s : Store) → IsFaithful book s → IsQuiet book event
+        → Goes book (statement_entries book number text (event ∷ [])) number text reply refused tables
+        → Goes book (statement_entries book number text (event ∷ [])) number text reply refused tables
         × Stands (state_of (book ++ statement_entries book number text (event ∷ []))) s.tree
-    same-tables event reply refused s faithful goes =
-        (goes, still-stands (state_of book) (state_of (book ++ statement_entries book number text (event ∷ []))) s.tree s.tree goes.tables_are refl faithful.stands)
+    quiet event reply refused tables s faithful is goes =
+        (goes, quiet-statements-stand book number text event s.tree given.ready.idle is goes.legal faithful.stands)
+
+    -- what is known of the tables, where they are as before
+    known-before : (ends : List Entry) → Leaves book (statement_entries book number text ends) (state_of book).tables → h5.tables ≡ h4.tables
+        → h5.tables.items ≡ all_known (state_of (book ++ statement_entries book number text ends))
+    known-before ends left same =
+        ap (λ ts. ts.items) same ∙ tables-known
+        ∙ sym (known-quiet (state_of book) (state_of (book ++ statement_entries book number text ends)) left.last given.ready.idle.sound left.transactions left.tables_are)
 
     -- ---- what was seen means what the statement means, where the store shows the book's files
 
@@ -227,19 +256,16 @@ module _ {D : Type 0} (told : D → Option Store) (h0 h3 h4 h5 : House D) (numbe
         → meaning_of seen tree ≡ meant book tree
     means-told seen sees s e faithful =
         let then = became KeepsTree (told h0.shelf) (told h3.shelf) s given.started.tree e in
-        let stands = still-stands (state_of book) (state_of book) s.tree then.now.tree refl then.made faithful.stands in
-        let known : h3.tables.items ≡ map known_of (state_of book).tables = ap (λ ts. ts.items) given.started.tables ∙ given.ready.knows.tables in
-        meant-told told h3 book tree given.ready.sound given.is.built then.now then.tells stands (omega (arith, small)) seen known sees
+        let stands = still-stands (state_of book) s.tree then.now.tree then.made faithful.stands in
+        let known : h3.tables.items ≡ all_known (state_of book) = ap (λ ts. ts.items) given.started.tables ∙ given.ready.knows.tables in
+        meant-told told h3 book tree given.ready.idle given.is.built then.now then.tells stands (omega (arith, small)) seen known sees
 
     means : (seen : List Seen) → IsSeen told h3 tree seen → (meaning_of seen tree ≡ meant book tree) ⊎ Lists (meaning_of seen tree)
     means seen sees =
-        let known : h3.tables.items ≡ map known_of (state_of book).tables = ap (λ ts. ts.items) given.started.tables ∙ given.ready.knows.tables in
-        meant-or-listing told h3 book tree given.ready.sound given.is.built seen known sees
+        let known : h3.tables.items ≡ all_known (state_of book) = ap (λ ts. ts.items) given.started.tables ∙ given.ready.knows.tables in
+        meant-or-listing told h3 book tree given.ready.idle given.is.built seen known sees
 
     -- ---- the ways that it ends
-
-    same-known : (now : House D) → now.tables ≡ h4.tables → now.tables.items ≡ map known_of (state_of book).tables
-    same-known now e = ap (λ ts. ts.items) e ∙ tables-known
 
     -- it commits without rows
     idle : (reply text_now : List ℕ) (refused : Bool) → Commits told h4 h5 txn [] → IsDone reply text_now refused
@@ -249,9 +275,10 @@ module _ {D : Type 0} (told : D → Option Store) (h0 h3 h4 h5 : House D) (numbe
     idle reply text_now refused notes done goes =
         let noted : IsNoted told (committing book []) h4 h5 = subst (λ (t : TxnId). IsNoted told (entry.Commit t []) h4 h5) txn-is notes.noted in
         let ran : Ran (committing book [] ∷ []) reply false =
-        noted-ran (committing book []) reply false (state_of book).tables noted notes.opened (same-known h5 notes.tables)
-        (idle-leaves book number text) same-sound (λ s e faithful. inl ([], refl))
-        (λ s e faithful. same-tables (committing book []) reply false s faithful (goes s e faithful)) in
+        noted-ran (committing book []) reply false (state_of book).tables noted notes.opened
+        (known-before (committing book [] ∷ []) (idle-leaves book number text tree given.ready.idle space given.is) notes.tables)
+        (idle-leaves book number text tree given.ready.idle space given.is) (λ s e faithful. inl ([], refl))
+        (λ s e faithful. quiet (committing book []) reply false (state_of book).tables s faithful (inl refl) (goes s e faithful)) in
         subst (λ (b : Bool). Ran (committing book [] ∷ []) text_now b) (sym done.accepted)
         (subst (λ (r : List ℕ). Ran (committing book [] ∷ []) r false) (sym done.text_is) ran)
 
@@ -262,17 +289,17 @@ module _ {D : Type 0} (told : D → Option Store) (h0 h3 h4 h5 : House D) (numbe
     refuses why text_now refused refuse true_cause ending =
         let event = entry.Abort (record { 0 = next_number book }) why in
         let noted : IsNoted told event h4 h5 = subst (λ (t : TxnId). IsNoted told (entry.Abort t why) h4 h5) txn-is refuse.noted.noted in
-        let goes = refusals-end book number text tree why given.ready.sound space given.is true_cause in
+        let goes = refusals-end book number text tree why given.ready.idle space given.is true_cause in
+        let left = leaves book (statement_entries book number text (event ∷ [])) number text (cause_text None why) true (state_of book).tables goes in
         let ran : Ran (event ∷ []) (cause_text None why) true =
-        noted-ran event (cause_text None why) true (state_of book).tables noted refuse.noted.opened (same-known h5 refuse.noted.tables)
-        (leaves book (statement_entries book number text (event ∷ [])) number text (cause_text None why) true (state_of book).tables goes) same-sound ending
-        (λ s e faithful. same-tables event (cause_text None why) true s faithful goes) in
+        noted-ran event (cause_text None why) true (state_of book).tables noted refuse.noted.opened (known-before (event ∷ []) left refuse.noted.tables) left ending
+        (λ s e faithful. quiet event (cause_text None why) true (state_of book).tables s faithful (inr (inl (why, refl))) goes) in
         subst (λ (b : Bool). Ran (event ∷ []) text_now b) (sym refuse.refusal)
         (subst (λ (r : List ℕ). Ran (event ∷ []) r true) (sym refuse.text_is) ran)
 
     -- it makes a table
     next-id-is : next_id h4 ≡ record { 0 = next_table book }
-    next-id-is = ap (λ (n : ℕ). record { 0 = n + 1 }) (ap length tables-known ∙ length-map known_of (state_of book).tables)
+    next-id-is = ap (λ (n : ℕ). record { 0 = n + 1 }) (ap length tables-known ∙ length-map (known_of (state_of book)) (state_of book).tables)
 
     makes : (shape : Shape) (text_now : List ℕ) (refused : Bool) → Makes told h4 h5 txn shape → IsDone ok_line text_now refused
         → meant book tree ≡ Some (Make shape)
@@ -283,29 +310,27 @@ module _ {D : Type 0} (told : D → Option Store) (h0 h3 h4 h5 : House D) (numbe
         let noted : IsNoted told event h4 h5 =
         subst (λ (t : TxnId). IsNoted told (entry.Create t (record { 0 = next_table book })) h4 h5) txn-is
         (subst (λ (i : TableId). IsNoted told (entry.Create txn i) h4 h5) next-id-is make.noted) in
-        let goes = tables-made book number text tree shape given.ready.sound space given.is is in
-        let plain = made-columns-plain book tree shape given.is.built is in
-        let sound = tables-made-sound ((state_of book).entries + 1) (state_of book).tables shape same-sound plain in
-        let known : h5.tables.items ≡ map known_of tables =
+        let goes = tables-made book number text tree shape given.ready.idle space given.is is in
+        let left = leaves book (statement_entries book number text (event ∷ [])) number text ok_line false tables goes in
+        let known : h5.tables.items ≡ all_known (state_of (book ++ statement_entries book number text (event ∷ []))) =
         make.tables
-        ∙ ap (λ (i : TableId). h4.tables.items ++ record { info = record { table = i; shape = shape }; given = 0 } ∷ []) next-id-is
-        ∙ ap (λ (ks : List Known). ks ++ known_of (made_table (next_table book) shape) ∷ []) tables-known
-        ∙ sym (map-append known_of (state_of book).tables (made_table (next_table book) shape ∷ [])) in
+        ∙ ap (λ (i : TableId). h4.tables.items ++ record { info = record { table = i; shape = shape }; given = 0; lost = [] } ∷ []) next-id-is
+        ∙ ap (λ (ks : List Known). ks ++ record { info = record { table = record { 0 = next_table book }; shape = shape }; given = 0; lost = [] } ∷ []) tables-known
+        ∙ sym (known-made (state_of book) (state_of (book ++ statement_entries book number text (event ∷ []))) left.last (next_table book) shape
+        given.ready.idle.sound left.transactions left.tables_are) in
         let ran : Ran (event ∷ []) ok_line false =
-        noted-ran event ok_line false tables noted make.opened known
-        (leaves book (statement_entries book number text (event ∷ [])) number text ok_line false tables goes) sound (λ s e faithful. inr (inr (inl (record { 0 = next_table book }, refl))))
-        (λ s e faithful.
-        (goes, made-files-stand (state_of book) (state_of (book ++ statement_entries book number text (event ∷ []))) s.tree shape faithful.stands goes.tables_are)) in
+        noted-ran event ok_line false tables noted make.opened known left (λ s e faithful. inr (inr (inl (record { 0 = next_table book }, refl))))
+        (λ s e faithful. quiet event ok_line false tables s faithful (inr (inr (next_table book, refl))) goes) in
         subst (λ (b : Bool). Ran (event ∷ []) text_now b) (sym done.accepted)
         (subst (λ (r : List ℕ). Ran (event ∷ []) r false) (sym done.text_is) ran)
 
     -- it inserts rows
     known-of : (info : TableInfo) (known : Known) (table : Table) → KnownOf h4 info known → numbered (state_of book).tables info.table.0 ≡ Some table
-        → known ≡ known_of table
+        → known ≡ known_of (state_of book) table
     known-of info known table found at =
-        let is : Some known ≡ Some (known_of table) =
+        let is : Some known ≡ Some (known_of (state_of book) table) =
         sym found ∙ ap (λ (ks : List Known). numbered ks info.table.0) tables-known
-        ∙ numbered-map known_of (state_of book).tables info.table.0 ∙ ap (option_map known_of) at in
+        ∙ numbered-map (known_of (state_of book)) (state_of book).tables info.table.0 ∙ ap (option_map (known_of (state_of book))) at in
         cc
 
     module _ (info : TableInfo) (effect : Effect) (table : Table) (is : meant book tree ≡ Some (Change info effect))
@@ -314,7 +339,7 @@ module _ {D : Type 0} (told : D → Option Store) (h0 h3 h4 h5 : House D) (numbe
       write = length table.owners + 1
 
       written : Written
-      written = next_written (known_of table) effect
+      written = next_written (known_of (state_of book) table) effect
 
       wrote : List Touch
       wrote = inserting info effect ∷ []
@@ -323,44 +348,38 @@ module _ {D : Type 0} (told : D → Option Store) (h0 h3 h4 h5 : House D) (numbe
       insert_ends = entry.Given (record { 0 = next_number book }) info.table (record { 0 = length table.owners + 1 }) ∷ committing book (inserting info effect ∷ []) ∷ []
 
       tables_then : List Table
-      tables_then = tables_inserted (state_of book).tables (next_number book) info.table.0 (next_written (known_of table) effect)
+      tables_then = tables_inserted (state_of book).tables (next_number book) info.table.0 (next_written (known_of (state_of book) table) effect)
 
-      are-inserts : IsFile false 0 (records_of (next_written (known_of table) effect).inserts) → AreInserts (next_written (known_of table) effect)
-      are-inserts file =
-          let can = inserts-written book tree info effect (length table.owners + 1) given.ready.sound is (omega arith) in
-          record { deletes = can.2; whole = can.1; file = file }
-
-      insert-stands : (s now : Store) → IsFaithful book s → now.tree ≡ files.insert s.tree (own_place info.table.0 (length table.owners + 1)) (file_of (next_written (known_of table) effect))
+      insert-stands : (s now : Store) → IsFaithful book s → IsFile false 0 (records_of (next_written (known_of (state_of book) table) effect).inserts)
+          → now.tree ≡ files.insert s.tree (own_place info.table.0 (length table.owners + 1)) (file_of (next_written (known_of (state_of book) table) effect))
           → Goes book (statement_entries book number text insert_ends) number text (counts_line (inserting info effect ∷ [])) false tables_then
           → Stands (state_of (book ++ statement_entries book number text insert_ends)) now.tree
       unfolding insert_ends tables_then
-      insert-stands s now faithful put goes =
-          inserted-files-stand (state_of book) (state_of (book ++ statement_entries book number text insert_ends)) (record { tree = s.tree; journal = now.journal }) now
-          (next_number book) info.table.0 (state_of book).entries table (next_written (known_of table) effect)
-          given.ready.sound.tables small at refl faithful.stands (record { tree_is = put; journal_is = refl }) goes.tables_are
+      insert-stands s now faithful file put goes =
+          subst (Stands (state_of (book ++ statement_entries book number text insert_ends))) (sym put)
+          (inserted-files-stand book number text tree info effect table s.tree given.ready.idle small given.is is at goes.legal file faithful.stands)
 
-      inserted : 0 < length effect.inserts → Inserts told h4 h5 txn info (next_written (known_of table) effect) (inserting info effect ∷ [])
+      inserted : 0 < length effect.inserts → Inserts told h4 h5 txn info (next_written (known_of (state_of book) table) effect) (inserting info effect ∷ [])
           → Ran insert_ends (counts_line (inserting info effect ∷ [])) false
       unfolding insert_ends tables_then
       inserted some ins =
-          let goes = rows-inserted book number text tree info effect table given.ready.sound space given.is is some at in
+          let goes = rows-inserted book number text tree info effect table given.ready.idle space given.is is some at in
           let noted : entries_of h5 ≡ entries_of h4 ++ insert_ends =
           ins.entries
           ∙ ap (λ (t : TxnId). entries_of h4 ++ entry.Given t info.table (record { 0 = length table.owners + 1 }) ∷ entry.Commit t (inserting info effect ∷ []) ∷ []) txn-is in
-          let sound = tables-inserted-sound (state_of book).entries (next_number book) info.table.0 (state_of book).tables table (next_written (known_of table) effect)
-          given.ready.sound.tables at (are-inserts ins.file) refl in
-          let known : h5.tables.items ≡ map known_of tables_then =
+          let left = leaves book (statement_entries book number text insert_ends) number text (counts_line (inserting info effect ∷ [])) false tables_then goes in
+          let known : h5.tables.items ≡ all_known (state_of (book ++ statement_entries book number text insert_ends)) =
           ins.tables ∙ ap (λ (ks : List Known). changed with_next ks info.table.0) tables-known
-          ∙ sym (known-inserted (state_of book).tables (next_number book) info.table.0 (next_written (known_of table) effect)) in
+          ∙ sym (known-inserted (state_of book) (state_of (book ++ statement_entries book number text insert_ends)) goes.last (next_number book) info.table.0
+          (next_written (known_of (state_of book) table) effect) given.ready.idle.sound goes.transactions goes.tables_are
+          (done-marked (state_of book).transactions goes.last (state_of (book ++ statement_entries book number text insert_ends)).transactions goes.transactions goes.last_ended goes.last_refused)) in
           let place = own_place info.table.0 (length table.owners + 1) in
-          let bytes = file_of (next_written (known_of table) effect) in
+          let bytes = file_of (next_written (known_of (state_of book) table) effect) in
           let through : Moves (PutsFile place bytes) (told h0.shelf) (told h5.shelf) =
           keeps-puts place bytes (told h0.shelf) (told h4.shelf) (told h5.shelf)
           (subst (λ (o : Option Store). Moves KeepsTree (told h0.shelf) o) (sym given.asked.store) given.started.tree) ins.put in
           record {
-            ready = ready-behind insert_ends tables_then ins.kept noted
-                (leaves book (statement_entries book number text insert_ends) number text (counts_line (inserting info effect ∷ [])) false tables_then goes)
-                sound ins.opened known;
+            ready = ready-behind insert_ends tables_then ins.kept noted left ins.opened known;
             noted = noted;
             short = omega arith;
             through = any-of (PutsFile place bytes) (told h0.shelf) (told h5.shelf) through;
@@ -368,13 +387,13 @@ module _ {D : Type 0} (told : D → Option Store) (h0 h3 h4 h5 : House D) (numbe
                 let now = became (PutsFile place bytes) (told h0.shelf) (told h5.shelf) s through e in
                 shown insert_ends (counts_line (inserting info effect ∷ [])) false tables_then s now.now now.tells noted faithful
                 (inr (inl (info.table, record { 0 = length table.owners + 1 }, inserting info effect ∷ [], refl))) goes
-                (insert-stands s now.now faithful now.made goes);
+                (insert-stands s now.now faithful ins.file now.made goes);
           }
 
     changes : (info : TableInfo) (effect : Effect) (text_now : List ℕ) (refused : Bool) → meant book tree ≡ Some (Change info effect) → 0 < length effect.inserts
         → ChangesRows told h4 h5 txn info effect text_now refused → HasRun told h0 h5 number text text_now refused
     changes info effect text_now refused is some change =
-        let there = changed-table book tree info effect given.ready.sound is in
+        let there = changed-table book tree info effect given.ready.idle is in
         let known = known-of info change.0 there.0 change.1 there.1 in
         let ins = subst (λ (k : Known). Inserts told h4 h5 txn info (next_written k effect) (inserting info effect ∷ [])) known change.2 in
         let ran = has-run (insert_ends info effect there.0 is there.1) (counts_line (inserting info effect ∷ [])) false (inserted info effect there.0 is there.1 some ins) in
@@ -420,10 +439,10 @@ module _ {D : Type 0} (told : D → Option Store) (h0 h3 h4 h5 : House D) (numbe
         → EndsAs told h4 h5 txn m text_now refused → HasRun told h0 h5 number text text_now refused
     ended seen sees (Listing names rows) is text_now refused ends =
         idle-run (listing names rows) text_now refused ends.0 ends.1
-        (λ s e faithful. queries-end book number text tree names rows given.ready.sound space given.is (sym (means-told seen sees s e faithful) ∙ sym is))
+        (λ s e faithful. queries-end book number text tree names rows given.ready.idle space given.is (sym (means-told seen sees s e faithful) ∙ sym is))
     ended seen sees (Change info effect) is text_now refused (inl none) =
         idle-run (counts_line []) text_now refused none.1 none.2
-        (λ s e faithful. nothing-inserted book number text tree info effect given.ready.sound space given.is (meant-of seen sees (Change info effect) is tt) (no-rows effect none.0))
+        (λ s e faithful. nothing-inserted book number text tree info effect given.ready.idle space given.is (meant-of seen sees (Change info effect) is tt) (no-rows effect none.0))
     ended seen sees (Change info effect) is text_now refused (inr some) =
         changes info effect text_now refused (meant-of seen sees (Change info effect) is tt) some.0 some.1
     ended seen sees (Make shape) is text_now refused ends =
@@ -442,9 +461,9 @@ module _ {D : Type 0} (told : D → Option Store) (h0 h3 h4 h5 : House D) (numbe
     no-damage : IsSpoiled told h3 tree → (s : Store) → told h0.shelf ≡ Some s → IsFaithful book s → ⊥
     no-damage spoiled s e faithful =
         let then = became KeepsTree (told h0.shelf) (told h3.shelf) s given.started.tree e in
-        let stands = still-stands (state_of book) (state_of book) s.tree then.now.tree refl then.made faithful.stands in
-        let known : h3.tables.items ≡ map known_of (state_of book).tables = ap (λ ts. ts.items) given.started.tables ∙ given.ready.knows.tables in
-        unspoiled told h3 book tree given.ready.sound given.is.built then.now then.tells stands (omega (arith, small)) known spoiled
+        let stands = still-stands (state_of book) s.tree then.now.tree then.made faithful.stands in
+        let known : h3.tables.items ≡ all_known (state_of book) = ap (λ ts. ts.items) given.started.tables ∙ given.ready.knows.tables in
+        unspoiled told h3 book tree given.ready.idle given.is.built then.now then.tells stands (omega (arith, small)) known spoiled
 
     pub damaged : IsSpoiled told h3 tree → (place : FilePlace) (text_now : List ℕ) (refused : Bool) → Refuses told h4 h5 txn (cause.Damaged place) text_now refused
         → HasRun told h0 h5 number text text_now refused
@@ -455,12 +474,12 @@ module _ {D : Type 0} (told : D → Option Store) (h0 h3 h4 h5 : House D) (numbe
     pub can-end : (seen : List Seen) → IsSeen told h3 tree seen → (m : Meaning) → Some m ≡ meaning_of seen tree → CanEnd h4 m
     can-end seen sees (Change info effect) is =
         let means_this = meant-of seen sees (Change info effect) is tt in
-        let there = changed-table book tree info effect given.ready.sound means_this in
-        let found : KnownOf h4 info (known_of there.0) =
+        let there = changed-table book tree info effect given.ready.idle means_this in
+        let found : KnownOf h4 info (known_of (state_of book) there.0) =
         ap (λ (ks : List Known). numbered ks info.table.0) tables-known
-        ∙ numbered-map known_of (state_of book).tables info.table.0 ∙ ap (option_map known_of) there.1 in
-        let can = inserts-written book tree info effect (length there.0.owners + 1) given.ready.sound means_this (omega arith) in
-        (known_of there.0, found, can.0)
+        ∙ numbered-map (known_of (state_of book)) (state_of book).tables info.table.0 ∙ ap (option_map (known_of (state_of book))) there.1 in
+        let can = inserts-written book tree info effect (length there.0.owners + 1) given.ready.idle means_this (omega arith) in
+        (known_of (state_of book) there.0, found, can.0)
     can-end seen sees (Listing names rows) is = tt
     can-end seen sees (Make shape) is = tt
     can-end seen sees (Refused why) is = tt

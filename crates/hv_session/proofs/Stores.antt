@@ -5,9 +5,8 @@ use Rattle.hv_base.specs.Told.{Tells, Moves}
 use Rattle.hv_shelf.specs.declared.place.Place.{Place}
 use Rattle.hv_shelf.specs.Disk.{Store, Tree, HasFile}
 use Rattle.hv_journal.specs.Appending.{KeepsTree}
-use Rattle.hv_history.specs.declared.state.Table.{Table}
 use Rattle.hv_history.specs.State.{State}
-use Rattle.hv_stands.specs.Files.{Stands, made_at}
+use Rattle.hv_stands.specs.Files.{Stands}
 use Rattle.hv_session.specs.Ends.{PutsFile}
 
 -- what a store that told became
@@ -38,11 +37,9 @@ tells-some P o s e p = subst (λ (x : Option Store). Tells x P) (sym e) p
 pub told-some : (P : Store → Type 0) (o : Option Store) (s : Store) → o ≡ Some s → Tells o P → P s
 told-some P o s e p = subst (λ (x : Option Store). Tells x P) e p
 
--- the files stand as long as the tables and the tree are the same
-pub still-stands : (before now : State) (old new : Tree) → now.tables ≡ before.tables → new ≡ old → Stands before old → Stands now new
-still-stands before now old new tables tree stands = record {
-  each = λ (place : Place). ap (λ (t : Tree). files.get t place) tree ∙ stands.each place ∙ ap (λ (ts : List Table). made_at ts place) (sym tables);
-}
+-- the files stand as long as the tree is the same
+pub still-stands : (s : State) (old new : Tree) → new ≡ old → Stands s old → Stands s new
+still-stands s old new tree stands = subst (Stands s) (sym tree) stands
 
 -- ---- one step behind another
 

@@ -24,7 +24,7 @@ use Rattle.hv_history.specs.Answers.{listing, counts_line, ok_line, cause_text}
 use Rattle.hv_stands.specs.Files.{records_of, file_of, own_place}
 use Rattle.hv_stands.specs.Laws.{inserting}
 use Rattle.hv_house.specs.declared.house.House.{House}
-use Rattle.hv_house.specs.declared.known.Known.{Known}
+use Rattle.hv_known.specs.declared.known.Known.{Known}
 use Rattle.hv_house.specs.House.{entries_of, with_next, IsKept, IsNoted}
 
 -- the reply, and that it is no refusal
@@ -85,7 +85,7 @@ next_id house = record { 0 = length house.tables.items + 1 }
 pub record Makes {D : Type 0} (told : D → Option Store) (before now : House D) (txn : TxnId) (shape : Shape) : Type 0 where
   pub noted : IsNoted told (entry.Create txn (next_id before)) before now
   pub opened : now.opened ≡ before.opened
-  pub tables : now.tables.items ≡ before.tables.items ++ record { info = record { table = next_id before; shape = shape }; given = 0 } ∷ []
+  pub tables : now.tables.items ≡ before.tables.items ++ record { info = record { table = next_id before; shape = shape }; given = 0; lost = [] } ∷ []
 
 -- a statement of this meaning ends so
 abbrev pub EndsAs : {D : Type 0} → (D → Option Store) → House D → House D → TxnId → Meaning → List ℕ → Bool → Type 0

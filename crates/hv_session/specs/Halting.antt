@@ -13,7 +13,7 @@ use Rattle.hv_history.specs.Legal.{IsLegalFrom, profile}
 use Rattle.hv_stands.specs.Endings.{next_number, opening, statement_entries}
 use Rattle.hv_house.specs.declared.fault.HouseFault.{HouseFault}
 use Rattle.hv_house.specs.declared.house.House.{House}
-use Rattle.hv_house.specs.declared.known.Known.{Known}
+use Rattle.hv_known.specs.declared.known.Known.{Known}
 use Rattle.hv_house.specs.House.{entries_of, Leaves}
 
 -- What ends a started statement: its commit, with the write id of its rows before it where it has rows; the table that
@@ -53,12 +53,16 @@ pub record GivesId {D : Type 0} (before now : House D) (txn : TxnId) : Type 0 wh
   pub named : numbered before.tables.items table.0 ≡ Some known
   pub entries : entries_of now ≡ entries_of before ++ entry.Given txn table (record { 0 = known.given + 1 }) ∷ []
 
+-- The journal reads to the book, and where the store failed, to the book or to the book and one further entry.
+abbrev pub LeavesSome : HouseFault → Option Store → List Entry → Type 0
+LeavesSome why told book = (event : Entry) × Leaves why event told book
+
 -- a started statement wasn't ended: nothing was noted, or the write id that its rows were to have
 pub record IsUnended {D : Type 0} (told : D → Option Store) (why : HouseFault) (before now : House D) (txn : TxnId) : Type 0 where
   pub noted : (entries_of now ≡ entries_of before) ⊎ GivesId before now txn
-  pub leaves : Leaves why (told now.shelf) (entries_of now)
+  pub leaves : LeavesSome why (told now.shelf) (entries_of now)
 
 -- the statement wasn't done to its end
 pub record HasStopped {D : Type 0} (told : D → Option Store) (why : HouseFault) (before now : House D) (number : ℕ) (text : List ℕ) : Type 0 where
   pub halfway : IsHalfway (entries_of before) (entries_of now) number text
-  pub leaves : Leaves why (told now.shelf) (entries_of now)
+  pub leaves : LeavesSome why (told now.shelf) (entries_of now)

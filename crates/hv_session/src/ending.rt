@@ -8,7 +8,7 @@ ghost use Rattle.hv_house.specs.declared.fault.HouseFault.TheVariants.{Store};
 ghost use Rattle.hv_house.specs.Faults.{StoreCause};
 ghost use Rattle.hv_house.specs.House.{entries_of, book_limit, entry_limit, HasNumbers, IsKept, IsHalted};
 ghost use Rattle.hv_stands.specs.Laws.{inserting};
-ghost use Rattle.hv_session.specs.Ends.{IsDone, Commits, Refuses, Makes, ChangesBy, ChangesRows, CanChange, CanEnd, EndsAs};
+ghost use Rattle.hv_session.specs.Ends.{IsDone, Commits, Refuses, Makes, ChangesBy, ChangesRows, CanChange, CanEnd, EndsAs, next_id};
 ghost use Rattle.hv_session.specs.Halting.{IsUnended};
 
 use crate::reply::Reply;
@@ -42,7 +42,8 @@ pub fn refuse<D: Shelf>(
     ensures refused { IfOk result (λ reply.
         Refuses D.told house.old house.new txn cause reply.text reply.refused) }
     ensures tells { StaysTold (D.told house.old.shelf) (D.told house.new.shelf) }
-    ensures halted { IfErr result (λ fault. IsHalted D.told fault house.old house.new) }
+    ensures halted { IfErr result (λ fault.
+        IsHalted D.told (entries.Abort txn cause) fault house.old house.new) }
     ensures cause { StoreCause (D.faults house.old.shelf) (D.faults house.new.shelf)
         (IsErrOf result Store) }
 {
@@ -67,7 +68,8 @@ fn idle<D: Shelf>(
     ensures committed { IfOk result (λ reply. Commits D.told house.old house.new txn []
         × IsDone text.items reply.text reply.refused) }
     ensures tells { StaysTold (D.told house.old.shelf) (D.told house.new.shelf) }
-    ensures halted { IfErr result (λ fault. IsHalted D.told fault house.old house.new) }
+    ensures halted { IfErr result (λ fault.
+        IsHalted D.told (entries.Commit txn []) fault house.old house.new) }
     ensures cause { StoreCause (D.faults house.old.shelf) (D.faults house.new.shelf)
         (IsErrOf result Store) }
 {
@@ -86,7 +88,8 @@ fn make<D: Shelf>(
     ensures made { IfOk result (λ reply. Makes D.told house.old house.new txn shape
         × IsDone ok_line reply.text reply.refused) }
     ensures tells { StaysTold (D.told house.old.shelf) (D.told house.new.shelf) }
-    ensures halted { IfErr result (λ fault. IsHalted D.told fault house.old house.new) }
+    ensures halted { IfErr result (λ fault.
+        IsHalted D.told (entries.Create txn (next_id house.old)) fault house.old house.new) }
     ensures cause { StoreCause (D.faults house.old.shelf) (D.faults house.new.shelf)
         (IsErrOf result Store) }
 {
@@ -95,7 +98,7 @@ fn make<D: Shelf>(
         table: TableId(house.tables.len() as u64 + 1),
         shape,
     };
-    house.create(txn, info)?;
+    house.create(alloc, txn, info)?;
     Ok(done(text))
 }
 

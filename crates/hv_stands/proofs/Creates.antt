@@ -13,12 +13,13 @@ use Rattle.hv_history.specs.declared.entry.Entry.TheVariants as entry
 use Rattle.hv_history.specs.declared.state.Table.{Table}
 use Rattle.hv_history.specs.declared.state.Transaction.{Transaction}
 use Rattle.hv_history.specs.declared.state.Ending.TheVariants.{Made}
-use Rattle.hv_history.specs.State.{State, numbered, acted, after, state_of, not_lost, meaning, made_by, made_shape, created_shape, seen_table, seen_tables}
+use Rattle.hv_history.specs.State.{State, numbered, acted, after, state_of, not_lost, meaning, made_by, created_shape, seen_table, seen_tables}
 use Rattle.hv_history.specs.Legal.{IsLegalFrom, CreateFits, IsMake, is_create, is_named, made_name, profile}
 use Rattle.hv_history.specs.Answers.{ok_line}
 use Rattle.hv_stands.specs.Laws.{TablesAreMade, made_table}
 use Rattle.hv_stands.proofs.Meanings.{IsNew, makes-new}
-use Rattle.hv_stands.proofs.Endings.{with_last, next_of, running, behind_start, of-last, changed-last, numbered-last, legal-last, goes}
+use Rattle.hv_stands.proofs.Numbers.{numbered-last}
+use Rattle.hv_stands.proofs.Endings.{with_last, next_of, running, behind_start, of-last, changed-last, legal-last, goes}
 
 -- ---- a name that no live table has
 
@@ -78,10 +79,10 @@ made-legal s number text tree shape is new =
     (of-last s (s.entries + 1 + 1) s.tables t (λ (other : Transaction). IsMake (meaning other)) tt)
 
 pub tables-made : TablesAreMade
-tables-made book number text tree shape sound space is means =
+tables-made book number text tree shape idle space is means =
     let s : State = state_of book in
     let new : IsNew tree (seen_tables s.tables) shape = makes-new tree (seen_tables s.tables) shape means in
     goes book number text tree (Some (Make shape)) (entry.Create (record { 0 = next_of s }) (record { 0 = length s.tables + 1 }) ∷ []) (s.entries + 1 + 1 + 1)
-    (s.tables ++ made_table (length s.tables + 1) shape ∷ []) [] [] (Made (s.entries + 1 + 1) (length s.tables + 1)) ok_line false sound space is means
+    (s.tables ++ made_table (length s.tables + 1) shape ∷ []) [] [] (Made (s.entries + 1 + 1) (length s.tables + 1)) ok_line false idle space is means
     (made-behind s number text (Some (Make shape)) (length s.tables + 1) shape (ap created_shape is.read ∙ new.shape_is))
     (made-legal s number text tree shape is.read new) refl refl

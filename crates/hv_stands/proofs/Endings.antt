@@ -1,6 +1,6 @@
 -- A statement's entries, one after another: the state behind each, which fits, and what is said at the end.
 use Rattle.std.proofs.Common.{◌≡◌, ℕ, suc, ◌+◌, ◌&&◌, ◌||◌, Bool, IsFalse, IsSomeAnd, Option, Some, None, List, [], ◌∷◌, ◌++◌, length, fold, refl, sym, ap, ◌∙◌, subst, length-append, arith}
-use Rattle.std.specs.Prelude.{◌≤◌, true, false, sum_by}
+use Rattle.std.specs.Prelude.{◌≤◌, true, sum_by}
 use Rattle.std.proofs.lemmas.List.Sums.{sum_by-append, sum_by-cons}
 use Rattle.std.specs.List.{list_any, AllByRecursion}
 use Rattle.hv_ast.specs.declared.statement.Stmt.{Stmt}
@@ -17,8 +17,9 @@ use Rattle.hv_history.specs.declared.state.Ending.{Ending}
 use Rattle.hv_history.specs.declared.state.Written.{Written}
 use Rattle.hv_history.specs.State.{State, nothing_yet, numbered, changed, changed_at, seen_tables, opened, not_lost, acted, after, state_of, means, meaning_in}
 use Rattle.hv_history.specs.Answers.{answer_in, ending_text}
-use Rattle.hv_history.specs.Legal.{is_open, is_started, one_if, open_one, load, HasRoom, locks_of, locks_conflict, holds_against, Fits, IsTruthful, AllFit, AllTruthful, IsLegalFrom, StartFits, profile}
-use Rattle.hv_stands.specs.Sound.{HasEnded, IsSound}
+use Rattle.hv_history.specs.Legal.{is_open, is_started, one_if, open_one, HasRoom, locks_of, locks_conflict, holds_against, Fits, IsTruthful, AllFit, AllTruthful, IsLegalFrom, StartFits, profile}
+use Rattle.hv_stands.specs.Sound.{HasEnded, IsIdle}
+use Rattle.hv_stands.proofs.Numbers.{numbered-last}
 use Rattle.hv_stands.specs.Endings.{main_session, next_number, starting, statement_entries, HasSpace, is_abort, is_refused_transaction, Goes}
 
 -- ---- the last of a list
@@ -32,15 +33,6 @@ module _ {A : Type 0} where
   changed-last f xs x =
       let next : length xs + 1 ≡ suc (length xs) = omega arith in
       ap (changed f (xs ++ x ∷ [])) next ∙ changed_at-last f xs x
-
-  slice_get-last : (xs : List A) (x : A) → numbered (xs ++ x ∷ []) (suc (length xs)) ≡ Some x
-  slice_get-last [] x = refl
-  slice_get-last (y ∷ xs) x = slice_get-last xs x
-
-  pub numbered-last : (xs : List A) (x : A) → numbered (xs ++ x ∷ []) (length xs + 1) ≡ Some x
-  numbered-last xs x =
-      let next : length xs + 1 ≡ suc (length xs) = omega arith in
-      ap (numbered (xs ++ x ∷ [])) next ∙ slice_get-last xs x
 
   pub all-last : (P : A → Type 0) (xs : List A) (x : A) → AllByRecursion P xs → P x → AllByRecursion P (xs ++ x ∷ [])
   all-last P [] x h p = (p, tt)
@@ -155,10 +147,10 @@ opens-legal s number text tree more space is legal =
     (record { next = refl; statement = (tree, is); room = omega (arith, space) }) tt legal
 
 pub begins-legal : (s : State) (number : ℕ) (text : List ℕ) (tree : Stmt) (m : Option Meaning) (ends : List Entry)
-    → IsSound s → HasRoom profile s 4 → Runs text tree → meaning_of (seen_tables s.tables) tree ≡ m
+    → IsIdle s → HasRoom profile s 4 → Runs text tree → meaning_of (seen_tables s.tables) tree ≡ m
     → IsLegalFrom profile (behind_start s number text m) ends
     → IsLegalFrom profile s (entry.Opened (record { 0 = next_of s }) main_session number text ∷ entry.Start (record { 0 = next_of s }) 0 ∷ ends)
-begins-legal s number text tree m ends sound space is means_it legal =
+begins-legal s number text tree m ends idle space is means_it legal =
     opens-legal s number text tree (entry.Start (record { 0 = next_of s }) 0 ∷ ends) space is
     (legal-step (behind_opened s number text) (behind_start s number text m) (entry.Start (record { 0 = next_of s }) 0) ends
     (started-behind s number text m (meaning-started s number text tree m is.read means_it))
@@ -166,7 +158,7 @@ begins-legal s number text tree m ends sound space is means_it legal =
     (record {
       waiting = record { unended = refl; unstarted = refl };
       first = refl;
-      unlocked = unlocked (locks_of (opened main_session number text)) number text s.transactions sound.ended;
+      unlocked = unlocked (locks_of (opened main_session number text)) number text s.transactions idle.ended;
       room = room-last s (s.entries + 1) 1 s.tables (opened main_session number text) space refl (omega arith);
     }))
     tt legal)
@@ -175,14 +167,14 @@ begins-legal s number text tree m ends sound space is means_it legal =
 
 pub goes : (book : List Entry) (number : ℕ) (text : List ℕ) (tree : Stmt) (m : Option Meaning) (ends : List Entry) (entries : ℕ) (tables : List Table)
     (wrote : List (ℕ × Written)) (given : List (ℕ × ℕ)) (ending : Ending) (reply : List ℕ) (refused : Bool)
-    → IsSound (state_of book) → HasSpace book → Runs text tree → meaning_of (seen_tables (state_of book).tables) tree ≡ m
+    → IsIdle (state_of book) → HasSpace book → Runs text tree → meaning_of (seen_tables (state_of book).tables) tree ≡ m
     → fold after (behind_start (state_of book) number text m) ends
     ≡ with_last (state_of book) entries tables (running (state_of book) number text m wrote given (Some ending))
     → IsLegalFrom profile (behind_start (state_of book) number text m) ends
     → ending_text (running (state_of book) number text m wrote given (Some ending)) ending ≡ reply
     → is_abort (Some ending) ≡ refused
     → Goes book (statement_entries book number text ends) number text reply refused tables
-goes book number text tree m ends entries tables wrote given ending reply refused sound space is means_it leaves legal says aborts =
+goes book number text tree m ends entries tables wrote given ending reply refused idle space is means_it leaves legal says aborts =
     let s : State = state_of book in
     let t : Transaction = running s number text m wrote given (Some ending) in
     let all : state_of (book ++ statement_entries book number text ends) ≡ with_last s entries tables t =
@@ -193,11 +185,15 @@ goes book number text tree m ends entries tables wrote given ending reply refuse
     ap (λ (n : State). numbered n.transactions (next_number book)) all ∙ numbered-last s.transactions t in
     record {
       first = (starting book ∷ ends, refl);
-      legal = begins-legal s number text tree m ends sound space is means_it legal;
+      legal = begins-legal s number text tree m ends idle space is means_it legal;
       answered = ap answer_in last ∙ ap Some says;
       ends = ap is_refused_transaction last ∙ aborts;
       tables_are = ap (λ (n : State). n.tables) all;
       jobs = ap (λ (n : State). n.jobs) all;
       count = ap (λ (n : State). length n.transactions) all ∙ length-append s.transactions (t ∷ []);
       ended = λ h. subst (λ (n : State). AllByRecursion HasEnded n.transactions) (sym all) (all-last HasEnded s.transactions t h refl);
+      last = t;
+      transactions = ap (λ (n : State). n.transactions) all;
+      last_ended = refl;
+      last_refused = aborts;
     }

@@ -1,5 +1,5 @@
 -- A table that is made by a statement of a form that is built has columns of kinds that are built.
-use Rattle.std.proofs.Common.{◌≡◌, ℕ, Bool, true, false, ◌&&◌, Option, Some, None, List, [], ◌∷◌, map, length, refl, subst, arith}
+use Rattle.std.proofs.Common.{◌≡◌, Bool, true, false, ◌&&◌, Option, Some, None, List, [], ◌∷◌, map, refl, subst, arith}
 use Rattle.std.specs.List.{AllByRecursion}
 use Rattle.std.proofs.lemmas.List.{length-map}
 use Rattle.std.proofs.lemmas.List.Elements.{recursion_from_All}
@@ -16,6 +16,7 @@ use Rattle.hv_logic.specs.declared.seen.Seen.{Seen}
 use Rattle.hv_logic.specs.declared.meaning.Meaning.TheVariants.{Make}
 use Rattle.hv_logic.specs.Meaning as meaning
 use Rattle.hv_logic.specs.Meaning.{meaning_of, named, type_of, created_beside}
+use Rattle.hv_history.specs.State.{created_shape}
 use Rattle.hv_stands.specs.Sound.{ArePlain, IsPlainKind, IsPlainColumn as IsPlainMade}
 use Rattle.hv_stands.specs.Laws.{MadeColumnsArePlain}
 use Rattle.hv_stands.proofs.Meanings.{MakesNone, queried-is, inserted-is}
@@ -67,3 +68,9 @@ meaning-plain tables other shape built e = absurd built
 
 pub made-columns-plain : MadeColumnsArePlain
 made-columns-plain book tree shape built e = meaning-plain _ tree shape built e
+
+-- the shape of a text that makes a table, and that of another one
+pub created-plain : (o : Option Stmt) → ((tree : Stmt) → o ≡ Some tree → IsBuilt tree) → ArePlain (created_shape o).columns
+created-plain None built = record { few = omega arith; each = tt }
+created-plain (Some (stmt.CreateTable create)) built = beside-plain None create (meaning.shape_of create) (built (stmt.CreateTable create) refl) refl
+created-plain (Some tree) built = record { few = omega arith; each = tt }

@@ -17,9 +17,9 @@ use Rattle.hv_history.specs.declared.state.Transaction.{Transaction}
 use Rattle.hv_history.specs.declared.state.Ending.TheVariants.{Committed}
 use Rattle.hv_history.specs.declared.state.Written.{Written}
 use Rattle.hv_history.specs.State.{State, numbered, changed, acted, after, state_of, not_lost, meaning, seen_tables, owned, written_by, writes_of, tables_behind, given_in}
-use Rattle.hv_history.specs.Answers.{counts_line, committed_text}
+use Rattle.hv_history.specs.Answers.{counts_line}
 use Rattle.hv_history.specs.Legal.{IsLegalFrom, GivenFits, CommitFits, touches_of, touch_conflicts, touches_conflict, TouchesAreMeant, HasRoom, profile}
-use Rattle.hv_stands.specs.Sound.{IsSound, IsLive}
+use Rattle.hv_stands.specs.Sound.{IsIdle, IsLive}
 use Rattle.hv_stands.specs.Laws.{RowsAreInserted, NothingIsInserted, inserting, tables_inserted}
 use Rattle.hv_stands.proofs.Meanings.{deletes-nothing}
 use Rattle.hv_stands.proofs.Endings.{with_last, next_of, running, behind_start, of-last, changed-last, legal-step, legal-last, room-started, goes}
@@ -54,8 +54,8 @@ touches-none info effect some none =
     touched = record { table = info.table; partition = []; inserted = length effect.inserts; deleted = length effect.deletes } ∷ []
 
 pub nothing-inserted : NothingIsInserted
-nothing-inserted book number text tree info effect sound space is means none =
-    nothing-goes book number text tree (Some (Change info effect)) sound space is means
+nothing-inserted book number text tree info effect idle space is means none =
+    nothing-goes book number text tree (Some (Change info effect)) idle space is means
     (touches-none info effect none (deletes-nothing tree (seen_tables (state_of book).tables) info effect means))
 
 -- ---- the write id
@@ -68,7 +68,7 @@ all-numbered P (y ∷ xs) (suc zero) x h e =
     subst P same h.0
 all-numbered P (y ∷ xs) (suc (suc n)) x h e = all-numbered P xs (suc n) x h.1 e
 
-given-behind : (s : State) (number : ℕ) (text : List ℕ) (m : Option Meaning) (info : TableInfo) (write : ℕ)
+pub given-behind : (s : State) (number : ℕ) (text : List ℕ) (m : Option Meaning) (info : TableInfo) (write : ℕ)
     → after (behind_start s number text m) (entry.Given (record { 0 = next_of s }) info.table (record { 0 = write }))
     ≡ with_last s (s.entries + 1 + 1 + 1) (changed (owned (next_of s)) s.tables info.table.0) (running s number text m [] ((info.table.0, write) ∷ []) None)
 unfolding acted
@@ -81,13 +81,13 @@ given-behind s number text m info write =
       jobs = s.jobs;
     }) (changed-last _ s.transactions (running s number text m [] [] None))
 
-pub given-fits : (s : State) (number : ℕ) (text : List ℕ) (m : Option Meaning) (id : ℕ) (table : Table) → IsSound s → HasRoom profile s 4
+pub given-fits : (s : State) (number : ℕ) (text : List ℕ) (m : Option Meaning) (id : ℕ) (table : Table) → IsIdle s → HasRoom profile s 4
     → numbered s.tables id ≡ Some table
     → GivenFits profile (behind_start s number text m) id (length table.owners + 1) (running s number text m [] [] None)
-given-fits s number text m id table sound space at = record {
+given-fits s number text m id table idle space at = record {
   running = record { unended = refl; started = refl };
   live = subst (λ (o : Option Table). IsSomeAnd o (λ (t : Table). IsTrue t.is_live × (length table.owners + 1 ≡ length t.owners + 1))) (sym at)
-      (all-numbered IsLive s.tables id table sound.tables.live at, refl);
+      (all-numbered IsLive s.tables id table idle.sound.tables.live at, refl);
   first = refl;
   room = room-started s number text m space;
 }
@@ -125,12 +125,12 @@ commit-fits s number text m info effect write some = record {
       (s.transactions ++ running s number text m [] ((info.table.0, write) ∷ []) None ∷ []);
 }
 
-inserted-legal : (s : State) (number : ℕ) (text : List ℕ) (info : TableInfo) (effect : Effect) (table : Table) → IsSound s → HasRoom profile s 4
+inserted-legal : (s : State) (number : ℕ) (text : List ℕ) (info : TableInfo) (effect : Effect) (table : Table) → IsIdle s → HasRoom profile s 4
     → numbered s.tables info.table.0 ≡ Some table → 0 < length effect.inserts → effect.deletes ≡ []
     → IsLegalFrom profile (behind_start s number text (Some (Change info effect)))
     (entry.Given (record { 0 = next_of s }) info.table (record { 0 = length table.owners + 1 })
     ∷ entry.Commit (record { 0 = next_of s }) (inserting info effect ∷ []) ∷ [])
-inserted-legal s number text info effect table sound space at some none =
+inserted-legal s number text info effect table idle space at some none =
     let m : Option Meaning = Some (Change info effect) in
     let write : ℕ = length table.owners + 1 in
     let t : Transaction = running s number text m [] ((info.table.0, write) ∷ []) None in
@@ -139,7 +139,7 @@ inserted-legal s number text info effect table sound space at some none =
     legal-step (behind_start s number text m) next (entry.Given (record { 0 = next_of s }) info.table (record { 0 = write }))
     (entry.Commit (record { 0 = next_of s }) (inserting info effect ∷ []) ∷ []) (given-behind s number text m info write)
     (of-last s (s.entries + 1 + 1) s.tables (running s number text m [] [] None) (GivenFits profile (behind_start s number text m) info.table.0 write)
-    (given-fits s number text m info.table.0 table sound space at))
+    (given-fits s number text m info.table.0 table idle space at))
     tt
     (legal-last next (entry.Commit (record { 0 = next_of s }) (inserting info effect ∷ []))
     (of-last s (s.entries + 1 + 1 + 1) tables t (CommitFits next (inserting info effect ∷ [])) (commit-fits s number text m info effect write some))
@@ -152,7 +152,7 @@ inserted-writes : (info : TableInfo) (effect : Effect) (write : ℕ)
 inserted-writes info effect write =
     ap (λ (o : Option ℕ). option_to_list (option_map (λ (w : ℕ). (info.table.0, written_by w 0 effect)) o)) (found-given info.table.0 write)
 
-inserted-behind : (s : State) (number : ℕ) (text : List ℕ) (info : TableInfo) (effect : Effect) (write : ℕ)
+pub inserted-behind : (s : State) (number : ℕ) (text : List ℕ) (info : TableInfo) (effect : Effect) (write : ℕ)
     → after (after (behind_start s number text (Some (Change info effect))) (entry.Given (record { 0 = next_of s }) info.table (record { 0 = write })))
     (entry.Commit (record { 0 = next_of s }) (inserting info effect ∷ []))
     ≡ with_last s (s.entries + 1 + 1 + 1 + 1) (tables_inserted s.tables (next_of s) info.table.0 (written_by write 0 effect))
@@ -169,7 +169,7 @@ inserted-behind s number text info effect write =
     (running s number text m (writes_of m 0 given) given (Some (Committed (s.entries + 1 + 1 + 1) wrote)))) (inserted-writes info effect write)
 
 pub rows-inserted : RowsAreInserted
-rows-inserted book number text tree info effect table sound space is means some at =
+rows-inserted book number text tree info effect table idle space is means some at =
     let s : State = state_of book in
     let m : Option Meaning = Some (Change info effect) in
     let write : ℕ = length table.owners + 1 in
@@ -178,7 +178,7 @@ rows-inserted book number text tree info effect table sound space is means some 
     goes book number text tree m
     (entry.Given (record { 0 = next_of s }) info.table (record { 0 = write }) ∷ entry.Commit (record { 0 = next_of s }) wrote ∷ [])
     (s.entries + 1 + 1 + 1 + 1) (tables_inserted s.tables (next_of s) info.table.0 (written_by write 0 effect)) (writes_of m 0 given) given
-    (Committed (s.entries + 1 + 1 + 1) wrote) (counts_line wrote) false sound space is means
+    (Committed (s.entries + 1 + 1 + 1) wrote) (counts_line wrote) false idle space is means
     (inserted-behind s number text info effect write)
-    (inserted-legal s number text info effect table sound space at some (deletes-nothing tree (seen_tables s.tables) info effect means))
+    (inserted-legal s number text info effect table idle space at some (deletes-nothing tree (seen_tables s.tables) info effect means))
     refl refl

@@ -12,3 +12,7 @@ pub mod StandingFiles
 pub mod ReadRows
 pub mod Named
 pub mod BuiltMeanings
+pub mod Numbers
+pub mod Owning
+pub mod Keeping
+pub mod Statements

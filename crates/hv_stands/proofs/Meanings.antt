@@ -19,8 +19,9 @@ use Rattle.hv_logic.specs.declared.effect.Effect.{Effect}
 use Rattle.hv_logic.specs.declared.seen.Seen.{Seen}
 use Rattle.hv_logic.specs.declared.meaning.Meaning.{Meaning}
 use Rattle.hv_logic.specs.declared.meaning.Meaning.TheVariants.{Refused, Listing, Change, Make, RowLimit}
-use Rattle.hv_logic.specs.Meaning.{meaning_of, named, scanned, queried_source, queried_from, inserted_into, inserted_values, inserted_rows, inserts_of, row_in, within_limit, all_counted, shape_of, created_beside}
+use Rattle.hv_logic.specs.Meaning.{meaning_of, named, scanned, queried_source, queried_from, inserted_into, inserted_rows, inserts_of, within_limit, all_counted, shape_of, created_beside}
 use Rattle.hv_logic.specs.Sizes.{row_fits}
+use Rattle.hv_stands.specs.Sound.{DeletesNone}
 use Rattle.hv_history.specs.State.{created_shape}
 use Rattle.hv_history.specs.Legal.{is_create, made_name}
 
@@ -96,15 +97,11 @@ makes-new other tables shape e = cc
 
 -- ---- a change deletes nothing
 
-abbrev DeletesNone : Option Meaning → Type 0
-DeletesNone (Some (Change info effect)) = effect.deletes ≡ []
-DeletesNone _ = Unit {0}
-
 makes-only : (o : Option Seen) (create : CreateTable) → DeletesNone (Some (created_beside o create))
 makes-only None create = tt
 makes-only (Some seen) create = tt
 
-deletes-none : (tree : Stmt) (tables : List Seen) → DeletesNone (meaning_of tables tree)
+pub deletes-none : (tree : Stmt) (tables : List Seen) → DeletesNone (meaning_of tables tree)
 deletes-none (stmt.Query query) tables = queried-is DeletesNone tt (λ why. tt) (λ names rows. tt) query.select.from tables
 deletes-none (stmt.Insert insert) tables =
     inserted-is DeletesNone tt (λ why. tt) tt (named insert.table tables) insert.rows (λ seen values is fits. refl)

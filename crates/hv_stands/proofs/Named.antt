@@ -1,5 +1,5 @@
 -- The name of the table that a statement of a form that is built names.
-use Rattle.std.proofs.Common.{◌≡◌, ℕ, Option, Some, None, List, [], ◌∷◌, ◌++◌, refl, sym, ap, ◌∙◌}
+use Rattle.std.proofs.Common.{◌≡◌, ℕ, Option, Some, None, List, ◌++◌, sym, ap, ◌∙◌}
 use Rattle.hv_locks.specs.declared.table.Lock.{Lock}
 use Rattle.hv_ast.specs.declared.query.Source.{Source}
 use Rattle.hv_ast.specs.declared.query.Source.TheVariants.{Table as TableSource}

@@ -1,5 +1,5 @@
 -- What commits: a query, with no touches.
-use Rattle.std.proofs.Common.{◌≡◌, ℕ, ◌+◌, ◌&&◌, ◌||◌, Bool, true, false, nat_lt, IsFalse, Option, Some, None, List, [], ◌∷◌, ◌++◌, refl, sym, ap, ◌∙◌}
+use Rattle.std.proofs.Common.{◌≡◌, ℕ, ◌+◌, ◌&&◌, ◌||◌, Bool, true, false, nat_lt, IsFalse, Option, Some, None, List, [], ◌∷◌, ◌++◌, refl, ap, ◌∙◌}
 use Rattle.std.specs.List.{list_any}
 use Rattle.std.proofs.lemmas.List.{append-nil}
 use Rattle.hv_base.specs.declared.ids.Touch.{Touch}
@@ -16,11 +16,12 @@ use Rattle.hv_history.specs.declared.state.Ending.TheVariants.{Committed, Aborte
 use Rattle.hv_history.specs.declared.state.Written.{Written}
 use Rattle.hv_history.specs.State.{State, numbered, acted, after, state_of, not_lost, meaning, writes_of, commits, tables_behind}
 use Rattle.hv_history.specs.Answers.{committed_text}
-use Rattle.hv_history.specs.Legal.{IsLegalFrom, CommitFits, TouchesAreMeant, touches_conflict, commits_against, profile}
-use Rattle.hv_stands.specs.Sound.{IsSound}
+use Rattle.hv_history.specs.Legal.{Fits, IsLegalFrom, CommitFits, TouchesAreMeant, touches_conflict, commits_against, profile}
+use Rattle.hv_stands.specs.Sound.{IsIdle}
 use Rattle.hv_stands.specs.Endings.{HasSpace, statement_entries, Goes}
 use Rattle.hv_stands.specs.Laws.{QueriesEnd, committing, meant}
-use Rattle.hv_stands.proofs.Endings.{with_last, next_of, running, behind_start, of-last, changed-last, numbered-last, legal-last, goes}
+use Rattle.hv_stands.proofs.Numbers.{numbered-last}
+use Rattle.hv_stands.proofs.Endings.{with_last, next_of, running, behind_start, of-last, changed-last, legal-last, goes}
 
 -- ---- a commit
 
@@ -82,28 +83,31 @@ meets-none place wrote apart (t ∷ ts) =
 
 -- ---- a statement that writes nothing
 
-nothing-legal : (s : State) (number : ℕ) (text : List ℕ) (m : Option Meaning) → TouchesAreMeant [] m
-    → IsLegalFrom profile (behind_start s number text m) (entry.Commit (record { 0 = next_of s }) [] ∷ [])
-nothing-legal s number text m none =
-    let t : Transaction = running s number text m [] [] None in
-    legal-last (behind_start s number text m) (entry.Commit (record { 0 = next_of s }) [])
-    (of-last s (s.entries + 1 + 1) s.tables t (CommitFits (behind_start s number text m) [])
+pub nothing-fits : (s : State) (number : ℕ) (text : List ℕ) (m : Option Meaning) → Fits profile (behind_start s number text m) (entry.Commit (record { 0 = next_of s }) [])
+nothing-fits s number text m =
+    of-last s (s.entries + 1 + 1) s.tables (running s number text m [] [] None) (CommitFits (behind_start s number text m) [])
     (record {
       running = record { unended = refl; started = refl };
       rise = tt;
       own = tt;
       used = tt;
       clear = meets-none (s.entries + 1) [] (λ those. refl) (behind_start s number text m).transactions;
-    }))
+    })
+
+nothing-legal : (s : State) (number : ℕ) (text : List ℕ) (m : Option Meaning) → TouchesAreMeant [] m
+    → IsLegalFrom profile (behind_start s number text m) (entry.Commit (record { 0 = next_of s }) [] ∷ [])
+nothing-legal s number text m none =
+    let t : Transaction = running s number text m [] [] None in
+    legal-last (behind_start s number text m) (entry.Commit (record { 0 = next_of s }) []) (nothing-fits s number text m)
     (of-last s (s.entries + 1 + 1) s.tables t (λ (other : Transaction). TouchesAreMeant [] (meaning other)) none)
 
 pub nothing-goes : (book : List Entry) (number : ℕ) (text : List ℕ) (tree : Stmt) (m : Option Meaning)
-    → IsSound (state_of book) → HasSpace book → Runs text tree → meant book tree ≡ m → TouchesAreMeant [] m
+    → IsIdle (state_of book) → HasSpace book → Runs text tree → meant book tree ≡ m → TouchesAreMeant [] m
     → Goes book (statement_entries book number text (committing book [] ∷ [])) number text (committed_text m []) false (state_of book).tables
-nothing-goes book number text tree m sound space is means none =
+nothing-goes book number text tree m idle space is means none =
     let s : State = state_of book in
     goes book number text tree m (committing book [] ∷ []) (s.entries + 1 + 1 + 1) s.tables (writes_of m 0 []) [] (Committed (s.entries + 1 + 1) [])
-    (committed_text m []) false sound space is means (idle-behind s number text m) (nothing-legal s number text m none) refl refl
+    (committed_text m []) false idle space is means (idle-behind s number text m) (nothing-legal s number text m none) refl refl
 
 pub queries-end : QueriesEnd
-queries-end book number text tree names rows sound space is means = nothing-goes book number text tree (Some (Listing names rows)) sound space is means refl
+queries-end book number text tree names rows idle space is means = nothing-goes book number text tree (Some (Listing names rows)) idle space is means refl

@@ -1,7 +1,6 @@
 -- The rows that are read from a table's files are those that stand in it, and so a statement means the same.
-use Rattle.std.proofs.Common.{refl, ◌≡◌, ℕ, zero, suc, ◌+◌, ◌<◌, ◌≤◌, ◌==◌, nat_eq, Bool, true, false, cond, not, Option, Some, None, List, [], ◌∷◌, ◌++◌, map, filter, option_map, sym, ap, ◌∙◌, subst, arith, eqb-true, ne_eqb}
+use Rattle.std.proofs.Common.{refl, ◌≡◌, ℕ, nat_eq, Bool, true, false, cond, not, Option, Some, None, List, [], ◌∷◌, ◌++◌, map, filter, option_map, sym, ap, ◌∙◌}
 use Rattle.std.proofs.lemmas.List.Sorted.{IsPermutation-map}
-use Rattle.std.proofs.lemmas.Bool.{eqb-false}
 use Rattle.std.specs.Cmp.Lexicographic.{pointwise}
 use Rattle.std.specs.Ordering.{is_eq}
 use Rattle.std.specs.List.{flat_map, list_any, slice_get, AllByRecursion}
@@ -27,109 +26,44 @@ use Rattle.hv_logic.proofs.SortingLaws.{sorted-permuted, permuted-sorted_by}
 use Rattle.hv_history.specs.declared.state.Written.{Written}
 use Rattle.hv_history.specs.declared.state.Table.{Table}
 use Rattle.hv_history.specs.State.{state_of, seen_table, seen_tables, content_of}
-use Rattle.hv_stands.specs.Sound.{RiseWithin, HasSoundWrites, IsLive, NumberedFrom}
-use Rattle.hv_stands.specs.Reading.{first_name, table_of_name, inserted_rows, rows_read, seen_of, seen_by_name, seen_read, written_with, inserts_in, rows_at, rows_from}
+use Rattle.hv_stands.specs.Sound.{IsPlainWrite, HasSoundWrites, IsLive, NumberedFrom}
+use Rattle.hv_stands.specs.Reading.{first_name, table_of_name, inserted_rows, rows_read, seen_of, seen_by_name, seen_read}
 use Rattle.hv_stands.specs.Laws.{ReadingIsEnough}
 use Rattle.hv_stands.proofs.Soundness.{all-slice}
 use Rattle.hv_stands.proofs.Tables.{named-seen, named-at}
 use Rattle.hv_stands.proofs.Named.{first-source}
 
--- ---- write id by write id
-
-absent-cond : (write first : ℕ) (rest : Option Written) (written : Written) → (first ≡ write → ⊥) → rest ≡ None
-    → cond (first == write) (Some written) rest ≡ None
-absent-cond write first rest written other none =
-    ap (λ b. cond b (Some written) rest) (ne_eqb first write other) ∙ none
-
--- no write id that comes before all
-absent : (low high write : ℕ) (writes : List Written) → RiseWithin low high writes → write ≤ low → written_with write writes ≡ None
-absent low high write [] rise before = refl
-absent low high write (first ∷ writes) rise before =
-    let over : low < first.write = rise.1 in
-    absent-cond write first.write (written_with write writes) first (λ e. omega arith)
-    (absent first.write high write writes rise.3 (omega arith))
-
--- what comes behind the first has another write id
-rows-behind : (first : Written) (writes : List Written) (low n : ℕ) → first.write ≤ low → rows_from (first ∷ writes) low n ≡ rows_from writes low n
-rows-behind first writes low zero before = refl
-rows-behind first writes low (suc n) before =
-    let here : rows_at (first ∷ writes) (low + 1) ≡ rows_at writes (low + 1) =
-    ap (λ b. inserts_in (cond b (Some first) (written_with (low + 1) writes))) (ne_eqb first.write (low + 1) (λ e. omega arith)) in
-    λ i. here i ++ rows-behind first writes (low + 1) n (omega arith) i
-
-rise-empty : (low high : ℕ) (writes : List Written) → RiseWithin low high writes → high ≤ low → writes ≡ []
-rise-empty low high [] rise none = refl
-rise-empty low high (first ∷ writes) rise none =
-    let over : low < first.write = rise.1 in
-    let within : first.write ≤ high = rise.2 in
-    absurd (omega arith)
-
--- the rise begins higher
-rise-from : (low high next : ℕ) (first : Written) (writes : List Written) → RiseWithin low high (first ∷ writes) → next < first.write
-    → RiseWithin next high (first ∷ writes)
-rise-from low high next first writes rise over = (rise.0, over, rise.2, rise.3)
-
-rows-step : (n low high : ℕ) (first : Written) (writes : List Written) → RiseWithin low high (first ∷ writes)
-    → (RiseWithin (low + 1) high writes → rows_from writes (low + 1) n ≡ inserted_rows writes)
-    → (RiseWithin (low + 1) high (first ∷ writes) → rows_from (first ∷ writes) (low + 1) n ≡ inserted_rows (first ∷ writes))
-    → (b : Bool) → (first.write == low + 1) ≡ b
-    → inserts_in (cond b (Some first) (written_with (low + 1) writes)) ++ rows_from (first ∷ writes) (low + 1) n ≡ inserted_rows (first ∷ writes)
-rows-step n low high first writes rise behind all true is =
-    let number : first.write ≡ low + 1 = eqb-true first.write (low + 1) is in
-    ap (λ rows. first.inserts ++ rows)
-    (rows-behind first writes (low + 1) n (omega arith)
-    ∙ behind (subst (λ k. RiseWithin k high writes) number rise.3))
-rows-step n low high first writes rise behind all false is =
-    let no : first.write ≡ low + 1 → ⊥ = eqb-false first.write (low + 1) is in
-    let over : low < first.write = rise.1 in
-    let further : low + 1 < first.write = omega arith in
-    ap (λ o. inserts_in o ++ rows_from (first ∷ writes) (low + 1) n) (absent first.write high (low + 1) writes rise.3 (omega arith))
-    ∙ all (rise-from low high (low + 1) first writes rise further)
-
-rows-within : (n low high : ℕ) (writes : List Written) → high ≡ low + n → RiseWithin low high writes → rows_from writes low n ≡ inserted_rows writes
-rows-within zero low high writes e rise = ap inserted_rows (sym (rise-empty low high writes rise (omega arith)))
-rows-within (suc n) low high [] e rise = rows-within n (low + 1) high [] (omega arith) tt
-rows-within (suc n) low high (first ∷ writes) e rise =
-    rows-step n low high first writes rise (rows-within n (low + 1) high writes (omega arith))
-    (rows-within n (low + 1) high (first ∷ writes) (omega arith)) (first.write == low + 1) refl
-
--- all rows, by their write ids from 1 to n
-pub rows-from : (n : ℕ) (writes : List Written) → RiseWithin 0 n writes → rows_from writes 0 n ≡ inserted_rows writes
-rows-from n writes rise = rows-within n 0 n writes (omega arith) rise
-
 -- ---- nothing is deleted
 
-nothing-deleted : (low high : ℕ) (writes : List Written) → RiseWithin low high writes
-    → flat_map (λ (written : Written). written.deletes) writes ≡ []
-nothing-deleted low high [] rise = refl
-nothing-deleted low high (first ∷ writes) rise =
-    λ i. rise.0.deletes i ++ nothing-deleted first.write high writes rise.3 i
+nothing-deleted : (writes : List Written) → AllByRecursion IsPlainWrite writes → flat_map (λ (written : Written). written.deletes) writes ≡ []
+nothing-deleted [] plain = refl
+nothing-deleted (first ∷ writes) plain = λ i. plain.0.deletes i ++ nothing-deleted writes plain.1 i
 
 all-kept : (rows : List Found) → filter (λ (found : Found). true) rows ≡ rows
 all-kept [] = refl
 all-kept (found ∷ rows) = ap (λ rest. found ∷ rest) (all-kept rows)
 
-content-sorted : (low high : ℕ) (writes : List Written) → RiseWithin low high writes
+content-sorted : (writes : List Written) → AllByRecursion IsPlainWrite writes
     → content_of writes ≡ sorted_by found_cmp (inserted_rows writes)
 unfolding content_of
-content-sorted low high writes rise =
+content-sorted writes plain =
     ap (λ (gone : List Found). sorted_by found_cmp
     (filter (λ (found : Found). not (list_any (λ (other : Found). is_eq (found_cmp other found)) gone)) (inserted_rows writes)))
-    (nothing-deleted low high writes rise)
+    (nothing-deleted writes plain)
     ∙ ap (sorted_by found_cmp) (all-kept (inserted_rows writes))
 
 row_of : Found → Row
 row_of found = found.row
 
 -- the rows that were read, and those that stand, in row order
-sorted-read : (low high : ℕ) (writes : List Written) → RiseWithin low high writes
+sorted-read : (writes : List Written) → AllByRecursion IsPlainWrite writes
     → sorted (map (λ (found : Found). found.row) (inserted_rows writes)) ≡ sorted (map (λ (found : Found). found.row) (content_of writes))
-sorted-read low high writes rise =
+sorted-read writes plain =
     sorted-permuted row_cmp_total row_cmp-IsAntisymmetric
     (map (λ (found : Found). found.row) (inserted_rows writes)) (map (λ (found : Found). found.row) (sorted_by found_cmp (inserted_rows writes)))
     (IsPermutation-map (λ (found : Found). found.row) (inserted_rows writes) (sorted_by found_cmp (inserted_rows writes))
     (permuted-sorted_by found_cmp (inserted_rows writes)))
-    ∙ ap (λ (rows : List Found). sorted (map (λ (found : Found). found.row) rows)) (sym (content-sorted low high writes rise))
+    ∙ ap (λ (rows : List Found). sorted (map (λ (found : Found). found.row) rows)) (sym (content-sorted writes plain))
 
 -- ---- the one table that is seen
 
@@ -182,7 +116,7 @@ module _ (tables : List Table) (sound : (table : Table) (n : ℕ) → slice_get 
   scans-alike tree name (Some table) found reads =
       let at = named-at 1 name tables table order found in
       ap (λ (rows : List Found). Listing (column_names table.info.shape) (sorted (map (λ (found : Found). found.row) rows))) (reads table)
-      ∙ ap (Listing (column_names table.info.shape)) (sorted-read 0 _ table.writes (sound table at.place at.here))
+      ∙ ap (Listing (column_names table.info.shape)) (sorted-read table.writes (sound table at.place at.here).each)
 
   tables-alike : (tree : Stmt) (name : List ℕ) → ((table : Table) → rows_read tree table ≡ inserted_rows table.writes)
       → scanned (named name (seen_by_name tree (Some name) tables)) ≡ scanned (named name (seen_tables tables))
@@ -217,7 +151,7 @@ module _ (tables : List Table) (sound : (table : Table) (n : ℕ) → slice_get 
   trees-alike tree = refl
 
 pub reading-enough : ReadingIsEnough
-reading-enough book tree sound =
+reading-enough book tree idle =
     let tables = (state_of book).tables in
-    trees-alike tables (λ table n e. all-slice HasSoundWrites tables n table e sound.tables.written)
-    sound.tables.live sound.tables.in_order tree
+    trees-alike tables (λ table n e. all-slice HasSoundWrites tables n table e idle.sound.tables.written)
+    idle.sound.tables.live idle.sound.tables.in_order tree

@@ -1,6 +1,5 @@
 -- What is aborted.
 use Rattle.std.proofs.Common.{◌≡◌, ℕ, ◌+◌, true, Option, Some, None, List, [], ◌∷◌, ◌++◌, refl, sym, ap, ◌∙◌, subst}
-use Rattle.hv_ast.specs.declared.statement.Stmt.{Stmt}
 use Rattle.hv_logic.specs.declared.meaning.Meaning.{Meaning}
 use Rattle.hv_history.specs.declared.entry.Entry.TheVariants as entry
 use Rattle.hv_history.specs.declared.entry.Cause.{Cause}
@@ -73,9 +72,9 @@ aborted-legal s number text m why h =
     (cause-true m why (behind_start s number text m) t h refl))
 
 pub refusals-end : RefusalsEnd
-refusals-end book number text tree why sound space is h =
+refusals-end book number text tree why idle space is h =
     let s : State = state_of book in
     let m : Option Meaning = meant book tree in
     goes book number text tree m (entry.Abort (record { 0 = next_of s }) why ∷ []) (s.entries + 1 + 1 + 1) s.tables [] [] (Aborted (s.entries + 1 + 1) why)
-    (cause_text None why) true sound space is refl (aborted-behind s number text m why h) (aborted-legal s number text m why h)
+    (cause_text None why) true idle space is refl (aborted-behind s number text m why h) (aborted-legal s number text m why h)
     (cause-told m why (Some (record { place = s.entries + 1; tables = s.tables })) h) refl

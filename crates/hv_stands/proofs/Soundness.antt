@@ -1,11 +1,12 @@
 -- Tables stay sound: what holds of all tables goes on where one is changed, and where one is added.
-use Rattle.std.proofs.Common.{refl, ◌≡◌, ℕ, zero, suc, ◌+◌, ◌<◌, ◌≤◌, Some, List, [], ◌∷◌, ◌++◌, length, sym, ap, ◌∙◌, subst, arith, length-append}
+use Rattle.std.proofs.Common.{refl, ◌≡◌, ℕ, zero, suc, ◌+◌, ◌<◌, Some, List, [], ◌∷◌, ◌++◌, length, sym, ap, ◌∙◌, subst, arith, length-append}
 use Rattle.std.specs.List.{slice_get, AllByRecursion}
 use Rattle.hv_history.specs.declared.state.Written.{Written}
 use Rattle.hv_history.specs.declared.state.Table.{Table}
 use Rattle.hv_history.specs.State.{numbered, changed, changed_at, written_to, owned}
-use Rattle.hv_stands.specs.Sound.{IsLive, NumberedFrom, IsPlainTable, AreInserts, RiseWithin, HasSoundWrites, HasFewOwners, AreSound}
-use Rattle.hv_stands.specs.Laws.{SoundnessGoesOn, MadeTablesAreSound, InsertedTablesAreSound, made_table, tables_inserted}
+use Rattle.hv_logic.specs.declared.catalog.TableInfo.{TableInfo}
+use Rattle.hv_stands.specs.Sound.{IsLive, NumberedFrom, ArePlain, IsPlainTable, HasSoundWrites, HasFewOwners, KeepsAll, AreSound}
+use Rattle.hv_stands.specs.Laws.{tables_inserted}
 
 -- ---- what holds of all
 
@@ -70,37 +71,50 @@ in_order-changed : (f : Table → Table) → ((t : Table) → (f t).info.table.0
 in_order-changed f same first tables zero h = h
 in_order-changed f same first tables (suc n) h = in_order-changed_at f same first tables n h
 
--- ---- one write more
-
-pub rise-more : (low high next : ℕ) (writes : List Written) (written : Written) → RiseWithin low high writes
-    → high < written.write → low < written.write → written.write ≤ next → AreInserts written
-    → RiseWithin low next (writes ++ written ∷ [])
-rise-more low high next [] written h above over within inserts = (inserts, over, within, tt)
-rise-more low high next (first ∷ writes) written h above over within inserts =
-    let most : first.write ≤ high = h.2 in
-    (h.0, h.1, omega arith, rise-more first.write high next writes written h.3 above (omega arith) within inserts)
-
 -- ---- the laws
 
-pub soundness-later : SoundnessGoesOn
+pub soundness-later : (most next : ℕ) (tables : List Table) → AreSound most tables → most < next → AreSound next tables
 soundness-later most next tables sound before = record {
   live = sound.live;
   in_order = sound.in_order;
   plain = sound.plain;
   few = all-mapped (HasFewOwners most) (HasFewOwners next) (λ table few. omega arith) tables sound.few;
+  keeping = sound.keeping;
   written = sound.written;
 }
 
-pub tables-made-sound : MadeTablesAreSound
-tables-made-sound most tables shape sound plain =
-    let made = made_table (length tables + 1) shape in
-    record {
-      live = all-more IsLive tables made sound.live refl;
-      in_order = numbered-more 1 tables made sound.in_order (omega arith);
-      plain = all-more IsPlainTable tables made sound.plain plain;
-      few = all-more (HasFewOwners most) tables made sound.few (omega arith);
-      written = all-more HasSoundWrites tables made sound.written tt;
-    }
+-- one table more
+pub table-made-sound : (most : ℕ) (tables : List Table) (made : Table) → AreSound most tables → IsLive made → made.info.table.0 ≡ length tables + 1
+    → IsPlainTable made → HasFewOwners most made → KeepsAll made → HasSoundWrites made → AreSound most (tables ++ made ∷ [])
+table-made-sound most tables made sound live number plain few keeping written = record {
+  live = all-more IsLive tables made sound.live live;
+  in_order = numbered-more 1 tables made sound.in_order (omega (arith, number));
+  plain = all-more IsPlainTable tables made sound.plain plain;
+  few = all-more (HasFewOwners most) tables made sound.few few;
+  keeping = all-more KeepsAll tables made sound.keeping keeping;
+  written = all-more HasSoundWrites tables made sound.written written;
+}
+
+pub owned-more : (txn : ℕ) (owners : List ℕ) → length (owners ++ txn ∷ []) ≡ length owners + 1
+owned-more txn owners = omega (arith, length-append owners (txn ∷ []))
+
+pub owned-few : (most txn : ℕ) (table : Table) → HasFewOwners most table → HasFewOwners (most + 1) (owned txn table)
+owned-few most txn table few = omega (arith, owned-more txn table.owners)
+
+-- one table changed, whose number and shape stay
+pub changed-sound : (most next : ℕ) (tables : List Table) (k : ℕ) (f : Table → Table) (table : Table) → numbered tables k ≡ Some table
+    → ((t : Table) → (f t).info ≡ t.info) → ((t : Table) → (f t).is_live ≡ t.is_live) → ((t : Table) → (f t).forgotten ≡ t.forgotten)
+    → ((t : Table) → HasFewOwners most t → HasFewOwners next t) → (HasFewOwners most table → HasFewOwners next (f table))
+    → (HasSoundWrites table → HasSoundWrites (f table))
+    → AreSound most tables → AreSound next (changed f tables k)
+changed-sound most next tables k f table at info alive keeps later few written sound = record {
+  live = all-changed IsLive IsLive f tables k table at (λ t h. h) (λ h. alive table ∙ h) sound.live;
+  in_order = in_order-changed f (λ t. ap (λ (i : TableInfo). i.table.0) (info t)) 1 tables k sound.in_order;
+  plain = all-changed IsPlainTable IsPlainTable f tables k table at (λ t h. h) (λ h. subst (λ (i : TableInfo). ArePlain i.shape.columns) (sym (info table)) h) sound.plain;
+  few = all-changed (HasFewOwners most) (HasFewOwners next) f tables k table at later few sound.few;
+  keeping = all-changed KeepsAll KeepsAll f tables k table at (λ t h. h) (λ h. keeps table ∙ h) sound.keeping;
+  written = all-changed HasSoundWrites HasSoundWrites f tables k table at (λ t h. h) written sound.written;
+}
 
 -- the table behind an insert
 abbrev pub inserted_to : ℕ → Written → Table → Table
@@ -109,36 +123,3 @@ inserted_to txn written table = written_to written (owned txn table)
 pub tables_inserted-once : (tables : List Table) (txn number : ℕ) (written : Written)
     → tables_inserted tables txn number written ≡ changed (inserted_to txn written) tables number
 tables_inserted-once tables txn number written = changed-twice (written_to written) (owned txn) tables number
-
-pub owned-more : (txn : ℕ) (owners : List ℕ) → length (owners ++ txn ∷ []) ≡ length owners + 1
-owned-more txn owners = omega (arith, length-append owners (txn ∷ []))
-
-few-inserted : (most txn : ℕ) (table : Table) (written : Written) → HasFewOwners most table → HasFewOwners (most + 1) (inserted_to txn written table)
-few-inserted most txn table written few = omega (arith, owned-more txn table.owners)
-
-writes-inserted : (txn : ℕ) (table : Table) (written : Written) → AreInserts written → written.write ≡ length table.owners + 1
-    → HasSoundWrites table → HasSoundWrites (inserted_to txn written table)
-writes-inserted txn table written inserts next rise =
-    rise-more 0 (length table.owners) (length (table.owners ++ txn ∷ [])) table.writes written rise
-    (omega arith) (omega arith) (omega (arith, owned-more txn table.owners)) inserts
-
-inserted-once-sound : (most txn number : ℕ) (tables : List Table) (table : Table) (written : Written)
-    → AreSound most tables → numbered tables number ≡ Some table
-    → AreInserts written → written.write ≡ length table.owners + 1
-    → AreSound (most + 1) (changed (inserted_to txn written) tables number)
-inserted-once-sound most txn number tables table written sound at inserts next = record {
-  live = all-changed IsLive IsLive (inserted_to txn written) tables number table at (λ t h. h) (λ h. h) sound.live;
-  in_order = in_order-changed (inserted_to txn written) (λ t. refl) 1 tables number sound.in_order;
-  plain = all-changed IsPlainTable IsPlainTable (inserted_to txn written) tables number table at (λ t h. h) (λ h. h) sound.plain;
-  few =
-      all-changed (HasFewOwners most) (HasFewOwners (most + 1)) (inserted_to txn written) tables number table at
-      (λ t few. omega arith) (few-inserted most txn table written) sound.few;
-  written =
-      all-changed HasSoundWrites HasSoundWrites (inserted_to txn written) tables number table at
-      (λ t h. h) (writes-inserted txn table written inserts next) sound.written;
-}
-
-pub tables-inserted-sound : InsertedTablesAreSound
-tables-inserted-sound most txn number tables table written sound at inserts next =
-    subst (AreSound (most + 1)) (sym (tables_inserted-once tables txn number written))
-    (inserted-once-sound most txn number tables table written sound at inserts next)

@@ -1,29 +1,104 @@
--- The files that stand: a new table has none, an insert adds its own, and each commit's file is found by its write id.
-use Rattle.std.proofs.Common.{refl, ◌≡◌, ℕ, zero, suc, ◌+◌, ◌<◌, ◌≤◌, ◌==◌, ◌&&◌, nat_eq, Bool, true, false, cond, Option, Some, None, List, [], ◌∷◌, ◌++◌, length, option_map, sym, ap, ◌∙◌, subst, arith, eqb-true}
-use Rattle.std.proofs.Math.Dec.{eqb-suc-zero, eqb-zero-suc, eqb-suc-suc}
-use Rattle.std.proofs.lemmas.Bool.Decides.{same_from_decides, Decides-eqb}
+-- Which files may stand, over any state: each entry that fits, and each file that is put, keeps it.
+use Rattle.std.proofs.Common.{refl, ◌≡◌, ℕ, zero, suc, ◌+◌, ◌<◌, ◌≤◌, ◌==◌, ◌&&◌, ◌⊎◌, inl, inr, nat_eq, Bool, true, false, cond, IsFalse, Option, Some, None, List, [], ◌∷◌, ◌++◌, length, map, option_map, sym, ap, ◌∙◌, subst, arith, eqb-true}
+use Rattle.std.specs.declared.cmp.Ordering.{Ordering}
+use Rattle.std.specs.declared.cmp.Ordering.TheVariants.{Less, Equal, Greater}
+use Rattle.std.specs.Cmp.{eq_by_cmp_equiv}
 use Rattle.std.specs.Cmp.Lexicographic.{pointwise, bytes_decides}
-use Rattle.std.specs.Ordering.{eq_by_cmp}
-use Rattle.std.specs.List.{slice_get}
+use Rattle.std.specs.Ordering.{eq_by_cmp, is_eq}
+use Rattle.std.specs.List.{slice_get, list_any, AllByRecursion}
 use Rattle.std.specs.FinMap as tree
+use Rattle.hv_base.specs.declared.ids.Limits.{Limits}
 use Rattle.hv_shelf.specs.declared.place.Place.{Place}
 use Rattle.hv_shelf.specs.Disk.{Tree}
-use Rattle.hv_shelf.specs.Places.{place_cmp, place_ties}
-use Rattle.hv_shelf.specs.Laws.{get-HasFile}
-use Rattle.hv_logic.specs.declared.catalog.Shape.{Shape}
+use Rattle.hv_shelf.specs.Places.{place_cmp, place_total, place_antisymmetric}
+use Rattle.hv_history.specs.declared.entry.Entry.{Entry}
+use Rattle.hv_history.specs.declared.entry.Entry.TheVariants as entry
+use Rattle.hv_history.specs.declared.entry.Cause.{Cause}
 use Rattle.hv_history.specs.declared.state.Written.{Written}
 use Rattle.hv_history.specs.declared.state.Table.{Table}
-use Rattle.hv_history.specs.State.{State, numbered, changed, changed_at}
+use Rattle.hv_history.specs.declared.state.Ending.{Ending}
+use Rattle.hv_history.specs.declared.state.Ending.TheVariants.{Aborted, Made}
+use Rattle.hv_history.specs.declared.state.Transaction.{Transaction}
+use Rattle.hv_history.specs.State.{State, numbered, changed, changed_at, unless_ended, while_open, opened, started, given_id, owned, written_to, committed, ended, commits, tables_behind, made_by, acted, after}
+use Rattle.hv_history.specs.Legal.{Fits, CommitFits, CreateFits}
 use Rattle.hv_dirs.specs.Names.{own_name, write_end}
 use Rattle.hv_dirs.proofs.OwnNames.{own_name-same}
-use Rattle.hv_stands.specs.Files.{file_of, own_place, file_in, made_in, made_at, Stands}
-use Rattle.hv_stands.specs.Sound.{AreInserts, RiseWithin, HasSoundWrites, HasFewOwners}
-use Rattle.hv_stands.specs.Reading.{written_with}
-use Rattle.hv_stands.specs.Laws.{MadeTablesStand, InsertedFilesStand, made_table}
-use Rattle.hv_stands.proofs.Soundness.{all-numbered, inserted_to, tables_inserted-once}
+use Rattle.hv_stands.specs.Files.{file_of, own_place, file_in, made_in, made_at, ending_of, IsOwn, IsUndone, IsLoose, IsEncoded, AreEncoded, Stands, IsFiled}
+use Rattle.hv_stands.specs.Sound.{IsPlainWrite, HasOther, AreApart, HasSoundWrites, HasFewOwners, KeepsAll, given_of, owners_of, given_among, IsDone, IsSingle, IsOfCommitted, AreOfCommitted, IsSound}
+use Rattle.hv_stands.specs.Laws.{SoundnessGoesOn, StandingGoesOn, PutsAreLoose, FilesAreOfTables, NewIdsHaveNoFile, HasItsFile, CommitsHaveFiles}
+use Rattle.hv_stands.proofs.Numbers.{one_value, same_one, none_is, found, either, numbered-changed, numbered-map, map-changed, map-more, numbered-more, numbered-within}
+use Rattle.hv_stands.proofs.Soundness.{all-numbered}
+use Rattle.hv_stands.proofs.Keeping.{map-open, IsOneWrite, one-write, owner-table, sound-after}
 
--- ---- a new table has no file
+-- ---- places
 
+equal-by : (o : Ordering) → is_eq o ≡ true → o ≡ Equal
+equal-by Less e = cc
+equal-by Equal e = refl
+equal-by Greater e = cc
+
+pub same-place : (place other : Place) → eq_by_cmp place_cmp place other ≡ true → place ≡ other
+same-place place other e = place_antisymmetric place other (equal-by (place_cmp place other) e)
+
+pub place-tied : (place : Place) → eq_by_cmp place_cmp place place ≡ true
+place-tied place = (eq_by_cmp_equiv place_total).refl place
+
+pub other-place : (place other : Place) → eq_by_cmp place_cmp place other ≡ false → place ≡ other → ⊥
+other-place place other e same =
+    let yes : eq_by_cmp place_cmp place other ≡ true = ap (eq_by_cmp place_cmp place) (sym same) ∙ place-tied place in
+    cc
+
+-- ---- what is made
+
+pub file-or-last : (writes : List Written) (written : Written) (dir bytes : List ℕ) → file_in (writes ++ written ∷ []) dir ≡ Some bytes
+    → (file_in writes dir ≡ Some bytes) ⊎ ((pointwise nat_eq (own_name written.write 0) dir ≡ true) × (bytes ≡ file_of written))
+file-or-last [] written dir bytes e = by (either (pointwise nat_eq (own_name written.write 0) dir)) e
+  where
+    by : (pointwise nat_eq (own_name written.write 0) dir ≡ true) ⊎ (pointwise nat_eq (own_name written.write 0) dir ≡ false)
+        → cond (pointwise nat_eq (own_name written.write 0) dir) (Some (file_of written)) None ≡ Some bytes
+        → (file_in [] dir ≡ Some bytes) ⊎ ((pointwise nat_eq (own_name written.write 0) dir ≡ true) × (bytes ≡ file_of written))
+    by (inl is) e = inr (is, one_value bytes (file_of written) (sym e ∙ ap (λ b. cond b (Some (file_of written)) None) is))
+    by (inr is) e = absurd (none_is (cond (pointwise nat_eq (own_name written.write 0) dir) (Some (file_of written)) None) bytes
+        (ap (λ b. cond b (Some (file_of written)) None) is) e)
+file-or-last (first ∷ writes) written dir bytes e = by (pointwise nat_eq (own_name first.write 0) dir) (file-or-last writes written dir bytes) e
+  where
+    by : (b : Bool)
+        → (file_in (writes ++ written ∷ []) dir ≡ Some bytes
+        → (file_in writes dir ≡ Some bytes) ⊎ ((pointwise nat_eq (own_name written.write 0) dir ≡ true) × (bytes ≡ file_of written)))
+        → cond b (Some (file_of first)) (file_in (writes ++ written ∷ []) dir) ≡ Some bytes
+        → (cond b (Some (file_of first)) (file_in writes dir) ≡ Some bytes) ⊎ ((pointwise nat_eq (own_name written.write 0) dir ≡ true) × (bytes ≡ file_of written))
+    by true rest e = inl e
+    by false rest e = rest e
+
+file-none : (writes : List Written) (written : Written) (dir : List ℕ) → file_in (writes ++ written ∷ []) dir ≡ None → file_in writes dir ≡ None
+file-none [] written dir e = refl
+file-none (first ∷ writes) written dir e = by (pointwise nat_eq (own_name first.write 0) dir) (file-none writes written dir) e
+  where
+    by : (b : Bool) → (file_in (writes ++ written ∷ []) dir ≡ None → file_in writes dir ≡ None) → cond b (Some (file_of first)) (file_in (writes ++ written ∷ []) dir) ≡ None → cond b (Some (file_of first)) (file_in writes dir) ≡ None
+    by true rest e = cc
+    by false rest e = rest e
+
+-- a table whose writes stay makes the same
+same-made-slice : (f : Table → Table) → ((t : Table) → (f t).writes ≡ t.writes) → (place : Place) (tables : List Table) (k n : ℕ)
+    → made_in (slice_get (changed_at f tables k) n) place ≡ made_in (slice_get tables n) place
+same-made-slice f same place [] k n = refl
+same-made-slice f same place (t ∷ tables) zero zero = ap (λ ws. cond ((length place.partition == 0) && (place.bucket == 0)) (file_in ws place.dir) None) (same t)
+same-made-slice f same place (t ∷ tables) zero (suc n) = refl
+same-made-slice f same place (t ∷ tables) (suc k) zero = refl
+same-made-slice f same place (t ∷ tables) (suc k) (suc n) = same-made-slice f same place tables k n
+
+same-made-number : (f : Table → Table) → ((t : Table) → (f t).writes ≡ t.writes) → (place : Place) (tables : List Table) (k n : ℕ)
+    → made_in (numbered (changed f tables k) n) place ≡ made_in (numbered tables n) place
+same-made-number f same place tables zero n = refl
+same-made-number f same place tables (suc k) zero = refl
+same-made-number f same place tables (suc k) (suc n) = same-made-slice f same place tables k n
+
+pub same-made : (f : Table → Table) → ((t : Table) → (f t).writes ≡ t.writes) → (tables : List Table) (k : ℕ) (place : Place)
+    → made_at (changed f tables k) place ≡ made_at tables place
+unfolding made_at
+same-made f same tables k place = same-made-number f same place tables k place.table.0
+
+-- a new table makes nothing
 no_file : (b : Bool) → cond {A = Option (List ℕ)} b None None ≡ None
 no_file true = refl
 no_file false = refl
@@ -40,201 +115,478 @@ made-more : (place : Place) (tables : List Table) (table : Table) (number : ℕ)
 made-more place tables table zero none = refl
 made-more place tables table (suc n) none = made-more-slice place tables table n none
 
-made_at-more : (tables : List Table) (number : ℕ) (shape : Shape) (place : Place)
-    → made_at (tables ++ made_table number shape ∷ []) place ≡ made_at tables place
+made_at-more : (tables : List Table) (k : ℕ) (t : Option Transaction) (place : Place) → made_at (tables ++ made_by k t ∷ []) place ≡ made_at tables place
 unfolding made_at
-made_at-more tables number shape place =
-    made-more place tables (made_table number shape) place.table.0 (no_file ((length place.partition == 0) && (place.bucket == 0)))
+made_at-more tables k t place = made-more place tables (made_by k t) place.table.0 (no_file ((length place.partition == 0) && (place.bucket == 0)))
 
-pub made-files-stand : MadeTablesStand
-made-files-stand before now files shape stands made = record {
-  each = λ place.
-      stands.each place ∙ sym (made_at-more before.tables (length before.tables + 1) shape place)
-      ∙ ap (λ tables. made_at tables place) (sym made);
+-- ---- own directories
+
+changed-forth : (f : Table → Table) (tables : List Table) (k n : ℕ) (t : Table) → numbered tables n ≡ Some t
+    → (now : Table) × (numbered (changed f tables k) n ≡ Some now) × ((now ≡ t) ⊎ (now ≡ f t))
+changed-forth f tables zero n t e = (t, e, inl refl)
+changed-forth f tables (suc k) zero t e = cc
+changed-forth f tables (suc k) (suc n) t e = slice tables k n e
+  where
+    slice : (tables : List Table) (k n : ℕ) → slice_get tables n ≡ Some t
+        → (now : Table) × (slice_get (changed_at f tables k) n ≡ Some now) × ((now ≡ t) ⊎ (now ≡ f t))
+    slice [] k n e = cc
+    slice (x ∷ tables) zero zero e = (f x, refl, inr (ap f (one_value x t e)))
+    slice (x ∷ tables) zero (suc n) e = (t, e, inl refl)
+    slice (x ∷ tables) (suc k) zero e = (t, e, inl refl)
+    slice (x ∷ tables) (suc k) (suc n) e = slice tables k n e
+
+-- a place stays in an own directory where the tables are changed so
+own-changed : (f : Table → Table) → ((t : Table) (write txn : ℕ) → numbered t.owners write ≡ Some txn → numbered (f t).owners write ≡ Some txn)
+    → ((t : Table) → (f t).forgotten ≡ t.forgotten) → (tables : List Table) (k txn : ℕ) (place : Place) → IsOwn tables txn place → IsOwn (changed f tables k) txn place
+own-changed f owners forgotten tables k txn place own =
+    let forth = changed-forth f tables k place.table.0 own.table own.is in
+    by forth.0 forth.1 forth.2
+  where
+    by : (now : Table) → numbered (changed f tables k) place.table.0 ≡ Some now → (now ≡ own.table) ⊎ (now ≡ f own.table) → IsOwn (changed f tables k) txn place
+    by now at (inl same) = record {
+      table = now;
+      is = at;
+      write = own.write;
+      statement = own.statement;
+      dir = own.dir;
+      owner = subst (λ (t : Table). numbered t.owners own.write ≡ Some txn) (sym same) own.owner;
+      kept = subst (λ (t : Table). IsFalse (list_any (λ other. other == own.write) t.forgotten)) (sym same) own.kept;
+    }
+    by now at (inr same) = record {
+      table = now;
+      is = at;
+      write = own.write;
+      statement = own.statement;
+      dir = own.dir;
+      owner = subst (λ (t : Table). numbered t.owners own.write ≡ Some txn) (sym same) (owners own.table own.write txn own.owner);
+      kept = subst (λ (t : Table). IsFalse (list_any (λ other. other == own.write) t.forgotten)) (sym same)
+          (subst (λ (ids : List ℕ). IsFalse (list_any (λ other. other == own.write) ids)) (sym (forgotten own.table)) own.kept);
+    }
+
+own-more : (tables : List Table) (table : Table) (txn : ℕ) (place : Place) → IsOwn tables txn place → IsOwn (tables ++ table ∷ []) txn place
+own-more tables table txn place own = record {
+  table = own.table;
+  is = numbered-more tables table place.table.0 own.table own.is;
+  write = own.write;
+  statement = own.statement;
+  dir = own.dir;
+  owner = own.owner;
+  kept = own.kept;
 }
 
--- ---- one table changed
+-- ---- entries that end no transaction as committed
 
-changed-slice : {A : Type 0} (f : A → A) (xs : List A) (n k : ℕ) (x : A) → slice_get xs n ≡ Some x
-    → slice_get (changed_at f xs n) k ≡ cond (k == n) (Some (f x)) (slice_get xs k)
-changed-slice f [] n k x e = cc
-changed-slice f (y ∷ xs) zero zero x e = let is : y ≡ x = cc in ap (λ z. Some (f z)) is
-changed-slice f (y ∷ xs) zero (suc k) x e = ap (λ b. cond b (Some (f x)) (slice_get xs k)) (sym (eqb-suc-zero k))
-changed-slice f (y ∷ xs) (suc n) zero x e = ap (λ b. cond b (Some (f x)) (Some y)) (sym (eqb-zero-suc n))
-changed-slice f (y ∷ xs) (suc n) (suc k) x e =
-    changed-slice f xs n k x e ∙ ap (λ b. cond b (Some (f x)) (slice_get xs k)) (sym (eqb-suc-suc k n))
+stands-same : (s now : State) (files : Tree) → Stands s files
+    → ((place : Place) → made_at now.tables place ≡ made_at s.tables place)
+    → ((txn : ℕ) (place : Place) → IsOwn s.tables txn place → IsOwn now.tables txn place)
+    → ((txn : ℕ) → IsUndone (numbered (map ending_of s.transactions) txn) → IsUndone (numbered (map ending_of now.transactions) txn))
+    → AllByRecursion AreEncoded now.tables → Stands now files
+stands-same s now files stands made owns undone encoded = record {
+  made = λ place bytes is. stands.made place bytes (sym (made place) ∙ is);
+  other = λ place bytes is none.
+      let loose = stands.other place bytes is (sym (made place) ∙ none) in
+      record { txn = loose.txn; own = owns loose.txn place loose.own; undone = undone loose.txn loose.undone };
+  encoded = encoded;
+}
 
-numbered-changed : {A : Type 0} (f : A → A) (xs : List A) (n k : ℕ) (x : A) → numbered xs n ≡ Some x
-    → numbered (changed f xs n) k ≡ cond (k == n) (Some (f x)) (numbered xs k)
-numbered-changed f xs zero k x e = cc
-numbered-changed f xs (suc n) zero x e = ap (λ b. cond b (Some (f x)) None) (sym (eqb-zero-suc n))
-numbered-changed f xs (suc n) (suc k) x e =
-    changed-slice f xs n k x e ∙ ap (λ b. cond b (Some (f x)) (slice_get xs k)) (sym (eqb-suc-suc k n))
+undone-more : (xs : List Transaction) (t : Transaction) (m : ℕ) → IsUndone (numbered (map ending_of xs) m) → IsUndone (numbered (map ending_of (xs ++ t ∷ [])) m)
+undone-more xs t m h = subst (λ es. IsUndone (numbered es m)) (sym (map-more ending_of xs t)) (by (numbered (map ending_of xs) m) refl h)
+  where
+    by : (o : Option (Option Ending)) → numbered (map ending_of xs) m ≡ o → IsUndone o → IsUndone (numbered (map ending_of xs ++ t.ending ∷ []) m)
+    by None is h = absurd h
+    by (Some e) is h = subst IsUndone (sym (numbered-more (map ending_of xs) t.ending m e is)) h
 
-made_in-cond : (b : Bool) (o p : Option Table) (place : Place) → made_in (cond b o p) place ≡ cond b (made_in o place) (made_in p place)
-made_in-cond true o p place = refl
-made_in-cond false o p place = refl
+-- an abort leaves undone what was undone
+module _ (place : ℕ) (why : Cause) where
+  aborted-by : (t : Transaction) (o : Option Ending) → t.ending ≡ o → IsUndone (Some o) → IsUndone (Some (ending_of (unless_ended o t (ended (Aborted place why) t))))
+  aborted-by t None is h = tt
+  aborted-by t (Some e) is h = subst (λ o. IsUndone (Some o)) (sym is) h
 
--- ---- one write more
+  aborted_at : (xs : List Transaction) (n m : ℕ) → IsUndone (slice_get (map ending_of xs) m)
+      → IsUndone (slice_get (map ending_of (changed_at (while_open (ended (Aborted place why))) xs n)) m)
+  aborted_at [] n m h = h
+  aborted_at (x ∷ xs) zero zero h = aborted-by x x.ending refl h
+  aborted_at (x ∷ xs) zero (suc m) h = h
+  aborted_at (x ∷ xs) (suc n) zero h = h
+  aborted_at (x ∷ xs) (suc n) (suc m) h = aborted_at xs n m h
 
--- two tests that don't both pass can be tried in either order
-swapped : {A : Type 0} (a b : Bool) (x y z : A) → (a ≡ true → b ≡ true → ⊥) → cond a x (cond b y z) ≡ cond b y (cond a x z)
-swapped true true x y z h = absurd (h refl refl)
-swapped true false x y z h = refl
-swapped false true x y z h = refl
-swapped false false x y z h = refl
+  undone-aborted : (xs : List Transaction) (n m : ℕ) → IsUndone (numbered (map ending_of xs) m)
+      → IsUndone (numbered (map ending_of (changed (while_open (ended (Aborted place why))) xs n)) m)
+  undone-aborted xs zero m h = h
+  undone-aborted xs (suc n) zero h = h
+  undone-aborted xs (suc n) (suc m) h = aborted_at xs n m h
 
--- the name of a later write isn't that of an earlier one
-other_name : (write later : ℕ) (dir : List ℕ) → write < later → later < write_end
-    → pointwise nat_eq (own_name write 0) dir ≡ true → pointwise nat_eq (own_name later 0) dir ≡ true → ⊥
-other_name write later dir less fits first second =
-    let same : own_name write 0 ≡ own_name later 0 =
-    (bytes_decides (own_name write 0) dir).0 first ∙ sym ((bytes_decides (own_name later 0) dir).0 second) in
-    let numbers : write ≡ later = own_name-same write later 0 0 (omega arith) fits same in
-    omega arith
+all-each : (P : Table → Type 0) (f : Table → Table) → ((t : Table) → P t → P (f t)) → (tables : List Table) (k : ℕ) → AllByRecursion P tables → AllByRecursion P (changed f tables k)
+all-each P f step tables zero h = h
+all-each P f step tables (suc k) h = slice tables k h
+  where
+    slice : (tables : List Table) (k : ℕ) → AllByRecursion P tables → AllByRecursion P (changed_at f tables k)
+    slice [] k h = tt
+    slice (t ∷ tables) zero h = (step t h.0, h.1)
+    slice (t ∷ tables) (suc k) h = (h.0, slice tables k h.1)
 
-file_in-more : (low high : ℕ) (writes : List Written) (written : Written) (dir : List ℕ) → RiseWithin low high writes
-    → high < written.write → written.write < write_end
-    → file_in (writes ++ written ∷ []) dir
-    ≡ cond (pointwise nat_eq (own_name written.write 0) dir) (Some (file_of written)) (file_in writes dir)
-file_in-more low high [] written dir rise above fits = refl
-file_in-more low high (first ∷ writes) written dir rise above fits =
-    let most : first.write ≤ high = rise.2 in
-    ap (λ rest. cond (pointwise nat_eq (own_name first.write 0) dir) (Some (file_of first)) rest)
-    (file_in-more first.write high writes written dir rise.3 above fits)
-    ∙ swapped (pointwise nat_eq (own_name first.write 0) dir) (pointwise nat_eq (own_name written.write 0) dir)
-    (Some (file_of first)) (Some (file_of written)) (file_in writes dir)
-    (other_name first.write written.write dir (omega arith) fits)
+-- ---- entries that do
 
--- ---- the place of an insert
+other-ending : (f : Transaction → Transaction) (xs : List Transaction) (n m : ℕ) (t : Transaction) → numbered xs n ≡ Some t → (m == n) ≡ false
+    → numbered (map ending_of (changed f xs n)) m ≡ numbered (map ending_of xs) m
+other-ending f xs n m t at other =
+    map-changed ending_of f xs n m t at ∙ ap (λ b. cond b (Some (ending_of (f t))) (numbered (map ending_of xs) m)) other
 
-no_partition : (bytes : List ℕ) → (length bytes == 0) ≡ pointwise nat_eq bytes []
-no_partition [] = refl
-no_partition (x ∷ bytes) = eqb-suc-zero (length bytes)
+stands-ended : (s now : State) (files : Tree) (n : ℕ) → Stands s files
+    → ((place : Place) (bytes : List ℕ) → made_at now.tables place ≡ Some bytes → (made_at s.tables place ≡ Some bytes) ⊎ IsOwn s.tables n place)
+    → ((place : Place) → made_at now.tables place ≡ None → made_at s.tables place ≡ None)
+    → ((txn : ℕ) (place : Place) → IsOwn s.tables txn place → IsOwn now.tables txn place)
+    → ((m : ℕ) → (m == n) ≡ false → numbered (map ending_of now.transactions) m ≡ numbered (map ending_of s.transactions) m)
+    → ((place : Place) → IsOwn s.tables n place → tree.get files place ≡ made_at now.tables place)
+    → AllByRecursion AreEncoded now.tables → Stands now files
+stands-ended s now files n stands later stays owns others whole encoded = record {
+  made = λ place bytes is. by_made place bytes is (later place bytes is);
+  other = λ place bytes is none. by_loose place bytes is none (stands.other place bytes is (stays place none));
+  encoded = encoded;
+}
+  where
+    by_made : (place : Place) (bytes : List ℕ) → made_at now.tables place ≡ Some bytes → (made_at s.tables place ≡ Some bytes) ⊎ IsOwn s.tables n place
+        → tree.get files place ≡ Some bytes
+    by_made place bytes is (inl before) = stands.made place bytes before
+    by_made place bytes is (inr own) = whole place own ∙ is
 
-turned_name : (name dir : List ℕ) → pointwise nat_eq name dir ≡ pointwise nat_eq dir name
-turned_name name dir =
-    same_from_decides (pointwise nat_eq name dir) (pointwise nat_eq dir name) (bytes_decides name dir)
-    (λ e. sym ((bytes_decides dir name).0 e), λ e. (bytes_decides dir name).1 (sym e))
+    by_loose : (place : Place) (bytes : List ℕ) → tree.get files place ≡ Some bytes → made_at now.tables place ≡ None → IsLoose s place → IsLoose now place
+    by_loose place bytes is none loose = by (either (loose.txn == n))
+      where
+        by : (loose.txn == n ≡ true) ⊎ (loose.txn == n ≡ false) → IsLoose now place
+        by (inl same) =
+            let own : IsOwn s.tables n place = subst (λ m. IsOwn s.tables m place) (eqb-true loose.txn n same) loose.own in
+            absurd (none_is (tree.get files place) bytes (whole place own ∙ none) is)
+        by (inr other) = record {
+          txn = loose.txn;
+          own = owns loose.txn place loose.own;
+          undone = subst IsUndone (sym (others loose.txn other)) loose.undone;
+        }
 
-joined : (table partition dir bucket : Bool) (y z made : Option (List ℕ)) → (table ≡ true → made ≡ cond (partition && bucket) z None)
-    → cond table (cond (partition && bucket) (cond dir y z) None) made ≡ cond (table && (partition && (dir && bucket))) y made
-joined false partition dir bucket y z made h = refl
-joined true false dir bucket y z made h = sym (h refl)
-joined true true false false y z made h = sym (h refl)
-joined true true false true y z made h = sym (h refl)
-joined true true true false y z made h = sym (h refl)
-joined true true true true y z made h = refl
+-- the table behind a commit
+made-in-written : (table : Table) (written : Written) (place : Place) (bytes : List ℕ) → made_in (Some (written_to written table)) place ≡ Some bytes
+    → (made_in (Some table) place ≡ Some bytes) ⊎ (pointwise nat_eq (own_name written.write 0) place.dir ≡ true)
+made-in-written table written place bytes e = by ((length place.partition == 0) && (place.bucket == 0)) e
+  where
+    by : (b : Bool) → cond b (file_in (table.writes ++ written ∷ []) place.dir) None ≡ Some bytes
+        → (cond b (file_in table.writes place.dir) None ≡ Some bytes) ⊎ (pointwise nat_eq (own_name written.write 0) place.dir ≡ true)
+    by false e = inl e
+    by true e = or (file-or-last table.writes written place.dir bytes e)
+      where
+        or : (file_in table.writes place.dir ≡ Some bytes) ⊎ ((pointwise nat_eq (own_name written.write 0) place.dir ≡ true) × (bytes ≡ file_of written))
+            → (file_in table.writes place.dir ≡ Some bytes) ⊎ (pointwise nat_eq (own_name written.write 0) place.dir ≡ true)
+        or (inl h) = inl h
+        or (inr h) = inr h.0
 
-module _ (tables : List Table) (number txn : ℕ) (table : Table) (written : Written) (place : Place)
-    (at : numbered tables number ≡ Some table)
-    (next : written.write ≡ length table.owners + 1)
-    (rise : HasSoundWrites table)
-    (fits : written.write < write_end) where
-  behind : Table
-  behind = inserted_to txn written table
+made-in-none : (table : Table) (written : Written) (place : Place) → made_in (Some (written_to written table)) place ≡ None → made_in (Some table) place ≡ None
+made-in-none table written place e = by ((length place.partition == 0) && (place.bucket == 0)) e
+  where
+    by : (b : Bool) → cond b (file_in (table.writes ++ written ∷ []) place.dir) None ≡ None → cond b (file_in table.writes place.dir) None ≡ None
+    by false e = refl
+    by true e = file-none table.writes written place.dir e
 
-  in_table : made_in (Some behind) place
-      ≡ cond (pointwise nat_eq place.partition [] && (place.bucket == 0))
-      (cond (pointwise nat_eq place.dir (own_name written.write 0)) (Some (file_of written)) (file_in table.writes place.dir)) None
-  unfolding behind
-  in_table =
-      ap (λ b. cond (b && (place.bucket == 0)) (file_in (table.writes ++ written ∷ []) place.dir) None) (no_partition place.partition)
-      ∙ ap (λ o. cond (pointwise nat_eq place.partition [] && (place.bucket == 0)) o None)
-      (file_in-more 0 (length table.owners) table.writes written place.dir rise (omega arith) fits
-      ∙ ap (λ b. cond b (Some (file_of written)) (file_in table.writes place.dir)) (turned_name (own_name written.write 0) place.dir))
+-- nothing is forgotten
+pub kept-none : (ids : List ℕ) (write : ℕ) → ids ≡ [] → IsFalse (list_any (λ other. other == write) ids)
+kept-none ids write none = subst (λ (xs : List ℕ). IsFalse (list_any (λ other. other == write) xs)) (sym none) refl
 
-  was_in_table : (place.table.0 == number) ≡ true
-      → made_in (numbered tables place.table.0) place
-      ≡ cond (pointwise nat_eq place.partition [] && (place.bucket == 0)) (file_in table.writes place.dir) None
-  was_in_table e =
-      ap (λ k. made_in (numbered tables k) place) (eqb-true place.table.0 number e)
-      ∙ ap (λ o. made_in o place) at
-      ∙ ap (λ b. cond (b && (place.bucket == 0)) (file_in table.writes place.dir) None) (no_partition place.partition)
+module _ (tables : List Table) (k n : ℕ) (written : Written) (table : Table) (at : numbered tables k ≡ Some table) (owner : numbered table.owners written.write ≡ Some n)
+    (keeping : table.forgotten ≡ []) where
+  written-later : (place : Place) (bytes : List ℕ) → made_at (changed (written_to written) tables k) place ≡ Some bytes
+      → (made_at tables place ≡ Some bytes) ⊎ IsOwn tables n place
+  unfolding made_at
+  written-later place bytes e = by (either (place.table.0 == k))
+    where
+      now : made_in (cond (place.table.0 == k) (Some (written_to written table)) (numbered tables place.table.0)) place ≡ Some bytes
+      now = ap (λ o. made_in o place) (sym (numbered-changed (written_to written) tables k place.table.0 table at)) ∙ e
 
-  made_at-inserted : made_at (changed (inserted_to txn written) tables number) place
-      ≡ cond (eq_by_cmp place_cmp place (own_place number written.write)) (Some (file_of written)) (made_at tables place)
-  unfolding made_at behind
-  made_at-inserted =
-      ap (λ o. made_in o place) (numbered-changed (inserted_to txn written) tables number place.table.0 table at)
-      ∙ made_in-cond (place.table.0 == number) (Some behind) (numbered tables place.table.0) place
-      ∙ ap (λ o. cond (place.table.0 == number) o (made_in (numbered tables place.table.0) place)) in_table
-      ∙ joined (place.table.0 == number) (pointwise nat_eq place.partition []) (pointwise nat_eq place.dir (own_name written.write 0))
-      (place.bucket == 0) (Some (file_of written)) (file_in table.writes place.dir) (made_in (numbered tables place.table.0) place) was_in_table
-      ∙ ap (λ b. cond b (Some (file_of written)) (made_in (numbered tables place.table.0) place)) (place_ties place (own_place number written.write))
+      by : (place.table.0 == k ≡ true) ⊎ (place.table.0 == k ≡ false) → (made_in (numbered tables place.table.0) place ≡ Some bytes) ⊎ IsOwn tables n place
+      by (inr other) = inl (ap (λ b. made_in (cond b (Some (written_to written table)) (numbered tables place.table.0)) place) (sym other) ∙ now)
+      by (inl same) =
+          let here : numbered tables place.table.0 ≡ Some table = ap (numbered tables) (eqb-true place.table.0 k same) ∙ at in
+          or here (made-in-written table written place bytes
+          (ap (λ b. made_in (cond b (Some (written_to written table)) (numbered tables place.table.0)) place) (sym same) ∙ now))
+        where
+          or : numbered tables place.table.0 ≡ Some table → (made_in (Some table) place ≡ Some bytes) ⊎ (pointwise nat_eq (own_name written.write 0) place.dir ≡ true)
+              → (made_in (numbered tables place.table.0) place ≡ Some bytes) ⊎ IsOwn tables n place
+          or here (inl h) = inl (ap (λ o. made_in o place) here ∙ h)
+          or here (inr h) = inr (record {
+            table = table;
+            is = here;
+            write = written.write;
+            statement = 0;
+            dir = sym ((bytes_decides (own_name written.write 0) place.dir).0 h);
+            owner = owner;
+            kept = kept-none table.forgotten written.write keeping;
+          })
 
-pub inserted-files-stand : InsertedFilesStand
-inserted-files-stand before now old new txn number most table written sound room at next stands has tables =
-    let few : length table.owners ≤ most = all-numbered (HasFewOwners most) before.tables number table at sound.few in
-    let rise : HasSoundWrites table = all-numbered HasSoundWrites before.tables number table at sound.written in
-    record {
-      each = λ place.
-          get-HasFile (own_place number written.write) (file_of written) old new has place
-          ∙ ap (λ o. cond (eq_by_cmp place_cmp place (own_place number written.write)) (Some (file_of written)) o) (stands.each place)
-          ∙ sym (made_at-inserted before.tables number txn table written place at next rise (omega arith))
-          ∙ ap (λ ts. made_at ts place) (sym (tables ∙ tables_inserted-once before.tables txn number written));
-    }
+  written-stays : (place : Place) → made_at (changed (written_to written) tables k) place ≡ None → made_at tables place ≡ None
+  unfolding made_at
+  written-stays place e = by (either (place.table.0 == k))
+    where
+      now : made_in (cond (place.table.0 == k) (Some (written_to written table)) (numbered tables place.table.0)) place ≡ None
+      now = ap (λ o. made_in o place) (sym (numbered-changed (written_to written) tables k place.table.0 table at)) ∙ e
 
--- ---- the file of a write id
+      by : (place.table.0 == k ≡ true) ⊎ (place.table.0 == k ≡ false) → made_in (numbered tables place.table.0) place ≡ None
+      by (inr other) = ap (λ b. made_in (cond b (Some (written_to written table)) (numbered tables place.table.0)) place) (sym other) ∙ now
+      by (inl same) =
+          ap (λ o. made_in o place) (ap (numbered tables) (eqb-true place.table.0 k same) ∙ at)
+          ∙ made-in-none table written place (ap (λ b. made_in (cond b (Some (written_to written table)) (numbered tables place.table.0)) place) (sym same) ∙ now)
 
-same_name : (write other : ℕ) → write < write_end → other < write_end
-    → pointwise nat_eq (own_name write 0) (own_name other 0) ≡ (write == other)
-same_name write other first second =
-    same_from_decides {P = write ≡ other} (pointwise nat_eq (own_name write 0) (own_name other 0)) (write == other) (
-      λ e. own_name-same write other 0 0 first second ((bytes_decides (own_name write 0) (own_name other 0)).0 e),
-      λ e. (bytes_decides (own_name write 0) (own_name other 0)).1 (ap (λ n. own_name n 0) e),
-    )
-    (Decides-eqb write other)
+all-encoded : (f : Table → Table) → ((t : Table) → (f t).writes ≡ t.writes) → (t : Table) → AreEncoded t → AreEncoded (f t)
+all-encoded f same t h = subst (AllByRecursion IsEncoded) (sym (same t)) h
 
-option_map-cond : (b : Bool) (written : Written) (o : Option Written)
-    → cond b (Some (file_of written)) (option_map file_of o) ≡ option_map file_of (cond b (Some written) o)
-option_map-cond true written o = refl
-option_map-cond false written o = refl
+module _ (s now : State) (files : Tree) (n : ℕ) (f : Transaction → Transaction) (t : Transaction) (sound : IsSound s) (stands : Stands s files)
+    (at : numbered s.transactions n ≡ Some t) (transactions : now.transactions ≡ changed (while_open f) s.transactions n) where
+  others-later : (m : ℕ) → (m == n) ≡ false → numbered (map ending_of now.transactions) m ≡ numbered (map ending_of s.transactions) m
+  others-later m other = ap (λ ts. numbered (map ending_of ts) m) transactions ∙ other-ending (while_open f) s.transactions n m t at other
 
-pub file_in-own : (low high write : ℕ) (writes : List Written) → RiseWithin low high writes → high < write_end → write < write_end
-    → file_in writes (own_name write 0) ≡ option_map file_of (written_with write writes)
-file_in-own low high write [] rise room fits = refl
-file_in-own low high write (written ∷ writes) rise room fits =
-    let most : written.write ≤ high = rise.2 in
-    (λ i. cond (same_name written.write write (omega arith) fits i) (Some (file_of written))
-    (file_in-own written.write high write writes rise.3 room fits i))
-    ∙ option_map-cond (written.write == write) written (written_with write writes)
+  commit-stands : (ws : List (ℕ × Written)) → IsOneWrite t ws → now.tables ≡ tables_behind ws s.tables
+      → ((place : Place) → IsOwn s.tables n place → tree.get files place ≡ made_at now.tables place) → AllByRecursion AreEncoded now.tables → Stands now files
+  commit-stands ws (inl none) tables whole encoded =
+      let same : now.tables ≡ s.tables = tables ∙ ap (λ xs. tables_behind xs s.tables) none in
+      stands-ended s now files n stands
+      (λ place bytes is. inl (sym (ap (λ ts. made_at ts place) same) ∙ is))
+      (λ place is. sym (ap (λ ts. made_at ts place) same) ∙ is)
+      (λ txn place own. subst (λ ts. IsOwn ts txn place) (sym same) own)
+      others-later whole encoded
+  commit-stands ws (inr one) tables whole encoded =
+      let x : ℕ × Written = one.0 in
+      let same : now.tables ≡ changed (written_to x.1) s.tables x.0 = tables ∙ ap (λ xs. tables_behind xs s.tables) one.1 in
+      let here = owner-table (map owners_of s.tables) s.tables x.0 x.1.write n refl
+      (sound.given.has_owner n x.0 x.1.write (ap (λ o. given_among o x.0) (numbered-map given_of s.transactions n ∙ ap (option_map given_of) at) ∙ one.2.0)) in
+      let keeping = all-numbered KeepsAll s.tables x.0 here.0 here.1 sound.tables.keeping in
+      stands-ended s now files n stands
+      (λ place bytes is. written-later s.tables x.0 n x.1 here.0 here.1 here.2 keeping place bytes (sym (ap (λ ts. made_at ts place) same) ∙ is))
+      (λ place is. written-stays s.tables x.0 n x.1 here.0 here.1 here.2 keeping place (sym (ap (λ ts. made_at ts place) same) ∙ is))
+      (λ txn place own. subst (λ ts. IsOwn ts txn place) (sym same)
+      (own-changed (written_to x.1) (λ t write txn e. e) (λ t. refl) s.tables x.0 txn place own))
+      others-later whole encoded
 
-pub file-at : (state : State) (files : Tree) (k high write : ℕ) (table : Table) → numbered state.tables k ≡ Some table
-    → RiseWithin 0 high table.writes → high < write_end → write < write_end → Stands state files
-    → tree.get files (own_place k write) ≡ option_map file_of (written_with write table.writes)
+  create-stands : (k : ℕ) (o : Option Transaction) → now.tables ≡ s.tables ++ made_by k o ∷ []
+      → ((place : Place) → IsOwn s.tables n place → tree.get files place ≡ made_at now.tables place) → AllByRecursion AreEncoded now.tables → Stands now files
+  create-stands k o tables whole encoded =
+      let same : (place : Place) → made_at now.tables place ≡ made_at s.tables place =
+      λ place. ap (λ ts. made_at ts place) tables ∙ made_at-more s.tables k o place in
+      stands-ended s now files n stands
+      (λ place bytes is. inl (sym (same place) ∙ is))
+      (λ place is. sym (same place) ∙ is)
+      (λ txn place own. subst (λ ts. IsOwn ts txn place) (sym tables) (own-more s.tables (made_by k o) txn place own))
+      others-later whole encoded
+
+-- ---- the law
+
+pub stands-after : (limits : Limits) (s : State) (event : Entry) (files : Tree) → Fits limits s event → IsSound s → IsFiled event s files → Stands s files
+    → Stands (after s event) files
+unfolding acted
+stands-after limits s (entry.Boot run) files fits sound filed stands =
+    stands-same s (after s (entry.Boot run)) files stands (λ place. refl) (λ txn place own. own) (λ m h. h) stands.encoded
+stands-after limits s (entry.Opened txn session number text) files fits sound filed stands =
+    stands-same s (after s (entry.Opened txn session number text)) files stands (λ place. refl) (λ txn place own. own)
+    (λ m h. undone-more s.transactions (opened session number text) m h) stands.encoded
+stands-after limits s (entry.Start txn statement) files fits sound filed stands =
+    stands-same s (after s (entry.Start txn statement)) files stands (λ place. refl) (λ txn place own. own)
+    (λ m h. subst (λ es. IsUndone (numbered es m)) (sym (map-open ending_of (started s statement) (λ t. refl) s.transactions txn.0)) h) stands.encoded
+stands-after limits s (entry.Given txn table write) files fits sound filed stands =
+    stands-same s (after s (entry.Given txn table write)) files stands
+    (λ place. same-made (owned txn.0) (λ t. refl) s.tables table.0 place)
+    (λ n place own. own-changed (owned txn.0) (λ t w n e. numbered-more t.owners txn.0 w n e) (λ t. refl) s.tables table.0 n place own)
+    (λ m h. subst (λ es. IsUndone (numbered es m)) (sym (map-open ending_of (given_id table.0 write.0) (λ t. refl) s.transactions txn.0)) h)
+    (all-each AreEncoded (owned txn.0) (all-encoded (owned txn.0) (λ t. refl)) s.tables table.0 stands.encoded)
+stands-after limits s (entry.Commit txn wrote) files fits sound filed stands =
+    let here = found (CommitFits s wrote) (numbered s.transactions txn.0) fits in
+    let single = all-numbered IsSingle s.transactions txn.0 here.0 here.1 sound.single in
+    commit-stands s (after s (entry.Commit txn wrote)) files txn.0 (committed s.entries wrote) here.0 sound stands here.1 refl
+    (commits (Some here.0)) (one-write here.0 single) (ap (λ o. tables_behind (commits o) s.tables) here.1) filed.whole filed.encoded
+stands-after limits s (entry.Abort txn cause) files fits sound filed stands =
+    stands-same s (after s (entry.Abort txn cause)) files stands (λ place. refl) (λ n place own. own)
+    (λ m h. undone-aborted s.entries cause s.transactions txn.0 m h) stands.encoded
+stands-after limits s (entry.Create txn table) files fits sound filed stands =
+    let here = found (CreateFits s table.0) (numbered s.transactions txn.0) fits in
+    create-stands s (after s (entry.Create txn table)) files txn.0 (ended (Made s.entries table.0)) here.0 sound stands here.1 refl
+    table.0 (numbered s.transactions txn.0) refl filed.whole filed.encoded
+stands-after limits s event files fits sound filed stands = absurd fits
+
+pub standing-goes-on : StandingGoesOn
+standing-goes-on limits s event files fits sound filed stands = stands-after limits s event files fits sound filed stands
+
+pub soundness-goes-on : SoundnessGoesOn
+soundness-goes-on limits s event fits sound = sound-after limits s event fits sound
+
+-- ---- what is at a place
+
+made-slice : (tables : List Table) (n : ℕ) (place : Place) (bytes : List ℕ) → made_in (slice_get tables n) place ≡ Some bytes → (table : Table) × (slice_get tables n ≡ Some table)
+made-slice [] n place bytes e = cc
+made-slice (t ∷ tables) zero place bytes e = (t, refl)
+made-slice (t ∷ tables) (suc n) place bytes e = made-slice tables n place bytes e
+
+pub made-of-table : (tables : List Table) (place : Place) (bytes : List ℕ) → made_at tables place ≡ Some bytes
+    → (table : Table) × (numbered tables place.table.0 ≡ Some table) × (made_in (Some table) place ≡ Some bytes)
 unfolding made_at
-file-at state files k high write table at rise room fits stands =
-    stands.each (own_place k write) ∙ ap (λ o. made_in o (own_place k write)) at
-    ∙ file_in-own 0 high write table.writes rise room fits
+made-of-table tables place bytes e = by (numbered tables place.table.0) refl e
+  where
+    by : (o : Option Table) → numbered tables place.table.0 ≡ o → made_in o place ≡ Some bytes
+        → (table : Table) × (numbered tables place.table.0 ≡ Some table) × (made_in (Some table) place ≡ Some bytes)
+    by None is e = cc
+    by (Some table) is e = (table, is, e)
 
--- what has a write id is that write's inserts
-pub record IsWrittenWith (low high write : ℕ) (written : Written) : Type 0 where
-  pub inserts : AreInserts written
-  pub is : written.write ≡ write
-  pub over : low < write
-  pub within : write ≤ high
+pub made-file : (table : Table) (place : Place) (bytes : List ℕ) → made_in (Some table) place ≡ Some bytes → file_in table.writes place.dir ≡ Some bytes
+made-file table place bytes e = by ((length place.partition == 0) && (place.bucket == 0)) e
+  where
+    by : (b : Bool) → cond b (file_in table.writes place.dir) None ≡ Some bytes → file_in table.writes place.dir ≡ Some bytes
+    by true e = e
+    by false e = cc
 
-written-here : (low high write : ℕ) (first written : Written) (rest : Option Written) → AreInserts first → low < first.write → first.write ≤ high
-    → (rest ≡ Some written → IsWrittenWith first.write high write written)
-    → (b : Bool) → (first.write == write) ≡ b → cond b (Some first) rest ≡ Some written → IsWrittenWith low high write written
-written-here low high write first written rest inserts over within later true is found =
-    let same : first ≡ written = cc in
-    let number : first.write ≡ write = eqb-true first.write write is in
-    record {
-      inserts = subst AreInserts same inserts;
-      is = ap (λ (w : Written). w.write) (sym same) ∙ number;
-      over = omega arith;
-      within = omega arith;
-    }
-written-here low high write first written rest inserts over within later false is found =
-    let rest = later found in
-    let further : first.write < write = rest.over in
-    record { inserts = rest.inserts; is = rest.is; over = omega arith; within = rest.within }
+-- the write whose file it is
+pub file-write : (P : Written → Type 0) (writes : List Written) (dir bytes : List ℕ) → file_in writes dir ≡ Some bytes → AllByRecursion P writes
+    → (written : Written) × (own_name written.write 0 ≡ dir) × P written
+file-write P [] dir bytes e each = cc
+file-write P (first ∷ writes) dir bytes e each =
+    by (either (pointwise nat_eq (own_name first.write 0) dir)) (λ h. file-write P writes dir bytes h each.1) e
+  where
+    by : (pointwise nat_eq (own_name first.write 0) dir ≡ true) ⊎ (pointwise nat_eq (own_name first.write 0) dir ≡ false)
+        → (file_in writes dir ≡ Some bytes → (written : Written) × (own_name written.write 0 ≡ dir) × P written)
+        → cond (pointwise nat_eq (own_name first.write 0) dir) (Some (file_of first)) (file_in writes dir) ≡ Some bytes
+        → (written : Written) × (own_name written.write 0 ≡ dir) × P written
+    by (inl is) rest e = (first, (bytes_decides (own_name first.write 0) dir).0 is, each.0)
+    by (inr is) rest e = rest (sym (ap (λ b. cond b (Some (file_of first)) (file_in writes dir)) is) ∙ e)
 
-pub written-with : (low high write : ℕ) (writes : List Written) (written : Written) → RiseWithin low high writes
-    → written_with write writes ≡ Some written → IsWrittenWith low high write written
-written-with low high write [] written rise e = cc
-written-with low high write (first ∷ writes) written rise e =
-    written-here low high write first written (written_with write writes) rise.0 rise.1 rise.2
-    (written-with first.write high write writes written rise.3) (first.write == write) refl e
+pub files-of-tables : FilesAreOfTables
+files-of-tables s files place bytes stands is = by (made_at s.tables place) refl
+  where
+    by : (o : Option (List ℕ)) → made_at s.tables place ≡ o → (table : Table) × (numbered s.tables place.table.0 ≡ Some table)
+    by None none = let loose = stands.other place bytes is none in (loose.own.table, loose.own.is)
+    by (Some made) some = let here = made-of-table s.tables place made some in (here.0, here.1)
+
+-- the write ids of a table are few
+few-ids : (s : State) → IsSound s → (k write txn : ℕ) (table : Table) → numbered s.tables k ≡ Some table → numbered table.owners write ≡ Some txn → write ≤ s.entries
+few-ids s sound k write txn table at owner =
+    let few = all-numbered (HasFewOwners s.entries) s.tables k table at sound.tables.few in
+    let within = numbered-within table.owners write txn owner in
+    omega (arith, few, within.1)
+
+-- what is being written isn't made
+being-written-unmade : (s : State) (place : Place) → IsSound s → s.entries < write_end → (txn : ℕ) (own : IsOwn s.tables txn place)
+    → (IsDone (numbered (map ending_of s.transactions) txn) → ⊥) → (bytes : List ℕ) → made_at s.tables place ≡ Some bytes → ⊥
+being-written-unmade s place sound room txn own undone bytes made =
+    let here = made-of-table s.tables place bytes made in
+    let same : own.table ≡ here.0 = same_one (numbered s.tables place.table.0) own.table here.0 own.is here.1 in
+    let each = all-numbered (AreOfCommitted (map ending_of s.transactions)) s.tables place.table.0 here.0 here.1 sound.committed in
+    let write = file-write (IsOfCommitted (map ending_of s.transactions) here.0.owners) here.0.writes place.dir bytes (made-file here.0 place bytes here.2) each in
+    let owner : numbered here.0.owners own.write ≡ Some txn = subst (λ (t : Table). numbered t.owners own.write ≡ Some txn) same own.owner in
+    let first = few-ids s sound place.table.0 write.0.write write.2.0 here.0 here.1 write.2.1 in
+    let second = few-ids s sound place.table.0 own.write txn here.0 here.1 owner in
+    let number : write.0.write ≡ own.write = own_name-same write.0.write own.write 0 own.statement (omega (arith, first, room)) (omega (arith, second, room)) (write.1 ∙ own.dir) in
+    let by_same : write.2.0 ≡ txn = same_one (numbered here.0.owners own.write) write.2.0 txn (ap (numbered here.0.owners) (sym number) ∙ write.2.1) owner in
+    undone (subst (λ n. IsDone (numbered (map ending_of s.transactions) n)) by_same write.2.2)
+
+pub puts-loose : PutsAreLoose
+puts-loose s before now place sound room writing others stands = record {
+  made = λ other bytes is. others other (λ same. unmade bytes (subst (λ p. made_at s.tables p ≡ Some bytes) same is)) ∙ stands.made other bytes is;
+  other = λ other bytes is none. by other bytes is none (either (eq_by_cmp place_cmp other place));
+  encoded = stands.encoded;
+}
+  where
+    undone : IsUndone (numbered (map ending_of s.transactions) writing.txn)
+    undone = subst IsUndone (sym writing.unended) tt
+
+    unmade : (bytes : List ℕ) → made_at s.tables place ≡ Some bytes → ⊥
+    unmade bytes is = being-written-unmade s place sound room writing.txn writing.own (λ done. subst IsDone writing.unended done) bytes is
+
+    by : (other : Place) (bytes : List ℕ) → tree.get now other ≡ Some bytes → made_at s.tables other ≡ None
+        → (eq_by_cmp place_cmp other place ≡ true) ⊎ (eq_by_cmp place_cmp other place ≡ false) → IsLoose s other
+    by other bytes is none (inl same) =
+        record { txn = writing.txn; own = subst (IsOwn s.tables writing.txn) (sym (same-place other place same)) writing.own; undone = undone }
+    by other bytes is none (inr apart) = stands.other other bytes (sym (others other (other-place other place apart)) ∙ is) none
+
+-- ---- a write id that wasn't given
+
+pub new-ids-bare : NewIdsHaveNoFile
+new-ids-bare s files place table statement sound room stands at dir = by (tree.get files place) refl
+  where
+    next : ℕ
+    next = length table.owners + 1
+
+    not_given : (write txn : ℕ) → numbered table.owners write ≡ Some txn → (number : ℕ) → place.dir ≡ own_name write number → ⊥
+    not_given write txn owner number is =
+        let few = all-numbered (HasFewOwners s.entries) s.tables place.table.0 table at sound.tables.few in
+        let within = numbered-within table.owners write txn owner in
+        let same : write ≡ length table.owners + 1 =
+        own_name-same write (length table.owners + 1) number statement (omega (arith, within.1, few, room)) (omega (arith, few, room)) (sym is ∙ dir) in
+        omega (arith, same, within.1)
+
+    by : (o : Option (List ℕ)) → tree.get files place ≡ o → tree.get files place ≡ None
+    by None is = is
+    by (Some bytes) is = or (made_at s.tables place) refl
+      where
+        or : (o : Option (List ℕ)) → made_at s.tables place ≡ o → tree.get files place ≡ None
+        or None none =
+            let loose = stands.other place bytes is none in
+            let same : loose.own.table ≡ table = same_one (numbered s.tables place.table.0) loose.own.table table loose.own.is at in
+            absurd (not_given loose.own.write loose.txn (subst (λ (t : Table). numbered t.owners loose.own.write ≡ Some loose.txn) same loose.own.owner)
+            loose.own.statement loose.own.dir)
+        or (Some made) some =
+            let here = made-of-table s.tables place made some in
+            let same : here.0 ≡ table = same_one (numbered s.tables place.table.0) here.0 table here.1 at in
+            let each = all-numbered (AreOfCommitted (map ending_of s.transactions)) s.tables place.table.0 table at sound.committed in
+            let write = file-write (IsOfCommitted (map ending_of s.transactions) table.owners) table.writes place.dir made
+            (subst (λ (t : Table). file_in t.writes place.dir ≡ Some made) same (made-file here.0 place made here.2)) each in
+            absurd (not_given write.0.write write.2.0 write.2.1 0 (sym write.1))
+
+-- ---- the files of what was committed
+
+-- the first of that name
+file-in-own : (endings : List (Option Ending)) (owners : List ℕ) (most : ℕ) → length owners ≤ most → most < write_end
+    → (writes : List Written) → AreApart writes → AllByRecursion (IsOfCommitted endings owners) writes
+    → AllByRecursion (λ (written : Written). file_in writes (own_name written.write 0) ≡ Some (file_of written)) writes
+file-in-own endings owners most few room [] apart each = tt
+file-in-own endings owners most few room (first ∷ writes) apart each = (
+  ap (λ b. cond b (Some (file_of first)) (file_in writes (own_name first.write 0))) ((bytes_decides (own_name first.write 0) (own_name first.write 0)).1 refl),
+  behind writes apart.0 each.1 (file-in-own endings owners most few room writes apart.1 each.1),
+)
+  where
+    small : (written : Written) → IsOfCommitted endings owners written → written.write < write_end
+    small written is = let within = numbered-within owners written.write is.0 is.1 in omega (arith, within.1, few, room)
+
+    skips : (written : Written) → IsOfCommitted endings owners written → HasOther first.write written → file_in writes (own_name written.write 0) ≡ Some (file_of written)
+        → file_in (first ∷ writes) (own_name written.write 0) ≡ Some (file_of written)
+    skips written is other h = by (either (pointwise nat_eq (own_name first.write 0) (own_name written.write 0)))
+      where
+        by : (pointwise nat_eq (own_name first.write 0) (own_name written.write 0) ≡ true) ⊎ (pointwise nat_eq (own_name first.write 0) (own_name written.write 0) ≡ false)
+            → file_in (first ∷ writes) (own_name written.write 0) ≡ Some (file_of written)
+        by (inl same) =
+            absurd (other (sym (own_name-same first.write written.write 0 0 (small first each.0) (small written is)
+            ((bytes_decides (own_name first.write 0) (own_name written.write 0)).0 same))))
+        by (inr differs) = ap (λ b. cond b (Some (file_of first)) (file_in writes (own_name written.write 0))) differs ∙ h
+
+    behind : (later : List Written) → AllByRecursion (HasOther first.write) later → AllByRecursion (IsOfCommitted endings owners) later
+        → AllByRecursion (λ (written : Written). file_in writes (own_name written.write 0) ≡ Some (file_of written)) later
+        → AllByRecursion (λ (written : Written). file_in (first ∷ writes) (own_name written.write 0) ≡ Some (file_of written)) later
+    behind [] other is h = tt
+    behind (written ∷ later) other is h = (skips written is.0 other.0 h.0, behind later other.1 is.1 h.1)
+
+pub commits-have-files : CommitsHaveFiles
+unfolding made_at
+commits-have-files s files k table sound room stands at =
+    all-joined table.writes each.each (all-numbered AreEncoded s.tables k table at stands.encoded)
+    (file-in-own (map ending_of s.transactions) table.owners s.entries few room table.writes each.apart committed)
+  where
+    each : HasSoundWrites table
+    each = all-numbered HasSoundWrites s.tables k table at sound.tables.written
+
+    few : length table.owners ≤ s.entries
+    few = all-numbered (HasFewOwners s.entries) s.tables k table at sound.tables.few
+
+    committed : AreOfCommitted (map ending_of s.transactions) table
+    committed = all-numbered (AreOfCommitted (map ending_of s.transactions)) s.tables k table at sound.committed
+
+    all-joined : (writes : List Written) → AllByRecursion IsPlainWrite writes → AllByRecursion IsEncoded writes
+        → AllByRecursion (λ (written : Written). file_in table.writes (own_name written.write 0) ≡ Some (file_of written)) writes
+        → AllByRecursion (HasItsFile files k) writes
+    all-joined [] plain encoded found = tt
+    all-joined (written ∷ writes) plain encoded found = (
+      (
+        record { deletes = plain.0.deletes; whole = plain.0.whole; file = encoded.0 },
+        stands.made (own_place k written.write) (file_of written) (ap (λ o. made_in o (own_place k written.write)) at ∙ found.0),
+      ),
+      all-joined writes plain.1 encoded.1 found.1,
+    )

@@ -119,5 +119,5 @@ module _ (tables : List Table) (live : AllByRecursion IsLive tables) (order : Nu
   changed-named tree info effect e = subst ChangesTable e (changes-table tree)
 
 pub changed-table : ChangedTableStands
-changed-table book tree info effect sound e =
-    changed-named (state_of book).tables sound.tables.live sound.tables.in_order tree info effect e
+changed-table book tree info effect idle e =
+    changed-named (state_of book).tables idle.sound.tables.live idle.sound.tables.in_order tree info effect e

@@ -1,5 +1,5 @@
 -- What a statement inserts can be written as a file.
-use Rattle.std.proofs.Common.{◌≡◌, ℕ, ◌+◌, ◌<◌, ◌≤◌, Bool, true, false, cond, Option, Some, None, List, [], ◌∷◌, map, filter, length, ℤ, refl, sym, ap, ◌∙◌, subst, arith}
+use Rattle.std.proofs.Common.{◌≡◌, ℕ, ◌+◌, ◌≤◌, Bool, true, false, cond, Option, Some, None, List, [], ◌∷◌, map, filter, length, ℤ, refl, sym, ap, ◌∙◌, subst, arith}
 use Rattle.std.specs.Prelude.{sum_by, nat_eq}
 use Rattle.std.specs.List.{AllByRecursion, flat_map, list_all}
 use Rattle.std.specs.Cmp.Lexicographic.{pointwise}
@@ -175,7 +175,7 @@ sorted-taken rows taken =
 abbrev numbered_id : ℕ → ℕ → ℕ → RowId
 numbered_id write statement number = record { write = record { 0 = write }; statement = statement; bucket = 0; row = number }
 
-numbered-whole : (write statement number : ℕ) (rows : List Row) → AllByRecursion IsWhole (numbered_from write statement number rows)
+pub numbered-whole : (write statement number : ℕ) (rows : List Row) → AllByRecursion IsWhole (numbered_from write statement number rows)
 numbered-whole write statement number [] = tt
 numbered-whole write statement number (row ∷ rows) = (refl, numbered-whole write statement (number + 1) rows)
 
@@ -258,6 +258,6 @@ seen-plain (table ∷ tables) plain =
     live-seen table.is_live table (filter (λ (t : Table). t.is_live) tables) plain.0 (seen-plain tables plain.1)
 
 pub inserts-written : InsertsCanBeWritten
-inserts-written book tree info effect write sound e some =
+inserts-written book tree info effect write idle e some =
     change-written write some (seen_tables (state_of book).tables) tree info effect
-    (seen-plain (state_of book).tables sound.tables.plain) e
+    (seen-plain (state_of book).tables idle.sound.tables.plain) e

@@ -1,6 +1,6 @@
 -- How a statement's transaction goes through the book, where no other is open: its Opened and its Start, and then
 -- what ends it.
-use Rattle.std.specs.Prelude.{◌≡◌, ℕ, ◌+◌, Bool, true, false, Option, Some, None, List, ◌∷◌, ◌++◌, length, codes}
+use Rattle.std.specs.Prelude.{◌≡◌, ℕ, ◌+◌, Bool, true, false, Option, Some, None, List, [], ◌∷◌, ◌++◌, length, codes}
 use Rattle.std.specs.List.{AllByRecursion}
 use Rattle.hv_history.specs.declared.entry.Entry.{Entry}
 use Rattle.hv_history.specs.declared.entry.Entry.TheVariants as entry
@@ -58,3 +58,7 @@ pub record Goes (book added : List Entry) (number : ℕ) (text reply : List ℕ)
   pub jobs : (state_of (book ++ added)).jobs ≡ (state_of book).jobs
   pub count : length (state_of (book ++ added)).transactions ≡ next_number book
   pub ended : AllByRecursion HasEnded (state_of book).transactions → AllByRecursion HasEnded (state_of (book ++ added)).transactions
+  pub last : Transaction
+  pub transactions : (state_of (book ++ added)).transactions ≡ (state_of book).transactions ++ last ∷ []
+  pub last_ended : HasEnded last
+  pub last_refused : is_abort last.ending ≡ refused

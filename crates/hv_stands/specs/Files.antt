@@ -1,7 +1,8 @@
--- Which files a history makes: each commit that inserted rows has one in its own delta, and no other file stands.
+-- Which files a history makes: each commit that inserted rows has one in its own delta; and which may stand beside.
 -- Source: Hive Transactions, base and delta directories. Built so far: unpartitioned, unbucketed tables, and
 -- inserts of one statement.
-use Rattle.std.specs.Prelude.{◌≡◌, ℕ, ◌==◌, ◌&&◌, false, if◌then◌else◌, nat_eq, Option, Some, None, List, [], ◌∷◌, length, map}
+use Rattle.std.specs.Prelude.{◌≡◌, ℕ, ◌==◌, ◌&&◌, false, IsFalse, if◌then◌else◌, nat_eq, Option, Some, None, List, [], ◌∷◌, length, map}
+use Rattle.std.specs.List.{list_any, AllByRecursion}
 use Rattle.std.specs.Cmp.Lexicographic.{pointwise}
 use Rattle.std.specs.FinMap as tree
 use Rattle.hv_shelf.specs.declared.place.Place.{Place}
@@ -9,10 +10,15 @@ use Rattle.hv_shelf.specs.Disk.{Tree}
 use Rattle.hv_logic.specs.declared.effect.Found.{Found}
 use Rattle.hv_rowfile.specs.declared.record.Rec.{Rec}
 use Rattle.hv_rowfile.specs.declared.record.Rec.TheVariants.{Insert}
-use Rattle.hv_rowfile.specs.Layout.{file_spelling}
+use Rattle.hv_rowfile.specs.Layout.{IsFile, file_spelling}
+use Rattle.hv_history.specs.declared.entry.Entry.{Entry}
+use Rattle.hv_history.specs.declared.entry.Entry.TheVariants as entry
+use Rattle.hv_history.specs.declared.state.Ending.{Ending}
+use Rattle.hv_history.specs.declared.state.Ending.TheVariants.{Aborted}
+use Rattle.hv_history.specs.declared.state.Transaction.{Transaction}
 use Rattle.hv_history.specs.declared.state.Written.{Written}
 use Rattle.hv_history.specs.declared.state.Table.{Table}
-use Rattle.hv_history.specs.State.{State, numbered}
+use Rattle.hv_history.specs.State.{State, numbered, after}
 use Rattle.hv_dirs.specs.Names.{own_name}
 
 abbrev pub insert_record : Found → Rec
@@ -44,6 +50,54 @@ made_in (Some table) place =
 unfoldable pub made_at : List Table → Place → Option (List ℕ)
 made_at tables place = made_in (numbered tables place.table.0) place
 
--- the tree has the files that the history makes, and no other
+-- ---- which files may stand
+
+-- the place is in an own directory of a write id of this transaction, which may be of any statement, and isn't forgotten
+pub record IsOwn (tables : List Table) (txn : ℕ) (place : Place) : Type 0 where
+  pub table : Table
+  pub is : numbered tables place.table.0 ≡ Some table
+  pub write : ℕ
+  pub statement : ℕ
+  pub dir : place.dir ≡ own_name write statement
+  pub owner : numbered table.owners write ≡ Some txn
+  pub kept : IsFalse (list_any (λ other. other == write) table.forgotten)
+
+abbrev pub ending_of : Transaction → Option Ending
+ending_of transaction = transaction.ending
+
+-- the transaction hasn't committed: it is open, or was aborted
+abbrev pub IsUndone : Option (Option Ending) → Type 0
+IsUndone (Some None) = Unit {0}
+IsUndone (Some (Some (Aborted place cause))) = Unit {0}
+IsUndone _ = ⊥
+
+pub record IsLoose (state : State) (place : Place) : Type 0 where
+  pub txn : ℕ
+  pub own : IsOwn state.tables txn place
+  pub undone : IsUndone (numbered (map ending_of state.transactions) txn)
+
+-- what was written can be read again
+abbrev pub IsEncoded : Written → Type 0
+IsEncoded written = IsFile false 0 (records_of written.inserts)
+
+abbrev pub AreEncoded : Table → Type 0
+AreEncoded table = AllByRecursion IsEncoded table.writes
+
+-- Each file that the history makes stands. Every other place is loose, and may hold anything: a write may have failed
+-- there, or a run may have stopped before its commit.
 pub record Stands (state : State) (files : Tree) : Type 0 where
-  pub each : (place : Place) → tree.get files place ≡ made_at state.tables place
+  pub made : (place : Place) (bytes : List ℕ) → made_at state.tables place ≡ Some bytes → tree.get files place ≡ Some bytes
+  pub other : (place : Place) (bytes : List ℕ) → tree.get files place ≡ Some bytes → made_at state.tables place ≡ None → IsLoose state place
+  pub encoded : AllByRecursion AreEncoded state.tables
+
+-- ---- what an entry asks of the files: one that ends a transaction as committed, that its own directories have what is
+-- made there then, and no more
+
+pub record IsFiledBy (txn : ℕ) (event : Entry) (state : State) (files : Tree) : Type 0 where
+  pub whole : (place : Place) → IsOwn state.tables txn place → tree.get files place ≡ made_at (after state event).tables place
+  pub encoded : AllByRecursion AreEncoded (after state event).tables
+
+abbrev pub IsFiled : Entry → State → Tree → Type 0
+IsFiled (entry.Commit txn wrote) state files = IsFiledBy txn.0 (entry.Commit txn wrote) state files
+IsFiled (entry.Create txn table) state files = IsFiledBy txn.0 (entry.Create txn table) state files
+IsFiled _ state files = Unit {0}

@@ -1,8 +1,11 @@
 -- What is proved of statements, one after another, and of the files that they leave.
-use Rattle.std.specs.Prelude.{◌≡◌, ℕ, ◌+◌, ◌<◌, ◌≤◌, false, true, Option, Some, None, List, [], ◌∷◌, ◌++◌, length}
+use Rattle.std.specs.Prelude.{◌≡◌, ◌⊎◌, ℕ, ◌+◌, ◌<◌, ◌≤◌, false, true, Option, Some, None, List, [], ◌∷◌, ◌++◌, length, map}
 use Rattle.std.specs.List.{AllByRecursion}
 use Rattle.hv_base.specs.declared.ids.Touch.{Touch}
-use Rattle.hv_shelf.specs.Disk.{Store, Tree, HasFile}
+use Rattle.std.specs.FinMap as tree
+use Rattle.hv_base.specs.declared.ids.Limits.{Limits}
+use Rattle.hv_shelf.specs.declared.place.Place.{Place}
+use Rattle.hv_shelf.specs.Disk.{Tree}
 use Rattle.hv_ast.specs.declared.statement.Stmt.{Stmt}
 use Rattle.hv_grammar.specs.Running.{Runs}
 use Rattle.hv_ast.specs.Built.{IsBuilt}
@@ -13,19 +16,19 @@ use Rattle.hv_logic.specs.declared.effect.Effect.{Effect}
 use Rattle.hv_logic.specs.declared.meaning.Meaning.{Meaning}
 use Rattle.hv_logic.specs.declared.meaning.Meaning.TheVariants.{Listing, Change, Make, RowLimit}
 use Rattle.hv_logic.specs.Meaning.{meaning_of}
-use Rattle.hv_rowfile.specs.Layout.{CanWrite}
+use Rattle.hv_rowfile.specs.Layout.{CanWrite, IsFile}
 use Rattle.hv_history.specs.declared.entry.Entry.{Entry}
 use Rattle.hv_history.specs.declared.entry.Entry.TheVariants as entry
 use Rattle.hv_history.specs.declared.entry.Cause.{Cause}
 use Rattle.hv_history.specs.declared.entry.Cause.TheVariants as cause
 use Rattle.hv_history.specs.declared.state.Written.{Written}
 use Rattle.hv_history.specs.declared.state.Table.{Table}
-use Rattle.hv_history.specs.State.{State, state_of, numbered, changed, seen_tables, written_by, written_to, owned, new_table}
-use Rattle.hv_history.specs.Legal.{IsRefusedAs}
+use Rattle.hv_history.specs.State.{State, after, state_of, numbered, changed, seen_tables, written_by, written_to, owned, new_table}
+use Rattle.hv_history.specs.Legal.{IsRefusedAs, Fits, IsLegalFrom, profile}
 use Rattle.hv_history.specs.Answers.{listing, counts_line, ok_line, cause_text}
-use Rattle.hv_dirs.specs.Names.{write_end}
-use Rattle.hv_stands.specs.Files.{records_of, file_of, own_place, Stands}
-use Rattle.hv_stands.specs.Sound.{IsSound, AreSound, IsWhole, ArePlain, AreInserts}
+use Rattle.hv_dirs.specs.Names.{own_name, write_end}
+use Rattle.hv_stands.specs.Files.{records_of, file_of, own_place, ending_of, IsOwn, IsFiled, Stands}
+use Rattle.hv_stands.specs.Sound.{IsSound, IsIdle, IsWhole, ArePlain, AreInserts}
 use Rattle.hv_stands.specs.Endings.{next_number, statement_entries, HasSpace, Goes}
 use Rattle.hv_stands.specs.Reading.{seen_read}
 
@@ -50,7 +53,7 @@ MadeColumnsArePlain =
 abbrev pub QueriesEnd : Type 0
 QueriesEnd =
     (book : List Entry) (number : ℕ) (text : List ℕ) (tree : Stmt) (names : List (List ℕ)) (rows : List Row)
-    → IsSound (state_of book) → HasSpace book → Runs text tree → meant book tree ≡ Some (Listing names rows)
+    → IsIdle (state_of book) → HasSpace book → Runs text tree → meant book tree ≡ Some (Listing names rows)
     → Goes book (statement_entries book number text (committing book [] ∷ [])) number text (listing names rows) false (state_of book).tables
 
 -- a statement may be aborted for this cause; damage is told of files alone
@@ -63,7 +66,7 @@ IsCauseOf meaning _ = ⊥
 abbrev pub RefusalsEnd : Type 0
 RefusalsEnd =
     (book : List Entry) (number : ℕ) (text : List ℕ) (tree : Stmt) (cause : Cause)
-    → IsSound (state_of book) → HasSpace book → Runs text tree → IsCauseOf (meant book tree) cause
+    → IsIdle (state_of book) → HasSpace book → Runs text tree → IsCauseOf (meant book tree) cause
     → Goes book (statement_entries book number text (entry.Abort (record { 0 = next_number book }) cause ∷ []))
     number text (cause_text None cause) true (state_of book).tables
 
@@ -77,7 +80,7 @@ next_table book = length (state_of book).tables + 1
 abbrev pub TablesAreMade : Type 0
 TablesAreMade =
     (book : List Entry) (number : ℕ) (text : List ℕ) (tree : Stmt) (shape : Shape)
-    → IsSound (state_of book) → HasSpace book → Runs text tree → meant book tree ≡ Some (Make shape)
+    → IsIdle (state_of book) → HasSpace book → Runs text tree → meant book tree ≡ Some (Make shape)
     → Goes book
     (statement_entries book number text (entry.Create (record { 0 = next_number book }) (record { 0 = next_table book }) ∷ []))
     number text ok_line false ((state_of book).tables ++ made_table (next_table book) shape ∷ [])
@@ -92,7 +95,7 @@ inserting info effect = record { table = info.table; partition = []; inserted = 
 abbrev pub RowsAreInserted : Type 0
 RowsAreInserted =
     (book : List Entry) (number : ℕ) (text : List ℕ) (tree : Stmt) (info : TableInfo) (effect : Effect) (table : Table)
-    → IsSound (state_of book) → HasSpace book → Runs text tree → meant book tree ≡ Some (Change info effect) → 0 < length effect.inserts
+    → IsIdle (state_of book) → HasSpace book → Runs text tree → meant book tree ≡ Some (Change info effect) → 0 < length effect.inserts
     → numbered (state_of book).tables info.table.0 ≡ Some table
     → Goes book
     (statement_entries book number text
@@ -105,7 +108,7 @@ RowsAreInserted =
 abbrev pub NothingIsInserted : Type 0
 NothingIsInserted =
     (book : List Entry) (number : ℕ) (text : List ℕ) (tree : Stmt) (info : TableInfo) (effect : Effect)
-    → IsSound (state_of book) → HasSpace book → Runs text tree → meant book tree ≡ Some (Change info effect) → effect.inserts ≡ []
+    → IsIdle (state_of book) → HasSpace book → Runs text tree → meant book tree ≡ Some (Change info effect) → effect.inserts ≡ []
     → Goes book (statement_entries book number text (committing book [] ∷ []))
     number text (counts_line []) false (state_of book).tables
 
@@ -115,7 +118,7 @@ NothingIsInserted =
 abbrev pub InsertsCanBeWritten : Type 0
 InsertsCanBeWritten =
     (book : List Entry) (tree : Stmt) (info : TableInfo) (effect : Effect) (write : ℕ)
-    → IsSound (state_of book) → meant book tree ≡ Some (Change info effect) → 1 ≤ write
+    → IsIdle (state_of book) → meant book tree ≡ Some (Change info effect) → 1 ≤ write
     → CanWrite false 0 (records_of (written_by write 0 effect).inserts)
     × AllByRecursion IsWhole (written_by write 0 effect).inserts × (effect.deletes ≡ [])
 
@@ -123,44 +126,90 @@ InsertsCanBeWritten =
 abbrev pub ChangedTableStands : Type 0
 ChangedTableStands =
     (book : List Entry) (tree : Stmt) (info : TableInfo) (effect : Effect)
-    → IsSound (state_of book) → meant book tree ≡ Some (Change info effect)
+    → IsIdle (state_of book) → meant book tree ≡ Some (Change info effect)
     → (table : Table) × (numbered (state_of book).tables info.table.0 ≡ Some table) × (table.info ≡ info)
 
 -- a statement means the same over the rows that are read from its table's files
 abbrev pub ReadingIsEnough : Type 0
 ReadingIsEnough =
-    (book : List Entry) (tree : Stmt) → IsSound (state_of book)
+    (book : List Entry) (tree : Stmt) → IsIdle (state_of book)
     → meaning_of (seen_read tree (state_of book).tables) tree ≡ meant book tree
 
--- ---- soundness, and the files, go on
+-- ---- over any state, whatever transactions are open: what each entry and each file that is put leave
 
 abbrev pub SoundnessGoesOn : Type 0
 SoundnessGoesOn =
-    (most next : ℕ) (tables : List Table) → AreSound most tables → most < next → AreSound next tables
+    (limits : Limits) (state : State) (event : Entry) → Fits limits state event → IsSound state → IsSound (after state event)
 
-abbrev pub MadeTablesAreSound : Type 0
-MadeTablesAreSound =
-    (most : ℕ) (tables : List Table) (shape : Shape) → AreSound most tables → ArePlain shape.columns
-    → AreSound most (tables ++ made_table (length tables + 1) shape ∷ [])
+abbrev pub StandingGoesOn : Type 0
+StandingGoesOn =
+    (limits : Limits) (state : State) (event : Entry) (files : Tree)
+    → Fits limits state event → IsSound state → IsFiled event state files → Stands state files → Stands (after state event) files
 
-abbrev pub InsertedTablesAreSound : Type 0
-InsertedTablesAreSound =
-    (most txn number : ℕ) (tables : List Table) (table : Table) (written : Written)
-    → AreSound most tables → numbered tables number ≡ Some table
-    → AreInserts written → written.write ≡ length table.owners + 1
-    → AreSound (most + 1) (tables_inserted tables txn number written)
+-- the place is in an own directory of a transaction that is open
+pub record IsBeingWritten (state : State) (place : Place) : Type 0 where
+  pub txn : ℕ
+  pub own : IsOwn state.tables txn place
+  pub unended : numbered (map ending_of state.transactions) txn ≡ Some None
 
-abbrev pub MadeTablesStand : Type 0
-MadeTablesStand =
-    (before now : State) (files : Tree) (shape : Shape)
-    → Stands before files → now.tables ≡ before.tables ++ made_table (length before.tables + 1) shape ∷ []
-    → Stands now files
+-- a file that was put there, or broken there, or taken away
+abbrev pub PutsAreLoose : Type 0
+PutsAreLoose =
+    (state : State) (before now : Tree) (place : Place)
+    → IsSound state → state.entries < write_end → IsBeingWritten state place
+    → ((other : Place) → (other ≡ place → ⊥) → tree.get now other ≡ tree.get before other)
+    → Stands state before → Stands state now
+
+-- each file is one of a table that was created
+abbrev pub FilesAreOfTables : Type 0
+FilesAreOfTables =
+    (state : State) (files : Tree) (place : Place) (bytes : List ℕ)
+    → Stands state files → tree.get files place ≡ Some bytes → (table : Table) × (numbered state.tables place.table.0 ≡ Some table)
+
+-- the write id that is given next has no file yet
+abbrev pub NewIdsHaveNoFile : Type 0
+NewIdsHaveNoFile =
+    (state : State) (files : Tree) (place : Place) (table : Table) (statement : ℕ)
+    → IsSound state → state.entries + 1 < write_end → Stands state files → numbered state.tables place.table.0 ≡ Some table
+    → place.dir ≡ own_name (length table.owners + 1) statement → tree.get files place ≡ None
+
+abbrev pub HasItsFile : Tree → ℕ → Written → Type 0
+HasItsFile files table written = AreInserts written × (tree.get files (own_place table written.write) ≡ Some (file_of written))
+
+-- what the write ids of committed transactions show is what was committed
+abbrev pub CommitsHaveFiles : Type 0
+CommitsHaveFiles =
+    (state : State) (files : Tree) (number : ℕ) (table : Table)
+    → IsSound state → state.entries < write_end → Stands state files → numbered state.tables number ≡ Some table
+    → AllByRecursion (HasItsFile files number) table.writes
+
+-- ---- of a statement: the files that stood stand, with the file of what it inserts
+
+-- what ends a statement that writes no file
+abbrev pub IsQuiet : List Entry → Entry → Type 0
+IsQuiet book event =
+    (event ≡ committing book [])
+    ⊎ ((why : Cause) × (event ≡ entry.Abort (record { 0 = next_number book }) why))
+    ⊎ ((number : ℕ) × (event ≡ entry.Create (record { 0 = next_number book }) (record { 0 = number })))
+
+abbrev pub QuietStatementsStand : Type 0
+QuietStatementsStand =
+    (book : List Entry) (number : ℕ) (text : List ℕ) (event : Entry) (files : Tree)
+    → IsIdle (state_of book) → IsQuiet book event → IsLegalFrom profile (state_of book) (statement_entries book number text (event ∷ []))
+    → Stands (state_of book) files → Stands (state_of (book ++ statement_entries book number text (event ∷ []))) files
+
+-- the entries that end an insert of these rows
+abbrev pub inserting_ends : List Entry → TableInfo → Effect → ℕ → List Entry
+inserting_ends book info effect write =
+    entry.Given (record { 0 = next_number book }) info.table (record { 0 = write }) ∷ committing book (inserting info effect ∷ []) ∷ []
 
 abbrev pub InsertedFilesStand : Type 0
 InsertedFilesStand =
-    (before now : State) (old new : Store) (txn number most : ℕ) (table : Table) (written : Written)
-    → AreSound most before.tables → most + 1 < write_end → numbered before.tables number ≡ Some table
-    → written.write ≡ length table.owners + 1
-    → Stands before old.tree → HasFile (own_place number written.write) (file_of written) old new
-    → now.tables ≡ tables_inserted before.tables txn number written
-    → Stands now new.tree
+    (book : List Entry) (number : ℕ) (text : List ℕ) (said : Stmt) (info : TableInfo) (effect : Effect) (table : Table) (old : Tree)
+    → IsIdle (state_of book) → (state_of book).entries + 4 < write_end → Runs text said → meant book said ≡ Some (Change info effect)
+    → numbered (state_of book).tables info.table.0 ≡ Some table
+    → IsLegalFrom profile (state_of book) (statement_entries book number text (inserting_ends book info effect (length table.owners + 1)))
+    → IsFile false 0 (records_of (written_by (length table.owners + 1) 0 effect).inserts)
+    → Stands (state_of book) old
+    → Stands (state_of (book ++ statement_entries book number text (inserting_ends book info effect (length table.owners + 1))))
+    (tree.insert old (own_place info.table.0 (length table.owners + 1)) (file_of (written_by (length table.owners + 1) 0 effect)))

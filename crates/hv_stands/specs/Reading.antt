@@ -1,5 +1,5 @@
 -- What a statement sees when it reads the files of its table.
-use Rattle.std.specs.Prelude.{ℕ, ◌+◌, zero, suc, ◌==◌, Bool, true, false, if◌then◌else◌, nat_eq, Option, Some, None, List, [], ◌∷◌, ◌++◌}
+use Rattle.std.specs.Prelude.{ℕ, Bool, true, false, if◌then◌else◌, nat_eq, Option, Some, None, List, [], ◌∷◌}
 use Rattle.std.specs.Cmp.Lexicographic.{pointwise}
 use Rattle.std.specs.List.{flat_map}
 use Rattle.hv_locks.specs.declared.table.Lock.{Lock}
@@ -48,23 +48,3 @@ seen_by_name tree (Some name) tables = seen_of tree (table_of_name name tables)
 -- the one table that a statement sees, with the rows that were read from its files
 abbrev pub seen_read : Stmt → List Table → List Seen
 seen_read tree tables = seen_by_name tree (table_named tree) tables
-
--- ---- a table's files, write id by write id
-
--- the first commit of that write id
-abbrev pub written_with : ℕ → List Written → Option Written
-written_with write [] = None
-written_with write (written ∷ writes) = if written.write == write then Some written else written_with write writes
-
-abbrev pub inserts_in : Option Written → List Found
-inserts_in None = []
-inserts_in (Some written) = written.inserts
-
--- the rows that were inserted under a write id
-abbrev pub rows_at : List Written → ℕ → List Found
-rows_at writes write = inserts_in (written_with write writes)
-
--- the rows of so many write ids from above `low` on
-abbrev pub rows_from : List Written → ℕ → ℕ → List Found
-rows_from writes low zero = []
-rows_from writes low (suc n) = rows_at writes (low + 1) ++ rows_from writes (low + 1) n

@@ -1,18 +1,24 @@
--- What holds of a history between two statements of one thread: no transaction is open, the tables are those that
--- were made, by their numbers, and each commit's rows are a file's.
-use Rattle.std.specs.Prelude.{◌≡◌, ℕ, ◌+◌, ◌<◌, ◌≤◌, false, IsTrue, IsFalse, List, [], ◌∷◌, length}
+-- What holds of every state whose entries fit, whatever transactions are open: the tables are those that were made, by
+-- their numbers; each write id has the transaction that it was given to, and each write is one of a transaction that has
+-- committed. Between two statements of one thread no transaction is open beside.
+use Rattle.std.specs.Prelude.{◌≡◌, ◌≢◌, ℕ, ◌+◌, ◌≤◌, false, IsTrue, IsFalse, Option, Some, None, List, [], ◌∷◌, length, map}
 use Rattle.std.specs.List.{AllByRecursion}
 use Rattle.hv_value.specs.declared.sql_type.SqlType.{SqlType}
 use Rattle.hv_value.specs.declared.sql_type.SqlType.TheVariants.{Int, Str}
 use Rattle.hv_logic.specs.declared.catalog.Column.{Column}
 use Rattle.hv_logic.specs.declared.effect.Found.{Found}
+use Rattle.hv_logic.specs.declared.meaning.Meaning.{Meaning}
+use Rattle.hv_logic.specs.declared.meaning.Meaning.TheVariants.{Change}
 use Rattle.hv_rowfile.specs.Layout.{IsFile}
 use Rattle.hv_history.specs.declared.state.Written.{Written}
+use Rattle.hv_history.specs.declared.state.Statement.{Statement}
 use Rattle.hv_history.specs.declared.state.Table.{Table}
+use Rattle.hv_history.specs.declared.state.Ending.{Ending}
+use Rattle.hv_history.specs.declared.state.Ending.TheVariants.{Committed}
 use Rattle.hv_history.specs.declared.state.Transaction.{Transaction}
-use Rattle.hv_history.specs.State.{State}
-use Rattle.hv_history.specs.Legal.{is_open}
-use Rattle.hv_stands.specs.Files.{records_of}
+use Rattle.hv_history.specs.State.{State, numbered, given_in}
+use Rattle.hv_history.specs.Legal.{is_open, IsStatement}
+use Rattle.hv_stands.specs.Files.{records_of, ending_of}
 
 abbrev pub HasEnded : Transaction → Type 0
 HasEnded transaction = IsFalse (is_open transaction)
@@ -44,33 +50,104 @@ IsPlainTable table = ArePlain table.info.shape.columns
 abbrev pub IsWhole : Found → Type 0
 IsWhole found = found.partition ≡ []
 
--- inserts of an unpartitioned, unbucketed table, as a file has them
+-- ---- writes
+
+-- inserts of an unpartitioned, unbucketed table
+pub record IsPlainWrite (written : Written) : Type 0 where
+  pub deletes : written.deletes ≡ []
+  pub whole : AllByRecursion IsWhole written.inserts
+
+-- the same, as a file has them
 pub record AreInserts (written : Written) : Type 0 where
   pub deletes : written.deletes ≡ []
   pub whole : AllByRecursion IsWhole written.inserts
   pub file : IsFile false 0 (records_of written.inserts)
 
--- the write ids rise, from above the one to at most the other
-abbrev pub RiseWithin : ℕ → ℕ → List Written → Type 0
-RiseWithin low high [] = Unit {0}
-RiseWithin low high (written ∷ writes) =
-    AreInserts written × (low < written.write) × (written.write ≤ high) × RiseWithin written.write high writes
+abbrev pub HasOther : ℕ → Written → Type 0
+HasOther write other = other.write ≢ write
 
-abbrev pub HasSoundWrites : Table → Type 0
-HasSoundWrites table = RiseWithin 0 (length table.owners) table.writes
+-- no two of these writes have one write id
+abbrev pub AreApart : List Written → Type 0
+AreApart [] = Unit {0}
+AreApart (written ∷ writes) = AllByRecursion (HasOther written.write) writes × AreApart writes
+
+-- in the order of their commits
+pub record HasSoundWrites (table : Table) : Type 0 where
+  pub each : AllByRecursion IsPlainWrite table.writes
+  pub apart : AreApart table.writes
 
 -- no more write ids were given than there are entries
 abbrev pub HasFewOwners : ℕ → Table → Type 0
 HasFewOwners most table = length table.owners ≤ most
+
+-- no id of it was forgotten: so far none is
+abbrev pub KeepsAll : Table → Type 0
+KeepsAll table = table.forgotten ≡ []
 
 pub record AreSound (most : ℕ) (tables : List Table) : Type 0 where
   pub live : AllByRecursion IsLive tables
   pub in_order : NumberedFrom 1 tables
   pub plain : AllByRecursion IsPlainTable tables
   pub few : AllByRecursion (HasFewOwners most) tables
+  pub keeping : AllByRecursion KeepsAll tables
   pub written : AllByRecursion HasSoundWrites tables
 
+-- ---- transactions
+
+-- what a statement means deletes nothing
+abbrev pub DeletesNone : Option Meaning → Type 0
+DeletesNone (Some (Change info effect)) = effect.deletes ≡ []
+DeletesNone _ = Unit {0}
+
+-- it has one statement
+pub record IsSingle (transaction : Transaction) : Type 0 where
+  pub statement : Statement
+  pub one : transaction.statements ≡ statement ∷ []
+  pub text : IsStatement statement.text
+  pub deletes : DeletesNone statement.meaning
+
+abbrev pub given_of : Transaction → List (ℕ × ℕ)
+given_of transaction = transaction.given
+
+abbrev pub owners_of : Table → List ℕ
+owners_of table = table.owners
+
+-- the write id that one was given in a table, and the transaction that has a write id
+abbrev pub given_among : Option (List (ℕ × ℕ)) → ℕ → Option ℕ
+given_among None table = None
+given_among (Some given) table = given_in table given
+
+abbrev pub owner_among : Option (List ℕ) → ℕ → Option ℕ
+owner_among None write = None
+owner_among (Some owners) write = numbered owners write
+
+-- a transaction has just the write ids that were given to it
+pub record AreGiven (given : List (List (ℕ × ℕ))) (owners : List (List ℕ)) : Type 0 where
+  pub has_owner : (txn table write : ℕ) → given_among (numbered given txn) table ≡ Some write → owner_among (numbered owners table) write ≡ Some txn
+  pub is_given : (txn table write : ℕ) → owner_among (numbered owners table) write ≡ Some txn → given_among (numbered given txn) table ≡ Some write
+
+-- the transaction has committed
+abbrev pub IsDone : Option (Option Ending) → Type 0
+IsDone (Some (Some (Committed place wrote))) = Unit {0}
+IsDone _ = ⊥
+
+abbrev pub IsOfCommitted : List (Option Ending) → List ℕ → Written → Type 0
+IsOfCommitted endings owners written = (txn : ℕ) × (numbered owners written.write ≡ Some txn) × IsDone (numbered endings txn)
+
+-- each write of a table is one of a transaction that has committed
+abbrev pub AreOfCommitted : List (Option Ending) → Table → Type 0
+AreOfCommitted endings table = AllByRecursion (IsOfCommitted endings table.owners) table.writes
+
+-- ---- states
+
 pub record IsSound (state : State) : Type 0 where
-  pub ended : AllByRecursion HasEnded state.transactions
   pub no_jobs : state.jobs ≡ []
   pub tables : AreSound state.entries state.tables
+  pub single : AllByRecursion IsSingle state.transactions
+  pub given : AreGiven (map given_of state.transactions) (map owners_of state.tables)
+  pub committed : AllByRecursion (AreOfCommitted (map ending_of state.transactions)) state.tables
+
+-- no transaction is open beside
+pub record IsIdle (state : State) : Type 0 where
+  pub sound : IsSound state
+  pub ended : AllByRecursion HasEnded state.transactions

@@ -1,4 +1,4 @@
-ghost use Rattle.hv_stands.specs.Laws.{MadeColumnsArePlain, QueriesEnd, RefusalsEnd, TablesAreMade, RowsAreInserted, NothingIsInserted, InsertsCanBeWritten, ChangedTableStands, ReadingIsEnough, SoundnessGoesOn, MadeTablesAreSound, InsertedTablesAreSound, MadeTablesStand, InsertedFilesStand};
+ghost use Rattle.hv_stands.specs.Laws.{MadeColumnsArePlain, QueriesEnd, RefusalsEnd, TablesAreMade, RowsAreInserted, NothingIsInserted, InsertsCanBeWritten, ChangedTableStands, ReadingIsEnough, SoundnessGoesOn, StandingGoesOn, PutsAreLoose, FilesAreOfTables, NewIdsHaveNoFile, CommitsHaveFiles, QuietStatementsStand, InsertedFilesStand};
 
 /// A table that a statement makes, of a form that is built, has columns of kinds that are built.
 pub fn made_columns_are_plain()
@@ -45,15 +45,34 @@ pub fn reading_is_enough()
     ensures law { ReadingIsEnough }
 {}
 
-/// Tables stay sound behind each statement.
+/// What holds of every state holds behind each entry that fits.
 pub fn soundness_goes_on()
-    ensures later { SoundnessGoesOn }
-    ensures made { MadeTablesAreSound }
-    ensures inserted { InsertedTablesAreSound }
+    ensures law { SoundnessGoesOn }
 {}
 
-/// The files that stand are those that the history makes, behind each statement.
-pub fn files_stand()
-    ensures made { MadeTablesStand }
+/// The files stand behind each entry that fits, where one that ends a transaction as committed has its files.
+pub fn standing_goes_on()
+    ensures law { StandingGoesOn }
+{}
+
+/// What is put in an own directory of an open transaction, or broken there, is loose.
+pub fn puts_are_loose()
+    ensures law { PutsAreLoose }
+{}
+
+/// Each file is one of a table that was created; a write id that wasn't given has none.
+pub fn files_are_of_tables()
+    ensures law { FilesAreOfTables }
+    ensures bare { NewIdsHaveNoFile }
+{}
+
+/// Each committed write has its file, as it was written.
+pub fn commits_have_files()
+    ensures law { CommitsHaveFiles }
+{}
+
+/// The files stand behind a statement that writes none, and behind an insert with its file.
+pub fn statements_stand()
+    ensures quiet { QuietStatementsStand }
     ensures inserted { InsertedFilesStand }
 {}

@@ -1,6 +1,5 @@
 use Rattle.std.proofs.Common.{refl}
 use Rattle.hv_script.specs.Script.{texts_of}
-use Rattle.hv_program.proofs.Turns.{spares-same}
 use Rattle.hv_program.proofs.Whole.{few-texts, short-texts, Headline-words, Headline-unread, Headline-memory, Headline-refused, Headline-served}
 use Rattle.hv_program.proofs.Refusing.{refuses-words, refuses-read, refuses-served, refuses-script, refuses-memory, tells-refused, no-command, a-command, said-words, refused-at}
 use Rattle.hv_program.proofs.Blaming.{causes-words, causes-read, causes-script, causes-memory, causes-served, completes}
@@ -15,7 +14,6 @@ returns-then-is_none g c =
     record {
       headline = Headline-words _ _ _ _ _ _ _ _ none c.said.ensures.heard line;
       refused = refused;
-      kept = spares-same _;
       faults = causes;
       complete = completes _ _ _ _ _ _ _ _ refused causes;
     }
@@ -28,7 +26,6 @@ returns-in-Err g c =
     record {
       headline = Headline-unread _ _ _ _ _ _ c.in-Err.stop c.in-Err.ensures.tells c.status.ensures c.in-Err.ensures.why;
       refused = refused;
-      kept = spares-same _;
       faults = causes;
       complete = completes _ _ _ _ _ _ _ _ refused causes;
     }
@@ -49,7 +46,6 @@ returns-in-Ok-read_script g c =
       headline = Headline-served _ c.in-Ok.bytes.items c.deref.result.now c.in-Ok-read_script.script.texts _ _ _ _ _ _ _ c.deref.ensures.value c.in-Ok.ensures.taken
           c.in-Ok-read_script.ensures.read.0 c.in-Ok-read_script.ensures.read.1 c.in-Ok.ensures.tells c.serve.ensures.heard c.serve.ensures.tells c.serve.ensures.served;
       refused = refused;
-      kept = c.serve.ensures.kept;
       faults = causes;
       complete = completes _ _ _ _ _ _ _ _ refused causes;
     }
@@ -64,7 +60,6 @@ returns-in-Err-Refused g c =
     record {
       headline = Headline-refused _ _ _ _ _ _ _ _ _ c.in-Err-Refused.line some at c.in-Ok.ensures.tells c.refused_script.ensures.heard c.refused_script.ensures.said;
       refused = refused;
-      kept = spares-same _;
       faults = causes;
       complete = completes _ _ _ _ _ _ _ _ refused causes;
     }
@@ -77,7 +72,6 @@ returns g c =
     record {
       headline = Headline-memory _ _ _ _ _ _ c.in-Ok.ensures.tells c.status-in-Err-NoMemory.ensures;
       refused = refused;
-      kept = spares-same _;
       faults = causes;
       complete = completes _ _ _ _ _ _ _ _ refused causes;
     }

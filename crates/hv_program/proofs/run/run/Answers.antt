@@ -7,10 +7,9 @@ use Rattle.hv_program.proofs.run.run.Goals as goal
 pub loop-i-preserved : goal.loop-i-preserved
 loop-i-preserved g c = record {
   ready = c.in_ok-reply.ensures.ready;
-  few = omega (arith, c.in_ok-reply.ensures.few, c.loop-i.invariant.few);
   shows = λ s. c.in_ok-reply.ensures.shows (c.loop-i.invariant.shows s);
   prints = λ s. Prints-next _ _ _ _ _ c.args.texts.now c.loop-i.i _ _ _ _ _ _ _ _ c.loop-i-test.true c.index-texts-i.is c.loop-i.invariant.tells
-      c.as_slice.ensures c.in_ok-write_all.ensures.done (c.loop-i.invariant.prints s) (c.in_ok-reply.ensures.answered (c.loop-i.invariant.shows s));
+      c.as_slice.ensures c.in_ok-write_all.ensures.done (c.loop-i.invariant.prints s) (c.in_ok-reply.ensures.taken (c.loop-i.invariant.shows s));
   tells = stays_stays _ _ _ c.loop-i.invariant.tells c.in_ok-reply.ensures.tells;
   heard = stays_stays _ _ _ c.loop-i.invariant.heard (stays_by _ _ _ c.in_ok-write_all.ensures.done);
   later_store = omega (arith, c.loop-i.invariant.later_store, c.in_ok-reply.ensures.cause.later);
@@ -21,7 +20,7 @@ loop-i-preserved g c = record {
 
 pub returns-in_err-reply-clause-halts : goal.returns-in_err-reply-clause-halts
 returns-in_err-reply-clause-halts g c = λ shows.
-    Halts-stopped g.D.Shelf.told c.in_err-reply.field-0.0 c.from_residual.result _ _ c.loop-i.house c.take_up.new.house c.args.texts.now c.loop-i.i _ _ _ _
+    Halts-stopped g.D.Shelf.told c.in_err-reply.field-0.0 c.from_residual.result _ _ c.loop-i.house c.take_or_refuse.new.house c.args.texts.now c.loop-i.i _ _ _ _
     c.from_residual.ensures.1 c.loop-i-test.true c.index-texts-i.is c.loop-i.invariant.tells
     (c.loop-i.invariant.prints shows) (c.loop-i.invariant.shows shows) c.in_err-reply.ensures.stopped
 
@@ -42,7 +41,7 @@ pub returns-in_err-write_all-clause-halts : goal.returns-in_err-write_all-clause
 returns-in_err-write_all-clause-halts g c = λ shows.
     Halts-cut c.from_residual-in_err-write_all.result _ _ _ _ _ _ c.args.texts.now c.loop-i.i _ _ _ _ _ _ _ _
     c.from_residual-in_err-write_all.ensures.1 c.loop-i-test.true c.index-texts-i.is c.loop-i.invariant.tells c.as_slice.ensures c.in_err-write_all.ensures.failed
-    (c.loop-i.invariant.prints shows) (c.in_ok-reply.ensures.answered (c.loop-i.invariant.shows shows)) c.in_ok-reply.ensures.ready.kept.reads
+    (c.loop-i.invariant.prints shows) (c.in_ok-reply.ensures.taken (c.loop-i.invariant.shows shows)) c.in_ok-reply.ensures.ready.kept.reads
     (c.in_ok-reply.ensures.shows (c.loop-i.invariant.shows shows))
 
 pub returns-in_err-write_all-clause-later_store : goal.returns-in_err-write_all-clause-later_store

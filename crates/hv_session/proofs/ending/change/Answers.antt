@@ -1,11 +1,15 @@
-use Rattle.std.proofs.Common.{◌≡◌, ℕ, [], ◌∷◌, List, ap, subst, ◌∙◌}
+use Rattle.std.proofs.Common.{◌≡◌, ℕ, [], ◌∷◌, List, ◌<◌, ap, sym, subst, ◌∙◌}
 use Rattle.std.proofs.lemmas.Result.{err_from_is_err_and}
 use Rattle.hv_base.specs.declared.ids.Touch.{Touch}
+use Rattle.hv_history.specs.declared.entry.Entry.TheVariants as entry
+use Rattle.hv_history.specs.declared.state.Written.{Written}
 use Rattle.hv_history.specs.Answers.{counts_line}
 use Rattle.hv_stands.specs.Laws.{inserting}
 use Rattle.hv_session.specs.Ends.{IsDone, Inserts, next_written}
 use Rattle.hv_session.proofs.Shorts.{short_touch}
-use Rattle.hv_session.proofs.Halfway.{put-ends, commit-ends}
+use Rattle.hv_dirs.specs.Names.{write_end}
+use Rattle.hv_stands.proofs.Numbers.{numbered-within}
+use Rattle.hv_session.proofs.Halfway.{put-ends, commit-ends, kept-ends, given-ends, number-fits}
 use Rattle.hv_session.proofs.Finishing.{inserted}
 use Rattle.hv_session.proofs.ending.change.Goals as goal
 
@@ -44,5 +48,24 @@ returns-in_err-commit-clause-unended g c =
     let same : left.0 ≡ c.in_err-commit.field-0.0 = cc (left.2) in
     commit-ends g.D.Shelf.told c.args.house.now c.give.new.self c.args.txn c.args.info.table c.requires.can.0 c.in_ok-write.write
     c.requires.can.1 c.in_ok-write.ensures.next c.in_ok-write.ensures.noted
-    c.put_written.new.self c.commit.new.self c.in_err-commit.field-0.0 left.0 c.from_residual-in_err-commit.result left.1 same
+    (entry.Commit c.args.txn c.in_ok-wrote.wrote) c.put_written.new.self c.commit.new.self c.in_err-commit.field-0.0 left.0 c.from_residual-in_err-commit.result left.1 same
     c.in_ok-put_written.ensures.beside c.in_err-commit.ensures.halted
+
+pub returns-in_err-wrote-clause-unended : goal.returns-in_err-wrote-clause-unended
+returns-in_err-wrote-clause-unended g c = kept-ends g.D.Shelf.told c.args.house.now c.args.txn c.from_residual.result c.requires.kept
+
+pub returns-in_err-text-clause-unended : goal.returns-in_err-text-clause-unended
+returns-in_err-text-clause-unended g c = kept-ends g.D.Shelf.told c.args.house.now c.args.txn c.from_residual-in_err-text.result c.requires.kept
+
+pub give-requires-clause-last : goal.give-requires-clause-last
+give-requires-clause-last g c = (numbered-within c.args.house.now.tables.items c.args.info.table.0 c.requires.can.0 c.requires.can.1).1
+
+pub returns-in_err-written-clause-unended : goal.returns-in_err-written-clause-unended
+returns-in_err-written-clause-unended g c =
+    given-ends g.D.Shelf.told c.args.house.now c.give.new.self c.args.txn c.args.info.table c.requires.can.0 c.in_ok-write.write
+    c.requires.can.1 c.in_ok-write.ensures.next c.in_ok-write.ensures.noted c.from_residual-in_err-written.result
+
+pub put_written-requires-clause-number : goal.put_written-requires-clause-number
+put_written-requires-clause-number g c =
+    subst (λ (w : Written). w.write < write_end) (sym c.in_ok-written.ensures)
+    (number-fits c.args.house.now.tables.items c.args.info.table.0 c.in_ok-write.write.0 c.requires.can.0 c.requires.numbers c.requires.can.1 c.in_ok-write.ensures.next)

@@ -1,5 +1,5 @@
-use Rattle.hv_stands.proofs.Soundness.{soundness-later, tables-made-sound, tables-inserted-sound}
+use Rattle.hv_stands.proofs.StandingFiles.{soundness-goes-on}
 use Rattle.hv_stands.proofs.laws.soundness_goes_on.Goals as goal
 
 pub returns : goal.returns
-returns c = record { later = soundness-later; made = tables-made-sound; inserted = tables-inserted-sound }
+returns c = record { law = soundness-goes-on }

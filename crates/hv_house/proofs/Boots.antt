@@ -1,0 +1,372 @@
+-- What an opening notes, and what it leaves where it stops.
+use Rattle.std.proofs.Common.{refl, ◌≡◌, ℕ, zero, suc, ◌+◌, ◌*◌, ◌^◌, ◌<◌, ◌≤◌, Option, Some, None, Result, Ok, Err, List, [], ◌∷◌, ◌++◌, length, map, fold, take, drop, sym, ap, ◌∙◌, subst, arith, append_assoc, append-nil, length-append, ◌⊎◌, inl, inr}
+use Rattle.std.specs.Prelude.{IfErr, slice_index_or, sum_by, Bool, true, false}
+use Rattle.std.proofs.lemmas.List.Sums.{sum_by-cons}
+use Rattle.hv_history.specs.declared.state.Transaction.{Transaction}
+use Rattle.hv_stands.specs.Sound.{IsIdle}
+use Rattle.hv_stands.proofs.Keeping.{sound-all, nothing-sound}
+use Rattle.hv_house.proofs.Openings.{opened-book}
+use Rattle.std.proofs.lemmas.List.{length-map}
+use Rattle.hv_base.specs.Told.{Tells, Moves}
+use Rattle.hv_shelf.specs.Disk.{Store}
+use Rattle.hv_history.specs.declared.entry.Entry.{Entry}
+use Rattle.hv_history.specs.declared.entry.Entry.TheVariants.{Boot}
+use Rattle.hv_history.specs.Journal.{record_of, place_of, Leads, Reads, IsJournal}
+use Rattle.hv_history.specs.State.{State, nothing_yet, after, state_of, opening_tree}
+use Rattle.hv_history.specs.Book.{tree_at}
+use Rattle.hv_history.specs.Legal.{is_open, one_if, open_one, working_one, load, AllFit, profile}
+use Rattle.hv_journal.specs.Appending.{Holds, HoldsOneMore, ReadsOneMore, KeepsTree, StaysShort}
+use Rattle.hv_journal.proofs.Lengths.{length-record}
+use Rattle.hv_recovery.specs.Recovery.{IsJournalOf}
+use Rattle.hv_known.specs.declared.known.Known.{Known}
+use Rattle.hv_known.specs.declared.tally.Tally.{Tally}
+use Rattle.hv_known.specs.Known.{number_next, marked_from, all_known}
+use Rattle.hv_known.specs.Tally.{items_of, view_of, nothing_seen, all_stepped, IsTally, known_from}
+use Rattle.hv_known.proofs.Tallies.{tally-of, known-all}
+use Rattle.hv_house.specs.declared.boot.Left.{Left}
+use Rattle.hv_house.specs.declared.house.House.{House}
+use Rattle.hv_house.specs.declared.fault.HouseFault.{HouseFault}
+use Rattle.hv_house.specs.declared.fault.HouseFault.TheVariants as house
+use Rattle.hv_house.specs.declared.boot.BootFault.TheVariants as fault
+use Rattle.hv_house.specs.House.{entries_of, IsKept, Knows, IsReady, IsNoted, IsBeside, IsHalted, Leaves}
+use Rattle.hv_house.specs.Booting.{open_numbers, lost_entry, opening_entries, opening_of, boot_fault, LeavesFront, IsCutShort, IsCutOpening, CutsOpening, LosesSome, IsLearned}
+
+-- ---- what is learned of a book
+
+texts-counted : (book : List Entry) (state : State) (texts : List ℕ) → map (tree_at book) texts ≡ map opening_tree state.transactions → length texts ≡ length state.transactions
+texts-counted book state texts same =
+    sym (length-map texts (tree_at book)) ∙ ap length same ∙ length-map state.transactions opening_tree
+
+pub learned : (book : List Entry) (tally : Tally) (left : Left) → AllFit profile nothing_yet book → view_of tally ≡ all_stepped book 0 book nothing_seen
+    → length tally.texts.items ≤ length book → left.runs ≡ tally.runs → left.opened ≡ length tally.texts.items
+    → left.unended.items ≡ marked_from 1 tally.unended.items → left.tables.items ≡ known_from tally.undone.items tally.infos.items (map items_of tally.owners.items)
+    → IsLearned book left
+learned book tally left fit view few runs opened open_are tables =
+    let whole : IsTally book (state_of book) (view_of tally) = subst (IsTally book (state_of book)) (sym view) (tally-of profile book fit) in
+    let count = texts-counted book (state_of book) tally.texts.items whole.trees in
+    record {
+      runs = runs ∙ whole.runs;
+      opened = opened ∙ count;
+      few = omega (arith, opened, few);
+      open_are = open_are ∙ ap (marked_from 1) whole.open_are;
+      tables = tables ∙ known-all book (state_of book) (view_of tally) whole;
+    }
+
+-- ---- journals that are empty, and those that aren't
+
+short-journal : (book : List Entry) (bytes : List ℕ) → IsJournal book bytes → length bytes ≤ 1 → book ≡ []
+short-journal book [] is short = is
+short-journal book (gate ∷ []) is short = is
+short-journal book (gate ∷ next ∷ after) is short = absurd (omega (arith, short))
+
+empty-journal : (bytes : List ℕ) → length bytes ≤ 1 → IsJournal [] bytes
+empty-journal [] short = refl
+empty-journal (gate ∷ []) short = refl
+empty-journal (gate ∷ next ∷ after) short = absurd (omega (arith, short))
+
+long-journal : (book : List Entry) (bytes : List ℕ) → IsJournal book bytes → 1 < length bytes → Reads book bytes
+long-journal book [] is long = absurd (omega (arith, long))
+long-journal book (gate ∷ []) is long = absurd (omega (arith, long))
+long-journal book (gate ∷ next ∷ after) is long = is
+
+no-record : (e : Entry) (after : List ℕ) → [] ≡ record_of e ++ after → ⊥
+no-record e after is =
+    let lengths : 0 ≡ length (record_of e ++ after) = ap length is in
+    omega (arith, lengths, length-append (record_of e) after, length-record e)
+
+pub reads-journal : (book : List Entry) (bytes : List ℕ) → Reads book bytes → IsJournal book bytes
+reads-journal [] [] reads = refl
+reads-journal [] (gate ∷ []) reads = refl
+reads-journal (e ∷ book) [] reads = let is : [] ≡ reads.1.0 ∷ (record_of e ++ reads.1.1) = reads.1.4 in cc
+reads-journal (e ∷ book) (gate ∷ []) reads =
+    let is : gate ∷ [] ≡ reads.1.0 ∷ (record_of e ++ reads.1.1) = reads.1.4 in
+    let none : [] ≡ record_of e ++ reads.1.1 = cc in
+    absurd (no-record e reads.1.1 none)
+reads-journal book (gate ∷ next ∷ after) reads = reads
+
+-- a closed gate was written into an empty journal
+pub made-holds : (o p : Option Store) (book : List Entry) (len : ℕ) → Tells o (λ s. len ≡ length s.journal) → len ≤ 1 → Tells o (λ s. IsJournal book s.journal)
+    → Moves KeepsTree o p → Holds p [] → Holds p book
+made-holds None None book len is short journal moves holds = tt
+made-holds None (Some t) book len is short journal moves holds = absurd moves
+made-holds (Some s) None book len is short journal moves holds = absurd moves
+made-holds (Some s) (Some t) book len is short journal moves holds =
+    subst (λ b. Reads b t.journal) (sym (short-journal book s.journal journal (omega (arith, is, short)))) holds
+
+-- one that isn't empty is the book's
+pub left-holds : (o : Option Store) (book : List Entry) (len : ℕ) → Tells o (λ s. len ≡ length s.journal) → 1 < len → Tells o (λ s. IsJournal book s.journal) → Holds o book
+left-holds None book len is long journal = tt
+left-holds (Some s) book len is long journal = long-journal book s.journal journal (omega (arith, is, long))
+
+-- where it wasn't written the journal is still empty
+pub still-short : (o p : Option Store) (book : List Entry) (len : ℕ) → Tells o (λ s. len ≡ length s.journal) → len ≤ 1 → Tells o (λ s. IsJournal book s.journal)
+    → Moves StaysShort o p → Tells p (λ s. IsJournal book s.journal)
+still-short None None book len is short journal moves = tt
+still-short None (Some t) book len is short journal moves = absurd moves
+still-short (Some s) None book len is short journal moves = absurd moves
+still-short (Some s) (Some t) book len is short journal moves =
+    subst (λ b. IsJournal b t.journal) (sym (short-journal book s.journal journal (omega (arith, is, short))))
+    (empty-journal t.journal (moves (omega (arith, is, short))))
+
+pub same-journal : (o p : Option Store) (book : List Entry) → p ≡ o → Tells o (λ s. IsJournal book s.journal) → Tells p (λ s. IsJournal book s.journal)
+same-journal o p book same journal = subst (λ x. Tells x (λ s. IsJournal book s.journal)) (sym same) journal
+
+-- ---- some were aborted as lost
+
+map-append : (xs ys : List ℕ) → map lost_entry (xs ++ ys) ≡ map lost_entry xs ++ map lost_entry ys
+map-append [] ys = refl
+map-append (x ∷ xs) ys = ap (λ zs. lost_entry x ∷ zs) (map-append xs ys)
+
+left-by : (why : HouseFault) (event : Entry) (told : Option Store) (book : List Entry) (more : List Entry) → Leaves why event told book
+    → Tells told (λ s. LeavesFront (boot_fault why) book (event ∷ more) s.journal)
+left-by house.NoMemory event None book more leaves = tt
+left-by house.NoMemory event (Some s) book more leaves = reads-journal book s.journal leaves
+left-by house.Store event None book more leaves = tt
+left-by house.Store event (Some s) book more (inl reads) = inl (reads-journal book s.journal reads)
+left-by house.Store event (Some s) book more (inr reads) = inr (event, more, refl, reads-journal (book ++ event ∷ []) s.journal reads)
+
+cut-told : (why : HouseFault) (told : Option Store) (book front more opening : List Entry) → opening ≡ front ++ more
+    → Tells told (λ s. LeavesFront (boot_fault why) (book ++ front) more s.journal) → CutsOpening why book opening told
+cut-told why None book front more opening parts leaves = tt
+cut-told why (Some s) book front more opening parts leaves = record { front = front; more = more; parts = parts; leaves = leaves }
+
+-- the opening stopped at this entry
+pub cut-at : (why : HouseFault) (event : Entry) (told : Option Store) (book front rest opening now : List Entry) → opening ≡ front ++ event ∷ rest → now ≡ book ++ front
+    → Leaves why event told now → CutsOpening why book opening told
+cut-at why event told book front rest opening now parts is leaves =
+    cut-told why told book front (event ∷ rest) opening parts
+    (left-by why event told (book ++ front) rest (subst (λ b. Leaves why event told b) is leaves))
+
+leave-front : (why : HouseFault) (book more : List Entry) (bytes : List ℕ) → IsJournal book bytes → LeavesFront (boot_fault why) book more bytes
+leave-front house.NoMemory book more bytes is = is
+leave-front house.Store book more bytes is = inl is
+
+-- before its first entry
+pub cut-none : (why : HouseFault) (told : Option Store) (book opening : List Entry) → Tells told (λ s. IsJournal book s.journal) → CutsOpening why book opening told
+cut-none why None book opening journal = tt
+cut-none why (Some s) book opening journal = record {
+  front = [];
+  more = opening;
+  parts = refl;
+  leaves = leave-front why (book ++ []) opening s.journal (subst (λ b. IsJournal b s.journal) (sym (append-nil book)) journal);
+}
+
+-- where the journal has no room for it
+pub stopped-full : (entries : ℕ) (told : Option Store) (book : List Entry) → Tells told (λ s. IsJournal book s.journal)
+    → Tells told (λ s. IsCutOpening (fault.Full entries) book s.journal)
+stopped-full entries None book journal = tt
+stopped-full entries (Some s) book journal = record {
+  front = [];
+  more = opening_entries (state_of book);
+  parts = refl;
+  leaves = subst (λ b. IsJournal b s.journal) (sym (append-nil book)) journal;
+}
+
+module _ {D : Type 0} (told : D → Option Store) where
+  -- at one of those that are aborted
+  pub cut-lost : (why : HouseFault) (book : List Entry) (run : ℕ) (open_ : List ℕ) (before now : House D) → entries_of before ≡ book ++ Boot run ∷ []
+      → LosesSome told why open_ before now → CutsOpening why book (Boot run ∷ map lost_entry open_) (told now.shelf)
+  cut-lost why book run open_ before now is loses =
+      cut-at why (lost_entry loses.next) (told now.shelf) book (Boot run ∷ map lost_entry loses.lost) (map lost_entry loses.more) (Boot run ∷ map lost_entry open_) (entries_of now)
+      (ap (λ xs. Boot run ∷ map lost_entry xs) loses.parts ∙ ap (λ es. Boot run ∷ es) (map-append loses.lost (loses.next ∷ loses.more)))
+      (loses.entries ∙ ap (λ b. b ++ map lost_entry loses.lost) is ∙ append_assoc book (Boot run ∷ []) (map lost_entry loses.lost))
+      loses.leaves
+
+-- ---- the loop over those that are open
+
+keeps_same : (o : Option Store) → Moves KeepsTree o o
+keeps_same None = tt
+keeps_same (Some s) = refl
+
+pub keeps_both : (a b c : Option Store) → Moves KeepsTree a b → Moves KeepsTree b c → Moves KeepsTree a c
+keeps_both None None c first second = second
+keeps_both None (Some y) c first second = absurd first
+keeps_both (Some x) None c first second = absurd first
+keeps_both (Some x) (Some y) None first second = absurd second
+keeps_both (Some x) (Some y) (Some z) first second = second ∙ first
+
+-- so many of them were aborted as lost
+pub record IsLosing {D : Type 0} (told : D → Option Store) (faults : D → ℕ) (first now : House D) (unended : List ℕ) (i : ℕ) : Type 0 where
+  pub kept : IsKept told now
+  pub entries : entries_of now ≡ entries_of first ++ map lost_entry (take i unended)
+  pub opened : now.opened ≡ first.opened
+  pub tables : now.tables ≡ first.tables
+  pub tree : Moves KeepsTree (told first.shelf) (told now.shelf)
+  pub later : faults first.shelf ≤ faults now.shelf
+
+take-next : (xs : List ℕ) (i x : ℕ) → i < length xs → x ≡ slice_index_or xs i x → take (suc i) xs ≡ take i xs ++ x ∷ []
+take-next [] i x low at = absurd (omega arith)
+take-next (y ∷ xs) zero x low at = ap (λ z. z ∷ []) (sym at)
+take-next (y ∷ xs) (suc i) x low at = ap (λ ys. y ∷ ys) (take-next xs i x (omega arith) at)
+
+parts-at : (xs : List ℕ) (i x : ℕ) → i < length xs → x ≡ slice_index_or xs i x → xs ≡ take i xs ++ x ∷ drop (suc i) xs
+parts-at [] i x low at = absurd (omega arith)
+parts-at (y ∷ xs) zero x low at = ap (λ z. z ∷ xs) (sym at)
+parts-at (y ∷ xs) (suc i) x low at = ap (λ ys. y ∷ ys) (parts-at xs i x (omega arith) at)
+
+-- the one at a place below the end is the same whatever stands for one behind it
+pub index-same : (xs : List ℕ) (i d e : ℕ) → i < length xs → slice_index_or xs i d ≡ slice_index_or xs i e
+index-same [] i d e low = absurd (omega (arith, low))
+index-same (x ∷ xs) zero d e low = refl
+index-same (x ∷ xs) (suc i) d e low = index-same xs i d e (omega (arith, low))
+
+taken : (xs : List ℕ) (i : ℕ) → i ≤ length xs → length (take i xs) ≡ i
+taken xs zero few = refl
+taken [] (suc i) few = absurd (omega (arith, few))
+taken (x ∷ xs) (suc i) few = let h = taken xs i (omega (arith, few)) in omega (arith, h)
+
+all-taken : (xs : List ℕ) (i : ℕ) → length xs ≤ i → take i xs ≡ xs
+all-taken [] zero past = refl
+all-taken [] (suc i) past = refl
+all-taken (x ∷ xs) zero past = absurd (omega (arith, past))
+all-taken (x ∷ xs) (suc i) past = ap (λ ys. x ∷ ys) (all-taken xs i (omega (arith, past)))
+
+module _ {D : Type 0} (told : D → Option Store) (faults : D → ℕ) (first now : House D) (unended : List ℕ) where
+  pub lose-begins : IsKept told first → IsLosing told faults first first unended 0
+  lose-begins kept = record {
+    kept = kept;
+    entries = sym (append-nil (entries_of first));
+    opened = refl;
+    tables = refl;
+    tree = keeps_same (told first.shelf);
+    later = omega arith;
+  }
+
+  pub lose-room : (i : ℕ) → IsLosing told faults first now unended i → i < length unended → length (entries_of first) + length unended ≤ 131072
+      → length (entries_of now) < 131072
+  lose-room i losing low room =
+      omega (
+        arith,
+        ap length losing.entries,
+        length-append (entries_of first) (map lost_entry (take i unended)),
+        length-map (take i unended) lost_entry,
+        taken unended i (omega (arith, low)),
+        low,
+        room,
+      )
+
+  pub lose-next : (next : House D) (i n : ℕ) → IsLosing told faults first now unended i → i < length unended → n ≡ slice_index_or unended i n
+      → IsNoted told (lost_entry n) now next → next.opened ≡ now.opened → next.tables ≡ now.tables → faults now.shelf ≤ faults next.shelf
+      → IsLosing told faults first next unended (i + 1)
+  lose-next next i n losing low at noted opened tables later =
+      let more : i + 1 ≡ suc i = omega arith in
+      record {
+        kept = noted.kept;
+        entries =
+            noted.entries ∙ ap (λ b. b ++ lost_entry n ∷ []) losing.entries
+            ∙ append_assoc (entries_of first) (map lost_entry (take i unended)) (lost_entry n ∷ [])
+            ∙ ap (λ es. entries_of first ++ es)
+            (sym (map-append (take i unended) (n ∷ [])) ∙ ap (map lost_entry) (sym (take-next unended i n low at)) ∙ ap (λ k. map lost_entry (take k unended)) (sym more));
+        opened = opened ∙ losing.opened;
+        tables = tables ∙ losing.tables;
+        tree = keeps_both (told first.shelf) (told now.shelf) (told next.shelf) losing.tree noted.tree;
+        later = omega (arith, losing.later, later);
+      }
+
+  pub lose-ends : (i : ℕ) → IsLosing told faults first now unended i → length unended ≤ i → entries_of now ≡ entries_of first ++ map lost_entry unended
+  lose-ends i losing past = losing.entries ∙ ap (λ xs. entries_of first ++ map lost_entry xs) (all-taken unended i past)
+
+  pub lose-halts : {T : Type 0} (next : House D) (i n : ℕ) (why same : HouseFault) (result : Result T HouseFault) → result ≡ Err same → same ≡ why
+      → IsLosing told faults first now unended i → i < length unended → n ≡ slice_index_or unended i n
+      → IsHalted told (lost_entry n) why now next → IfErr result (λ fault. LosesSome told fault unended first next)
+  lose-halts {T = T} next i n why same result is e losing low at halted =
+      subst (λ (r : Result T HouseFault). IfErr r (λ fault. LosesSome told fault unended first next)) (sym is)
+      (subst (λ (w : HouseFault). LosesSome told w unended first next) (sym e)
+      (record {
+        lost = take i unended;
+        next = n;
+        more = drop (suc i) unended;
+        parts = parts-at unended i n low at;
+        entries = halted.entries ∙ losing.entries;
+        leaves = subst (Leaves why (lost_entry n) (told next.shelf)) (sym halted.entries) halted.leaves;
+      }))
+
+-- ---- the house before its first note
+
+module _ {D : Type 0} (told : D → Option Store) (before made : House D) where
+  pub made-kept : before.place ≤ 2 ^ 62 → before.place ≡ place_of (entries_of before) → before.opened ≤ length (entries_of before)
+      → length (entries_of before) ≤ 131072 → IsBeside before made → Holds (told made.shelf) (entries_of before) → IsKept told made
+  made-kept near place opened few beside holds =
+      let same : entries_of made ≡ entries_of before = ap (λ b. b.entries) beside.book in
+      record {
+        place = beside.place ∙ place ∙ ap place_of (sym same);
+        near = omega (arith, beside.place, near);
+        few = omega (arith, ap length same, few);
+        opened = omega (arith, beside.opened, ap length same, opened);
+        reads = subst (Holds (told made.shelf)) (sym same) holds;
+      }
+
+-- ---- how each step of an opening may stop
+
+module _ {T : Type 0} (why same : HouseFault) (result : Result T HouseFault) (is : result ≡ Err same) (e : same ≡ why) where
+  stops-by : (Q : HouseFault → Type 0) → Q why → IfErr result Q
+  stops-by Q q = subst (λ (r : Result T HouseFault). IfErr r Q) (sym is) (subst Q (sym e) q)
+
+  pub stops-unmade : (told : Option Store) (book opening : List Entry) → Tells told (λ s. IsJournal book s.journal)
+      → IfErr result (λ fault. CutsOpening fault book opening told)
+  stops-unmade told book opening journal = stops-by (λ fault. CutsOpening fault book opening told) (cut-none why told book opening journal)
+
+  pub stops-boot : {D : Type 0} (told : D → Option Store) (made now : House D) (book : List Entry) (run : ℕ) (lost : List Entry) → entries_of made ≡ book
+      → IsHalted told (Boot run) why made now → IfErr result (λ fault. CutsOpening fault book (Boot run ∷ lost) (told now.shelf))
+  stops-boot told made now book run lost at halted =
+      stops-by (λ fault. CutsOpening fault book (Boot run ∷ lost) (told now.shelf))
+      (cut-at why (Boot run) (told now.shelf) book [] lost (Boot run ∷ lost) (entries_of made) refl (at ∙ sym (append-nil book)) halted.leaves)
+
+pub stops-lost : {D T : Type 0} (told : D → Option Store) (result : Result T HouseFault) (book : List Entry) (run : ℕ) (unended : List ℕ) (before now : House D)
+    → entries_of before ≡ book ++ Boot run ∷ [] → IfErr result (λ fault. LosesSome told fault unended before now)
+    → IfErr result (λ fault. CutsOpening fault book (Boot run ∷ map lost_entry unended) (told now.shelf))
+stops-lost told (Ok x) book run unended before now is loses = tt
+stops-lost told (Err why) book run unended before now is loses = cut-lost told why book run unended before now is loses
+
+-- ---- the load of a book
+
+-- those that are open are counted
+opens-counted : (number : ℕ) (ts : List Transaction) → length (marked_from number (map is_open ts)) ≡ sum_by open_one ts
+opens-counted number [] = refl
+opens-counted number (t ∷ ts) = by (is_open t) refl (opens-counted (number + 1) ts)
+  where
+    by : (b : Bool) → is_open t ≡ b → length (marked_from (number + 1) (map is_open ts)) ≡ sum_by open_one ts
+        → length (number_next b number (marked_from (number + 1) (map is_open ts))) ≡ sum_by open_one (t ∷ ts)
+    by true is rest =
+        let one : open_one t ≡ 1 = ap one_if is in
+        omega (arith, rest, one, sum_by-cons open_one t ts)
+    by false is rest =
+        let none : open_one t ≡ 0 = ap one_if is in
+        omega (arith, rest, none, sum_by-cons open_one t ts)
+
+counted-from : (s : State) (book : List Entry) → (fold after s book).entries ≡ s.entries + length book
+counted-from s [] = omega arith
+counted-from s (e ∷ book) = counted-from (after s e) book ∙ omega arith
+
+pub load-is : (book : List Entry) → AllFit profile nothing_yet book → load (state_of book) ≡ length book + length (open_numbers (state_of book))
+load-is book fit =
+    let idle : sum_by working_one (state_of book).jobs ≡ 0 = ap (sum_by working_one) (sound-all profile nothing_yet book fit nothing-sound).no_jobs in
+    omega (arith, counted-from nothing_yet book, opens-counted 1 (state_of book).transactions, idle)
+
+pub load-small : (book : List Entry) → AllFit profile nothing_yet book → (unended : List ℕ) → unended ≡ open_numbers (state_of book) → length book + length unended + 1 ≤ 131072
+    → load (state_of book) + 1 ≤ profile.entries
+load-small book fit unended is room = omega (arith, load-is book fit, ap length is, room)
+
+pub load-full : (book : List Entry) → AllFit profile nothing_yet book → (unended : List ℕ) → unended ≡ open_numbers (state_of book) → 131072 < length book + length unended + 1
+    → profile.entries < load (state_of book) + 1
+load-full book fit unended is full = omega (arith, load-is book fit, ap length is, full)
+
+-- ---- the opened house
+
+pub raised-ready : {D : Type 0} (told : D → Option Store) (book : List Entry) (left : Left) (now : House D) → AllFit profile nothing_yet book → IsLearned book left
+    → length book + length left.unended.items + 1 ≤ 131072 → IsKept told now → entries_of now ≡ book ++ Boot left.runs ∷ map lost_entry left.unended.items
+    → now.opened ≡ left.opened → now.tables.items ≡ left.tables.items → (entries_of now ≡ opening_of book) × IsReady told now
+raised-ready told book left now fit is room kept entries opened tables =
+    let whole : entries_of now ≡ opening_of book =
+    entries ∙ (λ i. book ++ Boot (is.runs i) ∷ map lost_entry (is.open_are i)) in
+    let behind = opened-book book fit (load-small book fit left.unended.items is.open_are room) in (
+      whole,
+      record {
+        kept = kept;
+        knows = subst (λ b. Knows (state_of b) now) (sym whole) (record {
+          opened = opened ∙ is.opened ∙ sym behind.count;
+          tables = tables ∙ is.tables ∙ sym behind.tables;
+        });
+        idle = subst (λ b. IsIdle (state_of b)) (sym whole) behind.idle;
+      },
+    )

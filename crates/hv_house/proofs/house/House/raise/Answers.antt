@@ -1,0 +1,33 @@
+use Rattle.std.proofs.Common.{◌≤◌, ◌<◌, ◌+◌, ◌++◌, ◌∷◌, length, map, arith, refl, ap, ◌∙◌}
+use Rattle.hv_history.specs.declared.entry.Entry.TheVariants.{Boot}
+use Rattle.hv_house.specs.Booting.{lost_entry}
+use Rattle.hv_house.proofs.Boots.{load-full, load-small, raised-ready, stopped-full}
+use Rattle.hv_house.proofs.house.House.raise.Goals as goal
+
+pub returns-then-entries-len-clause-full : goal.returns-then-entries-len-clause-full
+returns-then-entries-len-clause-full g c =
+    let book = c.args.book.entries in
+    let full : 131072 < length book + length c.in-Ok.found.unended.items + 1 =
+    omega (arith, c.if-entries-len.true, c.len.ensures, ap length c.entries.ensures.entries) in
+    (refl, ap length c.entries.ensures.entries, load-full book c.requires.fit c.in-Ok.found.unended.items c.in-Ok.ensures.learned.open_are full)
+
+pub returns-then-entries-len-clause-stopped : goal.returns-then-entries-len-clause-stopped
+returns-then-entries-len-clause-stopped g c = stopped-full _ (g.D.Shelf.told c.args.shelf) c.args.book.entries c.requires.journal
+
+pub returns-in-Ok-begin-clause-ready : goal.returns-in-Ok-begin-clause-ready
+returns-in-Ok-begin-clause-ready g c =
+    let room : length c.args.book.entries + length c.in-Ok.found.unended.items + 1 ≤ 131072 =
+    omega (arith, c.if-entries-len.false, c.len.ensures, ap length c.entries.ensures.entries) in
+    (raised-ready g.D.Shelf.told c.args.book.entries c.in-Ok.found c.begin.new.self c.requires.fit c.in-Ok.ensures.learned room c.in-Ok-begin.ensures.kept
+    (c.in-Ok-begin.ensures.entries ∙ ap (λ xs. c.args.book.entries ++ Boot c.in-Ok.found.runs ∷ map lost_entry xs) c.deref.ensures.value)
+    c.in-Ok-begin.ensures.opened (ap (λ v. v.items) c.in-Ok-begin.ensures.tables)).1
+
+pub returns-in-Ok-begin-clause-opened : goal.returns-in-Ok-begin-clause-opened
+returns-in-Ok-begin-clause-opened g c =
+    let room : length c.args.book.entries + length c.in-Ok.found.unended.items + 1 ≤ 131072 =
+    omega (arith, c.if-entries-len.false, c.len.ensures, ap length c.entries.ensures.entries) in (
+      (raised-ready g.D.Shelf.told c.args.book.entries c.in-Ok.found c.begin.new.self c.requires.fit c.in-Ok.ensures.learned room c.in-Ok-begin.ensures.kept
+          (c.in-Ok-begin.ensures.entries ∙ ap (λ xs. c.args.book.entries ++ Boot c.in-Ok.found.runs ∷ map lost_entry xs) c.deref.ensures.value)
+          c.in-Ok-begin.ensures.opened (ap (λ v. v.items) c.in-Ok-begin.ensures.tables)).0,
+      load-small c.args.book.entries c.requires.fit c.in-Ok.found.unended.items c.in-Ok.ensures.learned.open_are room,
+    )

@@ -1,0 +1,475 @@
+-- What holds of every state: each entry that fits keeps it.
+use Rattle.std.proofs.Common.{refl, ◌≡◌, ℕ, zero, suc, ◌+◌, ◌==◌, ◌⊎◌, inl, inr, cond, is_none, Option, Some, None, List, [], ◌∷◌, ◌++◌, length, map, fold, sym, ap, ◌∙◌, subst, arith}
+use Rattle.std.specs.Prelude.{IsTrue, IsNone}
+use Rattle.std.specs.List.{slice_get, flat_map, AllByRecursion}
+use Rattle.std.specs.Option.{option_map, option_to_list}
+use Rattle.std.proofs.lemmas.List.{append-nil}
+use Rattle.hv_base.specs.declared.ids.Limits.{Limits}
+use Rattle.hv_base.specs.declared.ids.Touch.{Touch}
+use Rattle.hv_ast.specs.declared.statement.Stmt.{Stmt}
+use Rattle.hv_ast.specs.Built.{IsBuilt}
+use Rattle.hv_grammar.specs.Texts.{tree_of}
+use Rattle.hv_logic.specs.declared.catalog.TableInfo.{TableInfo}
+use Rattle.hv_logic.specs.declared.effect.Effect.{Effect}
+use Rattle.hv_logic.specs.declared.meaning.Meaning.{Meaning}
+use Rattle.hv_logic.specs.declared.meaning.Meaning.TheVariants.{Refused, Listing, Change, Make, Plain, RowLimit}
+use Rattle.hv_logic.specs.Rows.{sorted}
+use Rattle.hv_history.specs.declared.entry.Entry.{Entry}
+use Rattle.hv_history.specs.declared.entry.Entry.TheVariants as entry
+use Rattle.hv_history.specs.declared.state.Written.{Written}
+use Rattle.hv_history.specs.declared.state.Statement.{Statement}
+use Rattle.hv_history.specs.declared.state.Table.{Table}
+use Rattle.hv_history.specs.declared.state.Ending.{Ending}
+use Rattle.hv_history.specs.declared.state.Ending.TheVariants.{Committed, Aborted, Made}
+use Rattle.hv_history.specs.declared.state.Transaction.{Transaction}
+use Rattle.hv_history.specs.State.{State, nothing_yet, numbered, changed, changed_at, unless_ended, while_open, opened, meant_in, meaning_in, means, first_known, started, given_id, given_in, owned, written_to, committed, ended, did, wrote_as, writes_of, written_by, commits, tables_behind, made_by, opening_tree, statement_tree, acted, after}
+use Rattle.hv_history.specs.Legal.{is_open, Fits, OpenedFits, GivenFits, CommitFits, CreateFits, IsStatement, AllFit}
+use Rattle.hv_stands.specs.Files.{ending_of}
+use Rattle.hv_stands.specs.Sound.{IsPlainTable, IsPlainWrite, HasOther, AreApart, AreSound, DeletesNone, IsSingle, given_of, owners_of, given_among, owner_among, AreGiven, IsDone, IsOfCommitted, AreOfCommitted, IsSound}
+use Rattle.hv_stands.proofs.Numbers.{one_value, same_one, none_is, found, changed-here, numbered-map, map-changed, map-more, numbered-more}
+use Rattle.hv_stands.proofs.Owning.{opened-given, created-given, gave-given}
+use Rattle.hv_stands.proofs.Meanings.{deletes-none}
+use Rattle.hv_stands.proofs.Written.{numbered-whole}
+use Rattle.hv_stands.proofs.Forms.{created-plain}
+use Rattle.hv_stands.proofs.Soundness.{all-mapped, all-more, all-numbered, all-changed, soundness-later, table-made-sound, changed-sound, owned-few}
+
+-- ---- a transaction is changed while it is open
+
+pub open-none : (o : Option Ending) → IsTrue (is_none o) → o ≡ None
+open-none None h = refl
+open-none (Some e) h = cc
+
+pub still-open : (t : Transaction) → IsTrue (is_open t) → t.ending ≡ None
+still-open t h = open-none t.ending h
+
+pub open-by : (P : Transaction → Type 0) (t next : Transaction) (o : Option Ending) → P t → P next → P (unless_ended o t next)
+open-by P t next None before now = now
+open-by P t next (Some e) before now = before
+
+all-open_at : (P : Transaction → Type 0) (f : Transaction → Transaction) (step : (t : Transaction) → P t → P (f t)) (xs : List Transaction) (n : ℕ)
+    → AllByRecursion P xs → AllByRecursion P (changed_at (while_open f) xs n)
+all-open_at P f step [] n h = tt
+all-open_at P f step (x ∷ xs) zero h = (open-by P x (f x) x.ending h.0 (step x h.0), h.1)
+all-open_at P f step (x ∷ xs) (suc n) h = (h.0, all-open_at P f step xs n h.1)
+
+pub all-open : (P : Transaction → Type 0) (f : Transaction → Transaction) (step : (t : Transaction) → P t → P (f t)) (xs : List Transaction) (n : ℕ)
+    → AllByRecursion P xs → AllByRecursion P (changed (while_open f) xs n)
+all-open P f step xs zero h = h
+all-open P f step xs (suc n) h = all-open_at P f step xs n h
+
+map-open_at : {B : Type 0} (g : Transaction → B) (f : Transaction → Transaction) (same : (t : Transaction) → g (f t) ≡ g t) (xs : List Transaction) (n : ℕ)
+    → map g (changed_at (while_open f) xs n) ≡ map g xs
+map-open_at g f same [] n = refl
+map-open_at g f same (x ∷ xs) zero = ap (λ y. y ∷ map g xs) (open-by (λ t. g t ≡ g x) x (f x) x.ending refl (same x))
+map-open_at g f same (x ∷ xs) (suc n) = ap (λ ys. g x ∷ ys) (map-open_at g f same xs n)
+
+-- what it keeps of each is kept of all
+pub map-open : {B : Type 0} (g : Transaction → B) (f : Transaction → Transaction) (same : (t : Transaction) → g (f t) ≡ g t) (xs : List Transaction) (n : ℕ)
+    → map g (changed (while_open f) xs n) ≡ map g xs
+map-open g f same xs zero = refl
+map-open g f same xs (suc n) = map-open_at g f same xs n
+
+-- one that is open is changed
+pub open-here : (f : Transaction → Transaction) (xs : List Transaction) (n : ℕ) (t : Transaction) → numbered xs n ≡ Some t → t.ending ≡ None
+    → numbered (changed (while_open f) xs n) n ≡ Some (f t)
+open-here f xs n t at none =
+    changed-here (while_open f) xs n t at ∙ ap (λ o. Some (unless_ended o t (f t))) none
+
+-- what is ended stays so
+ended-by : (Q : Option (Option Ending) → Type 0) (none : Q (Some None) → ⊥) (t next : Transaction) (o : Option Ending) → t.ending ≡ o
+    → Q (Some o) → Q (Some (ending_of (unless_ended o t next)))
+ended-by Q none t next None is h = absurd (none h)
+ended-by Q none t next (Some e) is h = subst (λ o. Q (Some o)) (sym is) h
+
+module _ (Q : Option (Option Ending) → Type 0) (none : Q (Some None) → ⊥) (f : Transaction → Transaction) where
+  stays_at : (xs : List Transaction) (n m : ℕ) → Q (slice_get (map ending_of xs) m) → Q (slice_get (map ending_of (changed_at (while_open f) xs n)) m)
+  stays_at [] n m h = h
+  stays_at (x ∷ xs) zero zero h = ended-by Q none x (f x) x.ending refl h
+  stays_at (x ∷ xs) zero (suc m) h = h
+  stays_at (x ∷ xs) (suc n) zero h = h
+  stays_at (x ∷ xs) (suc n) (suc m) h = stays_at xs n m h
+
+  pub ending-stays : (xs : List Transaction) (n m : ℕ) → Q (numbered (map ending_of xs) m) → Q (numbered (map ending_of (changed (while_open f) xs n)) m)
+  ending-stays xs zero m h = h
+  ending-stays xs (suc n) zero h = h
+  ending-stays xs (suc n) (suc m) h = stays_at xs n m h
+
+done-open : IsDone (Some None) → ⊥
+done-open h = h
+
+pub done-stays : (f : Transaction → Transaction) (xs : List Transaction) (n m : ℕ) → IsDone (numbered (map ending_of xs) m)
+    → IsDone (numbered (map ending_of (changed (while_open f) xs n)) m)
+done-stays f xs n m h = ending-stays IsDone done-open f xs n m h
+
+done-more : (xs : List Transaction) (t : Transaction) (m : ℕ) → IsDone (numbered (map ending_of xs) m) → IsDone (numbered (map ending_of (xs ++ t ∷ [])) m)
+done-more xs t m h = subst (λ es. IsDone (numbered es m)) (sym (map-more ending_of xs t)) (by (numbered (map ending_of xs) m) refl h)
+  where
+    by : (o : Option (Option Ending)) → numbered (map ending_of xs) m ≡ o → IsDone o → IsDone (numbered (map ending_of xs ++ t.ending ∷ []) m)
+    by None is h = absurd h
+    by (Some e) is h = subst IsDone (sym (numbered-more (map ending_of xs) t.ending m e is)) h
+
+-- ---- the writes of committed transactions
+
+committed-later : (before now : List (Option Ending)) → ((m : ℕ) → IsDone (numbered before m) → IsDone (numbered now m))
+    → (tables : List Table) → AllByRecursion (AreOfCommitted before) tables → AllByRecursion (AreOfCommitted now) tables
+committed-later before now later tables h =
+    all-mapped (AreOfCommitted before) (AreOfCommitted now)
+    (λ table each. all-mapped (IsOfCommitted before table.owners) (IsOfCommitted now table.owners) (λ written is. (is.0, is.1, later is.0 is.2)) table.writes each)
+    tables h
+
+-- another write id than those of committed transactions
+pub other-write : (endings : List (Option Ending)) (owners : List ℕ) (written : Written) (txn : ℕ) → numbered owners written.write ≡ Some txn
+    → (IsDone (numbered endings txn) → ⊥) → (writes : List Written) → AllByRecursion (IsOfCommitted endings owners) writes
+    → AllByRecursion (HasOther written.write) writes
+other-write endings owners written txn owner undone [] h = tt
+other-write endings owners written txn owner undone (first ∷ writes) h = (
+  (λ same. undone (subst (λ n. IsDone (numbered endings n))
+      (same_one (numbered owners written.write) h.0.0 txn (ap (numbered owners) (sym same) ∙ h.0.1) owner) h.0.2)),
+  other-write endings owners written txn owner undone writes h.1,
+)
+
+apart-more : (writes : List Written) (written : Written) → AreApart writes → AllByRecursion (HasOther written.write) writes → AreApart (writes ++ written ∷ [])
+apart-more [] written apart other = (tt, tt)
+apart-more (first ∷ writes) written apart other =
+    (all-more (HasOther first.write) writes written apart.0 (λ same. other.0 (sym same)), apart-more writes written apart.1 other.1)
+
+-- ---- what a commit writes
+
+abbrev pub IsWriteOf : Transaction → ℕ × Written → Type 0
+IsWriteOf t x = (given_in x.0 t.given ≡ Some x.1.write) × IsPlainWrite x.1
+
+-- nothing, or the rows of one table
+abbrev pub IsOneWrite : Transaction → List (ℕ × Written) → Type 0
+IsOneWrite t ws = (ws ≡ []) ⊎ ((x : ℕ × Written) × (ws ≡ x ∷ []) × IsWriteOf t x)
+
+change-writes : (info : TableInfo) (effect : Effect) (number : ℕ) (t : Transaction) → effect.deletes ≡ [] → (o : Option ℕ) → given_in info.table.0 t.given ≡ o
+    → IsOneWrite t (option_to_list (option_map (λ write. (info.table.0, written_by write number effect)) o))
+change-writes info effect number t none None is = inl refl
+change-writes info effect number t none (Some write) is =
+    inr ((info.table.0, written_by write number effect), refl, (is, record { deletes = none; whole = numbered-whole write number 0 (sorted effect.inserts) }))
+
+writes-one : (m : Option Meaning) (number : ℕ) (t : Transaction) → DeletesNone m → IsOneWrite t (writes_of m number t.given)
+writes-one None number t none = inl refl
+writes-one (Some (Refused why)) number t none = inl refl
+writes-one (Some (Listing names rows)) number t none = inl refl
+writes-one (Some (Change info effect)) number t none = change-writes info effect number t none (given_in info.table.0 t.given) refl
+writes-one (Some (Make shape)) number t none = inl refl
+writes-one (Some Plain) number t none = inl refl
+writes-one (Some RowLimit) number t none = inl refl
+
+pub one-write : (t : Transaction) → IsSingle t → IsOneWrite t (commits (Some t))
+one-write t single =
+    subst (IsOneWrite t)
+    (sym (ap (λ (ss : List Statement). flat_map (λ (statement : Statement). statement.wrote) (changed_at (wrote_as t.given 0) ss 0)) single.one
+    ∙ append-nil (writes_of single.statement.meaning 0 t.given)))
+    (writes-one single.statement.meaning 0 t single.deletes)
+
+-- the table of a write id
+pub owner-table : (owners : List (List ℕ)) (tables : List Table) (k write txn : ℕ) → owners ≡ map owners_of tables → owner_among (numbered owners k) write ≡ Some txn
+    → (table : Table) × (numbered tables k ≡ Some table) × (numbered table.owners write ≡ Some txn)
+owner-table owners tables k write txn are e =
+    by (numbered tables k) refl (ap (λ o. owner_among o write) (sym (ap (λ os. numbered os k) are ∙ numbered-map owners_of tables k)) ∙ e)
+  where
+    by : (o : Option Table) → numbered tables k ≡ o → owner_among (option_map owners_of o) write ≡ Some txn
+        → (table : Table) × (numbered tables k ≡ Some table) × (numbered table.owners write ≡ Some txn)
+    by None at e = cc
+    by (Some table) at e = (table, at, e)
+
+-- ---- one statement
+
+single-with : (t next : Transaction) (statement : Statement) → next.statements ≡ statement ∷ [] → IsStatement statement.text → DeletesNone statement.meaning → IsSingle next
+single-with t next statement one text none = record { statement = statement; one = one; text = text; deletes = none }
+
+deletes-in : (s : State) (text : List ℕ) → DeletesNone (meaning_in s text)
+unfolding meaning_in
+deletes-in s text = by (tree_of text)
+  where
+    by : (o : Option Stmt) → DeletesNone (means s o)
+    by None = tt
+    by (Some tree) = deletes-none tree _
+
+deletes-first : (o now : Option Meaning) → DeletesNone o → DeletesNone now → DeletesNone (first_known o now)
+deletes-first None now before next = next
+deletes-first (Some m) now before next = before
+
+single-started : (s : State) (number : ℕ) (t : Transaction) → IsSingle t → IsSingle (started s number t)
+single-started s zero t single =
+    single-with t (started s zero t) (meant_in s single.statement) (ap (λ ss. changed_at (meant_in s) ss zero) single.one) single.text
+    (deletes-first single.statement.meaning (meaning_in s single.statement.text) single.deletes (deletes-in s single.statement.text))
+single-started s (suc n) t single =
+    single-with t (started s (suc n) t) single.statement (ap (λ ss. changed_at (meant_in s) ss (suc n)) single.one) single.text single.deletes
+
+single-did : (ending : Ending) (number : ℕ) (t : Transaction) → IsSingle t → IsSingle (ended ending (did number t))
+single-did ending zero t single =
+    single-with t (ended ending (did zero t)) (wrote_as t.given zero single.statement) (ap (λ ss. changed_at (wrote_as t.given zero) ss zero) single.one) single.text single.deletes
+single-did ending (suc n) t single =
+    single-with t (ended ending (did (suc n) t)) single.statement (ap (λ ss. changed_at (wrote_as t.given (suc n)) ss (suc n)) single.one) single.text single.deletes
+
+single-same : (t next : Transaction) → next.statements ≡ t.statements → IsSingle t → IsSingle next
+single-same t next same single = single-with t next single.statement (same ∙ single.one) single.text single.deletes
+
+-- ---- entry by entry
+
+-- the entries are counted, and nothing else changed
+module _ (s now : State) (sound : IsSound s) (tables : now.tables ≡ s.tables) (jobs : now.jobs ≡ s.jobs) (entries : now.entries ≡ s.entries + 1)
+    (single : AllByRecursion IsSingle now.transactions) where
+  same-tables : AreSound now.entries now.tables
+  same-tables =
+      subst (λ ts. AreSound now.entries ts) (sym tables)
+      (subst (λ n. AreSound n s.tables) (sym entries) (soundness-later s.entries (s.entries + 1) s.tables sound.tables (omega arith)))
+
+  pub with-tables : AreGiven (map given_of now.transactions) (map owners_of s.tables)
+      → ((m : ℕ) → IsDone (numbered (map ending_of s.transactions) m) → IsDone (numbered (map ending_of now.transactions) m))
+      → IsSound now
+  with-tables given later = record {
+    no_jobs = jobs ∙ sound.no_jobs;
+    tables = same-tables;
+    single = single;
+    given = subst (λ ts. AreGiven (map given_of now.transactions) (map owners_of ts)) (sym tables) given;
+    committed = subst (λ ts. AllByRecursion (AreOfCommitted (map ending_of now.transactions)) ts) (sym tables)
+        (committed-later (map ending_of s.transactions) (map ending_of now.transactions) later s.tables sound.committed);
+  }
+
+-- one transaction was changed, and its write ids are as before
+changed-open : (s now : State) (f : Transaction → Transaction) (n : ℕ) → IsSound s → now.tables ≡ s.tables → now.jobs ≡ s.jobs → now.entries ≡ s.entries + 1
+    → now.transactions ≡ changed (while_open f) s.transactions n → ((t : Transaction) → IsSingle t → IsSingle (f t)) → ((t : Transaction) → (f t).given ≡ t.given)
+    → IsSound now
+changed-open s now f n sound tables jobs entries are single given =
+    with-tables s now sound tables jobs entries
+    (subst (AllByRecursion IsSingle) (sym are) (all-open IsSingle f single s.transactions n sound.single))
+    (subst (λ gs. AreGiven gs (map owners_of s.tables)) (sym (ap (map given_of) are ∙ map-open given_of f given s.transactions n)) sound.given)
+    (λ m done. subst (λ ts. IsDone (numbered (map ending_of ts) m)) (sym are) (done-stays f s.transactions n m done))
+
+opened-sound : (limits : Limits) (s now : State) (session : List ℕ) (number txn : ℕ) (text : List ℕ) → OpenedFits limits s txn text → IsSound s
+    → now.tables ≡ s.tables → now.jobs ≡ s.jobs → now.entries ≡ s.entries + 1 → now.transactions ≡ s.transactions ++ opened session number text ∷ [] → IsSound now
+opened-sound limits s now session number txn text fits sound tables jobs entries are =
+    with-tables s now sound tables jobs entries
+    (subst (AllByRecursion IsSingle) (sym are)
+    (all-more IsSingle s.transactions (opened session number text) sound.single
+    (record { statement = record { number = number; text = text; meaning = None; wrote = [] }; one = refl; text = fits.statement; deletes = tt })))
+    (subst (λ gs. AreGiven gs (map owners_of s.tables)) (sym (ap (map given_of) are ∙ map-more given_of s.transactions (opened session number text)))
+    (opened-given (map given_of s.transactions) (map owners_of s.tables) sound.given))
+    (λ m done. subst (λ ts. IsDone (numbered (map ending_of ts) m)) (sym are) (done-more s.transactions (opened session number text) m done))
+
+-- a write id was given
+module _ (limits : Limits) (s now : State) (n k w : ℕ) (t : Transaction) (sound : IsSound s) (at : numbered s.transactions n ≡ Some t) (fits : GivenFits limits s k w t)
+    (transactions : now.transactions ≡ changed (while_open (given_id k w)) s.transactions n) (tables : now.tables ≡ changed (owned n) s.tables k)
+    (jobs : now.jobs ≡ s.jobs) (entries : now.entries ≡ s.entries + 1) where
+  the-table : (table : Table) × (numbered s.tables k ≡ Some table) × (IsTrue table.is_live × (w ≡ length table.owners + 1))
+  the-table = found (λ (x : Table). IsTrue x.is_live × (w ≡ length x.owners + 1)) (numbered s.tables k) fits.live
+
+  gave-there : (table : Table) → numbered s.tables k ≡ Some table → w ≡ length table.owners + 1 → AreGiven (map given_of now.transactions) (map owners_of now.tables)
+  gave-there table here next =
+      gave-given (map given_of s.transactions) (map owners_of s.tables) n k t.given table.owners
+      (numbered-map given_of s.transactions n ∙ ap (option_map given_of) at)
+      (numbered-map owners_of s.tables k ∙ ap (option_map owners_of) here)
+      (none-given (given_in k t.given) fits.first)
+      (map given_of now.transactions) (map owners_of now.tables)
+      (λ m.
+      ap (λ ts. numbered (map given_of ts) m) transactions
+      ∙ map-changed given_of (while_open (given_id k w)) s.transactions n m t at
+      ∙ ap (λ (o : Option Ending). cond (m == n) (Some (given_of (unless_ended o t (given_id k w t)))) (numbered (map given_of s.transactions) m)) (still-open t fits.running.unended)
+      ∙ ap (λ (x : ℕ). cond (m == n) (Some (t.given ++ (k, x) ∷ [])) (numbered (map given_of s.transactions) m)) next)
+      (λ m. ap (λ ts. numbered (map owners_of ts) m) tables ∙ map-changed owners_of (owned n) s.tables k m table here)
+      sound.given
+    where
+      none-given : (o : Option ℕ) → IsNone o → o ≡ None
+      none-given None h = refl
+      none-given (Some x) h = cc
+
+  more-owners : (m : ℕ) (endings : List (Option Ending)) (table : Table) → AreOfCommitted endings table → AreOfCommitted endings (owned m table)
+  more-owners m endings table each =
+      all-mapped (IsOfCommitted endings table.owners) (IsOfCommitted endings (table.owners ++ m ∷ []))
+      (λ written is. (is.0, numbered-more table.owners m written.write is.0 is.1, is.2)) table.writes each
+
+  gave-sound : IsSound now
+  gave-sound =
+      let there = the-table in
+      let table : Table = there.0 in
+      let ends : map ending_of now.transactions ≡ map ending_of s.transactions =
+      ap (map ending_of) transactions ∙ map-open ending_of (given_id k w) (λ t. refl) s.transactions n in
+      record {
+        no_jobs = jobs ∙ sound.no_jobs;
+        tables = subst (λ ts. AreSound now.entries ts) (sym tables)
+            (subst (λ m. AreSound m (changed (owned n) s.tables k)) (sym entries)
+            (changed-sound s.entries (s.entries + 1) s.tables k (owned n) table there.1 (λ t. refl) (λ t. refl) (λ t. refl)
+            (λ t few. omega arith) (λ few. owned-few s.entries n table few) (λ h. record { each = h.each; apart = h.apart }) sound.tables));
+        single = subst (AllByRecursion IsSingle) (sym transactions)
+            (all-open IsSingle (given_id k w) (λ t single. single-same t (given_id k w t) refl single) s.transactions n sound.single);
+        given = gave-there table there.1 there.2.1;
+        committed = subst (λ ts. AllByRecursion (AreOfCommitted (map ending_of now.transactions)) ts) (sym tables)
+            (subst (λ es. AllByRecursion (AreOfCommitted es) (changed (owned n) s.tables k)) (sym ends)
+            (all-changed (AreOfCommitted (map ending_of s.transactions)) (AreOfCommitted (map ending_of s.transactions)) (owned n) s.tables k table there.1
+            (λ t h. h) (more-owners n (map ending_of s.transactions) table) sound.committed));
+      }
+
+-- a commit
+module _ (s now : State) (n place : ℕ) (wrote : List Touch) (t : Transaction) (sound : IsSound s) (at : numbered s.transactions n ≡ Some t) (unended : t.ending ≡ None)
+    (transactions : now.transactions ≡ changed (while_open (committed place wrote)) s.transactions n)
+    (tables : now.tables ≡ tables_behind (commits (Some t)) s.tables)
+    (jobs : now.jobs ≡ s.jobs) (entries : now.entries ≡ s.entries + 1) where
+  single-there : IsSingle t
+  single-there = all-numbered IsSingle s.transactions n t at sound.single
+
+  singles : AllByRecursion IsSingle now.transactions
+  singles =
+      subst (AllByRecursion IsSingle) (sym transactions)
+      (all-open IsSingle (committed place wrote) (λ t single. single-did (Committed place wrote) 0 t single) s.transactions n sound.single)
+
+  given-same : map given_of now.transactions ≡ map given_of s.transactions
+  given-same = ap (map given_of) transactions ∙ map-open given_of (committed place wrote) (λ t. refl) s.transactions n
+
+  done-later : (m : ℕ) → IsDone (numbered (map ending_of s.transactions) m) → IsDone (numbered (map ending_of now.transactions) m)
+  done-later m done = subst (λ ts. IsDone (numbered (map ending_of ts) m)) (sym transactions) (done-stays (committed place wrote) s.transactions n m done)
+
+  done-here : IsDone (numbered (map ending_of now.transactions) n)
+  done-here =
+      subst (λ ts. IsDone (numbered (map ending_of ts) n)) (sym transactions)
+      (subst IsDone
+      (sym (numbered-map ending_of (changed (while_open (committed place wrote)) s.transactions n) n
+      ∙ ap (option_map ending_of) (open-here (committed place wrote) s.transactions n t at unended))) tt)
+
+  undone-before : IsDone (numbered (map ending_of s.transactions) n) → ⊥
+  undone-before done =
+      subst IsDone (numbered-map ending_of s.transactions n ∙ ap (option_map ending_of) at ∙ ap (λ o. Some o) unended) done
+
+  owners-written : (x : ℕ × Written) (ts : List Table) → map owners_of (changed (written_to x.1) ts x.0) ≡ map owners_of ts
+  owners-written x ts = by_number x.0
+    where
+      by_place : (ts : List Table) (k : ℕ) → map owners_of (changed_at (written_to x.1) ts k) ≡ map owners_of ts
+      by_place [] k = refl
+      by_place (first ∷ ts) zero = refl
+      by_place (first ∷ ts) (suc k) = ap (λ os. first.owners ∷ os) (by_place ts k)
+
+      by_number : (k : ℕ) → map owners_of (changed (written_to x.1) ts k) ≡ map owners_of ts
+      by_number zero = refl
+      by_number (suc k) = by_place ts k
+
+  wrote-none : now.tables ≡ s.tables → IsSound now
+  wrote-none same =
+      with-tables s now sound same jobs entries singles
+      (subst (λ gs. AreGiven gs (map owners_of s.tables)) (sym given-same) sound.given) done-later
+
+  wrote-one : (x : ℕ × Written) → IsWriteOf t x → now.tables ≡ changed (written_to x.1) s.tables x.0 → IsSound now
+  wrote-one x is made =
+      let before : List (Option Ending) = map ending_of s.transactions in
+      let here = owner-table (map owners_of s.tables) s.tables x.0 x.1.write n refl
+      (sound.given.has_owner n x.0 x.1.write (ap (λ o. given_among o x.0) (numbered-map given_of s.transactions n ∙ ap (option_map given_of) at) ∙ is.0)) in
+      let table : Table = here.0 in
+      let each : AreOfCommitted before table = all-numbered (AreOfCommitted before) s.tables x.0 table here.1 sound.committed in
+      let later : AllByRecursion (AreOfCommitted (map ending_of now.transactions)) s.tables =
+      committed-later before (map ending_of now.transactions) done-later s.tables sound.committed in
+      record {
+        no_jobs = jobs ∙ sound.no_jobs;
+        tables = subst (λ ts. AreSound now.entries ts) (sym made)
+            (subst (λ m. AreSound m (changed (written_to x.1) s.tables x.0)) (sym entries)
+            (changed-sound s.entries (s.entries + 1) s.tables x.0 (written_to x.1) table here.1 (λ t. refl) (λ t. refl) (λ t. refl)
+            (λ t few. omega arith) (λ few. omega arith)
+            (λ h. record {
+              each = all-more IsPlainWrite table.writes x.1 h.each is.1;
+              apart = apart-more table.writes x.1 h.apart (other-write before table.owners x.1 n here.2 undone-before table.writes each);
+            }) sound.tables));
+        single = singles;
+        given = subst (λ gs. AreGiven gs (map owners_of now.tables)) (sym given-same)
+            (subst (λ os. AreGiven (map given_of s.transactions) os) (sym (ap (map owners_of) made ∙ owners-written x s.tables)) sound.given);
+        committed = subst (λ ts. AllByRecursion (AreOfCommitted (map ending_of now.transactions)) ts) (sym made)
+            (all-changed (AreOfCommitted (map ending_of now.transactions)) (AreOfCommitted (map ending_of now.transactions)) (written_to x.1) s.tables x.0 table here.1
+            (λ t h. h)
+            (λ h. all-more (IsOfCommitted (map ending_of now.transactions) table.owners) table.writes x.1 h (n, here.2, done-here))
+            later);
+      }
+
+  committed-sound : IsSound now
+  committed-sound = by (one-write t single-there)
+    where
+      by : IsOneWrite t (commits (Some t)) → IsSound now
+      by (inl none) = wrote-none (tables ∙ ap (λ ws. tables_behind ws s.tables) none)
+      by (inr one) = wrote-one one.0 one.2 (tables ∙ ap (λ ws. tables_behind ws s.tables) one.1)
+
+-- a table was made
+made-plain : (t : Transaction) → IsSingle t → (k : ℕ) → IsPlainTable (made_by k (Some t))
+made-plain t single k =
+    created-plain (opening_tree t) (λ tree is.
+    let same : single.text.0 ≡ tree = one_value single.text.0 tree (sym single.text.1.read ∙ sym (ap (λ ss. opens ss) single.one) ∙ is) in
+    subst IsBuilt same single.text.1.built)
+  where
+    opens : List Statement → Option Stmt
+    opens ss = statement_tree (slice_get ss 0)
+
+created-sound : (s now : State) (n k place : ℕ) (t : Transaction) → IsSound s → numbered s.transactions n ≡ Some t → CreateFits s k t
+    → now.transactions ≡ changed (while_open (ended (Made place k))) s.transactions n → now.tables ≡ s.tables ++ made_by k (Some t) ∷ []
+    → now.jobs ≡ s.jobs → now.entries ≡ s.entries + 1 → IsSound now
+created-sound s now n k place t sound at fits transactions tables jobs entries =
+    let made : Table = made_by k (Some t) in
+    record {
+      no_jobs = jobs ∙ sound.no_jobs;
+      tables = subst (λ ts. AreSound now.entries ts) (sym tables)
+          (subst (λ m. AreSound m (s.tables ++ made ∷ [])) (sym entries)
+          (table-made-sound (s.entries + 1) s.tables made
+          (soundness-later s.entries (s.entries + 1) s.tables sound.tables (omega arith))
+          refl fits.next (made-plain t (all-numbered IsSingle s.transactions n t at sound.single) k) (omega arith) refl (record { each = tt; apart = tt })));
+      single = subst (AllByRecursion IsSingle) (sym transactions)
+          (all-open IsSingle (ended (Made place k)) (λ t single. single-same t (ended (Made place k) t) refl single) s.transactions n sound.single);
+      given = subst (λ ts. AreGiven (map given_of now.transactions) (map owners_of ts)) (sym tables)
+          (subst (λ os. AreGiven (map given_of now.transactions) os) (sym (map-more owners_of s.tables made))
+          (subst (λ gs. AreGiven gs (map owners_of s.tables ++ [] ∷ []))
+          (sym (ap (map given_of) transactions ∙ map-open given_of (ended (Made place k)) (λ t. refl) s.transactions n))
+          (created-given (map given_of s.transactions) (map owners_of s.tables) sound.given)));
+      committed = subst (λ ts. AllByRecursion (AreOfCommitted (map ending_of now.transactions)) ts) (sym tables)
+          (all-more (AreOfCommitted (map ending_of now.transactions)) s.tables made
+          (committed-later (map ending_of s.transactions) (map ending_of now.transactions)
+          (λ m done. subst (λ ts. IsDone (numbered (map ending_of ts) m)) (sym transactions) (done-stays (ended (Made place k)) s.transactions n m done))
+          s.tables sound.committed)
+          tt);
+    }
+
+-- ---- the law
+
+pub sound-after : (limits : Limits) (s : State) (event : Entry) → Fits limits s event → IsSound s → IsSound (after s event)
+unfolding acted
+sound-after limits s (entry.Boot run) fits sound =
+    with-tables s (after s (entry.Boot run)) sound refl refl refl sound.single sound.given (λ m done. done)
+sound-after limits s (entry.Opened txn session number text) fits sound =
+    opened-sound limits s (after s (entry.Opened txn session number text)) session number txn.0 text fits sound refl refl refl refl
+sound-after limits s (entry.Start txn statement) fits sound =
+    changed-open s (after s (entry.Start txn statement)) (started s statement) txn.0 sound refl refl refl refl
+    (λ t single. single-started s statement t single) (λ t. refl)
+sound-after limits s (entry.Given txn table write) fits sound =
+    let here = found (GivenFits limits s table.0 write.0) (numbered s.transactions txn.0) fits in
+    gave-sound limits s (after s (entry.Given txn table write)) txn.0 table.0 write.0 here.0 sound here.1 here.2 refl refl refl refl
+sound-after limits s (entry.Commit txn wrote) fits sound =
+    let here = found (CommitFits s wrote) (numbered s.transactions txn.0) fits in
+    committed-sound s (after s (entry.Commit txn wrote)) txn.0 s.entries wrote here.0 sound here.1 (still-open here.0 here.2.running.unended) refl
+    (ap (λ o. tables_behind (commits o) s.tables) here.1) refl refl
+sound-after limits s (entry.Abort txn cause) fits sound =
+    changed-open s (after s (entry.Abort txn cause)) (ended (Aborted s.entries cause)) txn.0 sound refl refl refl refl
+    (λ t single. single-same t (ended (Aborted s.entries cause) t) refl single) (λ t. refl)
+sound-after limits s (entry.Create txn table) fits sound =
+    let here = found (CreateFits s table.0) (numbered s.transactions txn.0) fits in
+    created-sound s (after s (entry.Create txn table)) txn.0 table.0 s.entries here.0 sound here.1 here.2 refl
+    (ap (λ o. s.tables ++ made_by table.0 o ∷ []) here.1) refl refl
+sound-after limits s event fits sound = absurd fits
+
+pub sound-all : (limits : Limits) (s : State) (more : List Entry) → AllFit limits s more → IsSound s → IsSound (fold after s more)
+sound-all limits s [] fit sound = sound
+sound-all limits s (event ∷ more) fit sound = sound-all limits (after s event) more fit.1 (sound-after limits s event fit.0 sound)
+
+-- the book of no entry
+pub nothing-sound : IsSound nothing_yet
+nothing-sound = record {
+  no_jobs = refl;
+  tables = record { live = tt; in_order = tt; plain = tt; few = tt; keeping = tt; written = tt };
+  single = tt;
+  given = record { has_owner = λ txn table write e. none-given txn table write e; is_given = λ txn table write e. none-owned txn table write e };
+  committed = tt;
+}
+  where
+    nothing-at : {A : Type 0} (n : ℕ) → numbered {A = A} [] n ≡ None
+    nothing-at zero = refl
+    nothing-at (suc n) = refl
+
+    none-given : (txn table write : ℕ) → given_among (numbered [] txn) table ≡ Some write → owner_among (numbered [] table) write ≡ Some txn
+    none-given txn table write e = absurd (none_is (given_among (numbered [] txn) table) write (ap (λ o. given_among o table) (nothing-at txn)) e)
+
+    none-owned : (txn table write : ℕ) → owner_among (numbered [] table) write ≡ Some txn → given_among (numbered [] txn) table ≡ Some write
+    none-owned txn table write e = absurd (none_is (owner_among (numbered [] table) write) txn (ap (λ o. owner_among o write) (nothing-at table)) e)
