@@ -1,6 +1,6 @@
 -- Each value's text says it.
-use Rattle.std.proofs.Common.{◌≡◌, ℕ, zero, suc, ◌+◌, ◌-◌, ◌<◌, ◌==◌, ◌^◌, ◌&&◌, Bool, true, false, cond, List, [], ◌∷◌, drop, take, length, get_or, fold, refl, ap, sym, ◌∙◌, subst, arith, Some, None, rules}
-use Rattle.std.specs.Prelude.{ℤ, pos, negsuc, neg_ℤ, FitsSigned, nat_lt, option_map, option_and_then, codes, All}
+use Rattle.std.proofs.Common.{◌≡◌, ℕ, zero, suc, ◌+◌, ◌-◌, ◌<◌, ◌==◌, ◌^◌, ◌&&◌, Bool, true, false, cond, List, [], ◌∷◌, drop, take, length, get_or, fold, refl, ap, sym, ◌∙◌, subst, arith, Option, Some, None, rules}
+use Rattle.std.specs.Prelude.{ℤ, pos, negsuc, neg_ℤ, FitsSigned, IsSome, nat_lt, option_map, option_and_then, codes, All}
 use Rattle.std.specs.Int.{w32, w64}
 use Rattle.std.specs.Fmt.{decimal, signed_decimal}
 use Rattle.std.specs.Char.{is_ascii_digit}
@@ -9,7 +9,7 @@ use Rattle.std.specs.Str.{bytes_eq, IsUtf8, IsAscii, all_ascii_digits}
 use Rattle.std.proofs.Math.Seq.{take-length}
 use Rattle.std.proofs.lemmas.List.{drop_all}
 use Rattle.std.proofs.lemmas.Int.{ints}
-use Rattle.std.proofs.lemmas.Bool.{and_parts}
+use Rattle.std.proofs.lemmas.Bool.{and_parts, false≢true}
 use Rattle.std.proofs.lemmas.Bool.Decides.{nat_tests}
 use Rattle.std.proofs.lemmas.Str.{IsUtf8-from_ascii}
 use Rattle.std.proofs.lemmas.Str.Ascii.{All-from_ascii}
@@ -18,14 +18,17 @@ use Rattle.std.proofs.lemmas.Fmt.{digits_decimal, digits_value-decimal, decimal_
 use Rattle.std.proofs.lemmas.List.Sums.{suffix_len-take_no}
 use Rattle.percent_encoding.specs.Percent.{percent_decode}
 use Rattle.percent_encoding.proofs.PercentLemmas.{IsByte, round_trip}
-use Rattle.hv_value.specs.Conversion.{converted, from_layer, integer_of, signed_of, unsigned_of, is_fraction, trimmed, without_end, without_front, is_space, int_of, big_of, is_int, is_big, kept_if, some_int, some_big}
+use Rattle.hv_value.specs.Conversion.{converted, from_layer, integer_of, signed_of, unsigned_of, is_fraction, trimmed, without_end, without_front, is_space, int_of, big_of, is_int, is_big, kept_if, some_int, some_big, some_day, from_date}
+use Rattle.hv_value.specs.Dates.{date_of, civil_text}
+use Rattle.hv_value.specs.declared.dates.CivilDate.{CivilDate}
+use Rattle.hv_value.proofs.DateText.{civil_text-utf8}
 use Rattle.hv_value.specs.Digits.{digit_count, numeral_value, with_digit}
 use Rattle.hv_value.specs.declared.sql_type.SqlType.{SqlType}
 use Rattle.hv_value.specs.declared.sql_type.SqlType.TheVariants as type
 use Rattle.hv_value.specs.declared.value.Value.{Value}
 use Rattle.hv_value.specs.declared.value.Value.TheOpen.{Value-F}
 use Rattle.hv_value.specs.declared.value.Value.TheVariants as value
-use Rattle.hv_value.specs.declared.value.Value.TheVariants.{rolls-Null, rolls-Bool, rolls-Int, rolls-Big, rolls-Str}
+use Rattle.hv_value.specs.declared.value.Value.TheVariants.{rolls-Null, rolls-Bool, rolls-Int, rolls-Big, rolls-Str, rolls-Day}
 use Rattle.hv_value.specs.declared.value.Value.TheViews.{out-Value, roll-Value, roll-out-Value}
 use Rattle.hv_route.specs.declared.partitions.TheConstants.{ESCAPED}
 use Rattle.hv_route.specs.Partitions.{escaped, default_partition, layer_text, value_text, read_as, read_value}
@@ -33,6 +36,7 @@ use Rattle.hv_route.specs.Back.{SaysValue, IsSaidLayer}
 use Rattle.hv_route.proofs.EscapeLemmas.{escapes}
 use Rattle.hv_route.proofs.PartitionLemmas.{text_of_str, read_text}
 use Rattle.hv_route.proofs.BackLemmas.{escaped-plain}
+use Rattle.hv_route.proofs.DayLemmas.{read-day, civil-small}
 
 -- ---- through a text
 
@@ -206,6 +210,22 @@ bool-says v false e =
     by-text type.Boolean v (codes "FALSE") (conv v (Value-F.Bool false) type.Str e) (IsUtf8-from_ascii (codes "FALSE") (letters (codes "FALSE") refl))
     (ascii-small (codes "FALSE") (letters (codes "FALSE") refl)) (sym (rolls-Bool false) ∙ whole v (Value-F.Bool false) e)
 
+-- ---- dates
+
+dated : (v : Value) (day : ℤ) (date : CivilDate) → out-Value v ≡ Value-F.Day day → date_of day ≡ Some date → SaysValue type.Date v
+dated v day date e found =
+    by-text type.Date v (civil_text date)
+    (ap (λ (d : Option CivilDate). from_date day d type.Str) (sym found) ∙ conv v (Value-F.Day day) type.Str e)
+    (civil_text-utf8 date) (civil-small date)
+    (ap some_day (read-day day date found) ∙ sym (rolls-Day day) ∙ whole v (Value-F.Day day) e)
+
+day-by : (v : Value) (day : ℤ) → out-Value v ≡ Value-F.Day day → (d : Option CivilDate) → date_of day ≡ d → IsSome d → SaysValue type.Date v
+day-by v day e None found some = absurd (false≢true some)
+day-by v day e (Some date) found some = dated v day date e found
+
+day-says : (v : Value) (day : ℤ) → out-Value v ≡ Value-F.Day day → IsSome (date_of day) → SaysValue type.Date v
+day-says v day e some = day-by v day e (date_of day) refl some
+
 -- ---- all of them
 
 says-by : (kind : SqlType) (v : Value) (x : Value-F Value) → out-Value v ≡ x → IsSaidLayer kind x → SaysValue kind v
@@ -248,7 +268,7 @@ says-by type.BigInt v (Value-F.Day d) e said = absurd said
 says-by type.BigInt v (Value-F.Array items) e said = absurd said
 says-by type.Str v (Value-F.Day d) e said = absurd said
 says-by type.Str v (Value-F.Array items) e said = absurd said
-says-by type.Date v (Value-F.Day d) e said = absurd said
+says-by type.Date v (Value-F.Day day) e said = day-says v day e said
 says-by type.Date v (Value-F.Array items) e said = absurd said
 says-by (type.ArrayOf a) v (Value-F.Day d) e said = absurd said
 says-by (type.ArrayOf a) v (Value-F.Array items) e said = absurd said

@@ -1,7 +1,8 @@
 -- The law of the way back: the text of a partition says its values.
-use Rattle.std.specs.Prelude.{◌≡◌, ◌<◌, All, FitsSigned, List, [], ◌∷◌}
+use Rattle.std.specs.Prelude.{◌≡◌, ◌<◌, All, FitsSigned, IsSome, List, [], ◌∷◌}
 use Rattle.std.specs.Int.{w32, w64}
 use Rattle.std.specs.Str.{IsUtf8}
+use Rattle.hv_value.specs.Dates.{date_of}
 use Rattle.hv_value.specs.declared.sql_type.SqlType.{SqlType}
 use Rattle.hv_value.specs.declared.sql_type.SqlType.TheVariants as type
 use Rattle.hv_value.specs.declared.value.Value.{Value}
@@ -26,13 +27,14 @@ abbrev pub TextSaysValues : Type 0
 TextSaysValues =
     (columns : List Column) (values : List Value) → SayValues columns values → partition_values columns (partition_text columns values) ≡ values
 
--- NULL, a BOOLEAN, a number of its width, and a text in UTF-8, each where its column is of that type
+-- NULL, a BOOLEAN, a number of its width, a text in UTF-8, and the day of a date, each where its column is of that type
 abbrev pub IsSaidLayer : SqlType → Value-F Value → Type 0
 IsSaidLayer kind Value-F.Null = Unit {0}
 IsSaidLayer type.Boolean (Value-F.Bool b) = Unit {0}
 IsSaidLayer type.Int (Value-F.Int z) = FitsSigned w32 z
 IsSaidLayer type.BigInt (Value-F.Big z) = FitsSigned w64 z
 IsSaidLayer type.Str (Value-F.Str text) = IsUtf8 text × All (λ b. b < 256) text
+IsSaidLayer type.Date (Value-F.Day day) = IsSome (date_of day)
 IsSaidLayer _ _ = ⊥
 
 abbrev pub SaysLayers : Type 0

@@ -2,5 +2,6 @@ pub mod Back
 pub mod Buckets
 pub mod Partitions
 pub mod Placing
+pub mod Rising
 pub mod Routes
 pub mod Touching

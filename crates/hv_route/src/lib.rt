@@ -18,5 +18,5 @@ pub use buckets::bucket_of;
 pub use counts::touches;
 pub use fault::RouteFault;
 pub use files::{OutFile, route};
-pub use laws::{text_says_values, texts_say_values};
+pub use laws::{files_rise, text_says_values, texts_say_values, touches_rise};
 pub use partitions::{partition_text, partition_values};

@@ -47,7 +47,7 @@ static BUCKETS: [(Row, u32, u32); 14] = [
 ];
 
 /// Values of the partition columns, and the text of the partition.
-static TEXTS: [(Row, &str); 12] = [
+static TEXTS: [(Row, &str); 14] = [
     (&[], ""),
     (&[(SqlType::Str, Told::Str("a/b"))], "p=a%2Fb"),
     (&[(SqlType::Str, Told::Str("a=b%c d"))], "p=a%3Db%25c%20d"),
@@ -68,6 +68,8 @@ static TEXTS: [(Row, &str); 12] = [
         "p=9007199254740993",
     ),
     (&[(SqlType::Date, Told::Day(0))], "p=1970-01-01"),
+    (&[(SqlType::Date, Told::Day(-719_162))], "p=0001-01-01"),
+    (&[(SqlType::Date, Told::Day(2_932_896))], "p=9999-12-31"),
     (
         &[(SqlType::Str, Told::Str("a/b")), (SqlType::Int, Told::Null)],
         "p=a%2Fb/q=__HIVE_DEFAULT_PARTITION__",
