@@ -1,6 +1,8 @@
 -- What a statement's meaning can be, by the statement's form.
-use Rattle.std.proofs.Common.{◌≡◌, ◌++◌, ℕ, zero, suc, Bool, true, false, cond, not, nat_eq, List, [], ◌∷◌, map, slice_get, length, Option, Some, None, Result, Ok, Err, refl, sym, ap, ◌∙◌, subst, eqb-true, arith}
-use Rattle.std.specs.Prelude.{is_some, nat_lt, position}
+use Rattle.std.proofs.lemmas.List.{length-append, length-map}
+use Rattle.std.proofs.lemmas.Bool.{leb-true}
+use Rattle.std.proofs.Common.{◌≡◌, ◌++◌, ℕ, zero, suc, Bool, true, false, cond, not, nat_eq, List, [], ◌∷◌, map, slice_get, length, Option, Some, None, Result, Ok, Err, refl, sym, ap, ◌∙◌, subst, eqb-true, arith, ◌+◌, ◌≤◌, ◌&&◌}
+use Rattle.std.specs.Prelude.{is_some, nat_lt, position, nat_le}
 use Rattle.std.specs.List.{position_or_len, flat_map}
 use Rattle.std.specs.List.{AllByRecursion, list_all}
 use Rattle.std.specs.Option.{option_to_list}
@@ -25,7 +27,7 @@ use Rattle.hv_logic.specs.declared.effect.Effect.{Effect}
 use Rattle.hv_logic.specs.declared.meaning.Meaning.{Meaning}
 use Rattle.hv_logic.specs.declared.meaning.Meaning.TheVariants.{Refused, Listing, Change, Make, RowLimit}
 use Rattle.hv_logic.specs.declared.seen.Seen.{Seen}
-use Rattle.hv_logic.specs.Meaning.{named}
+use Rattle.hv_logic.specs.Meaning.{named, column_of}
 use Rattle.hv_logic.specs.Names.{shared, rows_names}
 use Rattle.hv_logic.specs.Sizes.{row_fits}
 use Rattle.hv_query.specs.Rows.{Tables}
@@ -34,7 +36,7 @@ use Rattle.hv_analysis.specs.declared.logic.Logic.{Logic}
 use Rattle.hv_analysis.specs.declared.logic.Logic.TheVariants as logic
 use Rattle.hv_analysis.specs.declared.logic.TypedInsert.{TypedInsert}
 use Rattle.hv_analysis.specs.Analysis.{analysed, is_single, is_whole, queried, query_analysed, rows_analysed}
-use Rattle.hv_analysis.specs.Creates.{created, created_beside, place_of, is_table, shape_of, fault_of}
+use Rattle.hv_analysis.specs.Creates.{created, created_beside, place_of, is_table, shape_of, fault_of, names_repeat, is_bucket_column, bucket_names, arrays_route, numbers_fit}
 use Rattle.hv_analysis.specs.Inserts.{columns_of, has_count, converted_row, insert_of}
 use Rattle.hv_analysis.specs.Selects.{selected}
 use Rattle.hv_meaning.specs.Meaning.{its_tables, named_by, info_of, rows_seen, stored_values, stored_row, inserts_of, inserted_in, refused_for, meant, meaning_in, meaning_of}
@@ -191,17 +193,39 @@ place-first test info here =
     let first : position_or_len test (info ∷ []) ≡ 0 = ap (λ b. cond (not b) (suc 0) 0) here in
     ap (λ n. is_some (cond (nat_lt n 1) (Some n) None)) first
 
+none-of : (b : Bool) (why : Refusal) (rest : Option Refusal) → cond b (Some why) rest ≡ None → (b ≡ false) × (rest ≡ None)
+none-of true why rest e = cc
+none-of false why rest e = (refl, e)
+
+not-false : (b : Bool) → not b ≡ false → b ≡ true
+not-false true e = refl
+not-false false e = cc
+
+-- what has no fault has at most 64 columns
+few-columns : (exists : Bool) (create : CreateTable) → fault_of exists create ≡ None → length (columns_of (shape_of create)) ≤ 64
+few-columns exists create e =
+    let named = (none-of (exists && not create.if_absent) refusal.TableExists _ e).1 in
+    let apart = (none-of (names_repeat create) refusal.Ambiguous _ named).1 in
+    let buckets = (none-of (not (list_all (is_bucket_column create.columns) (bucket_names create.clustering))) refusal.NoColumn _ apart).1 in
+    let types = (none-of (arrays_route create) refusal.BadType _ buckets).1 in
+    let fit = not-false (numbers_fit create) (none-of (not (numbers_fit create)) refusal.Limit _ types).0 in
+    let most = leb-true (length create.columns + length create.partitions) 64 (both (nat_le (length create.columns + length create.partitions) 64) _ fit).0 in
+    let whole = length-append (map column_of create.columns) (map column_of create.partitions) in
+    let columns = length-map create.columns column_of in
+    let parts = length-map create.partitions column_of in
+    omega (arith, most, whole, columns, parts)
+
 create-comes : (create : CreateTable) (tables : List Seen) (rows : Tables) (found : Option Seen) → named create.table tables ≡ found
     → OnOk (Comes (MakesAt (stmt.CreateTable create) tables) tt (λ why. tt) (infos_of found) rows)
     (created_beside (is_some (place_of create.table (infos_of found))) create)
 create-comes create tables rows None is =
     makes (Comes (MakesAt (stmt.CreateTable create) tables) tt (λ why. tt) (infos_of None) rows) (fault_of false create) (logic.Make (shape_of create))
-    (record { create = create; tree_is = refl; absent = is; shape_is = refl })
+    (λ none. record { create = create; tree_is = refl; absent = is; shape_is = refl; few = few-columns false create none })
 create-comes create tables rows (Some seen) is =
     let Q = Comes (MakesAt (stmt.CreateTable create) tables) tt (λ why. tt) (infos_of (Some seen)) rows in
     subst (λ (b : Bool). OnOk Q (created_beside b create))
     (sym (place-first (is_table create.table) seen.info (named-same create.table tables seen is)))
-    (makes Q (fault_of true create) logic.Nothing tt)
+    (makes Q (fault_of true create) logic.Nothing (λ none. tt))
 
 within-makes : (tree : Stmt) (tables : List Seen) (fits : Bool) (info : TableInfo) (effect : Effect)
     → MakesAt tree tables (Some (cond fits (Change info effect) RowLimit))

@@ -125,8 +125,8 @@ module _ (P : Logic → Type 0) where
       at None = tt
       at (Some place) = into place (slice_get tables place) refl
 
-  pub makes : (fault : Option Refusal) (made : Logic) → P made → OnOk P (unless_fault fault made)
-  makes None made h = h
+  pub makes : (fault : Option Refusal) (made : Logic) → (fault ≡ None → P made) → OnOk P (unless_fault fault made)
+  makes None made h = h refl
   makes (Some why) made h = tt
 
   pub creates-are : (tables : List TableInfo) (create : CreateTable) → P logic.Nothing → P (logic.Make (shape_of create)) → OnOk P (created tables create)
@@ -134,8 +134,8 @@ module _ (P : Logic → Type 0) where
   creates-are tables create nothing make = by _
     where
       by : (exists : Bool) → OnOk P (created_beside exists create)
-      by true = makes (fault_of true create) logic.Nothing nothing
-      by false = makes (fault_of false create) (logic.Make (shape_of create)) make
+      by true = makes (fault_of true create) logic.Nothing (λ none. nothing)
+      by false = makes (fault_of false create) (logic.Make (shape_of create)) (λ none. make)
 
 analysed-runs : (tables : List TableInfo) (tree : Stmt) → OnOk LogicRuns (analysed tables tree)
 unfolding analysed

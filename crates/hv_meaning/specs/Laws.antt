@@ -47,13 +47,14 @@ FormsMean = (tree : Stmt) (tables : List Seen) → IsTrue (has_meaning tree) →
 abbrev pub OtherFormsMeanNothing : Type 0
 OtherFormsMeanNothing = (tree : Stmt) (tables : List Seen) → has_meaning tree ≡ false → meaning_of tables tree ≡ None
 
--- ---- a table is made by a CREATE TABLE of a new name, in the shape of its text
+-- ---- a table is made by a CREATE TABLE of a new name, in the shape of its text, with at most 64 columns
 
 pub record MakesNew (tree : Stmt) (tables : List Seen) (shape : Shape) : Type 0 where
   pub create : CreateTable
   pub tree_is : tree ≡ stmt.CreateTable create
   pub absent : named create.table tables ≡ None
   pub shape_is : shape ≡ shape_of create
+  pub few : length (columns_of shape) ≤ 64
 
 abbrev pub TablesAreNew : Type 0
 TablesAreNew =
@@ -65,7 +66,7 @@ abbrev pub insert_name : Stmt → Option (List ℕ)
 insert_name (stmt.Insert insert) = Some insert.table
 insert_name _ = None
 
--- ---- a row of so many values, each of its column's type
+-- a value for each column, of its type
 abbrev pub AreOf : List Column → List Value → Type 0
 AreOf [] [] = Unit {0}
 AreOf (column ∷ columns) (v ∷ vs) = IsTrue (is_of column.kind v) × AreOf columns vs
@@ -74,7 +75,7 @@ AreOf _ _ = ⊥
 abbrev pub IsRowOf : List Column → Row → Type 0
 IsRowOf columns row = AreOf columns row.values
 
--- a file takes a row of at most so many values
+-- its rows are of the table's types, and a row file takes them where the table has no more columns than a file counts
 pub record ChangesNamed (tree : Stmt) (tables : List Seen) (info : TableInfo) (effect : Effect) : Type 0 where
   pub seen : Seen
   pub name : List ℕ
