@@ -1,0 +1,6 @@
+mod Steps
+mod Running
+mod Stored
+mod Typed
+mod Meanings
+mod Forms

@@ -1,0 +1,23 @@
+ghost use Rattle.hv_meaning.specs.Laws.{FormsMean, OtherFormsMeanNothing, TablesAreNew, ChangesAreNamed, TypedValuesAreStored};
+
+/// The statements of the forms that are analysed mean something, whatever the tables.
+pub fn forms_mean()
+    ensures forms { FormsMean }
+    ensures others { OtherFormsMeanNothing }
+{}
+
+/// Only a CREATE TABLE of a new name makes a table, in the shape of its text.
+pub fn made_tables_are_new()
+    ensures law { TablesAreNew }
+{}
+
+/// A change is of the table that the INSERT names, and deletes nothing; each row has a value of its type
+/// for each column, and a row file takes it.
+pub fn changes_are_named()
+    ensures law { ChangesAreNamed }
+{}
+
+/// A value of a type is one that a row file takes, and it is counted by what it takes there.
+pub fn typed_values_are_stored()
+    ensures law { TypedValuesAreStored }
+{}
