@@ -53,7 +53,7 @@ pub fn advise<R: Eprint>(rt: &R, status: u8, cause: Option<Cause>) {
         5 => blame_store(rt, cause),
         6 => {
             let _ = eprintln!(rt;
-                "hive: the folder has a journal that this version does not open: keep it, and run over a new folder"
+                "hive: the journal is damaged at that byte, and nothing was changed: restore the folder, or run over a new one"
             );
         }
         7 => {
@@ -62,6 +62,11 @@ pub fn advise<R: Eprint>(rt: &R, status: u8, cause: Option<Cause>) {
         8 => {
             let _ = eprintln!(rt;
                 "hive: no statement of the script was run: mend the line, and run it again"
+            );
+        }
+        9 => {
+            let _ = eprintln!(rt;
+                "hive: the journal has no room for another run, and nothing was changed: run over a new folder"
             );
         }
         _ => {}
