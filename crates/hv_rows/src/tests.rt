@@ -396,17 +396,16 @@ fn left<R: Threads + Wait + Sync + Abort>(
     Ok(())
 }
 
-/// A store whose journal failed at any call opens again: what was acknowledged is there, and nothing
-/// half. Where only the sync failed, the entry stands already.
+/// A store whose journal failed at any of the first run's 23 writes and syncs opens again: what was
+/// acknowledged is there, and nothing half. Where only the sync failed, the entry stands already.
 #[test]
 fn what_a_failed_journal_leaves(rt: HostRuntime) -> Result<(), Fail> {
     let alloc = rt.alloc();
-    for nth in 0..24 {
+    for nth in 0..23 {
         let first = match nth {
             0..=8 => (5, ""),
             9..=16 => (5, CREATED),
-            17..=22 => (5, INSERTED),
-            _ => (0, ALL),
+            _ => (5, INSERTED),
         };
         let written = match nth {
             0..=8 => NO_TABLE,
