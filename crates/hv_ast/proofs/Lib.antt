@@ -1,3 +1,2 @@
 pub mod Fronts
 mod Layouts
-mod Names

@@ -1,7 +1,6 @@
 //! Tokens and statements as they are written: every form of the language has its tree here.
 #![tactic(auto)]
 
-mod built;
 mod change;
 mod drops;
 mod expr;
@@ -12,7 +11,6 @@ mod table;
 mod token;
 mod types;
 
-pub use built::is_built;
 pub use change::{
     Assignment, Delete, Insert, Merge, MergeAction, MergeClause, PartitionItem, Rows, Truncate,
     Update,

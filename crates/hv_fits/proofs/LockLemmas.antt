@@ -10,7 +10,7 @@ use Rattle.hv_ast.specs.declared.query.Source.{Source}
 use Rattle.hv_ast.specs.declared.query.Source.TheVariants.{Table as TableSource}
 use Rattle.hv_ast.specs.declared.query.From.{From}
 use Rattle.hv_ast.specs.declared.query.Query.{Query}
-use Rattle.hv_ast.specs.Built.{IsBuilt, IsPlainQuery, IsPlainFrom, FromOneTable}
+use Rattle.hv_built.specs.Built.{IsBuilt, IsPlainQuery, IsPlainFrom, FromOneTable}
 use Rattle.hv_grammar.specs.Texts.{tree_of}
 use Rattle.hv_locks.specs.declared.table.Lock.{Lock}
 use Rattle.hv_logic.specs.Names.{shared, source_names, query_names, names_in, names_in_maybe, names_in_from, names_of_union, names_of_join}

@@ -3,7 +3,7 @@ use Rattle.std.proofs.Common.{ℕ, Option, Some, None, sym, ap, ◌∙◌}
 use Rattle.std.specs.Prelude.{false, ◌↔◌, IsTrue, IsSomeAnd}
 use Rattle.hv_ast.specs.declared.statement.Stmt.{Stmt}
 use Rattle.hv_ast.specs.declared.statement.Stmt.TheVariants as stmt
-use Rattle.hv_ast.specs.Built.{IsBuilt}
+use Rattle.hv_built.specs.Built.{IsBuilt}
 use Rattle.hv_history.specs.declared.state.Transaction.{Transaction}
 use Rattle.hv_history.specs.State.{State, numbered, opening_tree}
 use Rattle.hv_history.specs.Legal.{Of, IsRunning, RequestFits, asks_to_abort}

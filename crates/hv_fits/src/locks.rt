@@ -1,11 +1,11 @@
 ghost use Rattle.std.specs.Prelude.{◌≡◌, ◌∷◌, [], ◌↔◌, IsTrue, Option, Some};
 ghost use Rattle.std.specs.Option.{option_map};
-ghost use Rattle.hv_ast.specs.Built.{IsBuilt};
+ghost use Rattle.hv_built.specs.Built.{IsBuilt};
 ghost use Rattle.hv_logic.specs.Names.{names_in};
 ghost use Rattle.hv_history.specs.State.{state_of, numbered};
 ghost use Rattle.hv_history.specs.Legal.{Of, IsWaiting, StartFits, BlockedFits, HasRoom, is_create, locks_conflict, first_holder};
 ghost use Rattle.hv_fits.specs.Texts.{TextsRun, holds_among, first_among, is_waiting_state, IsReady};
-ghost use Rattle.hv_ast.specs.Built.{IsPlainQuery};
+ghost use Rattle.hv_built.specs.Built.{IsPlainQuery};
 ghost use Rattle.hv_logic.specs.Names.{query_names, shared};
 
 use hv_ast::{Query, Source, Stmt};

@@ -7,7 +7,6 @@ pub mod QueryReading
 pub mod Readers
 pub mod Reading
 pub mod Rules
-pub mod Running
 pub mod Settings
 pub mod StatementGrammar
 pub mod StatementReading

@@ -16,7 +16,7 @@ use Rattle.hv_locks.specs.declared.table.Lock.{Lock}
 use Rattle.hv_locks.specs.Locking.{conflict}
 use Rattle.hv_ast.specs.declared.statement.Stmt.{Stmt}
 use Rattle.hv_ast.specs.declared.statement.Stmt.TheVariants as stmt
-use Rattle.hv_grammar.specs.Running.{Runs}
+use Rattle.hv_built.specs.Running.{Runs}
 use Rattle.hv_grammar.specs.Texts.{tree_of}
 use Rattle.hv_logic.specs.declared.catalog.TableInfo.{TableInfo}
 use Rattle.hv_logic.specs.declared.effect.Effect.{Effect}

@@ -2,7 +2,7 @@ ghost use Rattle.std.specs.Prelude.{◌≡◌, ◌<◌, false, [], Some, List, I
 ghost use Rattle.std.specs.Option.{option_copied};
 ghost use Rattle.std.specs.List.{AllByRecursion};
 ghost use Rattle.hv_base.specs.Told.{Tells};
-ghost use Rattle.hv_ast.specs.Built.{IsBuilt, FromOneTable};
+ghost use Rattle.hv_built.specs.Built.{IsBuilt, FromOneTable};
 ghost use Rattle.hv_logic.specs.Meaning.{meaning_of};
 ghost use Rattle.hv_logic.specs.Names.{query_names};
 ghost use Rattle.hv_logic.specs.declared.seen.Seen.{Seen};

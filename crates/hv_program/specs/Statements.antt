@@ -1,6 +1,6 @@
 -- The statements of a script in the book, one after another.
 use Rattle.std.specs.Prelude.{◌≡◌, ◌⊎◌, ℕ, ◌+◌, ◌<◌, List, [], ◌∷◌, ◌++◌, length}
-use Rattle.hv_grammar.specs.Running.{IsRefused}
+use Rattle.hv_built.specs.Running.{IsRefused}
 use Rattle.hv_history.specs.declared.entry.Entry.{Entry}
 use Rattle.hv_house.specs.House.{book_limit}
 use Rattle.hv_stands.specs.Endings.{statement_entries}

@@ -2,8 +2,8 @@
 use Rattle.std.proofs.Common.{◌≡◌, ◌⊎◌, inl, inr, Some, None, sym, subst, ◌∙◌}
 use Rattle.hv_ast.specs.declared.statement.Stmt.{Stmt}
 use Rattle.hv_ast.specs.Tokens.{Text}
-use Rattle.hv_ast.specs.Built.{IsBuilt}
-use Rattle.hv_grammar.specs.Running.{Runs, IsUnbuilt}
+use Rattle.hv_built.specs.Built.{IsBuilt}
+use Rattle.hv_built.specs.Running.{Runs, IsUnbuilt}
 use Rattle.hv_grammar.specs.Texts.{TextFault, tree_of, fault_of}
 use Rattle.hv_parse_stmt.specs.Exact.{IsGood, IsFaulty}
 use Rattle.hv_parse_stmt.proofs.Texts.{tree_spelled, spelled_or_faulty}

@@ -5,13 +5,13 @@ use Rattle.hv_ast.specs.declared.token.Token.{Token}
 use Rattle.hv_ast.specs.declared.statement.Stmt.{Stmt}
 use Rattle.hv_ast.specs.declared.statement.Stmt.TheVariants as s
 use Rattle.hv_ast.specs.declared.statement.Setting.{Setting}
-use Rattle.hv_ast.specs.Built.{IsBuilt}
+use Rattle.hv_built.specs.Built.{IsBuilt}
 use Rattle.hv_ast.specs.Tokens.{Text, Tokens, tokens_of}
 use Rattle.hv_grammar.specs.Settings.{behind_set, setting_in}
 use Rattle.hv_grammar.specs.StatementReading.{statement_of}
 use Rattle.hv_grammar.specs.Texts as texts
 use Rattle.hv_grammar.specs.Texts.{tree_of, tree_by, tree_in, fault_of, fault_by, fault_in, setting_fault}
-use Rattle.hv_grammar.specs.Running.{IsRefusedFor}
+use Rattle.hv_built.specs.Running.{IsRefusedFor}
 use Rattle.hv_parse_expr.specs.declared.fault.ParseFault.{ParseFault}
 use Rattle.hv_parse_expr.specs.declared.fault.ParseFault.TheVariants as parsing
 use Rattle.hv_parse_stmt.specs.Told as parsed

@@ -3,7 +3,7 @@ use Rattle.std.specs.Prelude.{◌≡◌, Some}
 use Rattle.hv_ast.specs.Tokens.{Text}
 use Rattle.hv_grammar.specs.Texts as texts
 use Rattle.hv_grammar.specs.Texts.{fault_of}
-use Rattle.hv_grammar.specs.Running.{IsRefusedFor}
+use Rattle.hv_built.specs.Running.{IsRefusedFor}
 use Rattle.hv_lex.specs.declared.fault.LexFault.{LexFault}
 use Rattle.hv_lex.specs.declared.fault.LexFault.TheVariants as lexing
 use Rattle.hv_parse_expr.specs.declared.fault.ParseFault.{ParseFault}

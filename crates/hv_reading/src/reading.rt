@@ -2,12 +2,13 @@
 
 ghost use Rattle.std.specs.Prelude.{◌≡◌, Some, IfOk, IfErr};
 ghost use Rattle.hv_grammar.specs.Texts.{tree_of};
-ghost use Rattle.hv_grammar.specs.Running.{Runs};
+ghost use Rattle.hv_built.specs.Running.{Runs};
 ghost use Rattle.hv_reading.specs.Faults.{IsFaultOf, IsRefusalOf};
 
 use crate::fault::TextFault;
-use hv_ast::{Stmt, discard, is_built};
+use hv_ast::{Stmt, discard};
 use hv_base::Text;
+use hv_built::is_built;
 use hv_lex::lex;
 use hv_parse_stmt::{is_set, parse_set, parse_stmt};
 use std::alloc::Global;

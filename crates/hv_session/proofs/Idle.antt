@@ -9,7 +9,7 @@ use Rattle.hv_history.specs.declared.state.Transaction.{Transaction}
 use Rattle.hv_history.specs.declared.state.Ending.TheVariants.{Committed}
 use Rattle.hv_history.specs.State.{State, nothing_yet, after, state_of, meaning_in, writes_of}
 use Rattle.hv_ast.specs.declared.statement.Stmt.{Stmt}
-use Rattle.hv_grammar.specs.Running.{Runs}
+use Rattle.hv_built.specs.Running.{Runs}
 use Rattle.hv_history.specs.Legal.{Fits, AllFit, profile}
 use Rattle.hv_stands.specs.Sound.{HasEnded, IsIdle}
 use Rattle.hv_stands.specs.Endings.{next_number, opening, starting, statement_entries, HasSpace}

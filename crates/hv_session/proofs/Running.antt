@@ -11,7 +11,7 @@ use Rattle.hv_base.specs.Refusals as refusals
 use Rattle.hv_base.specs.Told.{Moves}
 use Rattle.hv_shelf.specs.Disk.{Store}
 use Rattle.hv_ast.specs.declared.statement.Stmt.{Stmt}
-use Rattle.hv_grammar.specs.Running.{Runs}
+use Rattle.hv_built.specs.Running.{Runs}
 use Rattle.hv_journal.specs.Appending.{KeepsTree}
 use Rattle.hv_value.specs.declared.row.Row.{Row}
 use Rattle.hv_rowfile.specs.Layout.{IsFile}

@@ -6,7 +6,7 @@ use Rattle.hv_base.specs.declared.refusal.Refusal.{Refusal}
 use Rattle.hv_base.specs.declared.refusal.Refusal.TheVariants as refusal
 use Rattle.hv_base.specs.Refusals.{number, name}
 use Rattle.hv_grammar.specs.Texts.{TextFault, BadCharacter, OpenString, WideNumber, Syntax, Nesting}
-use Rattle.hv_grammar.specs.Running.{IsRefusedFor}
+use Rattle.hv_built.specs.Running.{IsRefusedFor}
 use Rattle.hv_history.specs.Answers.{failed_line}
 
 unfoldable pub placed_line : Refusal → ℕ → List ℕ

@@ -1,8 +1,8 @@
 ghost use Rattle.std.specs.Prelude.{◌≡◌, ◌<◌, ◌≤◌, ◌+◌, ℕ, List, length, true, IfOk, IfErr, IsErrOf};
 ghost use Rattle.std.specs.List.{AllByRecursion};
 ghost use Rattle.hv_base.specs.Told.{Tells, StaysTold};
-ghost use Rattle.hv_ast.specs.Built.{IsBuilt};
-ghost use Rattle.hv_grammar.specs.Running.{Runs};
+ghost use Rattle.hv_built.specs.Built.{IsBuilt};
+ghost use Rattle.hv_built.specs.Running.{Runs};
 ghost use Rattle.hv_house.specs.declared.fault.HouseFault.TheVariants.{Store};
 ghost use Rattle.hv_house.specs.Faults.{StoreCause};
 ghost use Rattle.hv_house.specs.House.{entries_of, book_limit, HasNumbers, IsKept, IsReady, Shows};

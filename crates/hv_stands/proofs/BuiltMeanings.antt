@@ -11,7 +11,7 @@ use Rattle.hv_ast.specs.declared.query.Source.TheVariants as source
 use Rattle.hv_ast.specs.declared.table.CreateTable.{CreateTable}
 use Rattle.hv_ast.specs.declared.statement.Stmt.{Stmt}
 use Rattle.hv_ast.specs.declared.statement.Stmt.TheVariants as stmt
-use Rattle.hv_ast.specs.Built.{IsBuilt, ArePlainRows, IsBareTable, FromOneTable}
+use Rattle.hv_built.specs.Built.{IsBuilt, ArePlainRows, IsBareTable, FromOneTable}
 use Rattle.hv_logic.specs.declared.catalog.TableInfo.{TableInfo}
 use Rattle.hv_logic.specs.declared.effect.Effect.{Effect}
 use Rattle.hv_logic.specs.declared.seen.Seen.{Seen}

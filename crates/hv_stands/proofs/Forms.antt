@@ -10,7 +10,7 @@ use Rattle.hv_ast.specs.declared.table.ColumnDefinition.{ColumnDefinition}
 use Rattle.hv_ast.specs.declared.table.CreateTable.{CreateTable}
 use Rattle.hv_ast.specs.declared.statement.Stmt.{Stmt}
 use Rattle.hv_ast.specs.declared.statement.Stmt.TheVariants as stmt
-use Rattle.hv_ast.specs.Built.{IsPlainType, IsPlainColumn, IsPlainTable, IsBuilt}
+use Rattle.hv_built.specs.Built.{IsPlainType, IsPlainColumn, IsPlainTable, IsBuilt}
 use Rattle.hv_logic.specs.declared.catalog.Shape.{Shape}
 use Rattle.hv_logic.specs.declared.seen.Seen.{Seen}
 use Rattle.hv_logic.specs.declared.meaning.Meaning.TheVariants.{Make}

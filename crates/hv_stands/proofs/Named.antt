@@ -4,7 +4,7 @@ use Rattle.hv_locks.specs.declared.table.Lock.{Lock}
 use Rattle.hv_ast.specs.declared.query.Source.{Source}
 use Rattle.hv_ast.specs.declared.query.Source.TheVariants.{Table as TableSource}
 use Rattle.hv_ast.specs.declared.query.From.{From}
-use Rattle.hv_ast.specs.Built.{FromOneTable, IsBareTable}
+use Rattle.hv_built.specs.Built.{FromOneTable, IsBareTable}
 use Rattle.std.specs.List.{flat_map}
 use Rattle.hv_logic.specs.Names.{source_names, names_of_join, names_in_maybe}
 use Rattle.hv_logic.proofs.NameLemmas.{names-table}

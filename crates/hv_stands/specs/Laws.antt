@@ -7,8 +7,8 @@ use Rattle.hv_base.specs.declared.ids.Limits.{Limits}
 use Rattle.hv_shelf.specs.declared.place.Place.{Place}
 use Rattle.hv_shelf.specs.Disk.{Tree}
 use Rattle.hv_ast.specs.declared.statement.Stmt.{Stmt}
-use Rattle.hv_grammar.specs.Running.{Runs}
-use Rattle.hv_ast.specs.Built.{IsBuilt}
+use Rattle.hv_built.specs.Running.{Runs}
+use Rattle.hv_built.specs.Built.{IsBuilt}
 use Rattle.hv_value.specs.declared.row.Row.{Row}
 use Rattle.hv_logic.specs.declared.catalog.Shape.{Shape}
 use Rattle.hv_logic.specs.declared.catalog.TableInfo.{TableInfo}

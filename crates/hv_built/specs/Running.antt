@@ -2,7 +2,7 @@
 use Rattle.std.specs.Prelude.{◌≡◌, ◌⊎◌, Some}
 use Rattle.hv_ast.specs.declared.statement.Stmt.{Stmt}
 use Rattle.hv_ast.specs.Tokens.{Text}
-use Rattle.hv_ast.specs.Built.{IsBuilt}
+use Rattle.hv_built.specs.Built.{IsBuilt}
 use Rattle.hv_grammar.specs.Texts.{TextFault, Syntax, tree_of, fault_of}
 
 -- the text is a statement of this tree, and of a form that is built

@@ -1,6 +1,6 @@
 use Rattle.std.proofs.Common.{below_more}
-use Rattle.hv_ast.proofs.Names.{name_clash, name_alone}
-use Rattle.hv_ast.proofs.built.names_differ.Goals as goal
+use Rattle.hv_built.proofs.Names.{name_clash, name_alone}
+use Rattle.hv_built.proofs.built.names_differ.Goals as goal
 
 pub returns-then-is_named : goal.returns-then-is_named
 returns-then-is_named c = (

@@ -1,14 +1,12 @@
 //! Which statements run today.
 
 ghost use Rattle.std.specs.Prelude.{◌≡◌, ◌≢◌, ◌↔◌, IsTrue, IsSome, IfSome, All, AllPairs, Any, [], ◌∷◌};
-ghost use Rattle.hv_ast.specs.Built.{IsBuilt, IsPlainType, IsPlainColumn, IsPlainTable, IsPlainValue, ArePlainRows, IsPlainInsert, IsBareTable, IsPlainFrom, FromOneTable, IsPlainSelect, IsPlainQuery};
+ghost use Rattle.hv_built.specs.Built.{IsBuilt, IsPlainType, IsPlainColumn, IsPlainTable, IsPlainValue, ArePlainRows, IsPlainInsert, IsBareTable, IsPlainFrom, FromOneTable, IsPlainSelect, IsPlainQuery};
 
-use crate::change::{Insert, Rows};
-use crate::expr::{Expr, Literal};
-use crate::query::{From, Item, Query, Select, Source};
-use crate::statement::Stmt;
-use crate::table::{ColumnDefinition, CreateTable};
-use crate::types::{ScalarName, TypeName};
+use hv_ast::{
+    ColumnDefinition, CreateTable, Expr, From, Insert, Item, Literal, Query, Rows, ScalarName,
+    Select, Source, Stmt, TypeName,
+};
 use hv_base::{List, Text};
 
 /// The most columns that a table may have.
