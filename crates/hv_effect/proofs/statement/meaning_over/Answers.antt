@@ -1,8 +1,8 @@
 use Rattle.std.proofs.Common.{subst}
 use Rattle.hv_types.specs.Faults.{Types}
 use Rattle.hv_analysis.specs.Analysis.{analysed}
-use Rattle.hv_meaning.proofs.Running.{logic-runs}
-use Rattle.hv_meaning.proofs.statement.meaning_over.Goals as goal
+use Rattle.hv_effect.proofs.Running.{logic-runs}
+use Rattle.hv_effect.proofs.statement.meaning_over.Goals as goal
 
 pub meant-requires : goal.meant-requires
 meant-requires c = record {

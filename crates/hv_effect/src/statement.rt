@@ -4,7 +4,7 @@ ghost use Rattle.hv_analysis.specs.Analysis.{analysed};
 ghost use Rattle.hv_exec.specs.Forms.{runs};
 ghost use Rattle.hv_exec.specs.Tables.{tables_in};
 ghost use Rattle.hv_meaning.specs.Meaning.{info_of, rows_seen, column_name, listed, inserted_in, refused_for, meant, meaning_over, meaning_in};
-ghost use Rattle.hv_meaning.specs.Runs.{LogicRuns};
+ghost use Rattle.hv_effect.specs.Runs.{LogicRuns};
 
 use crate::inserts::inserted;
 use hv_analysis::{Logic, TypedInsert, analyse};
@@ -115,7 +115,7 @@ fn meaning_over(
 
 /// What a statement comes to over the tables that it names, in the order in which it names them; None
 /// where its form isn't built.
-#[tactic(auto, unfolding(crate::specs::Meaning::meaning_in))]
+#[tactic(auto, unfolding(hv_meaning::specs::Meaning::meaning_in))]
 pub fn meaning_in(
     alloc: Global,
     tree: &Stmt,

@@ -1,8 +1,8 @@
 -- Behind the shorter of the two lists nothing is left.
 use Rattle.std.proofs.Common.{◌++◌, ap, sym, ◌∙◌, arith}
 use Rattle.std.proofs.lemmas.List.{append-nil}
-use Rattle.hv_meaning.proofs.Steps.{stored_values_stops}
-use Rattle.hv_meaning.proofs.inserts.stored_values.Goals as goal
+use Rattle.hv_effect.proofs.Steps.{stored_values_stops}
+use Rattle.hv_effect.proofs.inserts.stored_values.Goals as goal
 
 pub returns : goal.returns
 returns c =
