@@ -9,7 +9,6 @@ use Rattle.hv_base.specs.Told.{Tells}
 use Rattle.hv_shelf.specs.declared.place.Place.{Place}
 use Rattle.hv_shelf.specs.Places.{place_eq}
 use Rattle.hv_shelf.specs.Disk.{Store, places_of}
-use Rattle.hv_ast.specs.declared.statement.Stmt.{Stmt}
 use Rattle.hv_logic.specs.declared.catalog.TableInfo.{TableInfo}
 use Rattle.hv_logic.specs.declared.effect.Found.{Found}
 use Rattle.hv_rowfile.specs.declared.record.Rec.{Rec}
@@ -17,13 +16,14 @@ use Rattle.hv_rowfile.specs.declared.fault.FileFault.TheVariants as file
 use Rattle.hv_rowfile.specs.Layout.{file_spelling, IsFile}
 use Rattle.hv_history.specs.declared.state.Written.{Written}
 use Rattle.hv_stands.specs.Files.{records_of, file_of, own_place}
-use Rattle.hv_stands.specs.Reading.{table_named}
+use Rattle.hv_stands.specs.Reading.{written_with, is_among}
 use Rattle.hv_house.specs.declared.fault.RowFault.{RowFault}
 use Rattle.hv_house.specs.declared.house.House.{House}
 use Rattle.hv_known.specs.declared.known.Known.{Known}
 use Rattle.hv_house.specs.Faults.{IsDamage}
-use Rattle.hv_house.specs.Meaning.{known_by_name, IsSpoiled}
-use Rattle.hv_house.specs.Rows.{written_with, is_among, IsCommitFile, ReadsUpTo, LacksFile, LacksOne, LacksCommits}
+use Rattle.hv_house.specs.House.{known_of_name}
+use Rattle.hv_house.specs.Seeing.{IsSpoiled}
+use Rattle.hv_house.specs.Rows.{IsCommitFile, ReadsUpTo, LacksFile, LacksOne, LacksCommits}
 use Rattle.hv_house.proofs.FileRows.{listed, unfolded}
 
 -- damage is passed on
@@ -90,8 +90,7 @@ pub lacks_kept : (o : Option Store) (places : List Place) (table : TableId) (los
 lacks_kept None places table lost write kept none = tt
 lacks_kept (Some s) places table lost write kept none = (kept, none)
 
--- the table that a statement names
-pub spoiled : {D : Type 0} (told : D → Option Store) (house : House D) (tree : Stmt) (known : Known)
-    → Some known ≡ known_by_name (table_named tree) house.tables.items
-    → Tells (told house.shelf) (LacksCommits known.info.table.0 known.given known.lost) → IsSpoiled told house tree
-spoiled told house tree known is none = record { known = known; named = sym is; lacks = none }
+-- the table of a name
+pub spoiled : (told : Option Store) (tables : List Known) (name : List ℕ) (known : Known) → Some known ≡ known_of_name name tables
+    → Tells told (LacksCommits known.info.table.0 known.given known.lost) → IsSpoiled told tables
+spoiled told tables name known is none = record { name = name; known = known; named = sym is; lacks = none }

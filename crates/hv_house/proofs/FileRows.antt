@@ -23,7 +23,8 @@ use Rattle.hv_stands.specs.Sound.{IsWhole}
 use Rattle.hv_house.specs.Faults.{IsShort}
 use Rattle.hv_house.specs.declared.house.House.{House}
 use Rattle.hv_house.specs.House.{IsAsked}
-use Rattle.hv_house.specs.Rows.{found_of, found_in, written_with, inserts_in, is_among, rows_at, rows_from, IsCommitFile, AddsRows, HasCommits, AddsOne, ReadsUpTo}
+use Rattle.hv_stands.specs.Reading.{written_with, inserts_in, is_among, rows_at, rows_from}
+use Rattle.hv_house.specs.Rows.{found_of, found_in, IsCommitFile, AddsRows, HasCommits, AddsOne, ReadsUpTo}
 
 -- ---- a file's rows
 

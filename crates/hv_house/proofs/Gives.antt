@@ -9,7 +9,6 @@ use Rattle.hv_history.specs.State.{numbered, changed}
 use Rattle.hv_history.proofs.NumberLemmas.{numbered-some, place-some, put_changed}
 use Rattle.hv_known.specs.declared.known.Known.{Known}
 use Rattle.hv_house.specs.House.{next_write, with_next, known_of_name, HasNumbers}
-use Rattle.hv_house.specs.Meaning.{known_by_name}
 
 index-any : (xs : List Known) (n : ℕ) (a b : Known) → n < length xs → slice_index_or xs n a ≡ slice_index_or xs n b
 index-any [] n a b p = absurd (omega arith)
@@ -48,11 +47,6 @@ small-named name [] all = tt
 small-named name (known ∷ tables) all =
     small-by (pointwise nat_eq known.info.shape.name name) known (known_of_name name tables) all.0 (small-named name tables all.1)
 
-small-by-name : (o : Option (List ℕ)) (tables : List Known) → AllByRecursion HasNumbers tables → AllSmall (known_by_name o tables)
-unfolding AllSmall
-small-by-name None tables all = tt
-small-by-name (Some name) tables all = small-named name tables all
-
 small-one : (o : Option Known) (known : Known) → AllSmall o → o ≡ Some known → known.given < write_end
 unfolding AllSmall
 small-one None known small e = cc
@@ -60,6 +54,6 @@ small-one (Some first) known small e =
     let same : first ≡ known = cc in
     omega (arith, small, ap (λ (k : Known). k.given) same)
 
-pub known-small : (o : Option (List ℕ)) (tables : List Known) → AllByRecursion HasNumbers tables → (r : Option Known) (known : Known)
-    → r ≡ known_by_name o tables → r ≡ Some known → known.given < write_end
-known-small o tables all r known is some = small-one (known_by_name o tables) known (small-by-name o tables all) (sym is ∙ some)
+pub known-small : (name : List ℕ) (tables : List Known) → AllByRecursion HasNumbers tables → (r : Option Known) (known : Known)
+    → r ≡ known_of_name name tables → r ≡ Some known → known.given < write_end
+known-small name tables all r known is some = small-one (known_of_name name tables) known (small-named name tables all) (sym is ∙ some)

@@ -2,4 +2,4 @@ pub mod Faults
 pub mod House
 pub mod Rows
 pub mod Booting
-pub mod Meaning
+pub mod Seeing

@@ -12,6 +12,7 @@ use Rattle.hv_rowfile.specs.declared.record.Rec.TheVariants.{Insert, Delete}
 use Rattle.hv_history.specs.declared.state.Written.{Written}
 use Rattle.hv_stands.specs.Files.{file_of, own_place}
 use Rattle.hv_stands.specs.Sound.{AreInserts}
+use Rattle.hv_stands.specs.Reading.{written_with, inserts_in, is_among, rows_at, rows_from}
 use Rattle.hv_house.specs.declared.house.House.{House}
 use Rattle.hv_house.specs.House.{IsAsked}
 
@@ -27,32 +28,10 @@ abbrev pub IsCommitFile : Option Written → Option (List ℕ) → Type 0
 IsCommitFile None file = file ≡ None
 IsCommitFile (Some written) file = AreInserts written × (file ≡ Some (file_of written))
 
--- the first commit of that write id
-abbrev pub written_with : ℕ → List Written → Option Written
-written_with write [] = None
-written_with write (written ∷ writes) = if written.write == write then Some written else written_with write writes
-
-abbrev pub inserts_in : Option Written → List Found
-inserts_in None = []
-inserts_in (Some written) = written.inserts
-
 -- where the store has the commit's file at this place, its rows were added
 abbrev pub AddsRows : Place → List Found → List Found → Store → Type 0
 AddsRows place before now store =
     (found : Option Written) → IsCommitFile found (tree.get store.tree place) → now ≡ before ++ inserts_in found
-
--- the write id is one of these
-abbrev pub is_among : List ℕ → ℕ → Bool
-is_among ids write = list_any (λ other. other == write) ids
-
--- the rows that were inserted under a write id, where it isn't lost
-abbrev pub rows_at : List ℕ → List Written → ℕ → List Found
-rows_at lost writes write = if is_among lost write then [] else inserts_in (written_with write writes)
-
--- the rows of so many write ids from above `low` on
-abbrev pub rows_from : List ℕ → List Written → ℕ → ℕ → List Found
-rows_from lost writes low zero = []
-rows_from lost writes low (suc n) = rows_at lost writes (low + 1) ++ rows_from lost writes (low + 1) n
 
 -- the store has the files of these commits of a table, up to this write id, and of the others that aren't lost none
 abbrev pub HasCommits : ℕ → ℕ → List ℕ → List Written → Store → Type 0

@@ -7,10 +7,10 @@ ghost use Rattle.hv_rowfile.specs.Layout.{CanWrite, IsFile};
 ghost use Rattle.hv_history.specs.declared.state.Written.{Written};
 ghost use Rattle.hv_dirs.specs.Names.{write_end};
 ghost use Rattle.hv_stands.specs.Files.{own_place, records_of, file_of};
-ghost use Rattle.hv_stands.specs.Reading.{inserted_rows};
+ghost use Rattle.hv_stands.specs.Reading.{is_among, rows_from};
 ghost use Rattle.hv_house.specs.Faults.{StoreCause, StoreFails, IsStoreFault, IsShort, IsShortDamage, IsDamage};
 ghost use Rattle.hv_house.specs.House.{IsAsked, IsBeside, KeepsJournal};
-ghost use Rattle.hv_house.specs.Rows.{found_of, found_in, IsCommitFile, AddsRows, AddsOne, is_among, rows_from, HasCommits, LacksFile, LacksOne, LacksCommits};
+ghost use Rattle.hv_house.specs.Rows.{found_of, found_in, IsCommitFile, AddsRows, AddsOne, HasCommits, LacksFile, LacksOne, LacksCommits};
 ghost use Rattle.hv_house.specs.declared.fault.HouseFault.TheVariants.{Store};
 ghost use Rattle.hv_house.specs.declared.fault.RowFault.{RowFault};
 

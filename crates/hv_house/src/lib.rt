@@ -6,7 +6,7 @@ mod fault;
 mod files;
 mod house;
 mod known;
-mod meaning;
+mod seeing;
 
 pub use boot::BootFault;
 pub use fault::{HouseFault, RowFault};

@@ -12,7 +12,6 @@ use Rattle.hv_logic.specs.declared.seen.Seen.{Seen}
 use Rattle.hv_logic.specs.declared.meaning.Meaning.{Meaning}
 use Rattle.hv_logic.specs.declared.catalog.TableInfo.{TableInfo}
 use Rattle.hv_logic.specs.declared.effect.Effect.{Effect}
-use Rattle.hv_logic.specs.Meaning.{meaning_of}
 use Rattle.hv_rowfile.specs.Layout.{IsFile}
 use Rattle.hv_history.specs.declared.entry.Entry.{Entry}
 use Rattle.hv_history.specs.declared.entry.Entry.TheVariants as entry
@@ -24,33 +23,26 @@ use Rattle.hv_stands.specs.Files.{own_place, file_of, records_of}
 use Rattle.hv_house.specs.declared.house.House.{House}
 use Rattle.hv_known.specs.declared.known.Known.{Known}
 use Rattle.hv_house.specs.House.{entries_of, next_write, with_next, IsNoted, IsAsked, IsBeside}
-use Rattle.hv_house.specs.Meaning.{IsSeen, IsSpoiled}
+use Rattle.hv_house.specs.Seeing.{IsSpoiled}
+use Rattle.hv_session.specs.Seeing.{IsSeen}
 use Rattle.hv_session.specs.Ends.{Inserts, KnownOf, next_written, Refuses, EndsAs}
-use Rattle.hv_session.specs.Started.{IsFinished}
+use Rattle.hv_session.specs.Started.{EndsMeant, IsFinished}
 use Rattle.hv_session.specs.declared.reply.Reply.{Reply}
 use Rattle.hv_session.proofs.Stores.{keeps-puts, puts-keeps, has-file-puts}
 use Rattle.hv_house.specs.declared.fault.HouseFault.{HouseFault}
 
 -- ---- what the end of a started statement says, with what was asked before it
 
-pub finished-seen : {D : Type 0} (told : D → Option Store) (before asked now : House D) (txn : TxnId) (tree : Stmt) (m : Meaning) (result : Result Reply HouseFault)
-    → IsAsked told before asked → (seen : List Seen) × IsSeen told before tree seen × (meaning_of seen tree ≡ Some m)
-    → IfOk result (λ reply. EndsAs told asked now txn m reply.text reply.refused)
+pub finished-seen : {D : Type 0} (told : D → Option Store) (before asked now : House D) (txn : TxnId) (tree : Stmt) (seen : List Seen) (result : Result Reply HouseFault)
+    → IsAsked told before asked → IsSeen (told before.shelf) before.tables.items tree seen
+    → IfOk result (λ reply. EndsMeant told asked now txn tree seen reply.text reply.refused)
     → IfOk result (λ reply. IsFinished told before now txn tree reply.text reply.refused)
-finished-seen told before asked now txn tree m (Ok reply) only meant ends =
-    inl (record {
-      asked = asked;
-      only_asked = only;
-      seen = meant.0;
-      sees = meant.1;
-      meaning = m;
-      means = meant.2;
-      ends = ends;
-    })
-finished-seen told before asked now txn tree m (Err fault) only meant ends = tt
+finished-seen told before asked now txn tree seen (Ok reply) only sees ends =
+    inl (record { asked = asked; only_asked = only; seen = seen; sees = sees; ends = ends })
+finished-seen told before asked now txn tree seen (Err fault) only sees ends = tt
 
 pub finished-damaged : {D : Type 0} (told : D → Option Store) (before asked now : House D) (txn : TxnId) (tree : Stmt) (place : FilePlace) (result : Result Reply HouseFault)
-    → IsAsked told before asked → IsSpoiled told before tree
+    → IsAsked told before asked → IsSpoiled (told before.shelf) before.tables.items
     → IfOk result (λ reply. Refuses told asked now txn (Damaged place) reply.text reply.refused)
     → IfOk result (λ reply. IsFinished told before now txn tree reply.text reply.refused)
 finished-damaged told before asked now txn tree place (Ok reply) only spoiled ends =

@@ -1,8 +1,7 @@
 pub mod Shorts
 pub mod Books
-pub mod Permuted
 pub mod Stores
-pub mod Seeing
+pub mod SeenTables
 pub mod Idle
 pub mod Halfway
 pub mod Running

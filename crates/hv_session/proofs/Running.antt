@@ -21,7 +21,9 @@ use Rattle.hv_logic.specs.declared.effect.Effect.{Effect}
 use Rattle.hv_logic.specs.declared.seen.Seen.{Seen}
 use Rattle.hv_logic.specs.declared.meaning.Meaning.{Meaning}
 use Rattle.hv_logic.specs.declared.meaning.Meaning.TheVariants.{Refused, Listing, Change, Make, Plain, RowLimit}
-use Rattle.hv_logic.specs.Meaning.{meaning_of}
+use Rattle.hv_analysis.specs.Inserts.{columns_of}
+use Rattle.hv_meaning.specs.Meaning.{meaning_in}
+use Rattle.hv_meaning.specs.Laws.{MeansSomething}
 use Rattle.hv_history.specs.declared.entry.Entry.{Entry}
 use Rattle.hv_history.specs.declared.entry.Entry.TheVariants as entry
 use Rattle.hv_history.specs.declared.entry.Cause.{Cause}
@@ -41,7 +43,7 @@ use Rattle.hv_stands.specs.Sound.{HasEnded, IsSound, IsIdle}
 use Rattle.hv_stands.specs.Endings.{next_number, statement_entries, HasSpace, is_abort, Goes}
 use Rattle.hv_stands.specs.Laws.{meant, committing, IsCauseOf, IsQuiet, made_table, next_table, inserting, tables_inserted}
 use Rattle.hv_stands.proofs.Written.{inserts-written}
-use Rattle.hv_stands.proofs.Queries.{queries-end}
+use Rattle.hv_stands.proofs.Queries.{queries-end, plains-end}
 use Rattle.hv_stands.proofs.Refusals.{refusals-end}
 use Rattle.hv_stands.proofs.Creates.{tables-made}
 use Rattle.hv_stands.proofs.Inserts.{nothing-inserted, rows-inserted}
@@ -55,14 +57,15 @@ use Rattle.hv_known.specs.declared.known.Known.{Known}
 use Rattle.hv_known.specs.Known.{is_unfinished, is_undone, is_marked, known_of, all_known}
 use Rattle.hv_known.proofs.Staying.{known-quiet, known-made, known-inserted}
 use Rattle.hv_house.specs.House.{entries_of, with_next, HasNumbers, book_limit, IsKept, Knows, IsReady, IsFaithful, IsNoted, IsAsked}
-use Rattle.hv_house.specs.Meaning.{IsSeen, IsSpoiled}
+use Rattle.hv_house.specs.Seeing.{IsSpoiled}
+use Rattle.hv_session.specs.Seeing.{IsSeen, IsNarrow}
 use Rattle.hv_session.specs.Started.{IsStarted}
 use Rattle.hv_session.specs.Ends.{IsDone, Commits, Refuses, PutsFile, Inserts, KnownOf, next_written, ChangesRows, next_id, Makes, EndsAs, CanEnd}
 use Rattle.hv_session.specs.Halting.{IsEnding, next_txn}
 use Rattle.hv_session.specs.Answered.{WentThrough, AddsAtMost, HasRun}
 use Rattle.hv_session.proofs.Books.{entries-counted, space-left, legal-goes-on, length-map, numbers-known}
-use Rattle.hv_session.proofs.Seeing.{Lists, meant-or-listing, meant-told, unspoiled}
-use Rattle.hv_stands.proofs.BuiltMeanings.{MeansSomething, built-means}
+use Rattle.hv_session.proofs.SeenTables.{meant-or-listing, means-some, meant-told, unspoiled}
+use Rattle.hv_stands.proofs.Meanings.{Lists}
 use Rattle.hv_session.proofs.Idle.{Leaves, idle-leaves}
 use Rattle.hv_session.proofs.Stores.{became, untold, tells-none, tells-some, told-some, still-stands, keeps-keeps, keeps-puts, Any, any-of}
 
@@ -252,18 +255,25 @@ module _ {D : Type 0} (told : D → Option Store) (h0 h3 h4 h5 : House D) (numbe
 
     -- ---- what was seen means what the statement means, where the store shows the book's files
 
-    means-told : (seen : List Seen) → IsSeen told h3 tree seen → (s : Store) → told h0.shelf ≡ Some s → IsFaithful book s
-        → meaning_of seen tree ≡ meant book tree
+    abbrev pub Sees : List Seen → Type 0
+    Sees seen = IsSeen (told h3.shelf) h3.tables.items tree seen
+
+    known-then : h3.tables.items ≡ all_known (state_of book)
+    known-then = ap (λ ts. ts.items) given.started.tables ∙ given.ready.knows.tables
+
+    means-told : (seen : List Seen) → Sees seen → (s : Store) → told h0.shelf ≡ Some s → IsFaithful book s
+        → meaning_in tree seen ≡ meant book tree
     means-told seen sees s e faithful =
         let then = became KeepsTree (told h0.shelf) (told h3.shelf) s given.started.tree e in
         let stands = still-stands (state_of book) s.tree then.now.tree then.made faithful.stands in
-        let known : h3.tables.items ≡ all_known (state_of book) = ap (λ ts. ts.items) given.started.tables ∙ given.ready.knows.tables in
-        meant-told told h3 book tree given.ready.idle given.is.built then.now then.tells stands (omega (arith, small)) seen known sees
+        meant-told (told h3.shelf) h3.tables.items book tree given.ready.idle given.is.built known-then then.now then.tells stands (omega (arith, small)) seen sees
 
-    means : (seen : List Seen) → IsSeen told h3 tree seen → (meaning_of seen tree ≡ meant book tree) ⊎ Lists (meaning_of seen tree)
-    means seen sees =
-        let known : h3.tables.items ≡ all_known (state_of book) = ap (λ ts. ts.items) given.started.tables ∙ given.ready.knows.tables in
-        meant-or-listing told h3 book tree given.ready.idle given.is.built seen known sees
+    means : (seen : List Seen) → Sees seen → (meaning_in tree seen ≡ meant book tree) ⊎ Lists (meaning_in tree seen)
+    means seen sees = meant-or-listing (told h3.shelf) h3.tables.items book tree given.ready.idle given.is.built known-then seen sees
+
+    -- whatever was seen, it means something
+    pub comes-to : (seen : List Seen) → Sees seen → MeansSomething (meaning_in tree seen)
+    comes-to seen sees = means-some (told h3.shelf) h3.tables.items book tree given.ready.idle given.is.built known-then seen sees
 
     -- ---- the ways that it ends
 
@@ -406,15 +416,12 @@ module _ {D : Type 0} (told : D → Option Store) (h0 h3 h4 h5 : House D) (numbe
     NoListing (Some (Listing names rows)) = ⊥
     NoListing _ = Unit {0}
 
-    meant-of : (seen : List Seen) → IsSeen told h3 tree seen → (m : Meaning) → Some m ≡ meaning_of seen tree → NoListing (Some m) → meant book tree ≡ Some m
+    meant-of : (seen : List Seen) → Sees seen → (m : Meaning) → Some m ≡ meaning_in tree seen → NoListing (Some m) → meant book tree ≡ Some m
     meant-of seen sees m is unlisted = by (means seen sees)
       where
-        by : (meaning_of seen tree ≡ meant book tree) ⊎ Lists (meaning_of seen tree) → meant book tree ≡ Some m
+        by : (meaning_in tree seen ≡ meant book tree) ⊎ Lists (meaning_in tree seen) → meant book tree ≡ Some m
         by (inl e) = sym e ∙ sym is
         by (inr l) = absurd (subst NoListing (is ∙ l.2) unlisted)
-
-    nothing : (m : Meaning) → meant book tree ≡ Some m → (MeansSomething (Some m) → ⊥) → ⊥
-    nothing m is empty = empty (subst MeansSomething is (built-means (seen_tables (state_of book).tables) tree given.is.built))
 
     no-rows : (effect : Effect) → length effect.inserts ≡ 0 → effect.inserts ≡ []
     no-rows effect e = by effect.inserts e
@@ -435,7 +442,7 @@ module _ {D : Type 0} (told : D → Option Store) (h0 h3 h4 h5 : House D) (numbe
     refuse-run why text_now refused refuse true_cause ending =
         has-run (entry.Abort (record { 0 = next_number book }) why ∷ []) text_now refused (refuses why text_now refused refuse true_cause ending)
 
-    pub ended : (seen : List Seen) → IsSeen told h3 tree seen → (m : Meaning) → Some m ≡ meaning_of seen tree → (text_now : List ℕ) (refused : Bool)
+    pub ended : (seen : List Seen) → Sees seen → (m : Meaning) → Some m ≡ meaning_in tree seen → (text_now : List ℕ) (refused : Bool)
         → EndsAs told h4 h5 txn m text_now refused → HasRun told h0 h5 number text text_now refused
     ended seen sees (Listing names rows) is text_now refused ends =
         idle-run (listing names rows) text_now refused ends.0 ends.1
@@ -455,33 +462,33 @@ module _ {D : Type 0} (told : D → Option Store) (h0 h3 h4 h5 : House D) (numbe
     ended seen sees RowLimit is text_now refused ends =
         refuse-run cause.RowLimit text_now refused ends (meant-of seen sees RowLimit is tt) (λ s e faithful. inr (inr (inr (inr refl))))
     ended seen sees Plain is text_now refused ends =
-        idle-run ok_line text_now refused ends.0 ends.1 (λ s e faithful. absurd (nothing Plain (meant-of seen sees Plain is tt) (λ h. h)))
+        idle-run ok_line text_now refused ends.0 ends.1
+        (λ s e faithful. plains-end book number text tree given.ready.idle space given.is (meant-of seen sees Plain is tt))
 
     -- a file is damaged: the store doesn't show the book's files
-    no-damage : IsSpoiled told h3 tree → (s : Store) → told h0.shelf ≡ Some s → IsFaithful book s → ⊥
+    no-damage : IsSpoiled (told h3.shelf) h3.tables.items → (s : Store) → told h0.shelf ≡ Some s → IsFaithful book s → ⊥
     no-damage spoiled s e faithful =
         let then = became KeepsTree (told h0.shelf) (told h3.shelf) s given.started.tree e in
         let stands = still-stands (state_of book) s.tree then.now.tree then.made faithful.stands in
-        let known : h3.tables.items ≡ all_known (state_of book) = ap (λ ts. ts.items) given.started.tables ∙ given.ready.knows.tables in
-        unspoiled told h3 book tree given.ready.idle given.is.built then.now then.tells stands (omega (arith, small)) known spoiled
+        unspoiled (told h3.shelf) h3.tables.items book tree given.ready.idle given.is.built known-then then.now then.tells stands (omega (arith, small)) spoiled
 
-    pub damaged : IsSpoiled told h3 tree → (place : FilePlace) (text_now : List ℕ) (refused : Bool) → Refuses told h4 h5 txn (cause.Damaged place) text_now refused
+    pub damaged : IsSpoiled (told h3.shelf) h3.tables.items → (place : FilePlace) (text_now : List ℕ) (refused : Bool) → Refuses told h4 h5 txn (cause.Damaged place) text_now refused
         → HasRun told h0 h5 number text text_now refused
     damaged spoiled place text_now refused refuse =
         refuse-run (cause.Damaged place) text_now refused refuse tt (λ s e faithful. absurd (no-damage spoiled s e faithful))
 
     -- what a change rests on is there
-    pub can-end : (seen : List Seen) → IsSeen told h3 tree seen → (m : Meaning) → Some m ≡ meaning_of seen tree → CanEnd h4 m
-    can-end seen sees (Change info effect) is =
+    pub can-end : (seen : List Seen) → Sees seen → (m : Meaning) → Some m ≡ meaning_in tree seen → IsNarrow m → CanEnd h4 m
+    can-end seen sees (Change info effect) is few =
         let means_this = meant-of seen sees (Change info effect) is tt in
         let there = changed-table book tree info effect given.ready.idle means_this in
         let found : KnownOf h4 info (known_of (state_of book) there.0) =
         ap (λ (ks : List Known). numbered ks info.table.0) tables-known
         ∙ numbered-map (known_of (state_of book)) (state_of book).tables info.table.0 ∙ ap (option_map (known_of (state_of book))) there.1 in
-        let can = inserts-written book tree info effect (length there.0.owners + 1) given.ready.idle means_this (omega arith) in
+        let can = inserts-written book tree info effect (length there.0.owners + 1) given.ready.idle means_this (omega arith) few in
         (known_of (state_of book) there.0, found, can.0)
-    can-end seen sees (Listing names rows) is = tt
-    can-end seen sees (Make shape) is = tt
-    can-end seen sees (Refused why) is = tt
-    can-end seen sees RowLimit is = tt
-    can-end seen sees Plain is = tt
+    can-end seen sees (Listing names rows) is few = tt
+    can-end seen sees (Make shape) is few = tt
+    can-end seen sees (Refused why) is few = tt
+    can-end seen sees RowLimit is few = tt
+    can-end seen sees Plain is few = tt

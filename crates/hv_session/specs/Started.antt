@@ -8,12 +8,14 @@ use Rattle.hv_stands.specs.Endings.{next_number, statement_entries}
 use Rattle.hv_ast.specs.declared.statement.Stmt.{Stmt}
 use Rattle.hv_logic.specs.declared.seen.Seen.{Seen}
 use Rattle.hv_logic.specs.declared.meaning.Meaning.{Meaning}
-use Rattle.hv_logic.specs.Meaning.{meaning_of}
+use Rattle.hv_meaning.specs.Meaning.{meaning_in}
+use Rattle.hv_meaning.specs.Laws.{MeansSomething}
 use Rattle.hv_history.specs.declared.entry.FilePlace.{FilePlace}
 use Rattle.hv_history.specs.declared.entry.Cause.TheVariants.{Damaged}
 use Rattle.hv_house.specs.declared.house.House.{House}
 use Rattle.hv_house.specs.House.{entries_of, IsKept, IsAsked}
-use Rattle.hv_house.specs.Meaning.{IsSeen, IsSpoiled}
+use Rattle.hv_house.specs.Seeing.{IsSpoiled}
+use Rattle.hv_session.specs.Seeing.{IsSeen, IsNarrow}
 use Rattle.hv_session.specs.Ends.{Refuses, CanEnd, EndsAs}
 
 -- its Opened and its Start were noted, and nothing else
@@ -25,26 +27,30 @@ pub record IsStarted {D : Type 0} (told : D → Option Store) (before now : Hous
   pub txn_is : txn.0 ≡ next_number (entries_of before)
   pub tree : Moves KeepsTree (told before.shelf) (told now.shelf)
 
--- what the statement may come to can be ended
-abbrev pub CanFinish : {D : Type 0} → (D → Option Store) → House D → Stmt → Type 0
-CanFinish {D = D} told house tree =
-    (asked : House D) (seen : List Seen) (meaning : Meaning) → IsAsked told house asked → IsSeen told house tree seen
-    → meaning_of seen tree ≡ Some meaning → CanEnd asked meaning
+-- whatever is seen, the statement comes to something, and that can be ended
+pub record CanFinish {D : Type 0} (told : D → Option Store) (house : House D) (tree : Stmt) : Type 0 where
+  pub means : (seen : List Seen) → IsSeen (told house.shelf) house.tables.items tree seen → MeansSomething (meaning_in tree seen)
+  pub ends : (asked : House D) (seen : List Seen) (meaning : Meaning) → IsAsked told house asked
+      → IsSeen (told house.shelf) house.tables.items tree seen → meaning_in tree seen ≡ Some meaning → IsNarrow meaning → CanEnd asked meaning
+
+-- what was seen means this, and it ended so
+pub record EndsMeant {D : Type 0} (told : D → Option Store) (before now : House D) (txn : TxnId) (tree : Stmt) (seen : List Seen) (text : List ℕ) (refused : Bool) : Type 0 where
+  pub meaning : Meaning
+  pub means : meaning_in tree seen ≡ Some meaning
+  pub ends : EndsAs told before now txn meaning text refused
 
 -- it ended by what it means over what was seen, or for a damaged file
 pub record EndsSeen {D : Type 0} (told : D → Option Store) (before now : House D) (txn : TxnId) (tree : Stmt) (text : List ℕ) (refused : Bool) : Type 0 where
   pub asked : House D
   pub only_asked : IsAsked told before asked
   pub seen : List Seen
-  pub sees : IsSeen told before tree seen
-  pub meaning : Meaning
-  pub means : meaning_of seen tree ≡ Some meaning
-  pub ends : EndsAs told asked now txn meaning text refused
+  pub sees : IsSeen (told before.shelf) before.tables.items tree seen
+  pub ends : EndsMeant told asked now txn tree seen text refused
 
 pub record EndsDamaged {D : Type 0} (told : D → Option Store) (before now : House D) (txn : TxnId) (tree : Stmt) (text : List ℕ) (refused : Bool) : Type 0 where
   pub asked : House D
   pub only_asked : IsAsked told before asked
-  pub spoiled : IsSpoiled told before tree
+  pub spoiled : IsSpoiled (told before.shelf) before.tables.items
   pub place : FilePlace
   pub ends : Refuses told asked now txn (Damaged place) text refused
 

@@ -3,6 +3,7 @@
 
 mod ending;
 mod reply;
+mod seeing;
 mod statement;
 
 pub use reply::Reply;

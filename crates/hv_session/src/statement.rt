@@ -1,7 +1,6 @@
-ghost use Rattle.std.specs.Prelude.{◌≡◌, ◌<◌, ◌≤◌, ◌+◌, ℕ, List, length, true, IfOk, IfErr, IsErrOf};
+ghost use Rattle.std.specs.Prelude.{◌≡◌, ◌<◌, ◌≤◌, ◌+◌, ℕ, List, length, true, Some, IfOk, IfErr, IsErrOf};
 ghost use Rattle.std.specs.List.{AllByRecursion};
 ghost use Rattle.hv_base.specs.Told.{Tells, StaysTold};
-ghost use Rattle.hv_built.specs.Built.{IsBuilt};
 ghost use Rattle.hv_built.specs.Running.{Runs};
 ghost use Rattle.hv_house.specs.declared.fault.HouseFault.TheVariants.{Store};
 ghost use Rattle.hv_house.specs.Faults.{StoreCause};
@@ -10,15 +9,22 @@ ghost use Rattle.hv_session.specs.Answered.{IsAnswered, AddsAtMost, HasRun};
 ghost use Rattle.hv_reading.specs.Faults.{IsRefusalOf};
 ghost use Rattle.hv_stands.specs.Endings.{main_session};
 ghost use Rattle.hv_session.specs.Faults.{IsFaultLine};
-ghost use Rattle.hv_session.specs.Started.{IsStarted, CanFinish, IsFinished};
+ghost use Rattle.hv_logic.specs.declared.meaning.Meaning.{Meaning};
+ghost use Rattle.hv_meaning.specs.Meaning.{meaning_in};
+ghost use Rattle.hv_meaning.specs.Laws.{MeansSomething};
+ghost use Rattle.hv_session.specs.Ends.{CanEnd};
+ghost use Rattle.hv_session.specs.Seeing.{IsNarrow};
+ghost use Rattle.hv_session.specs.Started.{IsStarted, CanFinish, EndsMeant, IsFinished};
 ghost use Rattle.hv_session.specs.Halting.{IsUnended, HasStopped};
 
 use crate::ending::{end, refuse};
 use crate::reply::{Reply, fault_line};
+use crate::seeing::{meaning, seen};
 use hv_ast::{Stmt, discard};
 use hv_base::{Duplicate, List, NoMemory, Text, TxnId};
 use hv_history::Cause;
 use hv_house::{House, HouseFault, RowFault};
+use hv_logic::Seen;
 use hv_reading::{TextFault, read_statement};
 use hv_shelf::Shelf;
 use std::alloc::Global;
@@ -56,7 +62,32 @@ fn begin<D: Shelf>(
     Ok(txn)
 }
 
-/// Does a started statement to its end.
+/// Ends a started statement by what it comes to over what was seen.
+fn conclude<D: Shelf>(
+    alloc: Global,
+    house: &mut House<D>,
+    txn: TxnId,
+    tree: &Stmt,
+    seen: Vec<Seen>,
+) -> Result<Reply, HouseFault>
+    requires kept { IsKept D.told house.old }
+    requires room { length (entries_of house.old) + 1 < book_limit }
+    requires numbers { AllByRecursion HasNumbers house.old.tables.items }
+    requires means { MeansSomething (meaning_in tree.now seen.items) }
+    requires can { (meaning : Meaning) → meaning_in tree.now seen.items ≡ Some meaning
+        → IsNarrow meaning → CanEnd house.old meaning }
+    ensures ended { IfOk result (λ reply. EndsMeant D.told house.old house.new txn tree.now seen.items
+        reply.text reply.refused) }
+    ensures tells { StaysTold (D.told house.old.shelf) (D.told house.new.shelf) }
+    ensures unended { IfErr result (λ fault. IsUnended D.told fault house.old house.new txn) }
+    ensures cause { StoreCause (D.faults house.old.shelf) (D.faults house.new.shelf)
+        (IsErrOf result Store) }
+{
+    let meaning = meaning(alloc, tree, seen)?;
+    end(alloc, house, txn, meaning)
+}
+
+/// Does a started statement to its end: reads what it sees, and works out what it comes to over that.
 fn finish<D: Shelf>(
     alloc: Global,
     house: &mut House<D>,
@@ -64,7 +95,6 @@ fn finish<D: Shelf>(
     tree: &Stmt,
 ) -> Result<Reply, HouseFault>
     requires kept { IsKept D.told house.old }
-    requires built { IsBuilt tree.now }
     requires room { length (entries_of house.old) + 1 < book_limit }
     requires numbers { AllByRecursion HasNumbers house.old.tables.items }
     requires can { CanFinish D.told house.old tree.now }
@@ -75,8 +105,8 @@ fn finish<D: Shelf>(
     ensures cause { StoreCause (D.faults house.old.shelf) (D.faults house.new.shelf)
         (IsErrOf result Store) }
 {
-    match house.meaning(alloc, tree) {
-        Ok(meaning) => end(alloc, house, txn, meaning),
+    match seen(alloc, house, tree) {
+        Ok(tables) => conclude(alloc, house, txn, tree, tables),
         Err(RowFault::Damaged(place)) => refuse(alloc, house, txn, Cause::Damaged { place }),
         Err(RowFault::House(fault)) => Err(fault),
     }

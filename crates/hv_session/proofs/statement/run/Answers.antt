@@ -23,9 +23,6 @@ returns-clause-stopped g c =
     run-stopped g.D.Shelf.told c.args.number c.args.text c.args.house.now c.begin.new.house c.finish.new.house c.args.tree.now c.in_ok-txn.txn c.finish.result
     c.requires.ready c.requires.room c.requires.tree c.in_ok-txn.ensures.started c.finish.ensures.unended
 
-pub finish-requires-clause-built : goal.finish-requires-clause-built
-finish-requires-clause-built g c = c.requires.tree.built
-
 pub returns-clause-tells : goal.returns-clause-tells
 returns-clause-tells g c =
     stays_stays (g.D.Shelf.told c.args.house.now.shelf) (g.D.Shelf.told c.begin.new.house.shelf) (g.D.Shelf.told c.finish.new.house.shelf)

@@ -1,0 +1,43 @@
+-- What a started statement sees: the tables that it names and that are known, in the order in which it names them.
+use Rattle.std.specs.Prelude.{◌≡◌, ℕ, ◌≤◌, Bool, Option, List, [], ◌∷◌, ◌++◌, length, take}
+use Rattle.std.specs.Option.{option_to_list}
+use Rattle.hv_shelf.specs.Disk.{Store}
+use Rattle.hv_locks.specs.declared.table.Lock.{Lock}
+use Rattle.hv_ast.specs.declared.statement.Stmt.{Stmt}
+use Rattle.hv_logic.specs.declared.meaning.Meaning.{Meaning}
+use Rattle.hv_logic.specs.declared.meaning.Meaning.TheVariants.{Change}
+use Rattle.hv_logic.specs.declared.seen.Seen.{Seen}
+use Rattle.hv_logic.specs.Names.{names_in}
+use Rattle.hv_analysis.specs.Inserts.{columns_of}
+use Rattle.hv_meaning.specs.Laws.{reads_rows}
+use Rattle.hv_known.specs.declared.known.Known.{Known}
+use Rattle.hv_house.specs.declared.house.House.{House}
+use Rattle.hv_house.specs.House.{known_of_name, IsAsked}
+use Rattle.hv_house.specs.Seeing.{IsSeenOf}
+
+-- one name more
+pub record AddsSeen (told : Option Store) (tables : List Known) (reads : Bool) (name : List ℕ) (before now : List Seen) : Type 0 where
+  pub first : Option Seen
+  pub sees : IsSeenOf told reads (known_of_name name tables) first
+  pub now_is : now ≡ before ++ option_to_list first
+
+-- of these names each one's table, where there is one
+abbrev pub AreSeen : Option Store → List Known → Bool → List Lock → List Seen → Type 0
+AreSeen told tables reads [] seen = seen ≡ []
+AreSeen told tables reads (lock ∷ locks) seen =
+    (first : Option Seen) × (rest : List Seen) × (seen ≡ option_to_list first ++ rest)
+    × IsSeenOf told reads (known_of_name lock.name tables) first × AreSeen told tables reads locks rest
+
+abbrev pub IsSeen : Option Store → List Known → Stmt → List Seen → Type 0
+IsSeen told tables tree seen = AreSeen told tables (reads_rows tree) (names_in tree) seen
+
+-- of the names the first ones were looked at
+pub record SeesUpTo {D : Type 0} (told : D → Option Store) (faults : D → ℕ) (first now : House D) (reads : Bool) (locks : List Lock) (i : ℕ) (seen : List Seen) : Type 0 where
+  pub asked : IsAsked told first now
+  pub later : faults first.shelf ≤ faults now.shelf
+  pub sees : AreSeen (told first.shelf) first.tables.items reads (take i locks) seen
+
+-- a row file counts the columns of the table that is changed
+abbrev pub IsNarrow : Meaning → Type 0
+IsNarrow (Change info effect) = length (columns_of info.shape) ≤ 65535
+IsNarrow _ = Unit {0}
