@@ -69,14 +69,16 @@ fn is_single_select(select: &Select) -> bool
         && select.having.is_none()
 }
 
+/// Whether a query is of a form that is analysed.
 #[tactic(auto, unfolding(crate::specs::Analysis::is_single))]
-fn is_single(query: &Query) -> bool
+pub fn is_single(query: &Query) -> bool
     ensures { result ≡ is_single query.now }
 {
     is_single_select(&query.select) && query.unions.is_empty() && query.order.is_empty()
 }
 
-fn is_whole(insert: &Insert) -> bool
+/// Whether an INSERT adds rows for all columns, in their order.
+pub fn is_whole(insert: &Insert) -> bool
     ensures { result ≡ is_whole insert.now }
 {
     !insert.overwrite && insert.partition.is_empty() && insert.columns.is_empty()

@@ -10,5 +10,5 @@ mod logic;
 mod selects;
 
 pub use aggregates::has_aggregate;
-pub use analysis::analyse;
+pub use analysis::{analyse, is_single, is_whole};
 pub use logic::{Logic, TypedInsert};
