@@ -23,6 +23,14 @@ pub asker-law : (state : State) (txn by : ℕ) (tree : Option Stmt) → tree ≡
     → (IsTrue r ↔ Of state by IsRunning) → a ≡ asks_to_abort txn tree → (IsTrue (r && a)) ↔ Of state by (Asks txn)
 asker-law state txn by tree is r a running asks = asker-in txn (numbered state.transactions by) tree is r a running asks
 
+idle-in : (txn : ℕ) (o : Option Transaction) (r : Bool) → (IsTrue r ↔ IsSomeAnd o IsRunning) → r ≡ false → IsTrue r ↔ IsSomeAnd o (Asks txn)
+idle-in txn None r running idle = (λ e. running.0 e, λ h. absurd h)
+idle-in txn (Some t) r running idle = (λ e. absurd (let both : false ≡ true = sym idle ∙ e in cc), λ h. running.1 h.0)
+
+-- one that doesn't run asks for nothing
+pub idle-law : (state : State) (txn by : ℕ) (r : Bool) → (IsTrue r ↔ Of state by IsRunning) → r ≡ false → IsTrue r ↔ Of state by (Asks txn)
+idle-law state txn by r running idle = idle-in txn (numbered state.transactions by) r running idle
+
 pub request-law : (state : State) (txn by : ℕ) (u a : Bool) → (IsTrue u ↔ Of state txn (λ t. IsTrue (is_open t)))
     → (IsTrue a ↔ AsksOther state txn by) → (IsTrue (u && a)) ↔ Of state txn (RequestFits state txn by)
 request-law state txn by u a unended asked =
