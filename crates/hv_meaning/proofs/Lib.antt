@@ -1,6 +1,6 @@
 pub mod Outcomes
 mod Stored
 mod Typed
-mod Meanings
-mod Forms
-mod Unseen
+pub mod Meanings
+pub mod Forms
+pub mod Unseen

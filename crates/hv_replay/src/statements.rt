@@ -3,14 +3,40 @@ ghost use Rattle.std.specs.Option.{option_copied};
 ghost use Rattle.std.specs.List.{flat_map};
 ghost use Rattle.hv_history.specs.declared.state.Statement.{Statement};
 ghost use Rattle.hv_history.specs.State.{writes_of, wrote_as, changed_at, all_written, did};
+ghost use Rattle.hv_meaning.specs.Meaning.{named_by, its_tables};
 ghost use Rattle.hv_replay.specs.Replay.{meaning_over, meant_with};
 
 use crate::content::seen_tables;
 use hv_ast::Stmt;
 use hv_base::{Boxed, Duplicate, List, NoMemory};
+use hv_effect::meaning_in;
 use hv_history::{Statement, Table, Transaction, Written, given_in, written_by};
-use hv_logic::{Meaning, meaning_of};
+use hv_logic::{Meaning, Seen, named};
+use hv_names::names_in;
 use std::alloc::Global;
+
+fn copy_of(alloc: Global, seen: &Seen) -> Result<Seen, NoMemory>
+    ensures { IfOk result (λ copy. copy ≡ seen.now) }
+{
+    Ok(Seen {
+        info: seen.info.duplicate(alloc)?,
+        rows: seen.rows.duplicate(alloc)?,
+    })
+}
+
+// The tables that a statement names, in the order in which it names them.
+fn its_tables(alloc: Global, tree: &Stmt, seen: &[Seen]) -> Result<Vec<Seen>, NoMemory>
+    ensures { IfOk result (λ tables. tables.items ≡ its_tables tree.now seen.now) }
+{
+    let locks = names_in(alloc, tree)?;
+    let mut tables = Vec::new(alloc);
+    for lock in &locks {
+        if let Some(table) = named(&lock.name, seen) {
+            tables.push(copy_of(alloc, table)?)?;
+        }
+    }
+    Ok(tables)
+}
 
 // What a statement comes to over these tables.
 fn meaning_over(
@@ -24,7 +50,8 @@ fn meaning_over(
         return Ok(None);
     };
     let seen = seen_tables(alloc, tables)?;
-    match meaning_of(alloc, &seen, tree)? {
+    let tables = its_tables(alloc, tree, &seen)?;
+    match meaning_in(alloc, tree, tables)? {
         Some(meaning) => Ok(Some(Boxed::new(alloc, meaning)?)),
         None => Ok(None),
     }

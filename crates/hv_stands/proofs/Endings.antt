@@ -8,7 +8,7 @@ use Rattle.hv_built.specs.Running.{Runs}
 use Rattle.hv_grammar.specs.Texts.{tree_of}
 use Rattle.hv_locks.specs.declared.table.Lock.{Lock}
 use Rattle.hv_logic.specs.declared.meaning.Meaning.{Meaning}
-use Rattle.hv_logic.specs.Meaning.{meaning_of}
+use Rattle.hv_meaning.specs.Meaning.{meaning_of}
 use Rattle.hv_history.specs.declared.entry.Entry.{Entry}
 use Rattle.hv_history.specs.declared.entry.Entry.TheVariants as entry
 use Rattle.hv_history.specs.declared.state.Table.{Table}

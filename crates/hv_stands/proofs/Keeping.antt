@@ -7,7 +7,6 @@ use Rattle.std.proofs.lemmas.List.{append-nil}
 use Rattle.hv_base.specs.declared.ids.Limits.{Limits}
 use Rattle.hv_base.specs.declared.ids.Touch.{Touch}
 use Rattle.hv_ast.specs.declared.statement.Stmt.{Stmt}
-use Rattle.hv_built.specs.Built.{IsBuilt}
 use Rattle.hv_grammar.specs.Texts.{tree_of}
 use Rattle.hv_logic.specs.declared.catalog.TableInfo.{TableInfo}
 use Rattle.hv_logic.specs.declared.effect.Effect.{Effect}
@@ -22,15 +21,14 @@ use Rattle.hv_history.specs.declared.state.Table.{Table}
 use Rattle.hv_history.specs.declared.state.Ending.{Ending}
 use Rattle.hv_history.specs.declared.state.Ending.TheVariants.{Committed, Aborted, Made}
 use Rattle.hv_history.specs.declared.state.Transaction.{Transaction}
-use Rattle.hv_history.specs.State.{State, nothing_yet, numbered, changed, changed_at, unless_ended, while_open, opened, meant_in, meaning_in, means, first_known, started, given_id, given_in, owned, written_to, committed, ended, did, wrote_as, writes_of, written_by, commits, tables_behind, made_by, opening_tree, statement_tree, acted, after}
+use Rattle.hv_history.specs.State.{State, nothing_yet, numbered, changed, changed_at, unless_ended, while_open, opened, meant_in, meaning_in, means, first_known, started, given_id, given_in, owned, written_to, committed, ended, did, wrote_as, writes_of, written_by, commits, tables_behind, made_by, acted, after}
 use Rattle.hv_history.specs.Legal.{is_open, Fits, OpenedFits, GivenFits, CommitFits, CreateFits, IsStatement, AllFit}
 use Rattle.hv_stands.specs.Files.{ending_of}
-use Rattle.hv_stands.specs.Sound.{IsPlainTable, IsPlainWrite, HasOther, AreApart, AreSound, DeletesNone, IsSingle, given_of, owners_of, given_among, owner_among, AreGiven, IsDone, IsOfCommitted, AreOfCommitted, IsSound}
-use Rattle.hv_stands.proofs.Numbers.{one_value, same_one, none_is, found, changed-here, numbered-map, map-changed, map-more, numbered-more}
+use Rattle.hv_stands.specs.Sound.{IsPlainWrite, HasOther, AreApart, AreSound, DeletesNone, IsSingle, given_of, owners_of, given_among, owner_among, AreGiven, IsDone, IsOfCommitted, AreOfCommitted, IsSound}
+use Rattle.hv_stands.proofs.Numbers.{same_one, none_is, found, changed-here, numbered-map, map-changed, map-more, numbered-more}
 use Rattle.hv_stands.proofs.Owning.{opened-given, created-given, gave-given}
 use Rattle.hv_stands.proofs.Meanings.{deletes-none}
 use Rattle.hv_stands.proofs.Written.{numbered-whole}
-use Rattle.hv_stands.proofs.Forms.{created-plain}
 use Rattle.hv_stands.proofs.Soundness.{all-mapped, all-more, all-numbered, all-changed, soundness-later, table-made-sound, changed-sound, owned-few}
 
 -- ---- a transaction is changed while it is open
@@ -146,7 +144,7 @@ change-writes : (info : TableInfo) (effect : Effect) (number : ℕ) (t : Transac
     → IsOneWrite t (option_to_list (option_map (λ write. (info.table.0, written_by write number effect)) o))
 change-writes info effect number t none None is = inl refl
 change-writes info effect number t none (Some write) is =
-    inr ((info.table.0, written_by write number effect), refl, (is, record { deletes = none; whole = numbered-whole write number 0 (sorted effect.inserts) }))
+    inr ((info.table.0, written_by write number effect), refl, (is, record { deletes = none; rows = sorted effect.inserts; numbered = refl; whole = numbered-whole write number 0 (sorted effect.inserts) }))
 
 writes-one : (m : Option Meaning) (number : ℕ) (t : Transaction) → DeletesNone m → IsOneWrite t (writes_of m number t.given)
 writes-one None number t none = inl refl
@@ -387,15 +385,6 @@ module _ (s now : State) (n place : ℕ) (wrote : List Touch) (t : Transaction) 
       by (inr one) = wrote-one one.0 one.2 (tables ∙ ap (λ ws. tables_behind ws s.tables) one.1)
 
 -- a table was made
-made-plain : (t : Transaction) → IsSingle t → (k : ℕ) → IsPlainTable (made_by k (Some t))
-made-plain t single k =
-    created-plain (opening_tree t) (λ tree is.
-    let same : single.text.0 ≡ tree = one_value single.text.0 tree (sym single.text.1.read ∙ sym (ap (λ ss. opens ss) single.one) ∙ is) in
-    subst IsBuilt same single.text.1.built)
-  where
-    opens : List Statement → Option Stmt
-    opens ss = statement_tree (slice_get ss 0)
-
 created-sound : (s now : State) (n k place : ℕ) (t : Transaction) → IsSound s → numbered s.transactions n ≡ Some t → CreateFits s k t
     → now.transactions ≡ changed (while_open (ended (Made place k))) s.transactions n → now.tables ≡ s.tables ++ made_by k (Some t) ∷ []
     → now.jobs ≡ s.jobs → now.entries ≡ s.entries + 1 → IsSound now
@@ -407,7 +396,7 @@ created-sound s now n k place t sound at fits transactions tables jobs entries =
           (subst (λ m. AreSound m (s.tables ++ made ∷ [])) (sym entries)
           (table-made-sound (s.entries + 1) s.tables made
           (soundness-later s.entries (s.entries + 1) s.tables sound.tables (omega arith))
-          refl fits.next (made-plain t (all-numbered IsSingle s.transactions n t at sound.single) k) (omega arith) refl (record { each = tt; apart = tt })));
+          refl fits.next (omega arith) refl (record { each = tt; apart = tt })));
       single = subst (AllByRecursion IsSingle) (sym transactions)
           (all-open IsSingle (ended (Made place k)) (λ t single. single-same t (ended (Made place k) t) refl single) s.transactions n sound.single);
       given = subst (λ ts. AreGiven (map given_of now.transactions) (map owners_of ts)) (sym tables)
@@ -458,7 +447,7 @@ sound-all limits s (event ∷ more) fit sound = sound-all limits (after s event)
 pub nothing-sound : IsSound nothing_yet
 nothing-sound = record {
   no_jobs = refl;
-  tables = record { live = tt; in_order = tt; plain = tt; few = tt; keeping = tt; written = tt };
+  tables = record { live = tt; in_order = tt; few = tt; keeping = tt; written = tt };
   single = tt;
   given = record { has_owner = λ txn table write e. none-given txn table write e; is_given = λ txn table write e. none-owned txn table write e };
   committed = tt;

@@ -1,4 +1,3 @@
-pub mod Forms
 pub mod Written
 pub mod Endings
 pub mod Meanings
@@ -10,8 +9,7 @@ pub mod Soundness
 pub mod Tables
 pub mod StandingFiles
 pub mod ReadRows
-pub mod Named
-pub mod BuiltMeanings
+pub mod SeenTables
 pub mod Numbers
 pub mod Owning
 pub mod Keeping

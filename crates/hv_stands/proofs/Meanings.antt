@@ -1,79 +1,30 @@
--- What a statement's meaning can be, by the statement's form.
-use Rattle.std.proofs.Common.{◌≡◌, ℕ, Bool, true, false, if◌then◌else◌, IsTrue, IsNone, Option, Some, None, List, [], length, refl, subst}
-use Rattle.std.specs.List.{list_all}
+-- What a statement's meaning says, by the laws of meanings.
+use Rattle.std.proofs.Common.{◌≡◌, ◌⊎◌, inl, inr, ℕ, IsTrue, IsNone, Option, Some, None, Result, Ok, Err, List, [], map, refl, sym, ap, ◌∙◌, subst}
 use Rattle.hv_base.specs.declared.refusal.Refusal.{Refusal}
-use Rattle.hv_base.specs.declared.refusal.Refusal.TheVariants as refusal
-use Rattle.hv_ast.specs.declared.expr.Expr.{Expr}
-use Rattle.hv_ast.specs.declared.change.Rows.{Rows}
-use Rattle.hv_ast.specs.declared.change.Rows.TheVariants as source_rows
-use Rattle.hv_ast.specs.declared.table.CreateTable.{CreateTable}
-use Rattle.hv_ast.specs.declared.query.Source.{Source}
-use Rattle.hv_ast.specs.declared.query.Source.TheVariants as source
-use Rattle.hv_ast.specs.declared.query.From.{From}
 use Rattle.hv_ast.specs.declared.statement.Stmt.{Stmt}
 use Rattle.hv_ast.specs.declared.statement.Stmt.TheVariants as stmt
 use Rattle.hv_value.specs.declared.row.Row.{Row}
+use Rattle.hv_built.specs.Built.{IsBuilt}
 use Rattle.hv_logic.specs.declared.catalog.Shape.{Shape}
 use Rattle.hv_logic.specs.declared.catalog.TableInfo.{TableInfo}
 use Rattle.hv_logic.specs.declared.effect.Effect.{Effect}
 use Rattle.hv_logic.specs.declared.seen.Seen.{Seen}
 use Rattle.hv_logic.specs.declared.meaning.Meaning.{Meaning}
-use Rattle.hv_logic.specs.declared.meaning.Meaning.TheVariants.{Refused, Listing, Change, Make, RowLimit}
-use Rattle.hv_logic.specs.Meaning.{meaning_of, named, scanned, queried_source, queried_from, inserted_into, inserted_rows, inserts_of, within_limit, all_counted, shape_of, created_beside}
-use Rattle.hv_logic.specs.Sizes.{row_fits}
+use Rattle.hv_logic.specs.declared.meaning.Meaning.TheVariants.{Refused, Listing, Change, Make, Plain, RowLimit}
+use Rattle.hv_logic.specs.Tables.{named}
+use Rattle.hv_query.specs.Rows.{Tables}
+use Rattle.hv_analysis.specs.declared.logic.Logic.{Logic}
+use Rattle.hv_analysis.specs.declared.logic.Logic.TheVariants as logic
+use Rattle.hv_analysis.specs.Analysis.{analysed}
+use Rattle.hv_meaning.specs.Meaning.{info_of, rows_seen, meant, meaning_over, meaning_in, meaning_of}
+use Rattle.hv_meaning.specs.Laws.{has_meaning, MeansSomething}
+use Rattle.hv_meaning.proofs.Forms.{forms-mean}
+use Rattle.hv_meaning.proofs.Meanings.{tables-new, changes-named}
 use Rattle.hv_stands.specs.Sound.{DeletesNone}
 use Rattle.hv_history.specs.State.{created_shape}
 use Rattle.hv_history.specs.Legal.{is_create, made_name}
 
--- ---- a fact of what a query, and an insert, can come to
-
-module _ (P : Option Meaning → Type 0) (unbuilt : P None) (refused : (why : Refusal) → P (Some (Refused why))) where
-  pub queried-is : ((names : List (List ℕ)) (rows : List Row) → P (Some (Listing names rows))) → (from : Option (From Source)) (tables : List Seen)
-      → P (queried_from from tables)
-  queried-is listing from tables = by from
-    where
-      scans : (o : Option Seen) → P (Some (scanned o))
-      scans None = refused refusal.NoTable
-      scans (Some seen) = listing _ _
-
-      reads : (s : Source) → P (queried_source s tables)
-      reads (source.Table table alias) = scans (named table tables)
-      reads other = unbuilt
-
-      by : (from : Option (From Source)) → P (queried_from from tables)
-      by None = unbuilt
-      by (Some from) = reads from.source
-
-  -- an insert changes the table that is there, by rows that stay within their limit
-  pub inserted-is : P (Some RowLimit) → (o : Option Seen) (rows : Rows)
-      → ((seen : Seen) (values : List (List Expr)) → o ≡ Some seen → list_all row_fits (inserts_of seen.info.shape values).inserts ≡ true
-      → P (Some (Change seen.info (inserts_of seen.info.shape values))))
-      → P (inserted_rows o rows)
-  inserted-is limit o rows change = by rows
-    where
-      within : (fits : Bool) (seen : Seen) (values : List (List Expr)) → o ≡ Some seen → list_all row_fits (inserts_of seen.info.shape values).inserts ≡ fits
-          → P (Some (if fits then Change seen.info (inserts_of seen.info.shape values) else RowLimit))
-      within true seen values is fits = change seen values is fits
-      within false seen values is fits = limit
-
-      counted : (counts : Bool) (seen : Seen) (values : List (List Expr)) → o ≡ Some seen
-          → P (Some (if counts then within_limit seen.info (inserts_of seen.info.shape values) else Refused refusal.BadCount))
-      counted true seen values is = within (list_all row_fits (inserts_of seen.info.shape values).inserts) seen values is refl
-      counted false seen values is = refused refusal.BadCount
-
-      takes : (found : Option Seen) (values : List (List Expr)) → o ≡ found → P (Some (inserted_into found values))
-      takes None values is = refused refusal.NoTable
-      takes (Some seen) values is = counted (all_counted (length seen.info.shape.columns) values) seen values is
-
-      by : (rows : Rows) → P (inserted_rows o rows)
-      by (source_rows.Values values) = takes o values refl
-      by (source_rows.Query query) = unbuilt
-
 -- ---- only a CREATE TABLE of a new name makes a table
-
-abbrev pub MakesNone : Option Meaning → Type 0
-MakesNone (Some (Make shape)) = ⊥
-MakesNone _ = Unit {0}
 
 -- the name is new, and the table's shape is that of its text
 pub record IsNew (tree : Stmt) (tables : List Seen) (shape : Shape) : Type 0 where
@@ -81,33 +32,67 @@ pub record IsNew (tree : Stmt) (tables : List Seen) (shape : Shape) : Type 0 whe
   pub absent : IsNone (named (made_name (Some tree)) tables)
   pub shape_is : created_shape (Some tree) ≡ shape
 
-is-new : (o : Option Seen) (create : CreateTable) (shape : Shape) → Some (created_beside o create) ≡ Some (Make shape) → IsNone o × (shape_of create ≡ shape)
-is-new None create shape e = let same : shape_of create ≡ shape = cc in (refl, same)
-is-new (Some seen) create shape e = cc
-
 pub makes-new : (tree : Stmt) (tables : List Seen) (shape : Shape) → meaning_of tables tree ≡ Some (Make shape) → IsNew tree tables shape
-makes-new (stmt.Query query) tables shape e =
-    absurd (subst MakesNone e (queried-is MakesNone tt (λ why. tt) (λ names rows. tt) query.select.from tables))
-makes-new (stmt.Insert insert) tables shape e =
-    absurd (subst MakesNone e (inserted-is MakesNone tt (λ why. tt) tt (named insert.table tables) insert.rows (λ seen values is fits. tt)))
-makes-new (stmt.CreateTable create) tables shape e =
-    let found = is-new (named create.table tables) create shape e in
-    record { create = refl; absent = found.0; shape_is = found.1 }
-makes-new other tables shape e = cc
+makes-new tree tables shape e =
+    let new = tables-new tree tables shape e in
+    record {
+      create = subst (λ (t : Stmt). IsTrue (is_create (Some t))) (sym new.tree_is) refl;
+      absent = subst (λ (t : Stmt). IsNone (named (made_name (Some t)) tables)) (sym new.tree_is)
+          (subst (λ (o : Option Seen). IsNone o) (sym new.absent) refl);
+      shape_is = ap (λ (t : Stmt). created_shape (Some t)) new.tree_is ∙ sym new.shape_is;
+    }
 
 -- ---- a change deletes nothing
 
-makes-only : (o : Option Seen) (create : CreateTable) → DeletesNone (Some (created_beside o create))
-makes-only None create = tt
-makes-only (Some seen) create = tt
-
-pub deletes-none : (tree : Stmt) (tables : List Seen) → DeletesNone (meaning_of tables tree)
-deletes-none (stmt.Query query) tables = queried-is DeletesNone tt (λ why. tt) (λ names rows. tt) query.select.from tables
-deletes-none (stmt.Insert insert) tables =
-    inserted-is DeletesNone tt (λ why. tt) tt (named insert.table tables) insert.rows (λ seen values is fits. refl)
-deletes-none (stmt.CreateTable create) tables = makes-only (named create.table tables) create
-deletes-none other tables = tt
-
 pub deletes-nothing : (tree : Stmt) (tables : List Seen) (info : TableInfo) (effect : Effect) → meaning_of tables tree ≡ Some (Change info effect)
     → effect.deletes ≡ []
-deletes-nothing tree tables info effect e = subst DeletesNone e (deletes-none tree tables)
+deletes-nothing tree tables info effect e = let change = changes-named tree tables info effect e in change.deletes
+
+pub deletes-none : (tree : Stmt) (tables : List Seen) → DeletesNone (meaning_of tables tree)
+deletes-none tree tables = by (meaning_of tables tree) refl
+  where
+    by : (o : Option Meaning) → meaning_of tables tree ≡ o → DeletesNone o
+    by None is = tt
+    by (Some (Refused why)) is = tt
+    by (Some (Listing names rows)) is = tt
+    by (Some (Change info effect)) is = deletes-nothing tree tables info effect is
+    by (Some (Make shape)) is = tt
+    by (Some Plain) is = tt
+    by (Some RowLimit) is = tt
+
+-- ---- a statement of a form that is built means something
+
+built-form : (tree : Stmt) → IsBuilt tree → IsTrue (has_meaning tree)
+built-form (stmt.Query query) built = built
+built-form (stmt.Insert insert) built = built
+built-form (stmt.CreateTable create) built = refl
+built-form other built = cc
+
+pub built-means : (tables : List Seen) (tree : Stmt) → IsBuilt tree → MeansSomething (meaning_of tables tree)
+built-means tables tree built = forms-mean tree tables (built-form tree built)
+
+-- ---- over tables of the same descriptions, whatever their rows, it means the same, or lists some rows
+
+abbrev pub Lists : Option Meaning → Type 0
+Lists meaning = (names : List (List ℕ)) × (rows : List Row) × (meaning ≡ Some (Listing names rows))
+
+alike : (infos : List TableInfo) (rows others : Tables) (r : Result Logic Refusal)
+    → (meant infos rows r ≡ meant infos others r) ⊎ Lists (meant infos rows r)
+alike infos rows others (Ok (logic.Query query)) = inr (_, _, refl)
+alike infos rows others (Ok (logic.Insert insert)) = inl refl
+alike infos rows others (Ok (logic.Make shape)) = inl refl
+alike infos rows others (Ok logic.Nothing) = inl refl
+alike infos rows others (Err why) = inl refl
+
+pub same-or-lists : (tree : Stmt) (tables others : List Seen) → map info_of tables ≡ map info_of others
+    → (meaning_in tree tables ≡ meaning_in tree others) ⊎ Lists (meaning_in tree tables)
+unfolding meaning_in
+same-or-lists tree tables others same =
+    by (alike (map info_of tables) (map rows_seen tables) (map rows_seen others) (analysed (map info_of tables) tree))
+  where
+    by : (meaning_over tree (map info_of tables) (map rows_seen tables) ≡ meaning_over tree (map info_of tables) (map rows_seen others))
+        ⊎ Lists (meaning_over tree (map info_of tables) (map rows_seen tables))
+        → (meaning_over tree (map info_of tables) (map rows_seen tables) ≡ meaning_over tree (map info_of others) (map rows_seen others))
+        ⊎ Lists (meaning_over tree (map info_of tables) (map rows_seen tables))
+    by (inl e) = inl (e ∙ ap (λ infos. meaning_over tree infos (map rows_seen others)) same)
+    by (inr l) = inr l

@@ -1,4 +1,4 @@
--- What commits: a query, with no touches.
+-- What commits with no touches: a query, and what asks for nothing.
 use Rattle.std.proofs.Common.{◌≡◌, ℕ, ◌+◌, ◌&&◌, ◌||◌, Bool, true, false, nat_lt, IsFalse, Option, Some, None, List, [], ◌∷◌, ◌++◌, refl, ap, ◌∙◌}
 use Rattle.std.specs.List.{list_any}
 use Rattle.std.proofs.lemmas.List.{append-nil}
@@ -19,7 +19,7 @@ use Rattle.hv_history.specs.Answers.{committed_text}
 use Rattle.hv_history.specs.Legal.{Fits, IsLegalFrom, CommitFits, TouchesAreMeant, touches_conflict, commits_against, profile}
 use Rattle.hv_stands.specs.Sound.{IsIdle}
 use Rattle.hv_stands.specs.Endings.{HasSpace, statement_entries, Goes}
-use Rattle.hv_stands.specs.Laws.{QueriesEnd, committing, meant}
+use Rattle.hv_stands.specs.Laws.{QueriesEnd, PlainsEnd, committing, meant}
 use Rattle.hv_stands.proofs.Numbers.{numbered-last}
 use Rattle.hv_stands.proofs.Endings.{with_last, next_of, running, behind_start, of-last, changed-last, legal-last, goes}
 
@@ -111,3 +111,6 @@ nothing-goes book number text tree m idle space is means none =
 
 pub queries-end : QueriesEnd
 queries-end book number text tree names rows idle space is means = nothing-goes book number text tree (Some (Listing names rows)) idle space is means refl
+
+pub plains-end : PlainsEnd
+plains-end book number text tree idle space is means = nothing-goes book number text tree (Some Plain) idle space is means refl

@@ -1,37 +1,23 @@
--- The rows that are read from a table's files are those that stand in it, and so a statement means the same.
-use Rattle.std.proofs.Common.{refl, ◌≡◌, ℕ, nat_eq, Bool, true, false, cond, not, Option, Some, None, List, [], ◌∷◌, ◌++◌, map, filter, option_map, sym, ap, ◌∙◌}
-use Rattle.std.proofs.lemmas.List.Sorted.{IsPermutation-map}
-use Rattle.std.specs.Cmp.Lexicographic.{pointwise}
-use Rattle.std.specs.Ordering.{is_eq}
-use Rattle.std.specs.List.{flat_map, list_any, slice_get, AllByRecursion}
-use Rattle.hv_locks.specs.declared.table.Lock.{Lock}
-use Rattle.hv_ast.specs.declared.change.Rows.{Rows}
-use Rattle.hv_ast.specs.declared.change.Rows.TheVariants as source_rows
-use Rattle.hv_ast.specs.declared.query.Source.{Source}
-use Rattle.hv_ast.specs.declared.query.Source.TheVariants.{Table as TableSource}
-use Rattle.hv_ast.specs.declared.query.From.{From}
-use Rattle.hv_ast.specs.declared.table.CreateTable.{CreateTable}
-use Rattle.hv_ast.specs.declared.statement.Stmt.{Stmt}
-use Rattle.hv_ast.specs.declared.statement.Stmt.TheVariants as stmt
+-- The rows that are read from a table's files, by write id, are those that stand in it, in their order.
+use Rattle.std.proofs.Common.{◌≡◌, ◌≢◌, ℕ, zero, suc, ◌+◌, ◌<◌, ◌≤◌, ◌==◌, Bool, true, false, cond, not, Some, None, List, [], ◌∷◌, ◌++◌, filter, refl, sym, ap, ◌∙◌, subst, arith, eqb-true, ne_eqb}
+use Rattle.std.proofs.lemmas.Bool.{eqb-false}
+use Rattle.std.specs.declared.cmp.Ordering.{Ordering}
+use Rattle.std.specs.declared.cmp.Ordering.TheVariants.{Less, Greater}
+use Rattle.std.specs.Ordering.{nat_cmp, is_eq, ordering_then}
+use Rattle.std.specs.Cmp.{nat_cmp_is}
+use Rattle.std.specs.List.{flat_map, list_any, AllByRecursion}
+use Rattle.hv_base.specs.Identifiers.{row_id_cmp}
+use Rattle.hv_base.specs.declared.ids.RowId.{RowId}
 use Rattle.hv_value.specs.declared.row.Row.{Row}
-use Rattle.hv_value.specs.OrderLaws.{row_cmp_total, row_cmp-IsAntisymmetric}
 use Rattle.hv_logic.specs.declared.effect.Found.{Found}
-use Rattle.hv_logic.specs.declared.seen.Seen.{Seen}
-use Rattle.hv_logic.specs.declared.meaning.Meaning.TheVariants.{Listing}
-use Rattle.hv_logic.specs.Names.{source_names, names_of_join, names_in_maybe, names_of_union}
-use Rattle.hv_logic.specs.Meaning.{meaning_of, named, scanned, queried_source, queried_from, created_beside, inserted_rows as inserted_rows_of, column_names}
-use Rattle.hv_logic.specs.Rows.{sorted, found_cmp}
-use Rattle.hv_logic.specs.Sorting.{sorted_by}
-use Rattle.hv_logic.proofs.SortingLaws.{sorted-permuted, permuted-sorted_by}
+use Rattle.hv_logic.specs.Rows.{found_cmp}
+use Rattle.hv_logic.specs.Sorting.{placed_by, put_by, sorted_by}
 use Rattle.hv_history.specs.declared.state.Written.{Written}
-use Rattle.hv_history.specs.declared.state.Table.{Table}
-use Rattle.hv_history.specs.State.{state_of, seen_table, seen_tables, content_of}
-use Rattle.hv_stands.specs.Sound.{IsPlainWrite, HasSoundWrites, IsLive, NumberedFrom}
-use Rattle.hv_stands.specs.Reading.{first_name, table_of_name, inserted_rows, rows_read, seen_of, seen_by_name, seen_read}
-use Rattle.hv_stands.specs.Laws.{ReadingIsEnough}
-use Rattle.hv_stands.proofs.Soundness.{all-slice}
-use Rattle.hv_stands.proofs.Tables.{named-seen, named-at}
-use Rattle.hv_stands.proofs.Named.{first-source}
+use Rattle.hv_history.specs.State.{content_of, numbered_from}
+use Rattle.hv_history.proofs.StateLaws.{numbered-rises}
+use Rattle.hv_stands.specs.Sound.{IsPlainWrite, HasOther, AreApart}
+use Rattle.hv_stands.specs.Reading.{inserted_rows, written_with, inserts_in, is_among, rows_at, rows_from, IsRead}
+use Rattle.hv_stands.specs.Laws.{ReadRowsAreContent}
 
 -- ---- nothing is deleted
 
@@ -52,106 +38,231 @@ content-sorted writes plain =
     (nothing-deleted writes plain)
     ∙ ap (sorted_by found_cmp) (all-kept (inserted_rows writes))
 
-row_of : Found → Row
-row_of found = found.row
+-- ---- a block put into a sorted list
 
--- the rows that were read, and those that stand, in row order
-sorted-read : (writes : List Written) → AllByRecursion IsPlainWrite writes
-    → sorted (map (λ (found : Found). found.row) (inserted_rows writes)) ≡ sorted (map (λ (found : Found). found.row) (content_of writes))
-sorted-read writes plain =
-    sorted-permuted row_cmp_total row_cmp-IsAntisymmetric
-    (map (λ (found : Found). found.row) (inserted_rows writes)) (map (λ (found : Found). found.row) (sorted_by found_cmp (inserted_rows writes)))
-    (IsPermutation-map (λ (found : Found). found.row) (inserted_rows writes) (sorted_by found_cmp (inserted_rows writes))
-    (permuted-sorted_by found_cmp (inserted_rows writes)))
-    ∙ ap (λ (rows : List Found). sorted (map (λ (found : Found). found.row) rows)) (sym (content-sorted writes plain))
+module _ {X : Type 0} (R : X → X → Ordering) where
+  abbrev ComesBehind : List X → X → Type 0
+  ComesBehind ys x = AllByRecursion (λ y. R x y ≡ Greater) ys
 
--- ---- the one table that is seen
+  abbrev ComesBefore : List X → X → Type 0
+  ComesBefore ys x = AllByRecursion (λ y. R x y ≡ Less) ys
 
-named-here : (name : List ℕ) (other table : Table) (rest : Option Table)
-    → (rest ≡ Some table → pointwise nat_eq table.info.shape.name name ≡ true)
-    → (b : Bool) → pointwise nat_eq other.info.shape.name name ≡ b → cond b (Some other) rest ≡ Some table
-    → pointwise nat_eq table.info.shape.name name ≡ true
-named-here name other table rest later true is found =
-    let same : other ≡ table = cc in
-    ap (λ (t : Table). pointwise nat_eq t.info.shape.name name) (sym same) ∙ is
-named-here name other table rest later false is found = later found
+  abbrev Rises : List X → Type 0
+  Rises [] = Unit {0}
+  Rises (x ∷ xs) = ComesBefore xs x × Rises xs
 
-has_name : (name : List ℕ) (tables : List Table) (table : Table) → table_of_name name tables ≡ Some table
-    → pointwise nat_eq table.info.shape.name name ≡ true
-has_name name [] table e = cc
-has_name name (other ∷ tables) table e =
-    named-here name other table (table_of_name name tables) (has_name name tables table) (pointwise nat_eq other.info.shape.name name) refl e
+  puts : List X → List X → List X
+  puts [] zs = zs
+  puts (x ∷ xs) zs = put_by R x (puts xs zs)
 
--- what is found by a name in the one table that was read
-read-one : Stmt → Table → Seen
-read-one tree table = record { info = table.info; rows = rows_read tree table }
+  sorted-append : (xs ys : List X) → sorted_by R (xs ++ ys) ≡ puts xs (sorted_by R ys)
+  unfolding puts
+  sorted-append [] ys = refl
+  sorted-append (x ∷ xs) ys = ap (put_by R x) (sorted-append xs ys)
 
-named-read : (tree : Stmt) (name : List ℕ) (tables : List Table) (o : Option Table) → table_of_name name tables ≡ o
-    → named name (seen_of tree o) ≡ option_map (read-one tree) o
-unfolding read-one
-named-read tree name tables None found = refl
-named-read tree name tables (Some table) found =
-    ap (λ b. cond b (Some (read-one tree table)) None) (has_name name tables table found)
+  put-behind : (x : X) (ys zs : List X) → ComesBehind ys x → put_by R x (ys ++ zs) ≡ ys ++ put_by R x zs
+  put-behind x [] zs h = refl
+  put-behind x (y ∷ ys) zs h =
+      ap (λ o. placed_by R o x y (ys ++ zs) (put_by R x (ys ++ zs))) h.0 ∙ ap (λ rest. y ∷ rest) (put-behind x ys zs h.1)
 
-module _ (tables : List Table) (sound : (table : Table) (n : ℕ) → slice_get tables n ≡ Some table → HasSoundWrites table)
-    (live : AllByRecursion IsLive tables) (order : NumberedFrom 1 tables) where
-  -- inserts and new tables need no rows
-  inserts-alike : (tree : Stmt) (rows : Rows) (o : Option Table)
-      → inserted_rows_of (option_map (read-one tree) o) rows ≡ inserted_rows_of (option_map seen_table o) rows
-  unfolding read-one
-  inserts-alike tree (source_rows.Values values) None = refl
-  inserts-alike tree (source_rows.Values values) (Some table) = refl
-  inserts-alike tree (source_rows.Query query) o = refl
+  puts-behind : (xs ys zs : List X) → AllByRecursion (ComesBehind ys) xs → puts xs (ys ++ zs) ≡ ys ++ puts xs zs
+  unfolding puts
+  puts-behind [] ys zs h = refl
+  puts-behind (x ∷ xs) ys zs h = ap (put_by R x) (puts-behind xs ys zs h.1) ∙ put-behind x ys (puts xs zs) h.0
 
-  creates-alike : (tree : Stmt) (create : CreateTable) (o : Option Table)
-      → created_beside (option_map (read-one tree) o) create ≡ created_beside (option_map seen_table o) create
-  creates-alike tree create None = refl
-  creates-alike tree create (Some table) = refl
+  put-front : (x : X) (ys : List X) → ComesBefore ys x → put_by R x ys ≡ x ∷ ys
+  put-front x [] h = refl
+  put-front x (y ∷ ys) h = ap (λ o. placed_by R o x y ys (put_by R x ys)) h.0
 
-  scans-alike : (tree : Stmt) (name : List ℕ) (o : Option Table) → table_of_name name tables ≡ o
-      → ((table : Table) → rows_read tree table ≡ inserted_rows table.writes)
-      → scanned (option_map (read-one tree) o) ≡ scanned (option_map seen_table o)
-  unfolding read-one
-  scans-alike tree name None found reads = refl
-  scans-alike tree name (Some table) found reads =
-      let at = named-at 1 name tables table order found in
-      ap (λ (rows : List Found). Listing (column_names table.info.shape) (sorted (map (λ (found : Found). found.row) rows))) (reads table)
-      ∙ ap (Listing (column_names table.info.shape)) (sorted-read table.writes (sound table at.place at.here).each)
+  both-before : (x : X) (xs ys : List X) → ComesBefore xs x → ComesBefore ys x → ComesBefore (xs ++ ys) x
+  both-before x [] ys a b = b
+  both-before x (y ∷ xs) ys a b = (a.0, both-before x xs ys a.1 b)
 
-  tables-alike : (tree : Stmt) (name : List ℕ) → ((table : Table) → rows_read tree table ≡ inserted_rows table.writes)
-      → scanned (named name (seen_by_name tree (Some name) tables)) ≡ scanned (named name (seen_tables tables))
-  tables-alike tree name reads =
-      ap scanned (named-read tree name tables (table_of_name name tables) refl)
-      ∙ scans-alike tree name (table_of_name name tables) refl reads
-      ∙ ap scanned (sym (named-seen name tables live))
+  puts-front : (xs ys : List X) → Rises xs → AllByRecursion (ComesBefore ys) xs → puts xs ys ≡ xs ++ ys
+  unfolding puts
+  puts-front [] ys up h = refl
+  puts-front (x ∷ xs) ys up h =
+      ap (put_by R x) (puts-front xs ys up.1 h.1) ∙ put-front x (xs ++ ys) (both-before x xs ys up.0 h.0)
 
-  sources-alike : (tree : Stmt) (source : Source) (joins unions : List Lock) → ((table : Table) → rows_read tree table ≡ inserted_rows table.writes)
-      → queried_source source (seen_by_name tree (first_name ((source_names source ++ joins) ++ unions)) tables) ≡ queried_source source (seen_tables tables)
-  sources-alike tree (TableSource name alias) joins unions reads =
-      ap (λ (o : Option (List ℕ)). Some (scanned (named name (seen_by_name tree o tables)))) (first-source name alias joins unions)
-      ∙ ap Some (tables-alike tree name reads)
-  sources-alike tree source joins unions reads = refl
+-- ---- rows of write ids
 
-  froms-alike : (tree : Stmt) (from : Option (From Source)) (unions : List Lock) → ((table : Table) → rows_read tree table ≡ inserted_rows table.writes)
-      → queried_from from (seen_by_name tree (first_name (names_in_maybe source_names from ++ unions)) tables) ≡ queried_from from (seen_tables tables)
-  froms-alike tree None unions reads = refl
-  froms-alike tree (Some from) unions reads = sources-alike tree from.source (flat_map (names_of_join source_names) from.joins) unions reads
+-- a row of no partition, of that write id
+record IsBy (write : ℕ) (found : Found) : Type 0 where
+  whole : found.partition ≡ []
+  by : found.id.write.0 ≡ write
 
-  trees-alike : (tree : Stmt) → meaning_of (seen_read tree tables) tree ≡ meaning_of (seen_tables tables) tree
-  trees-alike (stmt.Query query) =
-      froms-alike (stmt.Query query) query.select.from (flat_map (names_of_union source_names) query.unions) (λ table. refl)
-  trees-alike (stmt.Insert insert) =
-      ap (λ o. inserted_rows_of o insert.rows) (named-read (stmt.Insert insert) insert.table tables (table_of_name insert.table tables) refl)
-      ∙ inserts-alike (stmt.Insert insert) insert.rows (table_of_name insert.table tables)
-      ∙ ap (λ o. inserted_rows_of o insert.rows) (sym (named-seen insert.table tables live))
-  trees-alike (stmt.CreateTable create) =
-      ap (λ o. Some (created_beside o create)) (named-read (stmt.CreateTable create) create.table tables (table_of_name create.table tables) refl)
-      ∙ ap Some (creates-alike (stmt.CreateTable create) create (table_of_name create.table tables))
-      ∙ ap (λ o. Some (created_beside o create)) (sym (named-seen create.table tables live))
-  trees-alike tree = refl
+id-less : (a b : RowId) → a.write.0 < b.write.0 → row_id_cmp a b ≡ Less
+unfolding row_id_cmp
+id-less a b below = ap (λ (o : Ordering). ordering_then o (ordering_then (nat_cmp a.statement b.statement) (ordering_then (nat_cmp a.bucket b.bucket) (nat_cmp a.row b.row)))) (sym (nat_cmp_is a.write.0 b.write.0 Less below))
 
-pub reading-enough : ReadingIsEnough
-reading-enough book tree idle =
-    let tables = (state_of book).tables in
-    trees-alike tables (λ table n e. all-slice HasSoundWrites tables n table e idle.sound.tables.written)
-    idle.sound.tables.live idle.sound.tables.in_order tree
+id-greater : (a b : RowId) → b.write.0 < a.write.0 → row_id_cmp a b ≡ Greater
+unfolding row_id_cmp
+id-greater a b above = ap (λ (o : Ordering). ordering_then o (ordering_then (nat_cmp a.statement b.statement) (ordering_then (nat_cmp a.bucket b.bucket) (nat_cmp a.row b.row)))) (sym (nat_cmp_is a.write.0 b.write.0 Greater above))
+
+by-id : (x y : Found) → x.partition ≡ [] → y.partition ≡ [] → found_cmp x y ≡ row_id_cmp x.id y.id
+by-id x y a b = λ i. found_cmp (record { partition = a i; id = x.id; row = x.row }) (record { partition = b i; id = y.id; row = y.row })
+
+found-less : (write other : ℕ) (x y : Found) → write < other → IsBy write x → IsBy other y → found_cmp x y ≡ Less
+found-less write other x y below a b = by-id x y a.whole b.whole ∙ id-less x.id y.id (omega (arith, below, a.by, b.by))
+
+found-greater : (write other : ℕ) (x y : Found) → other < write → IsBy write x → IsBy other y → found_cmp x y ≡ Greater
+found-greater write other x y above a b = by-id x y a.whole b.whole ∙ id-greater x.id y.id (omega (arith, above, a.by, b.by))
+
+-- a block of one write id, and rows of other ones
+block-behind : (write other : ℕ) (xs ys : List Found) → other < write → AllByRecursion (IsBy write) xs → AllByRecursion (IsBy other) ys
+    → AllByRecursion (ComesBehind found_cmp ys) xs
+block-behind write other xs ys above a b = each xs a
+  where
+    one : (x : Found) (ys : List Found) → IsBy write x → AllByRecursion (IsBy other) ys → ComesBehind found_cmp ys x
+    one x [] a b = tt
+    one x (y ∷ ys) a b = (found-greater write other x y above a b.0, one x ys a b.1)
+
+    each : (xs : List Found) → AllByRecursion (IsBy write) xs → AllByRecursion (ComesBehind found_cmp ys) xs
+    each [] a = tt
+    each (x ∷ xs) a = (one x ys a.0 b, each xs a.1)
+
+-- a row of a write id above `low`
+record IsAbove (low : ℕ) (found : Found) : Type 0 where
+  write : ℕ
+  above : low < write
+  is : IsBy write found
+
+block-before : (write : ℕ) (xs ys : List Found) → AllByRecursion (IsBy write) xs → AllByRecursion (IsAbove write) ys
+    → AllByRecursion (ComesBefore found_cmp ys) xs
+block-before write xs ys a b = each xs a
+  where
+    one : (x : Found) (ys : List Found) → IsBy write x → AllByRecursion (IsAbove write) ys → ComesBefore found_cmp ys x
+    one x [] a b = tt
+    one x (y ∷ ys) a b = (found-less write b.0.write x y b.0.above a b.0.is, one x ys a b.1)
+
+    each : (xs : List Found) → AllByRecursion (IsBy write) xs → AllByRecursion (ComesBefore found_cmp ys) xs
+    each [] a = tt
+    each (x ∷ xs) a = (one x ys a.0 b, each xs a.1)
+
+-- ---- the rows of a write
+
+numbered-by : (write statement number : ℕ) (rows : List Row) → AllByRecursion (IsBy write) (numbered_from write statement number rows)
+numbered-by write statement number [] = tt
+numbered-by write statement number (row ∷ rows) = (record { whole = refl; by = refl }, numbered-by write statement (number + 1) rows)
+
+numbered-before : (write statement number later : ℕ) (row : Row) (rows : List Row) → number < later
+    → ComesBefore found_cmp (numbered_from write statement later rows)
+    (record { partition = []; id = record { write = record { 0 = write }; statement = statement; bucket = 0; row = number }; row = row })
+numbered-before write statement number later row [] h = tt
+numbered-before write statement number later row (next ∷ rows) h =
+    (numbered-rises write statement number later h, numbered-before write statement number (later + 1) row rows (omega (arith, h)))
+
+numbered-up : (write statement number : ℕ) (rows : List Row) → Rises found_cmp (numbered_from write statement number rows)
+numbered-up write statement number [] = tt
+numbered-up write statement number (row ∷ rows) =
+    (numbered-before write statement number (number + 1) row rows (omega arith), numbered-up write statement (number + 1) rows)
+
+inserts-by : (written : Written) → IsPlainWrite written → AllByRecursion (IsBy written.write) written.inserts
+inserts-by written plain = subst (AllByRecursion (IsBy written.write)) (sym plain.numbered) (numbered-by written.write written.statement 0 plain.rows)
+
+inserts-up : (written : Written) → IsPlainWrite written → Rises found_cmp written.inserts
+inserts-up written plain = subst (Rises found_cmp) (sym plain.numbered) (numbered-up written.write written.statement 0 plain.rows)
+
+-- those that are read under one write id
+with-by : (write : ℕ) (writes : List Written) → AllByRecursion IsPlainWrite writes → AllByRecursion (IsBy write) (inserts_in (written_with write writes))
+with-by write [] plain = tt
+with-by write (first ∷ writes) plain = here (first.write == write) refl (with-by write writes plain.1)
+  where
+    here : (b : Bool) → (first.write == write) ≡ b → AllByRecursion (IsBy write) (inserts_in (written_with write writes))
+        → AllByRecursion (IsBy write) (inserts_in (cond b (Some first) (written_with write writes)))
+    here true is rest = subst (λ w. AllByRecursion (IsBy w) first.inserts) (eqb-true first.write write is) (inserts-by first plain.0)
+    here false is rest = rest
+
+at-by : (lost : List ℕ) (writes : List Written) (write : ℕ) → AllByRecursion IsPlainWrite writes → AllByRecursion (IsBy write) (rows_at lost writes write)
+at-by lost writes write plain = by (is_among lost write)
+  where
+    by : (b : Bool) → AllByRecursion (IsBy write) (cond b [] (inserts_in (written_with write writes)))
+    by true = tt
+    by false = with-by write writes plain
+
+all-above : (low write : ℕ) (xs ys : List Found) → low < write → AllByRecursion (IsBy write) xs → AllByRecursion (IsAbove low) ys
+    → AllByRecursion (IsAbove low) (xs ++ ys)
+all-above low write [] ys over a b = b
+all-above low write (x ∷ xs) ys over a b = (record { write = write; above = over; is = a.0 }, all-above low write xs ys over a.1 b)
+
+all-lower : (low high : ℕ) (xs : List Found) → low ≤ high → AllByRecursion (IsAbove high) xs → AllByRecursion (IsAbove low) xs
+all-lower low high [] le a = tt
+all-lower low high (x ∷ xs) le a =
+    let over = a.0.above in
+    (record { write = a.0.write; above = omega (arith, le, over); is = a.0.is }, all-lower low high xs le a.1)
+
+from-above : (lost : List ℕ) (writes : List Written) (low n : ℕ) → AllByRecursion IsPlainWrite writes → AllByRecursion (IsAbove low) (rows_from lost writes low n)
+from-above lost writes low zero plain = tt
+from-above lost writes low (suc n) plain =
+    all-above low (low + 1) (rows_at lost writes (low + 1)) (rows_from lost writes (low + 1) n) (omega arith) (at-by lost writes (low + 1) plain)
+    (all-lower low (low + 1) (rows_from lost writes (low + 1) n) (omega arith) (from-above lost writes (low + 1) n plain))
+
+-- ---- one write more
+
+none-with : (write : ℕ) (writes : List Written) → AllByRecursion (HasOther write) writes → written_with write writes ≡ None
+none-with write [] other = refl
+none-with write (first ∷ writes) other =
+    ap (λ b. cond b (Some first) (written_with write writes)) (ne_eqb first.write write other.0) ∙ none-with write writes other.1
+
+no-rows : (lost : List ℕ) (writes : List Written) (write : ℕ) → written_with write writes ≡ None → rows_at lost writes write ≡ []
+no-rows lost writes write none = ap (λ o. cond (is_among lost write) [] (inserts_in o)) none ∙ same (is_among lost write)
+  where
+    same : (b : Bool) → cond {A = List Found} b [] [] ≡ []
+    same true = refl
+    same false = refl
+
+other-rows : (lost : List ℕ) (first : Written) (writes : List Written) (write : ℕ) → first.write ≢ write → rows_at lost (first ∷ writes) write ≡ rows_at lost writes write
+other-rows lost first writes write other =
+    ap (λ b. cond (is_among lost write) [] (inserts_in (cond b (Some first) (written_with write writes)))) (ne_eqb first.write write other)
+
+-- behind its write id
+rows-behind : (lost : List ℕ) (first : Written) (writes : List Written) (low n : ℕ) → first.write ≤ low → rows_from lost (first ∷ writes) low n ≡ rows_from lost writes low n
+rows-behind lost first writes low zero before = refl
+rows-behind lost first writes low (suc n) before =
+    λ i. other-rows lost first writes (low + 1) (λ e. omega (arith, e, before)) i ++ rows-behind lost first writes (low + 1) n (omega arith) i
+
+-- its rows stand where they would be put
+one-more : (n : ℕ) (lost : List ℕ) (first : Written) (writes : List Written) (low : ℕ) → IsPlainWrite first → AllByRecursion IsPlainWrite writes
+    → low < first.write → first.write ≤ low + n → is_among lost first.write ≡ false → written_with first.write writes ≡ None
+    → rows_from lost (first ∷ writes) low n ≡ puts found_cmp first.inserts (rows_from lost writes low n)
+one-more zero lost first writes low own plain over within kept none = absurd (omega (arith, over, within))
+one-more (suc n) lost first writes low own plain over within kept none =
+    by (first.write == low + 1) refl (λ further. one-more n lost first writes (low + 1) own plain further (omega (arith, within)) kept none)
+  where
+    by : (b : Bool) → (first.write == low + 1) ≡ b
+        → (low + 1 < first.write → rows_from lost (first ∷ writes) (low + 1) n ≡ puts found_cmp first.inserts (rows_from lost writes (low + 1) n))
+        → rows_from lost (first ∷ writes) low (suc n) ≡ puts found_cmp first.inserts (rows_from lost writes low (suc n))
+    by true is later =
+        let number : first.write ≡ low + 1 = eqb-true first.write (low + 1) is in
+        let here : rows_at lost (first ∷ writes) (low + 1) ≡ first.inserts =
+        ap (λ b. cond (is_among lost (low + 1)) [] (inserts_in (cond b (Some first) (written_with (low + 1) writes)))) is
+        ∙ ap (λ b. cond b [] first.inserts) (ap (is_among lost) (sym number) ∙ kept) in
+        let there : rows_at lost writes (low + 1) ≡ [] = no-rows lost writes (low + 1) (ap (λ w. written_with w writes) (sym number) ∙ none) in
+        let above : AllByRecursion (IsAbove first.write) (rows_from lost writes (low + 1) n) =
+        subst (λ w. AllByRecursion (IsAbove w) (rows_from lost writes (low + 1) n)) (sym number) (from-above lost writes (low + 1) n plain) in
+        (λ i. here i ++ rows-behind lost first writes (low + 1) n (omega (arith, number)) i)
+        ∙ sym (puts-front found_cmp first.inserts (rows_from lost writes (low + 1) n) (inserts-up first own)
+        (block-before first.write first.inserts (rows_from lost writes (low + 1) n) (inserts-by first own) above))
+        ∙ ap (λ rows. puts found_cmp first.inserts (rows ++ rows_from lost writes (low + 1) n)) (sym there)
+    by false is later =
+        let other : first.write ≢ low + 1 = eqb-false first.write (low + 1) is in
+        let further : low + 1 < first.write = omega (arith, over, other) in
+        (λ i. other-rows lost first writes (low + 1) other i ++ later further i)
+        ∙ sym (puts-behind found_cmp first.inserts (rows_at lost writes (low + 1)) (rows_from lost writes (low + 1) n)
+        (block-behind first.write (low + 1) first.inserts (rows_at lost writes (low + 1)) further (inserts-by first own) (at-by lost writes (low + 1) plain)))
+
+nothing-from : (lost : List ℕ) (low n : ℕ) → rows_from lost [] low n ≡ []
+nothing-from lost low zero = refl
+nothing-from lost low (suc n) = λ i. no-rows lost [] (low + 1) refl i ++ nothing-from lost (low + 1) n i
+
+rows-sorted : (lost : List ℕ) (given : ℕ) (writes : List Written) → AllByRecursion IsPlainWrite writes → AreApart writes → AllByRecursion (IsRead lost given) writes
+    → rows_from lost writes 0 given ≡ sorted_by found_cmp (inserted_rows writes)
+rows-sorted lost given [] plain apart read = nothing-from lost 0 given
+rows-sorted lost given (first ∷ writes) plain apart read =
+    one-more given lost first writes 0 plain.0 plain.1 (omega (arith, read.0.first)) (omega (arith, read.0.last)) read.0.kept (none-with first.write writes apart.0)
+    ∙ ap (puts found_cmp first.inserts) (rows-sorted lost given writes plain.1 apart.1 read.1)
+    ∙ sym (sorted-append found_cmp first.inserts (inserted_rows writes))
+
+pub read-content : ReadRowsAreContent
+read-content lost given table sound read =
+    rows-sorted lost given table.writes sound.each sound.apart read ∙ sym (content-sorted table.writes sound.each)

@@ -5,7 +5,7 @@ use Rattle.hv_history.specs.declared.state.Written.{Written}
 use Rattle.hv_history.specs.declared.state.Table.{Table}
 use Rattle.hv_history.specs.State.{numbered, changed, changed_at, written_to, owned}
 use Rattle.hv_logic.specs.declared.catalog.TableInfo.{TableInfo}
-use Rattle.hv_stands.specs.Sound.{IsLive, NumberedFrom, ArePlain, IsPlainTable, HasSoundWrites, HasFewOwners, KeepsAll, AreSound}
+use Rattle.hv_stands.specs.Sound.{IsLive, NumberedFrom, HasSoundWrites, HasFewOwners, KeepsAll, AreSound}
 use Rattle.hv_stands.specs.Laws.{tables_inserted}
 
 -- ---- what holds of all
@@ -77,7 +77,6 @@ pub soundness-later : (most next : ℕ) (tables : List Table) → AreSound most 
 soundness-later most next tables sound before = record {
   live = sound.live;
   in_order = sound.in_order;
-  plain = sound.plain;
   few = all-mapped (HasFewOwners most) (HasFewOwners next) (λ table few. omega arith) tables sound.few;
   keeping = sound.keeping;
   written = sound.written;
@@ -85,11 +84,10 @@ soundness-later most next tables sound before = record {
 
 -- one table more
 pub table-made-sound : (most : ℕ) (tables : List Table) (made : Table) → AreSound most tables → IsLive made → made.info.table.0 ≡ length tables + 1
-    → IsPlainTable made → HasFewOwners most made → KeepsAll made → HasSoundWrites made → AreSound most (tables ++ made ∷ [])
-table-made-sound most tables made sound live number plain few keeping written = record {
+    → HasFewOwners most made → KeepsAll made → HasSoundWrites made → AreSound most (tables ++ made ∷ [])
+table-made-sound most tables made sound live number few keeping written = record {
   live = all-more IsLive tables made sound.live live;
   in_order = numbered-more 1 tables made sound.in_order (omega (arith, number));
-  plain = all-more IsPlainTable tables made sound.plain plain;
   few = all-more (HasFewOwners most) tables made sound.few few;
   keeping = all-more KeepsAll tables made sound.keeping keeping;
   written = all-more HasSoundWrites tables made sound.written written;
@@ -110,7 +108,6 @@ pub changed-sound : (most next : ℕ) (tables : List Table) (k : ℕ) (f : Table
 changed-sound most next tables k f table at info alive keeps later few written sound = record {
   live = all-changed IsLive IsLive f tables k table at (λ t h. h) (λ h. alive table ∙ h) sound.live;
   in_order = in_order-changed f (λ t. ap (λ (i : TableInfo). i.table.0) (info t)) 1 tables k sound.in_order;
-  plain = all-changed IsPlainTable IsPlainTable f tables k table at (λ t h. h) (λ h. subst (λ (i : TableInfo). ArePlain i.shape.columns) (sym (info table)) h) sound.plain;
   few = all-changed (HasFewOwners most) (HasFewOwners next) f tables k table at later few sound.few;
   keeping = all-changed KeepsAll KeepsAll f tables k table at (λ t h. h) (λ h. keeps table ∙ h) sound.keeping;
   written = all-changed HasSoundWrites HasSoundWrites f tables k table at (λ t h. h) written sound.written;

@@ -2,21 +2,19 @@
 use Rattle.std.proofs.Common.{refl, ◌≡◌, ℕ, suc, ◌+◌, nat_eq, Bool, true, false, cond, IsTrue, Option, Some, None, List, [], ◌∷◌, map, filter, option_map, sym, ap, ◌∙◌, subst, arith}
 use Rattle.std.specs.Cmp.Lexicographic.{pointwise}
 use Rattle.std.specs.List.{slice_get, AllByRecursion}
-use Rattle.hv_ast.specs.declared.table.CreateTable.{CreateTable}
 use Rattle.hv_ast.specs.declared.statement.Stmt.{Stmt}
-use Rattle.hv_ast.specs.declared.statement.Stmt.TheVariants as stmt
 use Rattle.hv_logic.specs.declared.catalog.TableInfo.{TableInfo}
 use Rattle.hv_logic.specs.declared.effect.Effect.{Effect}
 use Rattle.hv_logic.specs.declared.seen.Seen.{Seen}
-use Rattle.hv_logic.specs.declared.meaning.Meaning.{Meaning}
 use Rattle.hv_logic.specs.declared.meaning.Meaning.TheVariants.{Change}
-use Rattle.hv_logic.specs.Meaning.{meaning_of, named, created_beside}
+use Rattle.hv_logic.specs.Tables.{named}
+use Rattle.hv_meaning.specs.Meaning.{meaning_of}
+use Rattle.hv_meaning.proofs.Meanings.{changes-named}
 use Rattle.hv_history.specs.declared.state.Table.{Table}
 use Rattle.hv_history.specs.State.{state_of, numbered, seen_table, seen_tables}
 use Rattle.hv_stands.specs.Sound.{IsLive, NumberedFrom}
 use Rattle.hv_stands.specs.Reading.{table_of_name}
 use Rattle.hv_stands.specs.Laws.{ChangedTableStands}
-use Rattle.hv_stands.proofs.Meanings.{queried-is, inserted-is}
 
 -- ---- all tables are seen
 
@@ -87,10 +85,6 @@ abbrev pub HasTable : TableInfo → List Table → Type 0
 HasTable info tables = (table : Table) × (numbered tables info.table.0 ≡ Some table) × (table.info ≡ info)
 
 module _ (tables : List Table) (live : AllByRecursion IsLive tables) (order : NumberedFrom 1 tables) where
-  abbrev ChangesTable : Option Meaning → Type 0
-  ChangesTable (Some (Change info effect)) = HasTable info tables
-  ChangesTable _ = Unit {0}
-
   found-table : (name : List ℕ) (o : Option Table) (seen : Seen) → table_of_name name tables ≡ o → option_map seen_table o ≡ Some seen
       → HasTable seen.info tables
   found-table name None seen found e = cc
@@ -102,21 +96,11 @@ module _ (tables : List Table) (live : AllByRecursion IsLive tables) (order : Nu
   named-table : (name : List ℕ) (seen : Seen) → named name (seen_tables tables) ≡ Some seen → HasTable seen.info tables
   named-table name seen e = found-table name (table_of_name name tables) seen refl (sym (named-seen name tables live) ∙ e)
 
-  creates-none : (o : Option Seen) (create : CreateTable) → ChangesTable (Some (created_beside o create))
-  creates-none None create = tt
-  creates-none (Some seen) create = tt
-
-  changes-table : (tree : Stmt) → ChangesTable (meaning_of (seen_tables tables) tree)
-  changes-table (stmt.Query query) = queried-is ChangesTable tt (λ why. tt) (λ names rows. tt) query.select.from (seen_tables tables)
-  changes-table (stmt.Insert insert) =
-      inserted-is ChangesTable tt (λ why. tt) tt (named insert.table (seen_tables tables)) insert.rows
-      (λ seen values is fits. named-table insert.table seen is)
-  changes-table (stmt.CreateTable create) = creates-none (named create.table (seen_tables tables)) create
-  changes-table tree = tt
-
   pub changed-named : (tree : Stmt) (info : TableInfo) (effect : Effect) → meaning_of (seen_tables tables) tree ≡ Some (Change info effect)
       → HasTable info tables
-  changed-named tree info effect e = subst ChangesTable e (changes-table tree)
+  changed-named tree info effect e =
+      let change = changes-named tree (seen_tables tables) info effect e in
+      subst (λ (i : TableInfo). HasTable i tables) (sym change.info_is) (named-table change.name change.seen change.here)
 
 pub changed-table : ChangedTableStands
 changed-table book tree info effect idle e =

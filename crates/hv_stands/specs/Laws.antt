@@ -8,14 +8,14 @@ use Rattle.hv_shelf.specs.declared.place.Place.{Place}
 use Rattle.hv_shelf.specs.Disk.{Tree}
 use Rattle.hv_ast.specs.declared.statement.Stmt.{Stmt}
 use Rattle.hv_built.specs.Running.{Runs}
-use Rattle.hv_built.specs.Built.{IsBuilt}
 use Rattle.hv_value.specs.declared.row.Row.{Row}
 use Rattle.hv_logic.specs.declared.catalog.Shape.{Shape}
 use Rattle.hv_logic.specs.declared.catalog.TableInfo.{TableInfo}
 use Rattle.hv_logic.specs.declared.effect.Effect.{Effect}
 use Rattle.hv_logic.specs.declared.meaning.Meaning.{Meaning}
-use Rattle.hv_logic.specs.declared.meaning.Meaning.TheVariants.{Listing, Change, Make, RowLimit}
-use Rattle.hv_logic.specs.Meaning.{meaning_of}
+use Rattle.hv_logic.specs.declared.meaning.Meaning.TheVariants.{Listing, Change, Make, Plain, RowLimit}
+use Rattle.hv_analysis.specs.Inserts.{columns_of}
+use Rattle.hv_meaning.specs.Meaning.{meaning_in, meaning_of}
 use Rattle.hv_rowfile.specs.Layout.{CanWrite, IsFile}
 use Rattle.hv_history.specs.declared.entry.Entry.{Entry}
 use Rattle.hv_history.specs.declared.entry.Entry.TheVariants as entry
@@ -23,14 +23,14 @@ use Rattle.hv_history.specs.declared.entry.Cause.{Cause}
 use Rattle.hv_history.specs.declared.entry.Cause.TheVariants as cause
 use Rattle.hv_history.specs.declared.state.Written.{Written}
 use Rattle.hv_history.specs.declared.state.Table.{Table}
-use Rattle.hv_history.specs.State.{State, after, state_of, numbered, changed, seen_tables, written_by, written_to, owned, new_table}
+use Rattle.hv_history.specs.State.{State, after, state_of, numbered, changed, seen_tables, content_of, written_by, written_to, owned, new_table}
 use Rattle.hv_history.specs.Legal.{IsRefusedAs, Fits, IsLegalFrom, profile}
 use Rattle.hv_history.specs.Answers.{listing, counts_line, ok_line, cause_text}
 use Rattle.hv_dirs.specs.Names.{own_name, write_end}
 use Rattle.hv_stands.specs.Files.{records_of, file_of, own_place, ending_of, IsOwn, IsFiled, Stands}
-use Rattle.hv_stands.specs.Sound.{IsSound, IsIdle, IsWhole, ArePlain, AreInserts}
+use Rattle.hv_stands.specs.Sound.{IsSound, IsIdle, IsWhole, HasSoundWrites, AreInserts}
 use Rattle.hv_stands.specs.Endings.{next_number, statement_entries, HasSpace, Goes}
-use Rattle.hv_stands.specs.Reading.{seen_read}
+use Rattle.hv_stands.specs.Reading.{rows_from, IsRead, seen_read}
 
 -- what a statement of this tree comes to behind a book
 abbrev pub meant : List Entry → Stmt → Option Meaning
@@ -40,21 +40,20 @@ meant book tree = meaning_of (seen_tables (state_of book).tables) tree
 abbrev pub committing : List Entry → List Touch → Entry
 committing book wrote = entry.Commit (record { 0 = next_number book }) wrote
 
--- ---- which trees there are
-
--- a table that is made has columns that are built
-abbrev pub MadeColumnsArePlain : Type 0
-MadeColumnsArePlain =
-    (book : List Entry) (tree : Stmt) (shape : Shape)
-    → IsBuilt tree → meant book tree ≡ Some (Make shape) → ArePlain shape.columns
-
--- ---- the four ways of a statement
+-- ---- the five ways of a statement
 
 abbrev pub QueriesEnd : Type 0
 QueriesEnd =
     (book : List Entry) (number : ℕ) (text : List ℕ) (tree : Stmt) (names : List (List ℕ)) (rows : List Row)
     → IsIdle (state_of book) → HasSpace book → Runs text tree → meant book tree ≡ Some (Listing names rows)
     → Goes book (statement_entries book number text (committing book [] ∷ [])) number text (listing names rows) false (state_of book).tables
+
+-- what asks for nothing to be done commits without rows
+abbrev pub PlainsEnd : Type 0
+PlainsEnd =
+    (book : List Entry) (number : ℕ) (text : List ℕ) (tree : Stmt)
+    → IsIdle (state_of book) → HasSpace book → Runs text tree → meant book tree ≡ Some Plain
+    → Goes book (statement_entries book number text (committing book [] ∷ [])) number text ok_line false (state_of book).tables
 
 -- a statement may be aborted for this cause; damage is told of files alone
 abbrev pub IsCauseOf : Option Meaning → Cause → Type 0
@@ -119,6 +118,7 @@ abbrev pub InsertsCanBeWritten : Type 0
 InsertsCanBeWritten =
     (book : List Entry) (tree : Stmt) (info : TableInfo) (effect : Effect) (write : ℕ)
     → IsIdle (state_of book) → meant book tree ≡ Some (Change info effect) → 1 ≤ write
+    → length (columns_of info.shape) ≤ 65535
     → CanWrite false 0 (records_of (written_by write 0 effect).inserts)
     × AllByRecursion IsWhole (written_by write 0 effect).inserts × (effect.deletes ≡ [])
 
@@ -129,11 +129,17 @@ ChangedTableStands =
     → IsIdle (state_of book) → meant book tree ≡ Some (Change info effect)
     → (table : Table) × (numbered (state_of book).tables info.table.0 ≡ Some table) × (table.info ≡ info)
 
--- a statement means the same over the rows that are read from its table's files
+-- the rows of a table's write ids, one after another, are those that stand in it, in their order
+abbrev pub ReadRowsAreContent : Type 0
+ReadRowsAreContent =
+    (lost : List ℕ) (given : ℕ) (table : Table) → HasSoundWrites table → AllByRecursion (IsRead lost given) table.writes
+    → rows_from lost table.writes 0 given ≡ content_of table.writes
+
+-- a statement means the same over the tables that it names, with their rows where it reads rows
 abbrev pub ReadingIsEnough : Type 0
 ReadingIsEnough =
     (book : List Entry) (tree : Stmt) → IsIdle (state_of book)
-    → meaning_of (seen_read tree (state_of book).tables) tree ≡ meant book tree
+    → meaning_in tree (seen_read tree (state_of book).tables) ≡ meant book tree
 
 -- ---- over any state, whatever transactions are open: what each entry and each file that is put leave
 

@@ -3,9 +3,7 @@
 -- committed. Between two statements of one thread no transaction is open beside.
 use Rattle.std.specs.Prelude.{◌≡◌, ◌≢◌, ℕ, ◌+◌, ◌≤◌, false, IsTrue, IsFalse, Option, Some, None, List, [], ◌∷◌, length, map}
 use Rattle.std.specs.List.{AllByRecursion}
-use Rattle.hv_value.specs.declared.sql_type.SqlType.{SqlType}
-use Rattle.hv_value.specs.declared.sql_type.SqlType.TheVariants.{Int, Str}
-use Rattle.hv_logic.specs.declared.catalog.Column.{Column}
+use Rattle.hv_value.specs.declared.row.Row.{Row}
 use Rattle.hv_logic.specs.declared.effect.Found.{Found}
 use Rattle.hv_logic.specs.declared.meaning.Meaning.{Meaning}
 use Rattle.hv_logic.specs.declared.meaning.Meaning.TheVariants.{Change}
@@ -16,7 +14,7 @@ use Rattle.hv_history.specs.declared.state.Table.{Table}
 use Rattle.hv_history.specs.declared.state.Ending.{Ending}
 use Rattle.hv_history.specs.declared.state.Ending.TheVariants.{Committed}
 use Rattle.hv_history.specs.declared.state.Transaction.{Transaction}
-use Rattle.hv_history.specs.State.{State, numbered, given_in}
+use Rattle.hv_history.specs.State.{State, numbered, given_in, numbered_from}
 use Rattle.hv_history.specs.Legal.{is_open, IsStatement}
 use Rattle.hv_stands.specs.Files.{records_of, ending_of}
 
@@ -31,30 +29,16 @@ abbrev pub NumberedFrom : ℕ → List Table → Type 0
 NumberedFrom first [] = Unit {0}
 NumberedFrom first (table ∷ tables) = (table.info.table.0 ≡ first) × NumberedFrom (first + 1) tables
 
-abbrev pub IsPlainKind : SqlType → Type 0
-IsPlainKind Int = Unit {0}
-IsPlainKind Str = Unit {0}
-IsPlainKind _ = ⊥
-
-abbrev pub IsPlainColumn : Column → Type 0
-IsPlainColumn column = IsPlainKind column.kind
-
--- at most 64 columns, of INT and STRING
-pub record ArePlain (columns : List Column) : Type 0 where
-  pub few : length columns ≤ 64
-  pub each : AllByRecursion IsPlainColumn columns
-
-abbrev pub IsPlainTable : Table → Type 0
-IsPlainTable table = ArePlain table.info.shape.columns
-
 abbrev pub IsWhole : Found → Type 0
 IsWhole found = found.partition ≡ []
 
 -- ---- writes
 
--- inserts of an unpartitioned, unbucketed table
+-- inserts of an unpartitioned, unbucketed table: rows numbered from 0 under its write id
 pub record IsPlainWrite (written : Written) : Type 0 where
   pub deletes : written.deletes ≡ []
+  pub rows : List Row
+  pub numbered : written.inserts ≡ numbered_from written.write written.statement 0 rows
   pub whole : AllByRecursion IsWhole written.inserts
 
 -- the same, as a file has them
@@ -87,7 +71,6 @@ KeepsAll table = table.forgotten ≡ []
 pub record AreSound (most : ℕ) (tables : List Table) : Type 0 where
   pub live : AllByRecursion IsLive tables
   pub in_order : NumberedFrom 1 tables
-  pub plain : AllByRecursion IsPlainTable tables
   pub few : AllByRecursion (HasFewOwners most) tables
   pub keeping : AllByRecursion KeepsAll tables
   pub written : AllByRecursion HasSoundWrites tables

@@ -1,13 +1,9 @@
-ghost use Rattle.hv_stands.specs.Laws.{MadeColumnsArePlain, QueriesEnd, RefusalsEnd, TablesAreMade, RowsAreInserted, NothingIsInserted, InsertsCanBeWritten, ChangedTableStands, ReadingIsEnough, SoundnessGoesOn, StandingGoesOn, PutsAreLoose, FilesAreOfTables, NewIdsHaveNoFile, CommitsHaveFiles, QuietStatementsStand, InsertedFilesStand};
+ghost use Rattle.hv_stands.specs.Laws.{QueriesEnd, PlainsEnd, RefusalsEnd, TablesAreMade, RowsAreInserted, NothingIsInserted, InsertsCanBeWritten, ChangedTableStands, ReadRowsAreContent, ReadingIsEnough, SoundnessGoesOn, StandingGoesOn, PutsAreLoose, FilesAreOfTables, NewIdsHaveNoFile, CommitsHaveFiles, QuietStatementsStand, InsertedFilesStand};
 
-/// A table that a statement makes, of a form that is built, has columns of kinds that are built.
-pub fn made_columns_are_plain()
-    ensures law { MadeColumnsArePlain }
-{}
-
-/// A query commits without rows, and its answer is its listing.
+/// A query commits without rows, and its answer is its listing; what asks for nothing commits too.
 pub fn queries_end()
     ensures law { QueriesEnd }
+    ensures plain { PlainsEnd }
 {}
 
 /// A refused statement is aborted, and its answer is the cause's line.
@@ -40,8 +36,10 @@ pub fn changed_tables_stand()
     ensures law { ChangedTableStands }
 {}
 
-/// The rows in a table's files are all that a statement has to see.
+/// The rows in a table's files are those that stand in it, in their order, and the tables that a
+/// statement names, with these rows, are all that it has to see.
 pub fn reading_is_enough()
+    ensures rows { ReadRowsAreContent }
     ensures law { ReadingIsEnough }
 {}
 

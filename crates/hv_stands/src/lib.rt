@@ -5,7 +5,6 @@ mod laws;
 
 pub use laws::{
     changed_tables_stand, commits_have_files, files_are_of_tables, inserts_can_be_written,
-    made_columns_are_plain, nothing_is_inserted, puts_are_loose, queries_end, reading_is_enough,
-    refusals_end, rows_are_inserted, soundness_goes_on, standing_goes_on, statements_stand,
-    tables_are_made,
+    nothing_is_inserted, puts_are_loose, queries_end, reading_is_enough, refusals_end,
+    rows_are_inserted, soundness_goes_on, standing_goes_on, statements_stand, tables_are_made,
 };
