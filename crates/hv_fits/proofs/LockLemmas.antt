@@ -1,5 +1,5 @@
 -- Where the texts of a book run, each transaction has one text.
-use Rattle.std.proofs.Common.{◌≡◌, ℕ, zero, suc, ◌+◌, Option, Some, None, List, [], ◌∷◌, ◌++◌, map, fold, refl, sym, ap, ◌∙◌, subst, arith}
+use Rattle.std.proofs.Common.{◌≡◌, ℕ, zero, suc, ◌+◌, Option, Some, None, List, [], ◌∷◌, ◌++◌, map, fold, refl, sym, ap, ◌∙◌, arith}
 use Rattle.std.specs.Prelude.{Bool, true, false, not, ◌&&◌, ◌↔◌, IsTrue, IsFalse, IsSomeAnd, ◌||◌, if◌then◌else◌, is_none, is_some}
 use Rattle.std.specs.Option.{option_map}
 use Rattle.std.specs.List.{slice_get, flat_map, list_any, AllByRecursion}

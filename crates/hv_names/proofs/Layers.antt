@@ -138,9 +138,9 @@ pub union-holds : (p : Lock → Bool) (i : ℕ) (union : Union Source) (unions :
     → list_any p (names_of_union source_names union) ≡ true → true ≡ list_any p (flat_map (names_of_union source_names) unions)
 union-holds p i union unions below item kept holds =
     sym (
-      sym kept
-      ∙ ap (λ (us : List (Union Source)). list_any p (flat_map (names_of_union source_names) us)) (drop-cons unions i union below)
-      ∙ list_any-append p (names_of_union source_names (get_or unions i union)) (flat_map (names_of_union source_names) (drop (suc i) unions))
-      ∙ ap (λ (u : Union Source). list_any p (names_of_union source_names u) || list_any p (flat_map (names_of_union source_names) (drop (suc i) unions))) (sym item)
-      ∙ ap (λ b. b || list_any p (flat_map (names_of_union source_names) (drop (suc i) unions))) holds
+    sym kept
+    ∙ ap (λ (us : List (Union Source)). list_any p (flat_map (names_of_union source_names) us)) (drop-cons unions i union below)
+    ∙ list_any-append p (names_of_union source_names (get_or unions i union)) (flat_map (names_of_union source_names) (drop (suc i) unions))
+    ∙ ap (λ (u : Union Source). list_any p (names_of_union source_names u) || list_any p (flat_map (names_of_union source_names) (drop (suc i) unions))) (sym item)
+    ∙ ap (λ b. b || list_any p (flat_map (names_of_union source_names) (drop (suc i) unions))) holds
     )
