@@ -1,4 +1,4 @@
--- Where the texts of a book run, each transaction has one text, which names one table.
+-- Where the texts of a book run, each transaction has one text.
 use Rattle.std.proofs.Common.{◌≡◌, ℕ, zero, suc, ◌+◌, Option, Some, None, List, [], ◌∷◌, ◌++◌, map, fold, refl, sym, ap, ◌∙◌, subst, arith}
 use Rattle.std.specs.Prelude.{Bool, true, false, not, ◌&&◌, ◌↔◌, IsTrue, IsFalse, IsSomeAnd, ◌||◌, if◌then◌else◌, is_none, is_some}
 use Rattle.std.specs.Option.{option_map}
@@ -6,15 +6,9 @@ use Rattle.std.specs.List.{slice_get, flat_map, list_any, AllByRecursion}
 use Rattle.std.proofs.lemmas.List.{append-nil}
 use Rattle.hv_base.specs.declared.ids.Limits.{Limits}
 use Rattle.hv_ast.specs.declared.statement.Stmt.{Stmt}
-use Rattle.hv_ast.specs.declared.query.Source.{Source}
-use Rattle.hv_ast.specs.declared.query.Source.TheVariants.{Table as TableSource}
-use Rattle.hv_ast.specs.declared.query.From.{From}
-use Rattle.hv_ast.specs.declared.query.Query.{Query}
-use Rattle.hv_built.specs.Built.{IsBuilt, IsPlainQuery, IsPlainFrom, FromOneTable}
 use Rattle.hv_grammar.specs.Texts.{tree_of}
 use Rattle.hv_locks.specs.declared.table.Lock.{Lock}
-use Rattle.hv_logic.specs.Names.{shared, source_names, query_names, names_in, names_in_maybe, names_in_from, names_of_union, names_of_join}
-use Rattle.hv_logic.proofs.NameLemmas.{names-table}
+use Rattle.hv_logic.specs.Names.{names_in}
 use Rattle.hv_history.specs.declared.entry.Entry.{Entry}
 use Rattle.hv_history.specs.declared.entry.Entry.TheVariants as entry
 use Rattle.hv_history.specs.declared.state.Statement.{Statement}
@@ -27,18 +21,6 @@ use Rattle.hv_book.specs.Briefs.{brief, open_from, open_next, end_of, tree_in}
 use Rattle.hv_meta.specs.States.{state_by, transaction_state}
 use Rattle.hv_meta.proofs.FactLemmas.{of-both}
 use Rattle.hv_fits.specs.Texts.{text_of, HasOneText, TextsRun, holds_at, holds_among, first_among, is_waiting_state, IsReady}
-
--- ---- a query of one table
-
-pub query-one : (query : Query Source) (one : From Source) (name : List ℕ) (alias : Option (List ℕ)) → IsPlainQuery query
-    → query.select.from ≡ Some one → one.source ≡ TableSource name alias → query_names query ≡ shared name ∷ []
-query-one query one name alias plain e is =
-    let from : IsPlainFrom one = subst FromOneTable e plain.select.from in
-    ap (λ (o : Option (From Source)). names_in_maybe source_names o ++ flat_map (names_of_union source_names) query.unions) e
-    ∙ ap (λ us. names_in_from source_names one ++ flat_map (names_of_union source_names) us) plain.unions
-    ∙ ap (λ (s : Source). (source_names s ++ flat_map (names_of_join source_names) one.joins) ++ []) is
-    ∙ ap (λ js. (source_names (TableSource name alias) ++ flat_map (names_of_join source_names) js) ++ []) from.joins
-    ∙ ap (λ (locks : List Lock). (locks ++ []) ++ []) (names-table name alias)
 
 -- ---- a transaction's text stays
 
@@ -142,13 +124,6 @@ get-all (t ∷ ts) (suc n) h = get-all ts n h.1
 pub numbered-all : (ts : List Transaction) (n : ℕ) → AllByRecursion HasOneText ts → IfThere (numbered ts n)
 numbered-all ts zero h = tt
 numbered-all ts (suc n) h = get-all ts n h
-
-built-in : (o : Option Transaction) (tree : Stmt) → IfThere o → Some tree ≡ tree_in o → IsBuilt tree
-built-in None tree h e = cc
-built-in (Some t) tree h e = subst IsBuilt (same-tree t h tree e) h.runs.built
-
-pub is-built : (state : State) (n : ℕ) (tree : Stmt) → TextsRun state → Some tree ≡ tree_in (numbered state.transactions n) → IsBuilt tree
-is-built state n tree h e = built-in (numbered state.transactions n) tree (numbered-all state.transactions n h) e
 
 -- ---- who holds
 

@@ -1,49 +1,40 @@
--- No text that runs asks for the abort of a transaction.
-use Rattle.std.proofs.Common.{ℕ, Option, Some, None, sym, ap, ◌∙◌}
-use Rattle.std.specs.Prelude.{false, ◌↔◌, IsTrue, IsSomeAnd}
+-- Who asks for the abort of a transaction.
+use Rattle.std.proofs.Common.{◌≡◌, ℕ, Option, Some, None, refl, sym, ap, ◌∙◌}
+use Rattle.std.specs.Prelude.{Bool, true, false, ◌&&◌, ◌≢◌, ◌↔◌, IsTrue, IsSomeAnd}
 use Rattle.hv_ast.specs.declared.statement.Stmt.{Stmt}
-use Rattle.hv_ast.specs.declared.statement.Stmt.TheVariants as stmt
-use Rattle.hv_built.specs.Built.{IsBuilt}
 use Rattle.hv_history.specs.declared.state.Transaction.{Transaction}
 use Rattle.hv_history.specs.State.{State, numbered, opening_tree}
-use Rattle.hv_history.specs.Legal.{Of, IsRunning, RequestFits, asks_to_abort}
-use Rattle.hv_fits.specs.Texts.{TextsRun}
-use Rattle.hv_fits.proofs.LockLemmas.{IfThere, numbered-all, one-tree}
+use Rattle.hv_history.specs.Legal.{Of, IsRunning, RequestFits, is_open, asks_to_abort}
+use Rattle.hv_book.specs.Briefs.{tree_in}
+use Rattle.hv_meta.proofs.FactLemmas.{of-both}
+use Rattle.hv_fits.specs.Texts.{Asks, AsksOther}
+use Rattle.hv_fits.proofs.LockLemmas.{and-left, and-right, and-both}
 
-asks-not : (txn : ℕ) (tree : Stmt) → IsBuilt tree → IsTrue (asks_to_abort txn (Some tree)) → ⊥
-asks-not txn (stmt.Query query) built e = cc
-asks-not txn (stmt.Insert insert) built e = cc
-asks-not txn (stmt.CreateTable create) built e = cc
-asks-not txn (stmt.Update x) built e = built
-asks-not txn (stmt.Delete x) built e = built
-asks-not txn (stmt.Merge x) built e = built
-asks-not txn (stmt.DropTable x) built e = built
-asks-not txn (stmt.AddColumns x) built e = built
-asks-not txn (stmt.Truncate x) built e = built
-asks-not txn (stmt.Show x) built e = built
-asks-not txn (stmt.Describe x) built e = built
-asks-not txn (stmt.Compact x) built e = built
-asks-not txn (stmt.AbortTransactions x) built e = built
-asks-not txn (stmt.Explain x) built e = built
-asks-not txn (stmt.Set x) built e = built
-asks-not txn (stmt.Transaction x) built e = built
-asks-not txn (stmt.CreateView x) built e = built
-asks-not txn (stmt.RebuildView x) built e = built
-asks-not txn (stmt.DropView x) built e = built
+asker-in : (txn : ℕ) (o : Option Transaction) (tree : Option Stmt) → tree ≡ tree_in o → (r a : Bool)
+    → (IsTrue r ↔ IsSomeAnd o IsRunning) → a ≡ asks_to_abort txn tree → (IsTrue (r && a)) ↔ IsSomeAnd o (Asks txn)
+asker-in txn None tree is r a running asks = (λ e. running.0 (and-left r a e), λ h. absurd h)
+asker-in txn (Some t) tree is r a running asks =
+    let same : a ≡ asks_to_abort txn (opening_tree t) = asks ∙ ap (asks_to_abort txn) is in (
+      λ e. (running.0 (and-left r a e), sym same ∙ and-right r a e),
+      λ h. and-both r a (running.1 h.0) (same ∙ h.1),
+    )
 
-abbrev Asks : ℕ → Transaction → Type 0
-Asks txn asker = IsRunning asker × IsTrue (asks_to_abort txn (opening_tree asker))
+pub asker-law : (state : State) (txn by : ℕ) (tree : Option Stmt) → tree ≡ tree_in (numbered state.transactions by) → (r a : Bool)
+    → (IsTrue r ↔ Of state by IsRunning) → a ≡ asks_to_abort txn tree → (IsTrue (r && a)) ↔ Of state by (Asks txn)
+asker-law state txn by tree is r a running asks = asker-in txn (numbered state.transactions by) tree is r a running asks
 
-no-asker : (txn : ℕ) (o : Option Transaction) → IfThere o → IsSomeAnd o (Asks txn) → ⊥
-no-asker txn None h asks = absurd asks
-no-asker txn (Some t) h asks = asks-not txn h.tree h.runs.built (ap (asks_to_abort txn) (sym (one-tree t h)) ∙ asks.1)
+idle-in : (txn : ℕ) (o : Option Transaction) (r : Bool) → (IsTrue r ↔ IsSomeAnd o IsRunning) → r ≡ false → IsTrue r ↔ IsSomeAnd o (Asks txn)
+idle-in txn None r running idle = (λ e. running.0 e, λ h. absurd h)
+idle-in txn (Some t) r running idle = (λ e. absurd (let both : false ≡ true = sym idle ∙ e in cc), λ h. running.1 h.0)
 
-asker : (state : State) (txn by : ℕ) (o : Option Transaction) → IsSomeAnd o (RequestFits state txn by) → Of state by (Asks txn)
-asker state txn by None fits = absurd fits
-asker state txn by (Some t) fits = fits.asks
+-- one that doesn't run asks for nothing
+pub idle-law : (state : State) (txn by : ℕ) (r : Bool) → (IsTrue r ↔ Of state by IsRunning) → r ≡ false → IsTrue r ↔ Of state by (Asks txn)
+idle-law state txn by r running idle = idle-in txn (numbered state.transactions by) r running idle
 
-pub nobody-asks : (state : State) (txn by : ℕ) → TextsRun state → IsTrue false ↔ Of state txn (RequestFits state txn by)
-nobody-asks state txn by h = (
-  λ e. cc,
-  λ fits. absurd (no-asker txn (numbered state.transactions by) (numbered-all state.transactions by h) (asker state txn by (numbered state.transactions txn) fits)),
-)
+pub request-law : (state : State) (txn by : ℕ) (u a : Bool) → (IsTrue u ↔ Of state txn (λ t. IsTrue (is_open t)))
+    → (IsTrue a ↔ AsksOther state txn by) → (IsTrue (u && a)) ↔ Of state txn (RequestFits state txn by)
+request-law state txn by u a unended asked =
+    of-both (numbered state.transactions txn) (λ (t : Transaction). IsTrue (is_open t)) (RequestFits state txn by) (AsksOther state txn by)
+    (λ t yes asks. record { unended = yes; other = asks.other; asks = asks.asks })
+    (λ t fits. fits.unended)
+    (λ t fits. record { other = fits.other; asks = fits.asks }) u a unended asked

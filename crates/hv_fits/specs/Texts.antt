@@ -1,5 +1,5 @@
 -- What the texts of a book say of locks, where each of them runs.
-use Rattle.std.specs.Prelude.{◌≡◌, ℕ, Bool, false, not, if◌then◌else◌, Option, Some, None, List, [], ◌∷◌, map}
+use Rattle.std.specs.Prelude.{◌≡◌, ◌≢◌, ℕ, Bool, false, not, IsTrue, if◌then◌else◌, Option, Some, None, List, [], ◌∷◌, map}
 use Rattle.std.specs.List.{AllByRecursion}
 use Rattle.hv_ast.specs.declared.statement.Stmt.{Stmt}
 use Rattle.hv_built.specs.Running.{Runs}
@@ -8,8 +8,8 @@ use Rattle.hv_history.specs.declared.entry.Entry.{Entry}
 use Rattle.hv_history.specs.declared.entry.Entry.TheVariants as entry
 use Rattle.hv_history.specs.declared.state.Statement.{Statement}
 use Rattle.hv_history.specs.declared.state.Transaction.{Transaction}
-use Rattle.hv_history.specs.State.{State, numbered}
-use Rattle.hv_history.specs.Legal.{IsStatement, IsWaiting, IsUnlocked, holds_against}
+use Rattle.hv_history.specs.State.{State, numbered, opening_tree}
+use Rattle.hv_history.specs.Legal.{Of, IsStatement, IsRunning, IsWaiting, IsUnlocked, holds_against, asks_to_abort}
 use Rattle.hv_meta.specs.declared.facts.TxnState.{TxnState}
 use Rattle.hv_meta.specs.declared.facts.TxnState.TheVariants.{Running}
 
@@ -49,6 +49,15 @@ is_waiting_state _ = false
 pub record IsReady (state : State) (transaction : Transaction) : Type 0 where
   pub waiting : IsWaiting transaction
   pub unlocked : IsUnlocked state transaction
+
+-- a transaction that runs, and whose text asks for the abort of that one
+abbrev pub Asks : ℕ → Transaction → Type 0
+Asks txn asker = IsRunning asker × IsTrue (asks_to_abort txn (opening_tree asker))
+
+-- the transaction of that number does so, and is another one
+pub record AsksOther (state : State) (txn by : ℕ) : Type 0 where
+  pub other : by ≢ txn
+  pub asks : Of state by (Asks txn)
 
 -- what is handed in with an Opened is the tree by which its text runs, or nothing where it doesn't run
 abbrev pub IsTreeOf : List ℕ → Option Stmt → Type 0

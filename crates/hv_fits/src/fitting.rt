@@ -1,10 +1,11 @@
 ghost use Rattle.std.specs.Prelude.{◌≡◌, ◌↔◌, ◌++◌, ◌∷◌, [], IsTrue};
 ghost use Rattle.std.specs.Option.{option_copied};
 ghost use Rattle.hv_history.specs.State.{state_of, nothing_yet};
-ghost use Rattle.hv_history.specs.Legal.{Of, OpenedFits, RequestFits, CauseFits, Fits, AllFit};
+ghost use Rattle.hv_history.specs.Legal.{Of, OpenedFits, CauseFits, Fits, AllFit};
 ghost use Rattle.hv_fits.specs.Texts.{TextsRun, IsTreeOf, IsHanded};
 
 use crate::locks::{blocked_fits, start_fits};
+use crate::requests::request_fits;
 use hv_ast::Stmt;
 use hv_base::{Limits, Text, TxnId};
 use hv_book::Book;
@@ -23,16 +24,6 @@ fn text_fits(book: &Book, limits: &Limits, txn: TxnId, text: &Text, tree: Option
         Some(_) => opened_fits(book, limits, txn, text),
         None => false,
     }
-}
-
-/// Whether an abort of this transaction fits the book since that one asks for it: no text that runs
-/// asks for an abort.
-fn request_fits(_book: &Book, _txn: TxnId, _by: TxnId) -> bool
-    requires texts { TextsRun (state_of _book.now.entries) }
-    ensures fits { IsTrue result ↔ Of (state_of _book.now.entries) _txn.0
-        (RequestFits (state_of _book.now.entries) _txn.0 _by.0) }
-{
-    false
 }
 
 /// Whether an abort of this transaction for this cause fits the book.

@@ -3,6 +3,8 @@
 
 mod fitting;
 mod locks;
+mod requests;
 
 pub use fitting::fits;
 pub use locks::{blocked_fits, start_fits};
+pub use requests::request_fits;

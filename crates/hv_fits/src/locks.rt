@@ -1,73 +1,23 @@
 ghost use Rattle.std.specs.Prelude.{◌≡◌, ◌∷◌, [], ◌↔◌, IsTrue, Option, Some};
 ghost use Rattle.std.specs.Option.{option_map};
-ghost use Rattle.hv_built.specs.Built.{IsBuilt};
 ghost use Rattle.hv_logic.specs.Names.{names_in};
 ghost use Rattle.hv_history.specs.State.{state_of, numbered};
-ghost use Rattle.hv_history.specs.Legal.{Of, IsWaiting, StartFits, BlockedFits, HasRoom, is_create, locks_conflict, first_holder};
+ghost use Rattle.hv_history.specs.Legal.{Of, IsWaiting, StartFits, BlockedFits, HasRoom, first_holder};
 ghost use Rattle.hv_fits.specs.Texts.{TextsRun, holds_among, first_among, is_waiting_state, IsReady};
-ghost use Rattle.hv_built.specs.Built.{IsPlainQuery};
-ghost use Rattle.hv_logic.specs.Names.{query_names, shared};
 
-use hv_ast::{Query, Source, Stmt};
-use hv_base::{Limits, Text, TxnId};
+use hv_ast::Stmt;
+use hv_base::{Limits, TxnId};
 use hv_book::Book;
 use hv_meta::{TxnState, has_room, is_running, state_of};
-
-/// The table of a query of one table.
-fn table_in(query: &Query) -> &Text
-    requires plain { IsPlainQuery query.now }
-    ensures lock { query_names query.now ≡ shared result.now ∷ [] }
-{
-    match &query.select.from {
-        Some(from) => match &from.source {
-            Source::Table(name, _) => name,
-            Source::Query(_, _) => unreachable!(),
-        },
-        None => unreachable!(),
-    }
-}
-
-/// Whether the statement makes a table.
-fn is_making(tree: &Stmt) -> bool
-    ensures { result ≡ is_create (Some tree.now) }
-{
-    matches!(tree, Stmt::CreateTable(_))
-}
-
-/// The one table that a statement names. CREATE TABLE excludes others from it, another statement
-/// shares it.
-fn table_of(tree: &Stmt) -> &Text
-    requires built { IsBuilt tree.now }
-    ensures lock { names_in tree.now ≡ record {
-      name = result.now;
-      exclusive = is_create (Some tree.now);
-    } ∷ [] }
-{
-    match tree {
-        Stmt::Query(query) => table_in(query),
-        Stmt::Insert(insert) => &insert.table,
-        Stmt::CreateTable(create) => &create.table,
-        _ => unreachable!(),
-    }
-}
-
-/// Whether the locks of two statements conflict.
-fn conflict(tree: &Stmt, other: &Stmt) -> bool
-    requires built { IsBuilt tree.now }
-    requires other { IsBuilt other.now }
-    ensures { result ≡ locks_conflict (names_in tree.now) (names_in other.now) }
-{
-    table_of(tree) == table_of(other) && (is_making(tree) || is_making(other))
-}
+use hv_names::locks_conflict;
 
 /// Whether the transaction of this number holds locks that conflict with those of a statement.
 fn holds(book: &Book, txn: u64, tree: &Stmt) -> bool
     requires texts { TextsRun (state_of book.now.entries) }
-    requires built { IsBuilt tree.now }
     ensures { result ≡ holds_among (names_in tree.now) (state_of book.now.entries).transactions txn }
 {
     match book.opening_tree(txn) {
-        Some(other) => is_running(book, TxnId(txn)) && conflict(tree, other),
+        Some(other) => is_running(book, TxnId(txn)) && locks_conflict(tree, other),
         None => false,
     }
 }
@@ -75,7 +25,6 @@ fn holds(book: &Book, txn: u64, tree: &Stmt) -> bool
 /// The first transaction that holds locks that conflict with those of a statement.
 fn first_holder(book: &Book, tree: &Stmt) -> Option<u64>
     requires texts { TextsRun (state_of book.now.entries) }
-    requires built { IsBuilt tree.now }
     ensures holder { result ≡ first_holder (names_in tree.now) 1 (state_of book.now.entries).transactions }
 {
     first_among(book, tree, book.ongoing())
@@ -84,7 +33,6 @@ fn first_holder(book: &Book, tree: &Stmt) -> Option<u64>
 /// The first of these transactions that holds locks that conflict with those of a statement.
 fn first_among(book: &Book, tree: &Stmt, numbers: &[u64]) -> Option<u64>
     requires texts { TextsRun (state_of book.now.entries) }
-    requires built { IsBuilt tree.now }
     ensures { result ≡ first_among (holds_among (names_in tree.now)
         (state_of book.now.entries).transactions) numbers.now }
 {

@@ -11,7 +11,7 @@ use hv_logic::{Catalog, Shape, TableInfo, shape_of};
 use std::alloc::Global;
 
 /// The shape of the table that this text makes: one without a name and columns where it makes none.
-fn made_shape(alloc: Global, tree: Option<&Stmt>) -> Result<Shape, NoMemory>
+pub fn made_shape(alloc: Global, tree: Option<&Stmt>) -> Result<Shape, NoMemory>
     ensures { IfOk result (λ shape. shape ≡ created_shape (option_copied tree.entry)) }
 {
     match tree {

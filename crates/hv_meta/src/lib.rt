@@ -7,7 +7,7 @@ mod creating;
 mod facts;
 mod fitting;
 
-pub use catalogs::live_catalog;
+pub use catalogs::{live_catalog, made_shape};
 pub use committing::{commit_fits, conflict_fits};
 pub use creating::{create_fits, has_named};
 pub use facts::{TxnState, has_room, is_running, is_unended, load, next_txn, state_of};

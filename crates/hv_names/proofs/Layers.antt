@@ -1,6 +1,8 @@
 -- The names of a source by its form.
-use Rattle.std.proofs.Common.{◌≡◌, ℕ, Bool, Option, None, Some, List, [], ◌∷◌, ◌++◌, map, refl, sym, ap, ◌∙◌, append_assoc}
-use Rattle.std.specs.List.{flat_map}
+use Rattle.std.proofs.Common.{◌≡◌, ℕ, suc, ◌<◌, ◌||◌, Bool, true, false, length, get_or, drop, Option, None, Some, List, [], ◌∷◌, ◌++◌, map, refl, sym, ap, ◌∙◌, append_assoc}
+use Rattle.std.specs.List.{flat_map, list_any}
+use Rattle.std.proofs.Math.Seq.{drop-cons}
+use Rattle.std.proofs.lemmas.List.Folds.{list_any-append}
 use Rattle.hv_locks.specs.declared.table.Lock.{Lock}
 use Rattle.hv_ast.specs.declared.expr.Expr.{Expr}
 use Rattle.hv_ast.specs.declared.query.Item.{Item}
@@ -97,3 +99,48 @@ behind-query query alias {q = q} {unions = unions} old mid new is same others fi
     ∙ ap (λ names. old ++ names) (sym (ap source_names is ∙ names-Query query alias))
 
 pub ruleset layers = (names-Table, names-Query)
+
+-- ---- a question about one of the names
+
+or-false : (b : Bool) → b || false ≡ b
+or-false true = refl
+or-false false = refl
+
+pub any-Table : (p : Lock → Bool) {s : Source} (name : List ℕ) (alias : Option (List ℕ)) → s ≡ source.Table name alias
+    → p (shared name) ≡ list_any p (source_names s)
+any-Table p name alias is =
+    sym (or-false (p (shared name))) ∙ ap (list_any p) (sym (ap source_names is ∙ names-Table name alias))
+
+any-Query : (p : Lock → Bool) {s : Source} (query : Query Source) (alias : List ℕ) (q : Query Source)
+    → s ≡ source.Query query alias → q ≡ query
+    → list_any p (source_names s) ≡ (list_any p (names_in_maybe source_names q.select.from) || list_any p (flat_map (names_of_union source_names) q.unions))
+any-Query p query alias q is same =
+    ap (list_any p) (ap source_names is ∙ names-Query query alias ∙ ap (λ (q : Query Source). query_names q) (sym same))
+    ∙ list_any-append p (names_in_maybe source_names q.select.from) (flat_map (names_of_union source_names) q.unions)
+
+pub first-holds : (p : Lock → Bool) {s : Source} (query : Query Source) (alias : List ℕ) (q : Query Source)
+    → s ≡ source.Query query alias → q ≡ query → list_any p (names_in_maybe source_names q.select.from) ≡ true → true ≡ list_any p (source_names s)
+first-holds p query alias q is same first =
+    sym (any-Query p query alias q is same ∙ ap (λ b. b || list_any p (flat_map (names_of_union source_names) q.unions)) first)
+
+-- where the first select has none, the unions say
+pub rest-says : (p : Lock → Bool) {s : Source} (query : Query Source) (alias : List ℕ) (q : Query Source) {unions : List (Union Source)} {b : Bool}
+    → s ≡ source.Query query alias → q ≡ query → unions ≡ q.unions → list_any p (names_in_maybe source_names q.select.from) ≡ false
+    → b ≡ list_any p (flat_map (names_of_union source_names) unions) → b ≡ list_any p (source_names s)
+rest-says p query alias q is same others first rest =
+    rest
+    ∙ ap (λ (us : List (Union Source)). list_any p (flat_map (names_of_union source_names) us)) others
+    ∙ sym (any-Query p query alias q is same ∙ ap (λ b. b || list_any p (flat_map (names_of_union source_names) q.unions)) first)
+
+-- in a loop over unions, one whose select has such a name, and the end
+pub union-holds : (p : Lock → Bool) (i : ℕ) (union : Union Source) (unions : List (Union Source)) → i < length unions → union ≡ get_or unions i union
+    → list_any p (flat_map (names_of_union source_names) (drop i unions)) ≡ list_any p (flat_map (names_of_union source_names) unions)
+    → list_any p (names_of_union source_names union) ≡ true → true ≡ list_any p (flat_map (names_of_union source_names) unions)
+union-holds p i union unions below item kept holds =
+    sym (
+      sym kept
+      ∙ ap (λ (us : List (Union Source)). list_any p (flat_map (names_of_union source_names) us)) (drop-cons unions i union below)
+      ∙ list_any-append p (names_of_union source_names (get_or unions i union)) (flat_map (names_of_union source_names) (drop (suc i) unions))
+      ∙ ap (λ (u : Union Source). list_any p (names_of_union source_names u) || list_any p (flat_map (names_of_union source_names) (drop (suc i) unions))) (sym item)
+      ∙ ap (λ b. b || list_any p (flat_map (names_of_union source_names) (drop (suc i) unions))) holds
+    )

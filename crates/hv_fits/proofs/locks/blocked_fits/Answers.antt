@@ -1,12 +1,8 @@
 use Rattle.std.proofs.Common.{true, refl, sym, ◌∙◌}
 use Rattle.hv_history.specs.State.{state_of}
 use Rattle.hv_history.specs.Legal.{BlockedFits}
-use Rattle.hv_fits.proofs.LockLemmas.{is-built, no-text, blocked-law}
+use Rattle.hv_fits.proofs.LockLemmas.{no-text, blocked-law}
 use Rattle.hv_fits.proofs.locks.blocked_fits.Goals as goal
-
-pub first_holder-requires-clause-built : goal.first_holder-requires-clause-built
-first_holder-requires-clause-built c =
-    is-built (state_of c.args.book.now.entries) c.args.txn.0 c.in-Some.tree.now c.requires.texts c.in-Some.ensures.tree
 
 pub returns-in-None : goal.returns-in-None
 returns-in-None c = record {

@@ -1,16 +1,12 @@
 use Rattle.std.proofs.Common.{true, false, refl, sym, ◌∙◌}
 use Rattle.hv_history.specs.State.{state_of}
-use Rattle.hv_fits.proofs.LockLemmas.{is-built, holds-some, holds-none}
+use Rattle.hv_fits.proofs.LockLemmas.{holds-some, holds-none}
 use Rattle.hv_fits.proofs.locks.holds.Goals as goal
-
-pub conflict-requires-clause-other : goal.conflict-requires-clause-other
-conflict-requires-clause-other c =
-    is-built (state_of c.args.book.now.entries) c.args.txn c.in-Some.other.now c.requires.texts c.in-Some.ensures.tree
 
 pub returns-then-is_running : goal.returns-then-is_running
 returns-then-is_running c =
-    holds-some (state_of c.args.book.now.entries) c.args.txn c.args.tree.now c.in-Some.other.now c.requires.texts c.in-Some.ensures.tree true c.conflict.result
-    (λ e. c.is_running.ensures.running.0 c.if-is_running.true, λ h. refl) c.conflict.ensures
+    holds-some (state_of c.args.book.now.entries) c.args.txn c.args.tree.now c.in-Some.other.now c.requires.texts c.in-Some.ensures.tree true c.locks_conflict.result
+    (λ e. c.is_running.ensures.running.0 c.if-is_running.true, λ h. refl) c.locks_conflict.ensures
 
 pub returns-else-is_running : goal.returns-else-is_running
 returns-else-is_running c =
