@@ -30,6 +30,7 @@ fn write_through<D: Shelf>(shelf: &mut D, at: u64, bytes: &[u8]) -> Result<(), S
 
 /// Makes the journal one of no entry: a closed gate at its front. For a journal of no byte or of one.
 pub fn open_empty<D: Shelf>(shelf: &mut D) -> Result<(), ShelfFault>
+    requires empty { Tells (D.told shelf.old) (λ s. length s.journal ≤ 1) }
     ensures opened { OnOk result (Holds (D.told shelf.new) []) }
     ensures short { Moves StaysShort (D.told shelf.old) (D.told shelf.new) }
     ensures no_memory { IsErrOf result ShelfFault.NoMemory

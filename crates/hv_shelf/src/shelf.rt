@@ -12,7 +12,7 @@ use std::alloc::Global;
 
 /// A store: the bytes of a journal, and a tree of files. What it holds may be told (`told`) or
 /// not. Each call that fails counts: `faults` counts all failures, and `hard` those of the journal
-/// and of `rename`, behind which the store isn't to be used.
+/// and of `rename`, behind which the store isn't to be used. A call that doesn't fail leaves `hard`.
 pub trait Shelf {
     ghost told: { Self → Option Store };
 
@@ -25,7 +25,8 @@ pub trait Shelf {
         ensures done { IfOk result (λ len. Tells (told self.old) (λ s. len ≡ length s.journal)) }
         ensures same { told self.new ≡ told self.old }
         ensures cause { HardCause (IsErr result)
-            (faults self.old) (faults self.new) (hard self.old) (hard self.new) };
+            (faults self.old) (faults self.new) (hard self.old) (hard self.new) }
+        ensures stays { ¬ (IsErr result) → hard self.new ≡ hard self.old };
 
     /// Reads the journal's bytes from `at` on into the front of `out`: at least one where `out`
     /// isn't empty and bytes are left there, and else 0. What stands in `out` behind the bytes
@@ -36,7 +37,8 @@ pub trait Shelf {
             Tells (told self.old) (λ s. ReadsAt at count out.new s.journal)) }
         ensures same { told self.new ≡ told self.old }
         ensures cause { HardCause (IsErr result)
-            (faults self.old) (faults self.new) (hard self.old) (hard self.new) };
+            (faults self.old) (faults self.new) (hard self.old) (hard self.new) }
+        ensures stays { ¬ (IsErr result) → hard self.new ≡ hard self.old };
 
     /// Writes `bytes` into the journal from `at` on, which isn't past its end. They survive a stop
     /// behind the next successful sync.
@@ -48,13 +50,15 @@ pub trait Shelf {
             Moves (TornWrite at (length bytes.now)) (told self.old) (told self.new) }
         ensures no_memory { IsErrOf result ShelfFault.NoMemory → told self.new ≡ told self.old }
         ensures cause { HardCause (IsErrOf result ShelfFault.Failed)
-            (faults self.old) (faults self.new) (hard self.old) (hard self.new) };
+            (faults self.old) (faults self.new) (hard self.old) (hard self.new) }
+        ensures stays { ¬ (IsErrOf result ShelfFault.Failed) → hard self.new ≡ hard self.old };
 
     /// Makes all that was written to the journal survive a stop.
     fn journal_sync(&mut self) -> Result<(), Failed>
         ensures same { told self.new ≡ told self.old }
         ensures cause { HardCause (IsErr result)
-            (faults self.old) (faults self.new) (hard self.old) (hard self.new) };
+            (faults self.old) (faults self.new) (hard self.old) (hard self.new) }
+        ensures stays { ¬ (IsErr result) → hard self.new ≡ hard self.old };
 
     /// The places of one table, rising.
     fn list(&mut self, alloc: Global, table: TableId) -> Result<Vec<Place>, ShelfFault>
@@ -63,7 +67,8 @@ pub trait Shelf {
             Tells (told self.old) (λ s. places.items ≡ places_of table s.tree)) }
         ensures same { told self.new ≡ told self.old }
         ensures cause { SoftCause (IsErrOf result ShelfFault.Failed)
-            (faults self.old) (faults self.new) (hard self.old) (hard self.new) };
+            (faults self.old) (faults self.new) (hard self.old) (hard self.new) }
+        ensures stays { ¬ (IsErrOf result ShelfFault.Failed) → hard self.new ≡ hard self.old };
 
     /// The bytes of the file at `place`, None exactly where none stands there.
     fn get(&mut self, alloc: Global, place: &Place) -> Result<Option<Vec<u8>>, ShelfFault>
@@ -72,7 +77,8 @@ pub trait Shelf {
             option_map (λ v. v.items) file ≡ tree.get s.tree place.now)) }
         ensures same { told self.new ≡ told self.old }
         ensures cause { SoftCause (IsErrOf result ShelfFault.Failed)
-            (faults self.old) (faults self.new) (hard self.old) (hard self.new) };
+            (faults self.old) (faults self.new) (hard self.old) (hard self.new) }
+        ensures stays { ¬ (IsErrOf result ShelfFault.Failed) → hard self.new ≡ hard self.old };
 
     /// Creates or replaces one file. It survives a stop.
     fn put(&mut self, place: &Place, bytes: &[u8]) -> Result<(), ShelfFault>
@@ -82,7 +88,8 @@ pub trait Shelf {
             Moves (TornFile place.now) (told self.old) (told self.new) }
         ensures no_memory { IsErrOf result ShelfFault.NoMemory → told self.new ≡ told self.old }
         ensures cause { SoftCause (IsErrOf result ShelfFault.Failed)
-            (faults self.old) (faults self.new) (hard self.old) (hard self.new) };
+            (faults self.old) (faults self.new) (hard self.old) (hard self.new) }
+        ensures stays { ¬ (IsErrOf result ShelfFault.Failed) → hard self.new ≡ hard self.old };
 
     /// Moves all files of `from` to the directory's name `to` in the same partition. Where a file
     /// stands under `to`, nothing is said of the files under either name. It survives a stop.
@@ -93,14 +100,16 @@ pub trait Shelf {
             Moves (TornRename from.now to.now) (told self.old) (told self.new) }
         ensures no_memory { IsErrOf result ShelfFault.NoMemory → told self.new ≡ told self.old }
         ensures cause { HardCause (IsErrOf result ShelfFault.Failed)
-            (faults self.old) (faults self.new) (hard self.old) (hard self.new) };
+            (faults self.old) (faults self.new) (hard self.old) (hard self.new) }
+        ensures stays { ¬ (IsErrOf result ShelfFault.Failed) → hard self.new ≡ hard self.old };
 
     /// Takes away all files of `dir`, of which there may be none. It survives a stop.
     fn remove(&mut self, dir: &DirAt) -> Result<(), Failed>
         ensures done { OnOk result (Moves (IsRemoved dir.now) (told self.old) (told self.new)) }
         ensures torn { OnErr result (Moves (TornRemove dir.now) (told self.old) (told self.new)) }
         ensures cause { SoftCause (IsErr result)
-            (faults self.old) (faults self.new) (hard self.old) (hard self.new) };
+            (faults self.old) (faults self.new) (hard self.old) (hard self.new) }
+        ensures stays { ¬ (IsErr result) → hard self.new ≡ hard self.old };
 
     /// How many calls failed, up to 2^64 - 1.
     fn fault_count(&self) -> u64
