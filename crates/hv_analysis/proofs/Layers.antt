@@ -1,113 +1,209 @@
--- The equations of `has_aggregate`.
-use Rattle.std.proofs.Common.{◌≡◌, ℕ, Bool, true, false, ◌||◌, List, [], ◌∷◌, map, Option, Some, None, option_map, refl, sym, ap, ◌∙◌}
-use Rattle.hv_ast.specs.declared.expr.Binary.{Binary}
-use Rattle.hv_ast.specs.declared.expr.Unary.{Unary}
-use Rattle.hv_ast.specs.declared.expr.Literal.{Literal}
-use Rattle.hv_ast.specs.declared.expr.Operation.{Operation}
-use Rattle.hv_ast.specs.declared.expr.When.{When}
-use Rattle.hv_ast.specs.declared.types.TypeName.{TypeName}
-use Rattle.hv_ast.specs.declared.expr.Expr.{Expr}
-use Rattle.hv_ast.specs.declared.expr.Expr.TheOpen.{Expr-F}
-use Rattle.hv_ast.specs.declared.expr.Expr.TheViews.{out-Expr, roll-Expr, out-roll-Expr}
-use Rattle.hv_ast.specs.declared.expr.Expr.TheFolds.{fold_out-Expr, map-Expr}
-use Rattle.hv_ast.specs.declared.expr.Expr.TheShapes
-use Rattle.hv_ast.specs.declared.expr.Expr.TheVariants as expr
-use Rattle.hv_ast.specs.declared.expr.Expr.TheVariants.{rolls-Or, rolls-And, rolls-Unary, rolls-Binary, rolls-Chain, rolls-Between, rolls-In, rolls-Literal, rolls-Column, rolls-Case, rolls-Cast, rolls-CountRows, rolls-Call}
-use Rattle.hv_types.specs.Calls.{function_named}
-use Rattle.hv_analysis.specs.Aggregates.{aggregates, in_when, in_some, in_any, in_operations, in_whens, layer_aggregates, has_aggregate}
+-- The equations of what looks into subqueries: a source that is a table, and one that is a query.
+use Rattle.std.proofs.Common.{◌≡◌, ℕ, Bool, true, not, ◌&&◌, List, [], ◌∷◌, map, Option, Some, None, Result, Ok, Err, refl, sym, ap, ◌∙◌}
+use Rattle.std.specs.List.{list_any}
+use Rattle.hv_base.specs.declared.refusal.Refusal.{Refusal}
+use Rattle.hv_ast.specs.declared.query.From.{From}
+use Rattle.hv_ast.specs.declared.query.Join.{Join}
+use Rattle.hv_ast.specs.declared.query.Query.{Query}
+use Rattle.hv_ast.specs.declared.query.Select.{Select}
+use Rattle.hv_ast.specs.declared.query.Source.{Source}
+use Rattle.hv_ast.specs.declared.query.Source.TheOpen.{Source-F}
+use Rattle.hv_ast.specs.declared.query.Source.TheShapes
+use Rattle.hv_ast.specs.declared.query.Source.TheFolds.{fold_out-Source, map-Source}
+use Rattle.hv_ast.specs.declared.query.Source.TheVariants as source
+use Rattle.hv_ast.specs.declared.query.Source.TheVariants.{rolls-Table, rolls-Query}
+use Rattle.hv_ast.specs.declared.query.Source.TheViews.{out-Source, roll-Source, out-roll-Source}
+use Rattle.hv_ast.specs.declared.query.Union.{Union}
+use Rattle.hv_logic.specs.declared.catalog.TableInfo.{TableInfo}
+use Rattle.hv_types.specs.Faults.{and_then}
+use Rattle.hv_select.specs.declared.opened.Brought.{Brought}
+use Rattle.hv_select.specs.declared.opened.Sources.{Sources}
+use Rattle.hv_select.specs.declared.listed.United.{United}
+use Rattle.hv_select.specs.Sources.{first_source, join_onto, all_joined, all_viewed, opened, opened_none, opened_of, query_brought}
+use Rattle.hv_select.specs.Selects.{is_empty, select_over, listed}
+use Rattle.hv_select.specs.Queries.{select_typed, all_united, unite, alone, order_typed, query_of, query_over, query_typed}
+use Rattle.hv_analysis.specs.Analysis.{is_window, is_windowless_from, is_windowless_select, is_windowless_query, windowless_joins, windowless_unions, layer_windowless, is_windowless_source, is_windowless}
+use Rattle.hv_analysis.specs.Creates.{place_of}
+use Rattle.hv_analysis.specs.Sources.{or_name, place_brought, layer_brought, brought}
+
+-- ---- one layer
+
+as-layer : {A : Type 0} (f : Source → A) {s : Source} (layer : Source-F Source) → s ≡ roll-Source layer
+    → map-Source Source A f (out-Source s) ≡ map-Source Source A f layer
+as-layer {A = A} f layer is = ap (λ layer. map-Source Source A f layer) (ap out-Source is ∙ out-roll-Source layer)
+
+empty-mapped : {A B : Type 0} (f : A → B) (xs : List A) → is_empty (map f xs) ≡ is_empty xs
+empty-mapped f [] = refl
+empty-mapped f (x ∷ xs) = refl
+
+-- ---- windows
 
 abbrev itself : Bool → Bool
-itself part = part
+itself windowless = windowless
 
-any-mapped : (xs : List Expr) → in_any itself (map has_aggregate xs) ≡ in_any has_aggregate xs
-unfolding in_any
-any-mapped [] = refl
-any-mapped (x ∷ xs) = ap (λ rest. has_aggregate x || rest) (any-mapped xs)
+abbrev w : Source → Bool
+w = is_windowless_source
 
-operations-mapped : (operations : List (Operation Expr))
-    → in_operations itself (map ((TheShapes.former-Expr-Chain-1-at-2).map Expr Bool has_aggregate) operations) ≡ in_operations has_aggregate operations
-unfolding in_operations
-operations-mapped [] = refl
-operations-mapped (operation ∷ operations) = ap (λ rest. has_aggregate operation.operand || rest) (operations-mapped operations)
+windowless-joins : (joins : List (Join Source))
+    → windowless_joins itself (map ((TheShapes.former-Source-Query-0-at-6).map Source Bool w) joins) ≡ windowless_joins w joins
+unfolding windowless_joins
+windowless-joins [] = refl
+windowless-joins (join ∷ joins) = ap (λ rest. w join.source && rest) (windowless-joins joins)
 
-whens-mapped : (whens : List (When Expr)) → in_whens itself (map ((TheShapes.former-Expr-Case-1-at-2).map Expr Bool has_aggregate) whens) ≡ in_whens has_aggregate whens
-unfolding in_whens
-whens-mapped [] = refl
-whens-mapped (when ∷ whens) = ap (λ rest. in_when has_aggregate when || rest) (whens-mapped whens)
+windowless-from : (from : Option (From Source))
+    → is_windowless_from itself ((TheShapes.former-Source-Query-0-at-10).map Source Bool w from) ≡ is_windowless_from w from
+windowless-from None = refl
+windowless-from (Some from) = ap (λ rest. w from.source && rest) (windowless-joins from.joins)
 
-some-mapped : (x : Option Expr) → in_some itself (option_map has_aggregate x) ≡ in_some has_aggregate x
-unfolding in_some
-some-mapped None = refl
-some-mapped (Some x) = refl
+windowless-select : (select : Select Source)
+    → is_windowless_select itself ((TheShapes.former-Source-Query-0-at-14).map Source Bool w select) ≡ is_windowless_select w select
+windowless-select select = ap (λ rest. not (list_any is_window select.items) && rest) (windowless-from select.from)
 
-case-mapped : (operand : Option Expr) (whens : List (When Expr)) (otherwise : Option Expr)
-    → ((in_some itself (option_map has_aggregate operand) || in_whens itself (map ((TheShapes.former-Expr-Case-1-at-2).map Expr Bool has_aggregate) whens))
-    || in_some itself (option_map has_aggregate otherwise))
-    ≡ ((in_some has_aggregate operand || in_whens has_aggregate whens) || in_some has_aggregate otherwise)
-case-mapped operand whens otherwise = λ i. (some-mapped operand i || whens-mapped whens i) || some-mapped otherwise i
+windowless-unions : (unions : List (Union Source))
+    → windowless_unions itself (map ((TheShapes.former-Source-Query-0-at-31).map Source Bool w) unions) ≡ windowless_unions w unions
+unfolding windowless_unions
+windowless-unions [] = refl
+windowless-unions (union ∷ unions) = λ i. windowless-select union.select i && windowless-unions unions i
 
-mapped : (x : Expr-F Expr) → layer_aggregates itself (map-Expr Expr Bool has_aggregate x) ≡ layer_aggregates has_aggregate x
-mapped (Expr-F.Or xs) = any-mapped xs
-mapped (Expr-F.And xs) = any-mapped xs
-mapped (Expr-F.Unary unary x) = refl
-mapped (Expr-F.Binary binary x y) = refl
-mapped (Expr-F.Chain first operations) = ap (λ rest. has_aggregate first || rest) (operations-mapped operations)
-mapped (Expr-F.Between x negated low high) = refl
-mapped (Expr-F.In x negated among) = ap (λ rest. has_aggregate x || rest) (any-mapped among)
-mapped (Expr-F.Literal literal) = refl
-mapped (Expr-F.Column source name) = refl
-mapped (Expr-F.Case None whens None) = case-mapped None whens None
-mapped (Expr-F.Case None whens (Some x)) = case-mapped None whens (Some x)
-mapped (Expr-F.Case (Some operand) whens None) = case-mapped (Some operand) whens None
-mapped (Expr-F.Case (Some operand) whens (Some x)) = case-mapped (Some operand) whens (Some x)
-mapped (Expr-F.Cast x name) = refl
-mapped Expr-F.CountRows = refl
-mapped (Expr-F.Call name distinct arguments) = ap (λ rest. aggregates (function_named name) || rest) (any-mapped arguments)
+windowless-mapped : (query : Query Source) (alias : List ℕ)
+    → layer_windowless (map-Source Source Bool w (Source-F.Query query alias)) ≡ is_windowless_query w query
+windowless-mapped query alias = λ i. windowless-select query.select i && windowless-unions query.unions i
 
-has-out : (e : Expr) → has_aggregate e ≡ layer_aggregates has_aggregate (out-Expr e)
-unfolding has_aggregate
-has-out e = fold_out-Expr Bool (layer_aggregates (λ part. part)) e ∙ mapped (out-Expr e)
+windowless-out : (s : Source) → is_windowless_source s ≡ layer_windowless (map-Source Source Bool is_windowless_source (out-Source s))
+unfolding is_windowless_source
+windowless-out s = fold_out-Source Bool layer_windowless s
 
-at : {e : Expr} {layer : Expr-F Expr} → e ≡ roll-Expr layer → out-Expr (roll-Expr layer) ≡ layer → has_aggregate e ≡ layer_aggregates has_aggregate layer
-at {e = e} is opens = has-out e ∙ ap (layer_aggregates has_aggregate) (ap out-Expr is ∙ opens)
+pub windowless-Table : (name : List ℕ) (alias : Option (List ℕ)) → is_windowless_source (source.Table name alias) ≡ true
+windowless-Table name alias =
+    windowless-out (source.Table name alias) ∙ ap layer_windowless (as-layer w (Source-F.Table name alias) (sym (rolls-Table name alias)))
 
-pub has-Or : (xs : List Expr) → has_aggregate (expr.Or xs) ≡ in_any has_aggregate xs
-has-Or xs = at (sym (rolls-Or xs)) (out-roll-Expr (Expr-F.Or xs))
+pub windowless-Query : (query : Query Source) (alias : List ℕ) → is_windowless_source (source.Query query alias) ≡ is_windowless query
+unfolding is_windowless
+windowless-Query query alias =
+    windowless-out (source.Query query alias)
+    ∙ ap layer_windowless (as-layer w (Source-F.Query query alias) (sym (rolls-Query query alias)))
+    ∙ windowless-mapped query alias
 
-pub has-And : (xs : List Expr) → has_aggregate (expr.And xs) ≡ in_any has_aggregate xs
-has-And xs = at (sym (rolls-And xs)) (out-roll-Expr (Expr-F.And xs))
+pub ruleset windowless = (windowless-Table, windowless-Query)
 
-pub has-Unary : (unary : Unary) (x : Expr) → has_aggregate (expr.Unary unary x) ≡ has_aggregate x
-has-Unary unary x = at (sym (rolls-Unary unary x)) (out-roll-Expr (Expr-F.Unary unary x))
+-- ---- what sources bring
 
-pub has-Binary : (binary : Binary) (x y : Expr) → has_aggregate (expr.Binary binary x y) ≡ (has_aggregate x || has_aggregate y)
-has-Binary binary x y = at (sym (rolls-Binary binary x y)) (out-roll-Expr (Expr-F.Binary binary x y))
+abbrev Answer : Type 0
+Answer = Result Brought Refusal
 
-pub has-Chain : (first : Expr) (operations : List (Operation Expr)) → has_aggregate (expr.Chain first operations) ≡ (has_aggregate first || in_operations has_aggregate operations)
-has-Chain first operations = at (sym (rolls-Chain first operations)) (out-roll-Expr (Expr-F.Chain first operations))
+abbrev same : Answer → Answer
+same brought = brought
 
-pub has-Between : (x : Expr) (negated : Bool) (low high : Expr) → has_aggregate (expr.Between x negated low high) ≡ (has_aggregate x || (has_aggregate low || has_aggregate high))
-has-Between x negated low high = at (sym (rolls-Between x negated low high)) (out-roll-Expr (Expr-F.Between x negated low high))
+module _ (tables : List TableInfo) where
+  abbrev b : Source → Answer
+  b = brought tables
 
-pub has-In : (x : Expr) (negated : Bool) (among : List Expr) → has_aggregate (expr.In x negated among) ≡ (has_aggregate x || in_any has_aggregate among)
-has-In x negated among = at (sym (rolls-In x negated among)) (out-roll-Expr (Expr-F.In x negated among))
+  joins-mapped : (sources : Sources) (joins : List (Join Source))
+      → all_joined same sources (map ((TheShapes.former-Source-Query-0-at-6).map Source Answer b) joins) ≡ all_joined b sources joins
+  unfolding all_joined
+  joins-mapped sources [] = refl
+  joins-mapped sources (join ∷ joins) = λ i.
+      and_then (b join.source) (λ right.
+      and_then (join_onto sources join.kind join.on right) (λ sources. joins-mapped sources joins i))
 
-pub has-Literal : (literal : Literal) → has_aggregate (expr.Literal literal) ≡ false
-has-Literal literal = at (sym (rolls-Literal literal)) (out-roll-Expr (Expr-F.Literal literal))
+  from-mapped : (from : Option (From Source)) → opened same ((TheShapes.former-Source-Query-0-at-10).map Source Answer b from) ≡ opened b from
+  unfolding opened
+  from-mapped None = refl
+  from-mapped (Some from) = λ i.
+      and_then (b from.source) (λ first.
+      and_then (joins-mapped (first_source first) from.joins i) (λ sources.
+      and_then (all_viewed sources from.laterals) (λ sources. Ok (opened_of sources))))
 
-pub has-Column : (source : Option (List ℕ)) (name : List ℕ) → has_aggregate (expr.Column source name) ≡ false
-has-Column source name = at (sym (rolls-Column source name)) (out-roll-Expr (Expr-F.Column source name))
+  select-mapped : (select : Select Source) → select_typed same ((TheShapes.former-Source-Query-0-at-14).map Source Answer b select) ≡ select_typed b select
+  unfolding select_typed select_over listed
+  select-mapped select = λ i. and_then (from-mapped select.from i) (λ opened. select_over select opened)
 
-pub has-Case : (operand : Option Expr) (whens : List (When Expr)) (otherwise : Option Expr) → has_aggregate (expr.Case operand whens otherwise) ≡ ((in_some has_aggregate operand || in_whens has_aggregate whens) || in_some has_aggregate otherwise)
-has-Case operand whens otherwise = at (sym (rolls-Case operand whens otherwise)) (out-roll-Expr (Expr-F.Case operand whens otherwise))
+  unions-mapped : (united : United) (unions : List (Union Source))
+      → all_united same united (map ((TheShapes.former-Source-Query-0-at-31).map Source Answer b) unions) ≡ all_united b united unions
+  unfolding all_united
+  unions-mapped united [] = refl
+  unions-mapped united (union ∷ unions) = λ i.
+      and_then (select-mapped union.select i) (λ next.
+      and_then (unite united union.all next.select) (λ united. unions-mapped united unions i))
 
-pub has-Cast : (x : Expr) (name : TypeName) → has_aggregate (expr.Cast x name) ≡ has_aggregate x
-has-Cast x name = at (sym (rolls-Cast x name)) (out-roll-Expr (Expr-F.Cast x name))
+  query-mapped : (query : Query Source) → query_typed same ((TheShapes.former-Source-Query-0-at-36).map Source Answer b query) ≡ query_typed b query
+  unfolding query_typed query_over
+  query-mapped query = λ i.
+      and_then (select-mapped query.select i) (λ first.
+      and_then (unions-mapped (alone first.columns) query.unions i) (λ united.
+      and_then (order_typed (empty-mapped ((TheShapes.former-Source-Query-0-at-31).map Source Answer b) query.unions i) first united.columns query.order) (λ order.
+      Ok (query_of first.select united order query.limit))))
 
-pub has-CountRows : has_aggregate expr.CountRows ≡ true
-has-CountRows = at (sym rolls-CountRows) (out-roll-Expr Expr-F.CountRows)
+  brought-out : (s : Source) → brought tables s ≡ layer_brought tables (map-Source Source Answer b (out-Source s))
+  unfolding brought
+  brought-out s = fold_out-Source Answer (layer_brought tables) s
 
-pub has-Call : (name : List ℕ) (distinct : Bool) (arguments : List Expr) → has_aggregate (expr.Call name distinct arguments) ≡ (aggregates (function_named name) || in_any has_aggregate arguments)
-has-Call name distinct arguments = at (sym (rolls-Call name distinct arguments)) (out-roll-Expr (Expr-F.Call name distinct arguments))
+  pub brought-Table : (name : List ℕ) (alias : Option (List ℕ))
+      → brought tables (source.Table name alias) ≡ place_brought tables (place_of name tables) (or_name alias name)
+  brought-Table name alias =
+      brought-out (source.Table name alias) ∙ ap (layer_brought tables) (as-layer b (Source-F.Table name alias) (sym (rolls-Table name alias)))
 
-pub ruleset layers = (has-Or, has-And, has-Unary, has-Binary, has-Chain, has-Between, has-In, has-Literal, has-Column, has-Case, has-Cast, has-CountRows, has-Call)
+  pub brought-Query : (query : Query Source) (alias : List ℕ)
+      → brought tables (source.Query query alias) ≡ and_then (query_typed (brought tables) query) (λ typed. Ok (query_brought alias typed))
+  brought-Query query alias =
+      brought-out (source.Query query alias)
+      ∙ ap (layer_brought tables) (as-layer b (Source-F.Query query alias) (sym (rolls-Query query alias)))
+      ∙ ap (λ typed. and_then typed (λ typed. Ok (query_brought alias typed))) (query-mapped query)
+
+pub ruleset sources = (brought-Table, brought-Query)
+
+-- ---- step by step
+
+module _ {S : Type 0} (f : S → Answer) where
+  pub joined-end : (sources : Sources) → all_joined f sources [] ≡ Ok sources
+  unfolding all_joined
+  joined-end sources = refl
+
+  pub joined-step : (sources : Sources) (join : Join S) (joins : List (Join S))
+      → all_joined f sources (join ∷ joins)
+      ≡ and_then (f join.source) (λ right. and_then (join_onto sources join.kind join.on right) (λ sources. all_joined f sources joins))
+  unfolding all_joined
+  joined-step sources join joins = refl
+
+  pub opened-nothing : opened f None ≡ Ok opened_none
+  unfolding opened
+  opened-nothing = refl
+
+  pub opened-from : (from : From S)
+      → opened f (Some from)
+      ≡ and_then (f from.source) (λ first.
+      and_then (all_joined f (first_source first) from.joins) (λ sources.
+      and_then (all_viewed sources from.laterals) (λ sources. Ok (opened_of sources))))
+  unfolding opened
+  opened-from from = refl
+
+  pub select-is : (select : Select S) → select_typed f select ≡ and_then (opened f select.from) (λ opened. select_over select opened)
+  unfolding select_typed
+  select-is select = refl
+
+  pub united-end : (united : United) → all_united f united [] ≡ Ok united
+  unfolding all_united
+  united-end united = refl
+
+  pub united-step : (united : United) (union : Union S) (unions : List (Union S))
+      → all_united f united (union ∷ unions)
+      ≡ and_then (select_typed f union.select) (λ next. and_then (unite united union.all next.select) (λ united. all_united f united unions))
+  unfolding all_united
+  united-step united union unions = refl
+
+  pub query-is : (query : Query S)
+      → query_typed f query
+      ≡ and_then (select_typed f query.select) (λ first.
+      and_then (all_united f (alone first.columns) query.unions) (λ united. query_over query first united))
+  unfolding query_typed
+  query-is query = refl
+
+pub ruleset joins = (joined-end, joined-step)
+
+pub ruleset opens = (opened-nothing, opened-from)
+
+pub ruleset selects = (select-is)
+
+pub ruleset unions = (united-end, united-step)
+
+pub ruleset queries = (query-is)

@@ -1,6 +1,6 @@
 -- The typed statement, or its first fault. A form that isn't built yet is Syntax.
-use Rattle.std.specs.Prelude.{ℕ, Bool, true, false, not, if◌then◌else◌, ◌&&◌, ◌||◌, is_none, is_some, List, [], ◌∷◌, Option, None, Some, Result, Ok, Err}
-use Rattle.std.specs.List.{list_all}
+use Rattle.std.specs.Prelude.{ℕ, Bool, true, false, not, if◌then◌else◌, ◌&&◌, List, [], ◌∷◌, Option, None, Some, Result, Ok, Err}
+use Rattle.std.specs.List.{list_all, list_any}
 use Rattle.hv_base.specs.declared.refusal.Refusal.{Refusal}
 use Rattle.hv_base.specs.declared.refusal.Refusal.TheVariants as refusal
 use Rattle.hv_ast.specs.declared.change.Insert.{Insert}
@@ -9,47 +9,66 @@ use Rattle.hv_ast.specs.declared.change.Rows.TheVariants as rows
 use Rattle.hv_ast.specs.declared.query.From.{From}
 use Rattle.hv_ast.specs.declared.query.Item.{Item}
 use Rattle.hv_ast.specs.declared.query.Item.TheVariants as item
+use Rattle.hv_ast.specs.declared.query.Join.{Join}
 use Rattle.hv_ast.specs.declared.query.Query.{Query}
 use Rattle.hv_ast.specs.declared.query.Select.{Select}
 use Rattle.hv_ast.specs.declared.query.Source.{Source}
-use Rattle.hv_ast.specs.declared.query.Source.TheVariants.{Table}
+use Rattle.hv_ast.specs.declared.query.Source.TheOpen.{Source-F}
+use Rattle.hv_ast.specs.declared.query.Source.TheFolds.{fold-Source}
+use Rattle.hv_ast.specs.declared.query.Union.{Union}
 use Rattle.hv_ast.specs.declared.statement.Stmt.{Stmt}
 use Rattle.hv_ast.specs.declared.statement.Stmt.TheVariants as stmt
 use Rattle.hv_logic.specs.declared.catalog.TableInfo.{TableInfo}
 use Rattle.hv_types.specs.Faults.{and_then}
 use Rattle.hv_analysis.specs.declared.logic.Logic.{Logic}
 use Rattle.hv_analysis.specs.declared.logic.Logic.TheVariants as logic
-use Rattle.hv_analysis.specs.Aggregates.{has_aggregate}
 use Rattle.hv_analysis.specs.Creates.{created}
 use Rattle.hv_analysis.specs.Inserts.{inserted}
-use Rattle.hv_analysis.specs.Selects.{selected}
+use Rattle.hv_analysis.specs.Sources.{selected}
 
 abbrev pub is_empty : {A : Type 0} → List A → Bool
 is_empty [] = true
 is_empty (a ∷ rest) = false
 
--- ---- a query of one select of at most one table, without groups
+-- ---- a query without windows, in all its selects and in those of its subqueries
 
-abbrev pub is_table : Source → Bool
-is_table (Table name alias) = true
-is_table _ = false
+abbrev pub is_window : Item → Bool
+is_window (item.Window window alias) = true
+is_window _ = false
 
-abbrev pub is_single_from : Option (From Source) → Bool
-is_single_from None = true
-is_single_from (Some from) = is_table from.source && (is_empty from.joins && is_empty from.laterals)
+-- where a source has none
+module _ {S : Type 0} (windowless : S → Bool) where
+  abbrev pub is_windowless_join : Join S → Bool
+  is_windowless_join join = windowless join.source
 
-abbrev pub is_single_item : Item → Bool
-is_single_item (item.One x alias) = not (has_aggregate x)
-is_single_item (item.Window window alias) = false
-is_single_item _ = true
+  unfoldable pub windowless_joins : List (Join S) → Bool
+  windowless_joins joins = list_all is_windowless_join joins
 
-abbrev pub is_single_select : Select Source → Bool
-is_single_select select =
-    is_single_from select.from
-    && (list_all is_single_item select.items && (is_empty select.group && is_none select.having))
+  abbrev pub is_windowless_from : Option (From S) → Bool
+  is_windowless_from None = true
+  is_windowless_from (Some from) = windowless from.source && windowless_joins from.joins
 
-unfoldable pub is_single : Query Source → Bool
-is_single query = is_single_select query.select && (is_empty query.unions && is_empty query.order)
+  abbrev pub is_windowless_select : Select S → Bool
+  is_windowless_select select = not (list_any is_window select.items) && is_windowless_from select.from
+
+  abbrev pub is_windowless_union : Union S → Bool
+  is_windowless_union union = is_windowless_select union.select
+
+  unfoldable pub windowless_unions : List (Union S) → Bool
+  windowless_unions unions = list_all is_windowless_union unions
+
+  abbrev pub is_windowless_query : Query S → Bool
+  is_windowless_query query = is_windowless_select query.select && windowless_unions query.unions
+
+abbrev pub layer_windowless : Source-F Bool → Bool
+layer_windowless (Source-F.Table name alias) = true
+layer_windowless (Source-F.Query query alias) = is_windowless_query (λ (windowless : Bool). windowless) query
+
+unfoldable pub is_windowless_source : Source → Bool
+is_windowless_source = fold-Source Bool layer_windowless
+
+unfoldable pub is_windowless : Query Source → Bool
+is_windowless query = is_windowless_query is_windowless_source query
 
 -- ---- INSERT INTO table VALUES
 
@@ -62,7 +81,7 @@ abbrev pub queried : List TableInfo → Query Source → Result Logic Refusal
 queried tables query = and_then (selected tables query) (λ typed. Ok (logic.Query typed))
 
 abbrev pub query_analysed : List TableInfo → Query Source → Result Logic Refusal
-query_analysed tables query = if is_single query then queried tables query else Err refusal.Syntax
+query_analysed tables query = if is_windowless query then queried tables query else Err refusal.Syntax
 
 abbrev pub rows_analysed : List TableInfo → List ℕ → Rows → Result Logic Refusal
 rows_analysed tables name (rows.Values values) = inserted tables name values

@@ -1,5 +1,4 @@
 pub mod Creates
 pub mod Inserts
-pub mod Selects
-pub mod Aggregates
+pub mod Sources
 pub mod Analysis

@@ -1,14 +1,13 @@
 //! From a statement as it is written to the typed one over the live tables, or its first fault.
 #![tactic(auto)]
 
-mod aggregates;
 mod analysis;
 mod creates;
 mod inserts;
-mod items;
 mod logic;
-mod selects;
+mod queries;
+mod windows;
 
-pub use aggregates::has_aggregate;
-pub use analysis::{analyse, is_single, is_whole};
+pub use analysis::{analyse, is_whole};
 pub use logic::{Logic, TypedInsert};
+pub use windows::is_windowless;

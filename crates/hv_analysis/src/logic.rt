@@ -1,8 +1,7 @@
-use hv_base::{List, Text};
+use hv_base::List;
 use hv_logic::Shape;
-use hv_query::{TypedFrom, TypedQuery};
+use hv_query::TypedQuery;
 use hv_typed::TypedExpr;
-use hv_types::Field;
 
 /// An INSERT of rows: the place of its table among the live ones, and the values of each row as they are
 /// stored, those of the columns and then those of the partition columns. They are over no row.
@@ -22,19 +21,4 @@ pub enum Logic {
     Make(Shape),
     /// CREATE TABLE IF NOT EXISTS where there is a table of that name.
     Nothing,
-}
-
-/// What FROM brings into scope.
-#[derive(Drop)]
-pub struct Opened {
-    pub from: Option<TypedFrom>,
-    pub aliases: List<Text>,
-    pub fields: List<Field>,
-}
-
-/// A value that a select shows, with its name, if it has one.
-#[derive(Drop)]
-pub struct Shown {
-    pub name: Option<Text>,
-    pub expr: TypedExpr,
 }

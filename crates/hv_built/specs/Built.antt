@@ -7,7 +7,7 @@ use Rattle.hv_ast.specs.declared.change.Rows.TheVariants as rows
 use Rattle.hv_ast.specs.declared.table.CreateTable.{CreateTable}
 use Rattle.hv_ast.specs.declared.statement.Stmt.{Stmt}
 use Rattle.hv_ast.specs.declared.statement.Stmt.TheVariants as stmt
-use Rattle.hv_analysis.specs.Analysis.{is_empty, is_single, is_whole}
+use Rattle.hv_analysis.specs.Analysis.{is_empty, is_whole, is_windowless}
 
 -- INSERT INTO table VALUES, of all columns
 abbrev pub are_values : Rows → Bool
@@ -25,7 +25,7 @@ is_built_table create = is_empty create.partitions && is_none create.clustering
 abbrev pub is_built : Stmt → Bool
 is_built (stmt.CreateTable create) = is_built_table create
 is_built (stmt.Insert insert) = is_built_insert insert
-is_built (stmt.Query query) = is_single query
+is_built (stmt.Query query) = is_windowless query
 is_built _ = false
 
 abbrev pub IsBuilt : Stmt → Type 0

@@ -3,7 +3,7 @@
 ghost use Rattle.std.specs.Prelude.{◌≡◌};
 ghost use Rattle.hv_built.specs.Built.{are_values, is_built_insert, is_built_table, is_built};
 
-use hv_analysis::{is_single, is_whole};
+use hv_analysis::{is_whole, is_windowless};
 use hv_ast::{CreateTable, Insert, Rows, Stmt};
 
 fn are_values(rows: &Rows) -> bool
@@ -35,7 +35,7 @@ pub fn is_built(stmt: &Stmt) -> bool
     match stmt {
         Stmt::CreateTable(create) => is_built_table(create),
         Stmt::Insert(insert) => is_built_insert(insert),
-        Stmt::Query(query) => is_single(query),
+        Stmt::Query(query) => is_windowless(query),
         _ => false,
     }
 }

@@ -3,6 +3,7 @@
 //! by hand.
 #![tactic(auto)]
 
+mod plan;
 mod show;
 mod tables;
 

@@ -1,11 +1,12 @@
 //! The tables that the statements make, each with its rows.
 
+use crate::plan::plan;
 use crate::show;
 use hv_analysis::{Logic, TypedInsert};
 use hv_base::{Boxed, List, NoMemory, TableId};
 use hv_eval::eval;
 use hv_logic::{Shape, TableInfo};
-use hv_query::{TypedQuery, TypedSource};
+use hv_query::{TypedFrom, TypedQuery, TypedSource};
 use hv_typed::TypedExpr;
 use hv_value::{Row, Value};
 use std::alloc::Global;
@@ -34,6 +35,25 @@ fn is_kept(alloc: Global, filter: &Option<Boxed<TypedExpr>>, row: &Row) -> Resul
             Ok(matches!(&value, Value::Bool(true)))
         }
     }
+}
+
+fn is_plain_from(from: &Option<TypedFrom>) -> bool {
+    match from {
+        None => true,
+        Some(from) => {
+            matches!(&from.source, TypedSource::Table(_))
+                && from.joins.is_empty()
+                && from.laterals.is_empty()
+        }
+    }
+}
+
+/// Whether its rows are listed: of at most one table, without groups, unions and keys.
+fn is_plain(query: &TypedQuery) -> bool {
+    is_plain_from(&query.select.from)
+        && query.select.groups.is_none()
+        && query.unions.is_empty()
+        && query.order.is_empty()
 }
 
 impl Tables {
@@ -92,6 +112,10 @@ impl Tables {
     }
 
     fn query(&self, alloc: Global, query: &TypedQuery, out: &mut Vec<u8>) -> Result<(), NoMemory> {
+        if !is_plain(query) {
+            show::outputs(&query.columns, out)?;
+            return plan(query, alloc, out);
+        }
         match &query.select.from {
             None => {
                 let none = Row {

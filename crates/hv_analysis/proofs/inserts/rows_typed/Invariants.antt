@@ -1,6 +1,6 @@
 use Rattle.std.proofs.Common.{◌≡◌, drop}
 use Rattle.hv_analysis.specs.Inserts.{rows_typed}
-use Rattle.hv_analysis.specs.Selects.{behind}
+use Rattle.hv_select.specs.Selects.{behind}
 use Rattle.hv_analysis.proofs.inserts.rows_typed.Given as goal
 
 abbrev pub invariant-loop-row : goal.invariant-loop-row

@@ -1,6 +1,0 @@
-use Rattle.std.proofs.Common.{◌≡◌, drop}
-use Rattle.hv_analysis.specs.Selects.{behind, items_shown}
-use Rattle.hv_analysis.proofs.items.items_shown.Given as goal
-
-abbrev pub invariant-loop-item : goal.invariant-loop-item
-invariant-loop-item l = behind l.made.items (items_shown l.opened (drop l.item-index l.items)) ≡ items_shown l.opened l.items

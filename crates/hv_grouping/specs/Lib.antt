@@ -1,0 +1,4 @@
+pub mod Aggregates
+pub mod Numbers
+pub mod Same
+pub mod Standing

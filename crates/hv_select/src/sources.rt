@@ -1,0 +1,352 @@
+//! Sources and joins.
+
+ghost use Rattle.std.specs.Prelude.{◌≡◌, ◌++◌, IfOk, map, ◌∷◌, []};
+ghost use Rattle.hv_types.specs.Faults.{Types};
+ghost use Rattle.hv_select.specs.Sources.{is_among, is_taken, filter_typed, output_field, query_brought, first_source, join_kind, with_join, shows_right, joined_with, join_onto, opened_none, opened_of};
+
+use crate::opened::{Brought, Opened, Sources};
+use hv_ast::{Expr, JoinKind as WrittenKind};
+use hv_base::{Boxed, Duplicate, List, NoMemory, Refusal, Text};
+use hv_query::{JoinKind, OutputColumn, TypedFrom, TypedJoin, TypedQuery, TypedSource};
+use hv_typed::TypedExpr;
+use hv_types::{Field, Over, TypeFault, condition_of};
+use std::alloc::Global;
+
+pub(crate) const AMBIGUOUS: TypeFault = TypeFault::Refused(Refusal::Ambiguous);
+
+pub(crate) fn is_among(names: &[Text], name: &Text) -> bool
+    ensures { result ≡ is_among names.now name.now }
+{
+    for other in names {
+        if *name == *other {
+            return true;
+        }
+    }
+    false
+}
+
+pub(crate) fn is_taken(sources: &Sources, alias: &Text) -> bool
+    ensures { result ≡ is_taken sources.now alias.now }
+{
+    is_among(sources.aliases.as_slice(), alias) || is_among(sources.hidden.as_slice(), alias)
+}
+
+/// The condition of WHERE or of ON.
+pub fn filter_typed(
+    alloc: Global,
+    fields: &[Field],
+    filter: &Option<Expr>,
+) -> Result<Option<Boxed<TypedExpr>>, TypeFault>
+    ensures { Types result (filter_typed fields.now filter.now) }
+{
+    match filter {
+        None => Ok(None),
+        Some(filter) => Ok(Some(condition_of(alloc, filter, fields, Over::Row)?)),
+    }
+}
+
+fn output_field(alloc: Global, alias: &Text, column: &OutputColumn) -> Result<Field, NoMemory>
+    ensures { IfOk result (λ field. field ≡ output_field alias.now column.now) }
+{
+    Ok(Field {
+        source: alias.duplicate(alloc)?,
+        name: column.name.duplicate(alloc)?,
+        kind: column.kind,
+    })
+}
+
+fn output_fields(
+    alloc: Global,
+    alias: &Text,
+    columns: &[OutputColumn],
+) -> Result<List<Field>, NoMemory>
+    ensures { IfOk result (λ fields. fields ≡ map (output_field alias.now) columns.now) }
+{
+    let mut fields = Vec::with_capacity(alloc, columns.len())?;
+    for column in columns {
+        fields.push(output_field(alloc, alias, column)?)?;
+    }
+    Ok(List::from_vec(fields))
+}
+
+/// A query in parentheses as a source.
+pub fn query_brought(
+    alloc: Global,
+    alias: &Text,
+    query: Boxed<TypedQuery>,
+) -> Result<Boxed<Brought>, NoMemory>
+    ensures { IfOk result (λ brought. brought ≡ query_brought alias.now query) }
+{
+    let fields = output_fields(alloc, alias, query.get().columns.as_slice())?;
+    let alias = alias.duplicate(alloc)?;
+    Boxed::new(
+        alloc,
+        Brought {
+            source: TypedSource::Query(query),
+            alias,
+            fields,
+        },
+    )
+}
+
+fn alone(alloc: Global, name: Text) -> Result<List<Text>, NoMemory>
+    ensures { IfOk result (λ names. names ≡ name ∷ []) }
+{
+    let mut names = Vec::with_capacity(alloc, 1)?;
+    names.push(name)?;
+    Ok(List::from_vec(names))
+}
+
+fn from_first(
+    alloc: Global,
+    source: TypedSource,
+    width: u32,
+) -> Result<Boxed<TypedFrom>, NoMemory>
+    ensures { IfOk result (λ from. from ≡ record { source = source; width = width; joins = []; laterals = [] }) }
+{
+    Boxed::new(
+        alloc,
+        TypedFrom {
+            source,
+            width,
+            joins: List::empty(alloc),
+            laterals: List::empty(alloc),
+        },
+    )
+}
+
+/// The first source of FROM.
+pub fn first_source(alloc: Global, first: Boxed<Brought>) -> Result<Boxed<Sources>, NoMemory>
+    ensures { IfOk result (λ sources. sources ≡ first_source first) }
+{
+    let Ok(width) = u32::try_from(first.get().fields.len()) else {
+        return Err(NoMemory);
+    };
+    let Brought {
+        source,
+        alias,
+        fields,
+    } = first.into_inner();
+    let from = from_first(alloc, source, width)?;
+    let aliases = alone(alloc, alias)?;
+    Boxed::new(
+        alloc,
+        Sources {
+            from,
+            aliases,
+            hidden: List::empty(alloc),
+            fields,
+        },
+    )
+}
+
+fn join_kind(written: WrittenKind) -> JoinKind
+    ensures { result ≡ join_kind written }
+{
+    match written {
+        WrittenKind::Cross => JoinKind::Inner,
+        WrittenKind::Inner => JoinKind::Inner,
+        WrittenKind::Left => JoinKind::Left,
+        WrittenKind::Right => JoinKind::Right,
+        WrittenKind::Full => JoinKind::Full,
+        WrittenKind::LeftSemi => JoinKind::LeftSemi,
+    }
+}
+
+fn with_join(
+    alloc: Global,
+    from: Boxed<TypedFrom>,
+    join: TypedJoin,
+) -> Result<Boxed<TypedFrom>, NoMemory>
+    ensures { IfOk result (λ made. made ≡ with_join from join) }
+{
+    let TypedFrom {
+        source,
+        width,
+        joins,
+        laterals,
+    } = from.into_inner();
+    let mut joins = joins.into_vec();
+    joins.push(join)?;
+    Boxed::new(
+        alloc,
+        TypedFrom {
+            source,
+            width,
+            joins: List::from_vec(joins),
+            laterals,
+        },
+    )
+}
+
+fn shows_right(written: WrittenKind) -> bool
+    ensures { result ≡ shows_right written }
+{
+    match written {
+        WrittenKind::LeftSemi => false,
+        _ => true,
+    }
+}
+
+fn field_copied(alloc: Global, field: &Field) -> Result<Field, NoMemory>
+    ensures { IfOk result (λ copied. copied ≡ field.now) }
+{
+    Ok(Field {
+        source: field.source.duplicate(alloc)?,
+        name: field.name.duplicate(alloc)?,
+        kind: field.kind,
+    })
+}
+
+fn fields_copied(alloc: Global, fields: &[Field]) -> Result<Vec<Field>, NoMemory>
+    ensures { IfOk result (λ copied. copied.items ≡ fields.now) }
+{
+    let mut copied = Vec::with_capacity(alloc, fields.len())?;
+    for field in fields {
+        copied.push(field_copied(alloc, field)?)?;
+    }
+    Ok(copied)
+}
+
+// ON sees the columns of both sides.
+fn on_typed(
+    alloc: Global,
+    left: &[Field],
+    right: &[Field],
+    on: &Option<Expr>,
+) -> Result<Option<Boxed<TypedExpr>>, TypeFault>
+    ensures { Types result (filter_typed (left.now ++ right.now) on.now) }
+{
+    let mut fields = fields_copied(alloc, left)?;
+    let mut more = fields_copied(alloc, right)?;
+    fields.append(&mut more)?;
+    filter_typed(alloc, fields.as_slice(), on)
+}
+
+pub(crate) fn with_name(names: List<Text>, name: Text) -> Result<List<Text>, NoMemory>
+    ensures { IfOk result (λ made. made ≡ names ++ name ∷ []) }
+{
+    let mut names = names.into_vec();
+    names.push(name)?;
+    Ok(List::from_vec(names))
+}
+
+pub(crate) fn with_fields(fields: List<Field>, more: List<Field>) -> Result<List<Field>, NoMemory>
+    ensures { IfOk result (λ made. made ≡ fields ++ more) }
+{
+    let mut fields = fields.into_vec();
+    let mut more = more.into_vec();
+    fields.append(&mut more)?;
+    Ok(List::from_vec(fields))
+}
+
+fn join_of(
+    written: WrittenKind,
+    source: TypedSource,
+    width: u32,
+    on: Option<Boxed<TypedExpr>>,
+) -> TypedJoin
+    ensures { result ≡ record { kind = join_kind written; source = source; width = width; on = on } }
+{
+    TypedJoin {
+        kind: join_kind(written),
+        source,
+        width,
+        on,
+    }
+}
+
+fn joined_with(
+    alloc: Global,
+    sources: Boxed<Sources>,
+    written: WrittenKind,
+    right: Boxed<Brought>,
+    on: Option<Boxed<TypedExpr>>,
+) -> Result<Boxed<Sources>, NoMemory>
+    ensures { IfOk result (λ joined. joined ≡ joined_with sources written right on) }
+{
+    let Ok(width) = u32::try_from(right.get().fields.len()) else {
+        return Err(NoMemory);
+    };
+    let Brought {
+        source,
+        alias,
+        fields: more,
+    } = right.into_inner();
+    let Sources {
+        from,
+        aliases,
+        hidden,
+        fields,
+    } = sources.into_inner();
+    let from = with_join(alloc, from, join_of(written, source, width, on))?;
+    let made = if shows_right(written) {
+        Sources {
+            from,
+            aliases: with_name(aliases, alias)?,
+            hidden,
+            fields: with_fields(fields, more)?,
+        }
+    } else {
+        Sources {
+            from,
+            aliases,
+            hidden: with_name(hidden, alias)?,
+            fields,
+        }
+    };
+    Boxed::new(alloc, made)
+}
+
+/// A source that is joined: its alias, then ON.
+#[tactic(auto, unfolding(crate::specs::Sources::join_onto))]
+pub fn join_onto(
+    alloc: Global,
+    sources: Boxed<Sources>,
+    written: WrittenKind,
+    on: &Option<Expr>,
+    right: Boxed<Brought>,
+) -> Result<Boxed<Sources>, TypeFault>
+    ensures { Types result (join_onto sources written on.now right) }
+{
+    if is_taken(sources.get(), &right.get().alias) {
+        return Err(AMBIGUOUS);
+    }
+    let left = sources.get().fields.as_slice();
+    let on = on_typed(alloc, left, right.get().fields.as_slice(), on)?;
+    Ok(joined_with(alloc, sources, written, right, on)?)
+}
+
+/// Without FROM there is one row without values.
+pub fn opened_none(alloc: Global) -> Result<Boxed<Opened>, NoMemory>
+    ensures { IfOk result (λ opened. opened ≡ opened_none) }
+{
+    Boxed::new(
+        alloc,
+        Opened {
+            from: None,
+            aliases: List::empty(alloc),
+            fields: List::empty(alloc),
+        },
+    )
+}
+
+/// What items see of it all.
+pub fn opened_of(alloc: Global, sources: Boxed<Sources>) -> Result<Boxed<Opened>, NoMemory>
+    ensures { IfOk result (λ opened. opened ≡ opened_of sources) }
+{
+    let Sources {
+        from,
+        aliases,
+        fields,
+        ..
+    } = sources.into_inner();
+    Boxed::new(
+        alloc,
+        Opened {
+            from: Some(from),
+            aliases,
+            fields,
+        },
+    )
+}
