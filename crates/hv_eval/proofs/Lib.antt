@@ -3,3 +3,4 @@ pub mod Nodes
 pub mod Accumulators
 pub mod Once
 pub mod Parts
+pub mod TruthNodes

@@ -1,20 +1,25 @@
 ghost use Rattle.std.specs.Prelude.{◌≡◌, IfSome, not, if◌then◌else◌, slice_get, option_map, map};
 ghost use Rattle.hv_typed.specs.Groups.{aggregate_value, row_count};
-ghost use Rattle.hv_typed.specs.Values.{taken_or_null, truth_value};
+ghost use Rattle.hv_typed.specs.Values.{taken_or_null, truth_of, truth_value};
 ghost use Rattle.hv_typed.specs.Functions.{all_of, any_of, equals_any, first_known, many_value};
 ghost use Rattle.hv_typed.specs.Evaluation.{value_of, value_in, is_met};
 ghost use Rattle.hv_eval.specs.Frames.{value_at, values_at, row_of, group_of};
+ghost use Rattle.hv_seen.specs.Truths.{told};
 ghost use Rattle.hv_eval.specs.Walks.{chain_value, chosen_value, optional_value, settled_value};
 ghost use Rattle.hv_seen.specs.Seen.{seen_value};
 
 use crate::accumulate::{start, step};
 use crate::frame::{Frame, Scope};
-use crate::table::{both, either, one, three, two};
+use crate::table::{compared, one, three, two};
 use hv_base::Boxed;
-use hv_seen::{Seen, arithmetic, equal, is_null, null, of_big, of_truth, taken, truth};
+use hv_seen::{
+    Seen, Truth, arithmetic, both, either, equal, is_null, negated, null, of_big, of_option,
+    of_truth, taken, truth_of,
+};
 use hv_typed::{Aggregate, Branch, Link, Many, TypedExpr};
 use hv_value::{SqlType, Value};
 
+#[inline(always)]
 #[tactic(auto, unfolding(crate::specs::Frames::row_of))]
 pub(crate) fn column<'a>(at: &Scope<'a>, place: u32, kind: &SqlType) -> Seen<'a>
     ensures { seen_value result ≡ taken_or_null kind.now (slice_get (row_of at.now) place) }
@@ -30,7 +35,7 @@ pub(crate) fn is_met(operand: &Option<Seen>, condition: &Seen) -> bool
     ensures { result ≡ is_met (option_map seen_value operand.now) (seen_value condition.now) }
 {
     match operand {
-        None => truth(condition) == Some(true),
+        None => matches!(truth_of(condition), Truth::True),
         Some(operand) => equal(operand, condition) == Some(true),
     }
 }
@@ -50,11 +55,11 @@ fn settled<'a>(found: &Option<Seen<'a>>, otherwise: &Option<Seen<'a>>) -> Seen<'
 }
 
 // The value of IN by the OR of its equalities.
-pub(crate) fn in_value<'a>(negated: bool, found: Option<bool>) -> Seen<'a>
-    ensures { seen_value result ≡ truth_value (if negated then option_map not found else found) }
+pub(crate) fn in_value<'a>(negates: bool, found: Truth) -> Seen<'a>
+    ensures { seen_value result ≡ truth_value (if negates then option_map not (told found) else told found) }
 {
-    if negated {
-        of_truth(found.map(|truth| !truth))
+    if negates {
+        of_truth(negated(found))
     } else {
         of_truth(found)
     }
@@ -79,14 +84,48 @@ pub fn value_without_memory<'a>(expr: &'a TypedExpr, row: &'a [Value]) -> Option
 
 /// The value of the expression there, without memory: None where a text or an array might have to be
 /// made, and of an aggregate with DISTINCT. What stands in the rows or in the expression is lent.
+#[inline(always)]
 #[cycle(walk)]
-#[tactic(auto, using(crate::proofs::Nodes::nodes), unfolding(hv_typed::specs::Functions::in_value))]
+#[tactic(auto, using(crate::proofs::Nodes::nodes))]
 pub fn seen_at<'a>(expr: &'a TypedExpr, at: &Scope<'a>) -> Option<Seen<'a>>
     ensures { IfSome result (λ seen. seen_value seen ≡ value_at at.now expr.now) }
 {
     match expr {
         TypedExpr::Column(place, kind) => Some(column(at, *place, kind)),
         TypedExpr::Literal(value, kind) => Some(taken(kind, value)),
+        TypedExpr::Many(function, _, arguments) => many(*function, arguments.as_slice(), at),
+        TypedExpr::Chain(..) => chain_at(expr, at),
+        _ => node_at(expr, at),
+    }
+}
+
+/// Whether the condition is true there, without memory: None where a text or an array might have to be made.
+#[cycle(walk)]
+#[tactic(auto, using(crate::proofs::Nodes::nodes))]
+pub(crate) fn truth_at<'a>(expr: &'a TypedExpr, at: &Scope<'a>) -> Option<Truth>
+    ensures { IfSome result (λ truth. told truth ≡ truth_of (value_at at.now expr.now)) }
+{
+    match expr {
+        TypedExpr::Two(function, kind, left, right) => {
+            let left = seen_at(left.get(), at)?;
+            let right = seen_at(right.get(), at)?;
+            match compared(*function, &left, &right) {
+                Some(truth) => Some(truth),
+                None => Some(truth_of(&two(*function, kind, &left, &right)?)),
+            }
+        }
+        _ => Some(truth_of(&seen_at(expr, at)?)),
+    }
+}
+
+// What a node comes to that has parts. It clears all its locals at each call, so that leaves are done before.
+#[inline(never)]
+#[cycle(walk)]
+#[tactic(auto, using(crate::proofs::Nodes::nodes), unfolding(hv_typed::specs::Functions::in_value))]
+fn node_at<'a>(expr: &'a TypedExpr, at: &Scope<'a>) -> Option<Seen<'a>>
+    ensures { IfSome result (λ seen. seen_value seen ≡ value_at at.now expr.now) }
+{
+    match expr {
         TypedExpr::One(function, kind, argument) => {
             let argument = seen_at(argument.get(), at)?;
             one(*function, kind, &argument).ok()
@@ -102,7 +141,6 @@ pub fn seen_at<'a>(expr: &'a TypedExpr, at: &Scope<'a>) -> Option<Seen<'a>>
             let third = seen_at(third.get(), at)?;
             three(*function, &first, &second, &third)
         }
-        TypedExpr::Many(function, _, arguments) => many(*function, arguments.as_slice(), at),
         TypedExpr::In {
             value,
             negated,
@@ -111,10 +149,6 @@ pub fn seen_at<'a>(expr: &'a TypedExpr, at: &Scope<'a>) -> Option<Seen<'a>>
             let value = seen_at(value.get(), at)?;
             let found = equals_any(among.as_slice(), &value, at)?;
             Some(in_value(*negated, found))
-        }
-        TypedExpr::Chain(_, first, links) => {
-            let first = seen_at(first.get(), at)?;
-            chain(links.as_slice(), &first, at)
         }
         TypedExpr::Case {
             operand,
@@ -134,6 +168,23 @@ pub fn seen_at<'a>(expr: &'a TypedExpr, at: &Scope<'a>) -> Option<Seen<'a>>
             argument,
             ..
         } => over_group(*function, *distinct, argument.get(), at),
+        _ => None,
+    }
+}
+
+// What a chain of numbers comes to.
+#[inline(never)]
+#[cycle(walk)]
+#[tactic(auto, using(crate::proofs::Nodes::nodes))]
+fn chain_at<'a>(expr: &'a TypedExpr, at: &Scope<'a>) -> Option<Seen<'a>>
+    ensures { IfSome result (λ seen. seen_value seen ≡ value_at at.now expr.now) }
+{
+    match expr {
+        TypedExpr::Chain(_, first, links) => {
+            let first = seen_at(first.get(), at)?;
+            chain(links.as_slice(), &first, at)
+        }
+        _ => None,
     }
 }
 
@@ -187,13 +238,13 @@ fn many<'a>(function: Many, arguments: &'a [TypedExpr], at: &Scope<'a>) -> Optio
 }
 
 #[cycle(walk)]
-fn all<'a>(exprs: &'a [TypedExpr], at: &Scope<'a>) -> Option<Option<bool>>
-    ensures { IfSome result (λ truth. truth ≡ all_of (values_at exprs.now at.now)) }
+fn all<'a>(exprs: &'a [TypedExpr], at: &Scope<'a>) -> Option<Truth>
+    ensures { IfSome result (λ truth. told truth ≡ all_of (values_at exprs.now at.now)) }
 {
-    let mut seen = Some(true);
+    let mut seen = Truth::True;
     for expr in exprs {
-        seen = both(seen, truth(&seen_at(expr, at)?));
-        if seen == Some(false) {
+        seen = both(seen, truth_at(expr, at)?);
+        if let Truth::False = seen {
             return Some(seen);
         }
     }
@@ -201,13 +252,13 @@ fn all<'a>(exprs: &'a [TypedExpr], at: &Scope<'a>) -> Option<Option<bool>>
 }
 
 #[cycle(walk)]
-fn any<'a>(exprs: &'a [TypedExpr], at: &Scope<'a>) -> Option<Option<bool>>
-    ensures { IfSome result (λ truth. truth ≡ any_of (values_at exprs.now at.now)) }
+fn any<'a>(exprs: &'a [TypedExpr], at: &Scope<'a>) -> Option<Truth>
+    ensures { IfSome result (λ truth. told truth ≡ any_of (values_at exprs.now at.now)) }
 {
-    let mut seen = Some(false);
+    let mut seen = Truth::False;
     for expr in exprs {
-        seen = either(seen, truth(&seen_at(expr, at)?));
-        if seen == Some(true) {
+        seen = either(seen, truth_at(expr, at)?);
+        if let Truth::True = seen {
             return Some(seen);
         }
     }
@@ -215,13 +266,13 @@ fn any<'a>(exprs: &'a [TypedExpr], at: &Scope<'a>) -> Option<Option<bool>>
 }
 
 #[cycle(walk)]
-fn equals_any<'a>(exprs: &'a [TypedExpr], value: &Seen<'a>, at: &Scope<'a>) -> Option<Option<bool>>
-    ensures { IfSome result (λ truth. truth ≡ equals_any (seen_value value.now) (values_at exprs.now at.now)) }
+fn equals_any<'a>(exprs: &'a [TypedExpr], value: &Seen<'a>, at: &Scope<'a>) -> Option<Truth>
+    ensures { IfSome result (λ truth. told truth ≡ equals_any (seen_value value.now) (values_at exprs.now at.now)) }
 {
-    let mut found = Some(false);
+    let mut found = Truth::False;
     for expr in exprs {
-        found = either(found, equal(value, &seen_at(expr, at)?));
-        if found == Some(true) {
+        found = either(found, of_option(equal(value, &seen_at(expr, at)?)));
+        if let Truth::True = found {
             return Some(found);
         }
     }

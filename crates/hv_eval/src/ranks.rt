@@ -15,7 +15,8 @@ fn kind(value: &Seen) -> u8
 {
     match value {
         Seen::Null => 0,
-        Seen::Bool(_) => 1,
+        Seen::False => 1,
+        Seen::True => 1,
         Seen::Int(_) => 2,
         Seen::Big(_) => 2,
         Seen::Str(_) => 3,
@@ -27,10 +28,7 @@ fn kind(value: &Seen) -> u8
 fn truth(value: &Seen) -> bool
     ensures { result ≡ truth_of (seen_layer value.now) }
 {
-    match value {
-        Seen::Bool(truth) => *truth,
-        _ => false,
-    }
+    matches!(value, Seen::True)
 }
 
 fn number(value: &Seen) -> i64

@@ -1,20 +1,22 @@
 //! The table of functions, over values that are seen.
 
-ghost use Rattle.std.specs.Prelude.{◌≡◌, Some, None, MatchOption, MatchResult, option_map, option_and_then, if◌then◌else◌};
+ghost use Rattle.std.specs.Prelude.{◌≡◌, IfSome, Some, None, MatchOption, MatchResult, option_map, option_and_then, if◌then◌else◌};
 ghost use Rattle.hv_value.specs.declared.value.Value.TheVariants as value;
 ghost use Rattle.hv_value.specs.Conversion.{some_int, some_day};
 ghost use Rattle.hv_value.specs.Dates.{date_add, date_sub, date_diff, year_of, month_of, day_of_month};
-ghost use Rattle.hv_typed.specs.Values.{truth_of, text_of, number_of, text_value, is_null, holds, day_of, int_of, both_of, items_of, item_at, taken_or_null, element, both, either};
+ghost use Rattle.hv_typed.specs.Values.{truth_of, text_of, number_of, truth_value, text_value, is_null, holds, day_of, int_of, both_of, items_of, item_at, taken_or_null, element};
+ghost use Rattle.hv_value.specs.declared.sql_type.SqlType.{SqlType as Kind};
 ghost use Rattle.hv_typed.specs.Functions.{given, size_of, one_value, two_value, three_value, between, part_of};
 ghost use Rattle.hv_seen.specs.Seen.{seen_layer, seen_value};
+ghost use Rattle.hv_seen.specs.Truths.{told};
 ghost use Rattle.hv_text.specs.Characters.{substring_from};
 ghost use Rattle.hv_seen.specs.Makes.{made_value};
 
 use hv_base::List;
 use hv_seen::{
-    Maker, Seen, absolute, cast, compare, day, int, is_like, is_null, length_of, low_int, minus,
-    null, null_safe_equal, number, of_day, of_int, of_truth, place_of, plus, positive_remainder,
-    taken, truth,
+    Maker, Seen, Truth, absolute, both, cast, compare, day, int, is_like, is_null, length_of,
+    low_int, minus, negated, null, null_safe_equal, number, of_bool, of_day, of_int, of_option,
+    of_truth, place_of, plus, positive_remainder, taken, truth_of,
 };
 use hv_typed::{One, Three, Two};
 use hv_value::{SqlType, Value, date_add, date_diff, date_sub, day_of_month, month_of, year_of};
@@ -120,9 +122,9 @@ pub(crate) fn one<'a>(function: One, kind: &SqlType, value: &Seen) -> Result<See
     match function {
         One::Plus => Ok(plus(value)),
         One::Minus => Ok(minus(value)),
-        One::Not => Ok(of_truth(truth(value).map(|truth| !truth))),
-        One::IsNull => Ok(of_truth(Some(is_null(value)))),
-        One::IsNotNull => Ok(of_truth(Some(!is_null(value)))),
+        One::Not => Ok(of_truth(negated(truth_of(value)))),
+        One::IsNull => Ok(of_bool(is_null(value))),
+        One::IsNotNull => Ok(of_bool(!is_null(value))),
         One::Size => Ok(size(value)),
         One::Length => Ok(length_of(value)),
         One::Abs => Ok(absolute(value)),
@@ -145,29 +147,38 @@ fn first_known<'a>(left: &Seen<'a>, right: &Seen<'a>) -> Seen<'a>
 fn if_true<'a>(condition: &Seen, value: &Seen<'a>, otherwise: &Seen<'a>) -> Seen<'a>
     ensures { seen_value result ≡ (if holds (truth_of (seen_value condition.now)) then seen_value value.now else seen_value otherwise.now) }
 {
-    if truth(condition) == Some(true) {
+    if let Truth::True = truth_of(condition) {
         *value
     } else {
         *otherwise
     }
 }
 
-pub(crate) fn both(left: Option<bool>, right: Option<bool>) -> Option<bool>
-    ensures { result ≡ both left right }
-{
-    match (left, right) {
-        (Some(false), _) | (_, Some(false)) => Some(false),
-        (Some(true), Some(true)) => Some(true),
-        _ => None,
-    }
+// Whether a function compares by the order of its operands alone.
+fn is_by_order(function: Two) -> bool {
+    matches!(
+        function,
+        Two::Equal | Two::Unequal | Two::Less | Two::AtMost | Two::Greater | Two::AtLeast
+    )
 }
 
-pub(crate) fn either(left: Option<bool>, right: Option<bool>) -> Option<bool>
-    ensures { result ≡ either left right }
+/// What a comparison says, None of another function.
+#[inline]
+#[tactic(auto, unfolding(hv_typed::specs::Functions::two_value))]
+pub(crate) fn compared(function: Two, left: &Seen, right: &Seen) -> Option<Truth>
+    ensures { IfSome result (λ truth. (kind : Kind) → truth_value (told truth) ≡ two_value function kind (seen_value left.now) (seen_value right.now)) }
 {
-    match (left, right) {
-        (Some(true), _) | (_, Some(true)) => Some(true),
-        (Some(false), Some(false)) => Some(false),
+    if !is_by_order(function) {
+        return None;
+    }
+    let order = compare(left, right);
+    match function {
+        Two::Equal => Some(of_option(order.map(|order| order.is_eq()))),
+        Two::Unequal => Some(of_option(order.map(|order| order.is_ne()))),
+        Two::Less => Some(of_option(order.map(|order| order.is_lt()))),
+        Two::AtMost => Some(of_option(order.map(|order| order.is_le()))),
+        Two::Greater => Some(of_option(order.map(|order| order.is_gt()))),
+        Two::AtLeast => Some(of_option(order.map(|order| order.is_ge()))),
         _ => None,
     }
 }
@@ -183,15 +194,15 @@ pub(crate) fn two<'a>(
     ensures { MatchOption result (text_value (both_of substring_from (text_of (seen_value left.now)) (number_of (seen_value right.now))) ≡ two_value function kind.now (seen_value left.now) (seen_value right.now)) (λ found. seen_value found ≡ two_value function kind.now (seen_value left.now) (seen_value right.now)) }
 {
     match function {
-        Two::Equal => Some(of_truth(compare(left, right).map(|order| order.is_eq()))),
-        Two::Unequal => Some(of_truth(compare(left, right).map(|order| order.is_ne()))),
-        Two::Less => Some(of_truth(compare(left, right).map(|order| order.is_lt()))),
-        Two::AtMost => Some(of_truth(compare(left, right).map(|order| order.is_le()))),
-        Two::Greater => Some(of_truth(compare(left, right).map(|order| order.is_gt()))),
-        Two::AtLeast => Some(of_truth(compare(left, right).map(|order| order.is_ge()))),
-        Two::NullSafeEqual => Some(of_truth(Some(null_safe_equal(left, right)))),
-        Two::Like => Some(of_truth(is_like(left, right))),
-        Two::NotLike => Some(of_truth(is_like(left, right).map(|truth| !truth))),
+        Two::Equal => Some(of_truth(of_option(compare(left, right).map(|order| order.is_eq())))),
+        Two::Unequal => Some(of_truth(of_option(compare(left, right).map(|order| order.is_ne())))),
+        Two::Less => Some(of_truth(of_option(compare(left, right).map(|order| order.is_lt())))),
+        Two::AtMost => Some(of_truth(of_option(compare(left, right).map(|order| order.is_le())))),
+        Two::Greater => Some(of_truth(of_option(compare(left, right).map(|order| order.is_gt())))),
+        Two::AtLeast => Some(of_truth(of_option(compare(left, right).map(|order| order.is_ge())))),
+        Two::NullSafeEqual => Some(of_bool(null_safe_equal(left, right))),
+        Two::Like => Some(of_truth(of_option(is_like(left, right)))),
+        Two::NotLike => Some(of_truth(negated(of_option(is_like(left, right))))),
         Two::Element => Some(element(kind, left, right)),
         Two::Nvl => Some(first_known(left, right)),
         Two::Instr => Some(place_of(left, right)),
@@ -203,12 +214,12 @@ pub(crate) fn two<'a>(
     }
 }
 
-fn is_between(value: &Seen, low: &Seen, high: &Seen) -> Option<bool>
-    ensures { result ≡ between (seen_value value.now) (seen_value low.now) (seen_value high.now) }
+fn is_between(value: &Seen, low: &Seen, high: &Seen) -> Truth
+    ensures { told result ≡ between (seen_value value.now) (seen_value low.now) (seen_value high.now) }
 {
     both(
-        compare(value, low).map(|order| order.is_ge()),
-        compare(value, high).map(|order| order.is_le()),
+        of_option(compare(value, low).map(|order| order.is_ge())),
+        of_option(compare(value, high).map(|order| order.is_le())),
     )
 }
 
@@ -225,7 +236,7 @@ pub(crate) fn three<'a>(
     match function {
         Three::If => Some(if_true(first, second, third)),
         Three::Between => Some(of_truth(is_between(first, second, third))),
-        Three::NotBetween => Some(of_truth(is_between(first, second, third).map(|truth| !truth))),
+        Three::NotBetween => Some(of_truth(negated(is_between(first, second, third)))),
         Three::Substr | Three::Substring => None,
     }
 }

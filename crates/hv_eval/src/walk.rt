@@ -6,17 +6,18 @@ ghost use Rattle.hv_typed.specs.Groups.{aggregate_value};
 ghost use Rattle.hv_eval.specs.Frames.{value_at, values_at, row_of, group_of};
 ghost use Rattle.hv_eval.specs.Walks.{chain_value, chosen_value, optional_value, settled_value};
 ghost use Rattle.hv_seen.specs.Seen.{seen_value};
+ghost use Rattle.hv_seen.specs.Truths.{told};
 ghost use Rattle.hv_eval.specs.Held.{held_value};
 
 use crate::accumulate::over_all;
 use crate::frame::{Frame, Scope};
 use crate::held::Held;
-use crate::look::{column, count_rows, in_value, is_met, seen_at};
-use crate::table::{both, either, one, three, two};
+use crate::look::{column, count_rows, in_value, is_met, seen_at, truth_at};
+use crate::table::{one, three, two};
 use hv_base::{Boxed, List, NoMemory, Text};
 use hv_seen::{
-    Seen, arithmetic, equal, is_null, make, null, of_truth, owned, part_from, rest_from, taken,
-    text, truth,
+    Seen, Truth, arithmetic, both, either, equal, is_null, make, null, of_option, of_truth, owned,
+    part_from, rest_from, taken, text, truth_of,
 };
 use hv_typed::{Branch, Link, Many, One, Three, Two, TypedExpr};
 use hv_value::{Row, SqlType, Value};
@@ -162,15 +163,42 @@ pub fn is_true_at<'a>(
 ) -> Result<bool, NoMemory>
     ensures { IfOk result (λ holds_there. holds_there ≡ holds (truth_of (value_at at.now condition.now))) }
 {
-    match seen_at(condition, at) {
-        Some(seen) => Ok(truth(&seen) == Some(true)),
-        None => Ok(truth(&held(alloc, condition, at)?.seen()) == Some(true)),
+    Ok(matches!(truth_in(alloc, condition, at)?, Truth::True))
+}
+
+// Whether the condition is true there. An operand of AND and OR is taken without memory where that does, so that
+// a node is looked at once more for each of them around it.
+#[cycle(memory)]
+fn truth_in<'a>(alloc: Global, condition: &'a TypedExpr, at: &Scope<'a>) -> Result<Truth, NoMemory>
+    ensures { IfOk result (λ truth. told truth ≡ truth_of (value_at at.now condition.now)) }
+{
+    match truth_at(condition, at) {
+        Some(truth) => Ok(truth),
+        None => Ok(truth_of(&held(alloc, condition, at)?.seen())),
     }
 }
 
+#[inline(always)]
+#[cycle(memory)]
+#[tactic(auto, using(crate::proofs::Nodes::nodes))]
+fn held<'a>(alloc: Global, expr: &'a TypedExpr, at: &Scope<'a>) -> Result<Held<'a>, NoMemory>
+    ensures { IfOk result (λ value. held_value value ≡ value_at at.now expr.now) }
+{
+    match expr {
+        TypedExpr::Column(place, kind) => Ok(Held::Seen(column(at, *place, kind))),
+        TypedExpr::Literal(value, kind) => Ok(Held::Seen(taken(kind, value))),
+        TypedExpr::Many(function, _, arguments) => {
+            many(alloc, *function, arguments.as_slice(), at)
+        }
+        _ => node_held(alloc, expr, at),
+    }
+}
+
+// What a node comes to that has parts.
+#[inline(never)]
 #[cycle(memory)]
 #[tactic(auto, using(crate::proofs::Nodes::nodes), unfolding(hv_typed::specs::Functions::in_value))]
-fn held<'a>(alloc: Global, expr: &'a TypedExpr, at: &Scope<'a>) -> Result<Held<'a>, NoMemory>
+fn node_held<'a>(alloc: Global, expr: &'a TypedExpr, at: &Scope<'a>) -> Result<Held<'a>, NoMemory>
     ensures { IfOk result (λ value. held_value value ≡ value_at at.now expr.now) }
 {
     match expr {
@@ -285,13 +313,13 @@ fn many<'a>(
 }
 
 #[cycle(memory)]
-fn all<'a>(alloc: Global, exprs: &'a [TypedExpr], at: &Scope<'a>) -> Result<Option<bool>, NoMemory>
-    ensures { IfOk result (λ truth. truth ≡ all_of (values_at exprs.now at.now)) }
+fn all<'a>(alloc: Global, exprs: &'a [TypedExpr], at: &Scope<'a>) -> Result<Truth, NoMemory>
+    ensures { IfOk result (λ truth. told truth ≡ all_of (values_at exprs.now at.now)) }
 {
-    let mut seen = Some(true);
+    let mut seen = Truth::True;
     for expr in exprs {
-        seen = both(seen, truth(&held(alloc, expr, at)?.seen()));
-        if seen == Some(false) {
+        seen = both(seen, truth_in(alloc, expr, at)?);
+        if let Truth::False = seen {
             return Ok(seen);
         }
     }
@@ -299,13 +327,13 @@ fn all<'a>(alloc: Global, exprs: &'a [TypedExpr], at: &Scope<'a>) -> Result<Opti
 }
 
 #[cycle(memory)]
-fn any<'a>(alloc: Global, exprs: &'a [TypedExpr], at: &Scope<'a>) -> Result<Option<bool>, NoMemory>
-    ensures { IfOk result (λ truth. truth ≡ any_of (values_at exprs.now at.now)) }
+fn any<'a>(alloc: Global, exprs: &'a [TypedExpr], at: &Scope<'a>) -> Result<Truth, NoMemory>
+    ensures { IfOk result (λ truth. told truth ≡ any_of (values_at exprs.now at.now)) }
 {
-    let mut seen = Some(false);
+    let mut seen = Truth::False;
     for expr in exprs {
-        seen = either(seen, truth(&held(alloc, expr, at)?.seen()));
-        if seen == Some(true) {
+        seen = either(seen, truth_in(alloc, expr, at)?);
+        if let Truth::True = seen {
             return Ok(seen);
         }
     }
@@ -318,13 +346,16 @@ fn equals_any<'a>(
     exprs: &'a [TypedExpr],
     value: &Held<'a>,
     at: &Scope<'a>,
-) -> Result<Option<bool>, NoMemory>
-    ensures { IfOk result (λ truth. truth ≡ equals_any (held_value value.now) (values_at exprs.now at.now)) }
+) -> Result<Truth, NoMemory>
+    ensures { IfOk result (λ truth. told truth ≡ equals_any (held_value value.now) (values_at exprs.now at.now)) }
 {
-    let mut found = Some(false);
+    let mut found = Truth::False;
     for expr in exprs {
-        found = either(found, equal(&value.seen(), &held(alloc, expr, at)?.seen()));
-        if found == Some(true) {
+        found = either(
+            found,
+            of_option(equal(&value.seen(), &held(alloc, expr, at)?.seen())),
+        );
+        if let Truth::True = found {
             return Ok(found);
         }
     }

@@ -1,4 +1,5 @@
 -- The value that is seen.
+use Rattle.std.specs.Prelude.{false, true}
 use Rattle.hv_value.specs.declared.value.Value.{Value}
 use Rattle.hv_value.specs.declared.value.Value.TheOpen.{Value-F}
 use Rattle.hv_value.specs.declared.value.Value.TheViews.{roll-Value}
@@ -7,7 +8,8 @@ use Rattle.hv_seen.specs.declared.seen.Seen.TheVariants as seen
 
 abbrev pub seen_layer : Seen → Value-F Value
 seen_layer seen.Null = Value-F.Null
-seen_layer (seen.Bool truth) = Value-F.Bool truth
+seen_layer seen.False = Value-F.Bool false
+seen_layer seen.True = Value-F.Bool true
 seen_layer (seen.Int number) = Value-F.Int number
 seen_layer (seen.Big number) = Value-F.Big number
 seen_layer (seen.Str text) = Value-F.Str text.now

@@ -31,7 +31,10 @@ pub fn compare(left: &Seen, right: &Seen) -> Option<Ordering>
     ensures { result ≡ compare (seen_value left.now) (seen_value right.now) }
 {
     match (left, right) {
-        (Seen::Bool(left), Seen::Bool(right)) => Some(left.cmp(right)),
+        (Seen::False, Seen::False) => Some(Ordering::Equal),
+        (Seen::False, Seen::True) => Some(Ordering::Less),
+        (Seen::True, Seen::False) => Some(Ordering::Greater),
+        (Seen::True, Seen::True) => Some(Ordering::Equal),
         (Seen::Int(left), Seen::Int(right)) => Some(left.cmp(right)),
         (Seen::Int(left), Seen::Big(right)) => Some(i64::from(*left).cmp(right)),
         (Seen::Big(left), Seen::Int(right)) => Some(left.cmp(&i64::from(*right))),

@@ -1,5 +1,5 @@
 ghost use Rattle.std.specs.Prelude.{◌≡◌, IfOk, option_map};
-ghost use Rattle.hv_typed.specs.Values.{truth_of, int_of, number_of, text_of, day_of, is_null, truth_value, taken, is_layer_of};
+ghost use Rattle.hv_typed.specs.Values.{int_of, number_of, text_of, day_of, is_null, taken, is_layer_of};
 ghost use Rattle.hv_value.specs.Conversion.{some_int, some_big, some_day};
 ghost use Rattle.hv_value.specs.declared.value.Value.TheVariants as value;
 ghost use Rattle.hv_value.specs.declared.value.Value.TheViews.{out-Value};
@@ -9,11 +9,13 @@ use hv_base::{Duplicate, List, NoMemory, Text};
 use hv_value::{SqlType, Value, is_day};
 use std::alloc::Global;
 
-/// A value that stands somewhere else, or a scalar.
+/// A value that stands somewhere else, or a scalar. The two BOOLEANs are variants of their own: a byte beside
+/// the variant's own byte would be stored apart and read together, which stalls.
 #[derive(Clone, Copy)]
 pub enum Seen<'a> {
     Null,
-    Bool(bool),
+    False,
+    True,
     Int(i32),
     Big(i64),
     Str(&'a Text),
@@ -22,13 +24,14 @@ pub enum Seen<'a> {
 }
 
 /// The value as it is seen. It takes no memory.
+#[inline(always)]
 #[tactic(auto, using(crate::proofs::Layers::layers))]
 pub fn view(value: &Value) -> Seen<'_>
     ensures { seen_value result ≡ value.now }
 {
     match value {
         Value::Null => Seen::Null,
-        Value::Bool(truth) => Seen::Bool(*truth),
+        Value::Bool(truth) => of_bool(*truth),
         Value::Int(number) => Seen::Int(*number),
         Value::Big(number) => Seen::Big(*number),
         Value::Str(text) => Seen::Str(text),
@@ -45,6 +48,7 @@ pub fn null<'a>() -> Seen<'a>
     Seen::Null
 }
 
+#[inline(always)]
 fn is_of(kind: &SqlType, value: &Value) -> bool
     ensures { result ≡ is_layer_of kind.now (out-Value value.now) }
 {
@@ -60,6 +64,7 @@ fn is_of(kind: &SqlType, value: &Value) -> bool
 }
 
 /// The value at a place of the type: NULL where it isn't of it.
+#[inline(always)]
 #[tactic(auto, unfolding(hv_typed::specs::Values::taken))]
 pub fn taken<'a>(kind: &SqlType, value: &'a Value) -> Seen<'a>
     ensures { seen_value result ≡ taken kind.now value.now }
@@ -68,17 +73,6 @@ pub fn taken<'a>(kind: &SqlType, value: &'a Value) -> Seen<'a>
         view(value)
     } else {
         null()
-    }
-}
-
-/// The BOOLEAN that is seen, None where it is another value.
-#[tactic(auto, using(crate::proofs::Layers::layers))]
-pub fn truth(value: &Seen) -> Option<bool>
-    ensures { result ≡ truth_of (seen_value value.now) }
-{
-    match value {
-        Seen::Bool(truth) => Some(*truth),
-        _ => None,
     }
 }
 
@@ -135,15 +129,13 @@ pub fn is_null(value: &Seen) -> bool
     matches!(value, Seen::Null)
 }
 
-/// A BOOLEAN, or NULL.
+/// A BOOLEAN.
+#[inline]
 #[tactic(auto, using(crate::proofs::Layers::layers))]
-pub fn of_truth<'a>(truth: Option<bool>) -> Seen<'a>
-    ensures { seen_value result ≡ truth_value truth }
+pub fn of_bool<'a>(truth: bool) -> Seen<'a>
+    ensures { seen_value result ≡ value.Bool truth }
 {
-    match truth {
-        None => Seen::Null,
-        Some(truth) => Seen::Bool(truth),
-    }
+    if truth { Seen::True } else { Seen::False }
 }
 
 /// An INT, or NULL.
@@ -186,7 +178,8 @@ pub fn owned(alloc: Global, value: &Seen) -> Result<Value, NoMemory>
 {
     match value {
         Seen::Null => Ok(Value::Null),
-        Seen::Bool(truth) => Ok(Value::Bool(*truth)),
+        Seen::False => Ok(Value::Bool(false)),
+        Seen::True => Ok(Value::Bool(true)),
         Seen::Int(number) => Ok(Value::Int(*number)),
         Seen::Big(number) => Ok(Value::Big(*number)),
         Seen::Str(text) => Ok(Value::Str(text.duplicate(alloc)?)),

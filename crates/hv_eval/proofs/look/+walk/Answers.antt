@@ -8,11 +8,15 @@ use Rattle.hv_eval.proofs.Accumulators.{one_more}
 use Rattle.hv_eval.specs.Frames.{value_at, group_of, frame_values, frames_values}
 use Rattle.hv_seen.specs.Seen.{seen_value}
 use Rattle.hv_eval.specs.Walks.{chosen_value, optional_value, settled_value}
+use Rattle.hv_typed.specs.Values.{truth_of, truth_value}
+use Rattle.hv_typed.specs.Functions.{two_value}
+use Rattle.hv_seen.specs.Truths.{told}
+use Rattle.hv_eval.proofs.TruthNodes.{truth-two}
 use Rattle.hv_eval.proofs.Nodes.{value_at-case}
 use Rattle.hv_eval.proofs.look.+walk.Goals as goal
 
-pub seen_at-returns-in_ok-otherwise-in-Case : goal.seen_at-returns-in_ok-otherwise-in-Case
-seen_at-returns-in_ok-otherwise-in-Case t c =
+pub node_at-returns-in_ok-otherwise-in-Case : goal.node_at-returns-in_ok-otherwise-in-Case
+node_at-returns-in_ok-otherwise-in-Case t c =
     let at = c.args.at.now in
     let operand : option_map seen_value c.in_ok-operand-in-Case.operand ≡ optional_value c.in-Case.operand at = c.in_ok-operand-in-Case.ensures in
     let found : option_map seen_value c.in_ok-found-in-Case.found
@@ -59,3 +63,15 @@ over_group-returns t c =
     c.loop-row.invariant
     ∙ ap (λ frames. over_values function (map value_of_row (frames_values frames))) whole
     ∙ ap (λ b. over_values function (if b then once_each values else values)) (sym c.if-distinct.false)
+
+pub truth_at-returns-in-Some : goal.truth_at-returns-in-Some
+truth_at-returns-in-Some t c =
+    let at = c.args.at.now in
+    let function = c.in-Two.function in
+    let kind = c.in-Two.kind in
+    let left : seen_value c.in_ok-left-in-Two.left ≡ value_at at c.in-Two.left = c.in_ok-left-in-Two.ensures ∙ ap (value_at at) c.get.ensures in
+    let right : seen_value c.in_ok-right-in-Two.right ≡ value_at at c.in-Two.right = c.in_ok-right-in-Two.ensures ∙ ap (value_at at) c.get-in-Two.ensures in
+    let found : truth_value (told c.in-Some.truth)
+    ≡ two_value function kind (seen_value c.in_ok-left-in-Two.left) (seen_value c.in_ok-right-in-Two.right) = c.in-Some.ensures kind in
+    truth-two function kind c.in-Two.left c.in-Two.right at (told c.in-Some.truth) (found ∙ (λ i. two_value function kind (left i) (right i)))
+    ∙ sym (ap (λ e. truth_of (value_at at e)) c.in-Two.is)

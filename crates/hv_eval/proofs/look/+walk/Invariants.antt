@@ -3,21 +3,22 @@ use Rattle.hv_typed.specs.Values.{both, either}
 use Rattle.hv_typed.specs.Functions.{all_of, any_of, equals_any, first_known}
 use Rattle.hv_typed.specs.Evaluation.{chained, chosen, value_in}
 use Rattle.hv_typed.specs.Groups.{over_values}
+use Rattle.hv_seen.specs.Truths.{told}
 use Rattle.hv_eval.specs.Frames.{value_at, values_at, group_of, frames_values}
 use Rattle.hv_seen.specs.Seen.{seen_value}
 use Rattle.hv_eval.proofs.look.+walk.Given as goal
 
 abbrev pub invariant-all-loop-expr : goal.invariant-all-loop-expr
 invariant-all-loop-expr l =
-    both l.seen (all_of (values_at (drop l.expr-index l.exprs) l.at)) ≡ all_of (values_at l.exprs l.at)
+    both (told l.seen) (all_of (values_at (drop l.expr-index l.exprs) l.at)) ≡ all_of (values_at l.exprs l.at)
 
 abbrev pub invariant-any-loop-expr : goal.invariant-any-loop-expr
 invariant-any-loop-expr l =
-    either l.seen (any_of (values_at (drop l.expr-index l.exprs) l.at)) ≡ any_of (values_at l.exprs l.at)
+    either (told l.seen) (any_of (values_at (drop l.expr-index l.exprs) l.at)) ≡ any_of (values_at l.exprs l.at)
 
 abbrev pub invariant-equals_any-loop-expr : goal.invariant-equals_any-loop-expr
 invariant-equals_any-loop-expr l =
-    either l.found (equals_any (seen_value l.value) (values_at (drop l.expr-index l.exprs) l.at)) ≡ equals_any (seen_value l.value) (values_at l.exprs l.at)
+    either (told l.found) (equals_any (seen_value l.value) (values_at (drop l.expr-index l.exprs) l.at)) ≡ equals_any (seen_value l.value) (values_at l.exprs l.at)
 
 abbrev pub invariant-first_known-loop-expr : goal.invariant-first_known-loop-expr
 invariant-first_known-loop-expr l =

@@ -18,8 +18,8 @@ text_of_all-loop-expr-preserved t c =
       subst IsUtf8 (sym longer) (IsUtf8-append c.loop-expr.bytes.items c.in-Some.text.now c.loop-expr.invariant.1 c.bytes.ensures.utf8),
     )
 
-pub held-returns-in_ok-otherwise-in-Case : goal.held-returns-in_ok-otherwise-in-Case
-held-returns-in_ok-otherwise-in-Case t c =
+pub node_held-returns-in_ok-otherwise-in-Case : goal.node_held-returns-in_ok-otherwise-in-Case
+node_held-returns-in_ok-otherwise-in-Case t c =
     let at = c.args.at.now in
     let operand : option_map held_value c.in_ok-operand-in-Case.operand ≡ optional_value c.in-Case.operand at = c.in_ok-operand-in-Case.ensures in
     let found : option_map held_value c.in_ok-found-in-Case.found
