@@ -135,6 +135,76 @@ const SIDE_BY_SIDE_PRINTS: [(u64, &str); 6] = [
     (8, "a\n1\n"),
 ];
 
+/// A table of the other types, filled by expressions of which each is converted to its column's type; 3 to 6 list it, 7
+/// finds it there, and 8 and 9 are refused.
+const TYPED: [Event; 18] = [
+    Takes(
+        1,
+        "CREATE TABLE IF NOT EXISTS d (n BIGINT, day DATE, ok BOOLEAN, xs ARRAY<INT>)",
+    ),
+    Makes(1, 1),
+    Takes(2, TYPED_ROWS),
+    Writes(2, 1, 1, 3),
+    Takes(3, "SELECT * FROM d"),
+    Lists(3),
+    Takes(
+        4,
+        "SELECT n + 1 AS m, day, size(xs) FROM d WHERE day >= '2024-01-01' AND ok IS NOT NULL",
+    ),
+    Lists(4),
+    Takes(5, "SELECT DISTINCT ok IS NULL FROM d"),
+    Lists(5),
+    Takes(6, "SELECT x.n FROM d AS x WHERE ok LIMIT 7"),
+    Lists(6),
+    Takes(7, "CREATE TABLE IF NOT EXISTS d (n INT)"),
+    Lists(7),
+    Takes(8, "SELECT n FROM d WHERE day"),
+    Refuses(8, 13),
+    Takes(9, "INSERT INTO d VALUES (1, '2024-01-01', TRUE, 1)"),
+    Refuses(9, 13),
+];
+
+const TYPED_ROWS: &str =
+    "INSERT INTO d VALUES (2147483647 + 1L, date_add('2024-02-28', 2), 1 < 2, array(3, NULL)), \
+    ('12', '2023-12-31', NULL, NULL), (7 DIV 2, DATE '2024-01-01', NOT TRUE, array(1 + 1))";
+
+const TYPED_PRINTS: [(u64, &str); 9] = [
+    (1, "OK\n"),
+    (2, "OK inserted 3 deleted 0\n"),
+    (3, TYPED_LISTED),
+    (
+        4,
+        "m\tday\t_c2\n4\t2024-01-01\t1\n2147483649\t2024-03-01\t2\n",
+    ),
+    (5, "_c0\nfalse\ntrue\n"),
+    (6, "n\n2147483648\n"),
+    (7, "OK\n"),
+    (8, "FAILED 13 BadType\n"),
+    (9, "FAILED 13 BadType\n"),
+];
+
+const TYPED_LISTED: &str = "n\tday\tok\txs\n3\t2024-01-01\tfalse\t[2]\n12\t2023-12-31\tNULL\tNULL\n\
+2147483648\t2024-03-01\ttrue\t[3,NULL]\n";
+
+/// Without FROM there is one row, over no columns; no table is made.
+const BARE: [Event; 6] = [
+    Takes(
+        1,
+        "SELECT 1 + 1 AS two, upper('x'), 7 DIV 0, date_sub('2024-03-01', 1)",
+    ),
+    Takes(2, "SELECT 1 WHERE 1 = 2"),
+    Takes(3, "SELECT a"),
+    Lists(1),
+    Lists(2),
+    Refuses(3, 11),
+];
+
+const BARE_PRINTS: [(u64, &str); 3] = [
+    (1, "two\t_c1\t_c2\t_c3\n2\tX\tNULL\t2024-02-29\n"),
+    (2, "_c0\n"),
+    (3, "FAILED 11 NoColumn\n"),
+];
+
 /// What is known at each position, once it changes: the tables by name, each with its highest write id and the ids
 /// that no reader sees, open (o) or aborted (a).
 const CROSSED_KNOWN: [(usize, &str); 9] = [
@@ -327,6 +397,12 @@ fn second_commits_first(rt: HostRuntime) -> Result<(), Fail> {
 #[test]
 fn two_tables_side_by_side(rt: HostRuntime) -> Result<(), Fail> {
     print(&rt, rt.alloc(), &SIDE_BY_SIDE, &SIDE_BY_SIDE_PRINTS)
+}
+
+#[test]
+fn every_type_and_no_table(rt: HostRuntime) -> Result<(), Fail> {
+    print(&rt, rt.alloc(), &TYPED, &TYPED_PRINTS)?;
+    print(&rt, rt.alloc(), &BARE, &BARE_PRINTS)
 }
 
 #[test]
