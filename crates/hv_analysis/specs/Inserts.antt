@@ -1,7 +1,7 @@
 -- INSERT of VALUES: the target (NoTable), then in three passes the expressions of all rows, all numbers of values
 -- (BadCount), all conversions (BadType). Values are over no columns and no group.
 -- Source: Hive Language Manual, DML; the order of faults is this project's profile.
-use Rattle.std.specs.Prelude.{ℕ, ◌==◌, Bool, true, false, if◌then◌else◌, ◌&&◌, List, [], ◌∷◌, ◌++◌, length, map, drop, slice_get, Option, None, Some, Result, Ok, Err}
+use Rattle.std.specs.Prelude.{ℕ, ◌==◌, Bool, true, if◌then◌else◌, ◌&&◌, List, [], ◌∷◌, ◌++◌, length, map, drop, slice_get, Option, None, Some, Result, Ok, Err}
 use Rattle.std.specs.List.{list_all}
 use Rattle.hv_base.specs.declared.refusal.Refusal.{Refusal}
 use Rattle.hv_base.specs.declared.refusal.Refusal.TheVariants as refusal
@@ -20,7 +20,6 @@ use Rattle.hv_types.specs.Nodes.{as_kind}
 use Rattle.hv_types.specs.Typing.{typed}
 use Rattle.hv_analysis.specs.declared.logic.Logic.{Logic}
 use Rattle.hv_analysis.specs.declared.logic.Logic.TheVariants as logic
-use Rattle.hv_analysis.specs.declared.logic.TypedInsert.{TypedInsert}
 use Rattle.hv_analysis.specs.Creates.{place_of}
 
 -- ---- first pass

@@ -5,7 +5,7 @@ ghost use Rattle.hv_types.specs.Faults.{Types};
 ghost use Rattle.hv_select.specs.Sources.{all_joined, opened};
 ghost use Rattle.hv_select.specs.Queries.{select_typed, all_united, query_typed};
 ghost use Rattle.hv_analysis.specs.Creates.{place_of};
-ghost use Rattle.hv_analysis.specs.Sources.{field_of, table_brought, place_brought, brought, selected};
+ghost use Rattle.hv_analysis.specs.Sources.{field_of, or_name, table_brought, place_brought, brought, selected};
 
 use crate::creates::place_of;
 use crate::inserts::columns_of;
@@ -83,6 +83,20 @@ fn place_brought(
     Ok(table_brought(alloc, place, alias, columns.as_slice())?)
 }
 
+fn table_named(
+    alloc: Global,
+    tables: &[TableInfo],
+    name: &Text,
+    alias: &Option<Text>,
+) -> Result<Boxed<Brought>, TypeFault>
+    ensures { Types result (place_brought tables.now (place_of name.now tables.now) (or_name alias.now name.now)) }
+{
+    match alias {
+        None => place_brought(alloc, tables, name, name),
+        Some(alias) => place_brought(alloc, tables, name, alias),
+    }
+}
+
 #[cycle(queries)]
 #[tactic(auto, using(crate::proofs::Layers::sources))]
 fn brought(
@@ -93,8 +107,7 @@ fn brought(
     ensures { Types result (brought tables.now source.now) }
 {
     match source {
-        Source::Table(name, None) => place_brought(alloc, tables, name, name),
-        Source::Table(name, Some(alias)) => place_brought(alloc, tables, name, alias),
+        Source::Table(name, alias) => table_named(alloc, tables, name, alias),
         Source::Query(query, alias) => {
             let typed = query_typed(alloc, query.get(), tables)?;
             Ok(query_brought(alloc, alias, typed)?)
@@ -103,7 +116,7 @@ fn brought(
 }
 
 #[cycle(queries)]
-#[tactic(auto, using(crate::proofs::Layers::joins))]
+#[tactic(auto, unfolding(hv_select::specs::Sources::all_joined))]
 fn all_joined(
     alloc: Global,
     joins: &[Join],
@@ -154,7 +167,7 @@ fn select_typed(
 }
 
 #[cycle(queries)]
-#[tactic(auto, using(crate::proofs::Layers::unions))]
+#[tactic(auto, unfolding(hv_select::specs::Queries::all_united))]
 fn all_united(
     alloc: Global,
     unions: &[Union],

@@ -1,5 +1,5 @@
 -- The equations of `same_tree` and of `stands_grouped`, node by node.
-use Rattle.std.proofs.Common.{◌≡◌, ℕ, Bool, true, false, ◌||◌, ◌&&◌, List, [], ◌∷◌, map, Option, Some, None, option_map, refl, sym, ap, ◌∙◌, ◌≢◌}
+use Rattle.std.proofs.Common.{◌≡◌, ℕ, Bool, false, ◌||◌, ◌&&◌, List, [], ◌∷◌, map, Option, Some, None, option_map, refl, sym, ap, ◌∙◌, ◌≢◌}
 use Rattle.hv_value.specs.declared.sql_type.SqlType.{SqlType}
 use Rattle.hv_value.specs.declared.value.Value.{Value}
 use Rattle.hv_typed.specs.declared.function.Aggregate.{Aggregate}

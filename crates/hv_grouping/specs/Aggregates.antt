@@ -1,6 +1,6 @@
 -- Which expressions have an aggregate in them, as they are written.
 -- Source: Hive Language Manual, built-in aggregate functions.
-use Rattle.std.specs.Prelude.{ℕ, Bool, true, false, ◌||◌, List, Option, None, Some}
+use Rattle.std.specs.Prelude.{Bool, true, false, ◌||◌, List, Option, None, Some}
 use Rattle.std.specs.List.{list_any}
 use Rattle.hv_ast.specs.declared.expr.Expr.{Expr}
 use Rattle.hv_ast.specs.declared.expr.Expr.TheOpen.{Expr-F}

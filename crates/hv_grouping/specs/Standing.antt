@@ -1,6 +1,6 @@
 -- Which typed expressions may stand in a select with groups: those whose columns all stand in an aggregate, or in a part
 -- that is equal to a GROUP BY expression. Source: Hive Language Manual, GROUP BY.
-use Rattle.std.specs.Prelude.{Bool, true, false, ◌||◌, ◌&&◌, List, [], ◌∷◌, Option, None, Some}
+use Rattle.std.specs.Prelude.{Bool, true, false, ◌||◌, ◌&&◌, List, Option, None, Some}
 use Rattle.std.specs.List.{list_all, list_any}
 use Rattle.hv_typed.specs.declared.tree.Branch.{Branch}
 use Rattle.hv_typed.specs.declared.tree.Link.{Link}

@@ -1,4 +1,4 @@
-use Rattle.std.proofs.Common.{◌≡◌, drop, map, Ok}
+use Rattle.std.proofs.Common.{◌≡◌, map}
 use Rattle.hv_analysis.specs.Inserts.{converted_row}
 use Rattle.hv_analysis.proofs.inserts.converted_rows.Given as goal
 
