@@ -1,5 +1,5 @@
 -- What a reader does with an item is what the definitions say of it.
-use Rattle.std.proofs.Common.{◌≡◌, ℕ, Bool, true, false, cond, Option, Some, List, ◌∷◌, ◌++◌, ap, sym, append_assoc, ◌∙◌}
+use Rattle.std.proofs.Common.{◌≡◌, Bool, true, false, cond, Option, Some, List, ◌∷◌, ◌++◌, ap, sym, append_assoc, ◌∙◌}
 use Rattle.std.specs.Option.{option_to_list}
 use Rattle.std.specs.Str.{IsUtf8}
 use Rattle.hv_script.specs.Script.{earlier}
