@@ -11,7 +11,7 @@ use Rattle.hv_script.specs.declared.items.Move.{Move}
 use Rattle.hv_script.specs.declared.items.Move.TheVariants.{Skip, Begin, Keep, Finish, Lone}
 use Rattle.hv_script.specs.declared.items.Stand.TheVariants.{Between, Skipped, Directive, Outside, Comment, Quoted, Escaped}
 use Rattle.hv_script.specs.Items.{blank, opens_quote, opens_comment, behind, items_from, items_by, move_of, first_of, line_behind, with_byte, last_item, no_bytes, items_of}
-use Rattle.hv_script.specs.Script.{broken_line, limit_line, item_line, line_at, earlier, front, refused_line, HaveUtf8}
+use Rattle.hv_script.specs.Script.{broken_line, limit_line, line_at, earlier, front, bytes_line, HaveUtf8}
 
 -- ---- a text may be cut before and behind an ASCII byte
 
@@ -144,17 +144,16 @@ utf8_at [] i d all h = absurd (omega arith)
 utf8_at (item ∷ items) zero d all h = all.0
 utf8_at (item ∷ items) (suc i) d all h = utf8_at items i d all.1 (omega arith)
 
-earlier_none : (line other : Option ℕ) → earlier line other ≡ None → (line ≡ None) × (other ≡ None)
+pub earlier_none : (line other : Option ℕ) → earlier line other ≡ None → (line ≡ None) × (other ≡ None)
 earlier_none None other e = (refl, e)
 earlier_none (Some line) None e = cc
 earlier_none (Some line) (Some other) e = cc
 
--- a script that no line refuses has items in UTF-8
-pub utf8-refused : (script : List ℕ) → refused_line script ≡ None → HaveUtf8 (items_of (front script))
-utf8-refused script e =
-    let outer = earlier_none (earlier (broken_line (front script)) (limit_line script)) (item_line 0 (items_of (front script))) e in
-    let inner = earlier_none (broken_line (front script)) (limit_line script) outer.0 in
-    utf8-items Between 1 (no_bytes 1) (front script) (whole-script (is_utf8 (front script)) (front script) _ refl inner.0)
+-- a script whose bytes no line refuses has items in UTF-8
+pub utf8-unrefused : (script : List ℕ) → bytes_line script ≡ None → HaveUtf8 (items_of (front script))
+utf8-unrefused script e =
+    let unbroken_script = earlier_none (broken_line (front script)) (limit_line script) e in
+    utf8-items Between 1 (no_bytes 1) (front script) (whole-script (is_utf8 (front script)) (front script) _ refl unbroken_script.0)
 
 -- ---- the line of the first byte that isn't UTF-8
 

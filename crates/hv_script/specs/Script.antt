@@ -45,9 +45,13 @@ earlier (Some line) (Some other) = Some (min line other)
 abbrev pub front : List ℕ → List ℕ
 front script = take MAX_SCRIPT script
 
+-- the line at which a script's bytes are refused
+abbrev pub bytes_line : List ℕ → Option ℕ
+bytes_line script = earlier (broken_line (front script)) (limit_line script)
+
 -- the line at which a script is refused, or None where it isn't
 abbrev pub refused_line : List ℕ → Option ℕ
-refused_line script = earlier (earlier (broken_line (front script)) (limit_line script)) (item_line 0 (items_of (front script)))
+refused_line script = earlier (bytes_line script) (item_line 0 (items_of (front script)))
 
 -- the statements' texts, in order
 abbrev pub texts_of : List ℕ → List (List ℕ)

@@ -9,5 +9,8 @@ mod tests;
 mod words;
 
 pub use items::{Item, Move, Stand};
-pub use script::{MAX_SCRIPT, MAX_STATEMENTS, MAX_TEXT, Script, ScriptFault, read_script};
+pub use script::{
+    Cut, MAX_SCRIPT, MAX_STATEMENTS, MAX_TEXT, Script, ScriptFault, cut_script, earlier_of, is_directive,
+    read_script,
+};
 pub use words::{Command, DEFAULT_WORKERS, read_words};

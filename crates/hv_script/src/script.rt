@@ -1,5 +1,5 @@
-ghost use Rattle.std.specs.Prelude.{◌≡◌, ◌<◌, ◌≤◌, ◌^◌, length, map, IfOk};
-ghost use Rattle.hv_script.specs.Script.{HaveUtf8, IsReading, begins_directive, broken_line, earlier, front, item_line, limit_line, line_at, refused_line, texts_of};
+ghost use Rattle.std.specs.Prelude.{◌≡◌, ◌<◌, ◌≤◌, ◌^◌, None, length, map, IfOk};
+ghost use Rattle.hv_script.specs.Script.{HaveUtf8, IsReading, begins_directive, broken_line, bytes_line, earlier, front, item_line, limit_line, line_at, refused_line, texts_of};
 ghost use Rattle.hv_script.specs.Items.{first_of, items_of};
 
 use crate::items::Item;
@@ -76,7 +76,8 @@ fn first_beyond(script: &[u8]) -> Option<u64>
     }
 }
 
-fn is_directive(bytes: &[u8]) -> bool
+/// Whether the item of these bytes is a directive.
+pub fn is_directive(bytes: &[u8]) -> bool
     ensures value { result ≡ begins_directive (first_of bytes.now) }
 {
     match bytes {
@@ -98,7 +99,8 @@ fn first_refused(items: &[Item]) -> Option<u64>
     None
 }
 
-fn earlier_of(line: Option<u64>, other: Option<u64>) -> Option<u64>
+/// The lesser of two lines, where there are two.
+pub fn earlier_of(line: Option<u64>, other: Option<u64>) -> Option<u64>
     ensures value { result ≡ earlier line other }
 {
     match (line, other) {
@@ -106,19 +108,6 @@ fn earlier_of(line: Option<u64>, other: Option<u64>) -> Option<u64>
         (Some(line), None) => Some(line),
         (Some(line), Some(other)) => Some(line.min(other)),
     }
-}
-
-/// The first line at which a script is refused, whose items before the limit these are.
-fn refusal(script: &[u8], before: &[u8], items: &[Item]) -> Option<u64>
-    requires short { length before.now < 2 ^ 63 }
-    requires before { before.now ≡ front script.now }
-    requires items { items.now ≡ items_of before.now }
-    ensures value { result ≡ refused_line script.now }
-{
-    earlier_of(
-        earlier_of(first_broken(before), first_beyond(script)),
-        first_refused(items),
-    )
 }
 
 /// What of a script is read.
@@ -131,6 +120,29 @@ fn readable(script: &[u8]) -> &[u8]
     } else {
         script
     }
+}
+
+/// The items of what of a script is read, and where its bytes are refused.
+#[derive(Debug, Drop)]
+pub struct Cut {
+    /// The items before the limit, in order.
+    pub items: List<Item>,
+    /// The first line, from 1, with a byte that isn't UTF-8 or that is too much.
+    pub fault: Option<u64>,
+}
+
+/// Cuts a script into its items.
+pub fn cut_script(alloc: Global, script: &[u8]) -> Result<Cut, NoMemory>
+    ensures items { IfOk result (λ cut. cut.items ≡ items_of (front script.now)) }
+    ensures fault { IfOk result (λ cut. cut.fault ≡ bytes_line script.now) }
+    ensures utf8 { IfOk result (λ cut. cut.fault ≡ None → HaveUtf8 cut.items) }
+{
+    let before = readable(script);
+    let items = items(alloc, before)?;
+    Ok(Cut {
+        items: List::from_vec(items),
+        fault: earlier_of(first_broken(before), first_beyond(script)),
+    })
 }
 
 /// The texts of items that are UTF-8.
@@ -154,12 +166,11 @@ fn texts(alloc: Global, items: &[Item]) -> Result<Vec<Text>, NoMemory>
 pub fn read_script(alloc: Global, script: &[u8]) -> Result<Script, ScriptFault>
     ensures read { IsReading (refused_line script.now) (texts_of script.now) result }
 {
-    let before = readable(script);
-    let items = items(alloc, before)?;
-    match refusal(script, before, &items) {
+    let Cut { items, fault } = cut_script(alloc, script)?;
+    match earlier_of(fault, first_refused(items.as_slice())) {
         Some(line) => Err(ScriptFault::Refused { line }),
         None => Ok(Script {
-            texts: List::from_vec(texts(alloc, &items)?),
+            texts: List::from_vec(texts(alloc, items.as_slice())?),
         }),
     }
 }

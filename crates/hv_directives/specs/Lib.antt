@@ -1,0 +1,4 @@
+pub mod Actions
+pub mod Kinds
+pub mod Reading
+pub mod Standing
