@@ -9,7 +9,6 @@ use Rattle.hv_base.specs.Told.{Moves}
 use Rattle.hv_shelf.specs.Disk.{Store, HasFile}
 use Rattle.hv_ast.specs.declared.statement.Stmt.{Stmt}
 use Rattle.hv_logic.specs.declared.seen.Seen.{Seen}
-use Rattle.hv_logic.specs.declared.meaning.Meaning.{Meaning}
 use Rattle.hv_logic.specs.declared.catalog.TableInfo.{TableInfo}
 use Rattle.hv_logic.specs.declared.effect.Effect.{Effect}
 use Rattle.hv_rowfile.specs.Layout.{IsFile}
@@ -25,7 +24,7 @@ use Rattle.hv_known.specs.declared.known.Known.{Known}
 use Rattle.hv_house.specs.House.{entries_of, next_write, with_next, IsNoted, IsAsked, IsBeside}
 use Rattle.hv_house.specs.Seeing.{IsSpoiled}
 use Rattle.hv_session.specs.Seeing.{IsSeen}
-use Rattle.hv_session.specs.Ends.{Inserts, KnownOf, next_written, Refuses, EndsAs}
+use Rattle.hv_session.specs.Ends.{Inserts, KnownOf, next_written, Refuses}
 use Rattle.hv_session.specs.Started.{EndsMeant, IsFinished}
 use Rattle.hv_session.specs.declared.reply.Reply.{Reply}
 use Rattle.hv_session.proofs.Stores.{keeps-puts, puts-keeps, has-file-puts}

@@ -21,7 +21,6 @@ use Rattle.hv_logic.specs.declared.effect.Effect.{Effect}
 use Rattle.hv_logic.specs.declared.seen.Seen.{Seen}
 use Rattle.hv_logic.specs.declared.meaning.Meaning.{Meaning}
 use Rattle.hv_logic.specs.declared.meaning.Meaning.TheVariants.{Refused, Listing, Change, Make, Plain, RowLimit}
-use Rattle.hv_analysis.specs.Inserts.{columns_of}
 use Rattle.hv_meaning.specs.Meaning.{meaning_in}
 use Rattle.hv_meaning.specs.Laws.{MeansSomething}
 use Rattle.hv_history.specs.declared.entry.Entry.{Entry}
@@ -34,7 +33,7 @@ use Rattle.hv_history.specs.declared.entry.FilePlace.{FilePlace}
 use Rattle.hv_history.specs.declared.state.Ending.{Ending}
 use Rattle.hv_history.specs.declared.state.Ending.TheVariants.{Committed, Aborted, Made, Dropped}
 use Rattle.hv_history.specs.declared.state.Transaction.{Transaction}
-use Rattle.hv_history.specs.State.{nothing_yet, after, state_of, numbered, changed, seen_tables}
+use Rattle.hv_history.specs.State.{nothing_yet, after, state_of, numbered, changed}
 use Rattle.hv_history.specs.Legal.{profile}
 use Rattle.hv_history.specs.Answers.{listing, counts_line, ok_line, cause_text}
 use Rattle.hv_dirs.specs.Names.{write_end}

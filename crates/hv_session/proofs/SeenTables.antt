@@ -14,11 +14,8 @@ use Rattle.hv_shelf.specs.Disk.{Store, Tree}
 use Rattle.hv_shelf.specs.declared.place.Place.{Place}
 use Rattle.hv_ast.specs.declared.statement.Stmt.{Stmt}
 use Rattle.hv_built.specs.Built.{IsBuilt}
-use Rattle.hv_logic.specs.declared.catalog.TableInfo.{TableInfo}
 use Rattle.hv_logic.specs.declared.effect.Found.{Found}
 use Rattle.hv_logic.specs.declared.seen.Seen.{Seen}
-use Rattle.hv_logic.specs.declared.meaning.Meaning.{Meaning}
-use Rattle.hv_logic.specs.declared.meaning.Meaning.TheVariants.{Listing}
 use Rattle.hv_logic.specs.Names.{names_in}
 use Rattle.hv_meaning.specs.Meaning.{info_of, meaning_in}
 use Rattle.hv_meaning.specs.Laws.{MeansSomething, reads_rows}
@@ -33,7 +30,7 @@ use Rattle.hv_dirs.specs.Names.{own_name, write_end}
 use Rattle.hv_dirs.proofs.OwnNames.{own_name-same}
 use Rattle.hv_stands.specs.Files.{Stands, own_place, file_in, made_at, ending_of, IsUndone}
 use Rattle.hv_stands.specs.Sound.{IsSound, IsIdle, HasFewOwners, HasSoundWrites, HasOther, IsDone, IsOfCommitted, AreOfCommitted}
-use Rattle.hv_stands.specs.Reading.{written_with, is_among, rows_from, IsRead, table_of_name, named_in, tables_named, rows_read, seen_of, seen_read}
+use Rattle.hv_stands.specs.Reading.{written_with, is_among, IsRead, table_of_name, named_in, rows_read, seen_of, seen_read}
 use Rattle.hv_stands.specs.Laws.{meant}
 use Rattle.hv_stands.proofs.Meanings.{Lists, same-or-lists, built-means}
 use Rattle.hv_stands.proofs.ReadRows.{read-content}
