@@ -100,7 +100,14 @@ fn is_two(right: &TypedExpr, x: &TypedExpr, y: &TypedExpr, function: Two, kind: 
 
 #[cycle(same)]
 #[tactic(auto, using(crate::proofs::Equations::others))]
-fn is_three(right: &TypedExpr, x: &TypedExpr, y: &TypedExpr, z: &TypedExpr, function: Three, kind: SqlType) -> bool
+fn is_three(
+    right: &TypedExpr,
+    x: &TypedExpr,
+    y: &TypedExpr,
+    z: &TypedExpr,
+    function: Three,
+    kind: SqlType,
+) -> bool
     ensures { result ≡ is_three function kind (same_tree x.now) (same_tree y.now) (same_tree z.now) (out-TypedExpr right.now) }
 {
     let TypedExpr::Three(other, type_, u, v, w) = right else {
@@ -133,7 +140,8 @@ fn is_in(right: &TypedExpr, x: &TypedExpr, among: &[TypedExpr], negated: bool) -
         value: u,
         negated: other,
         among: us,
-    } = right else {
+    } = right
+    else {
         return false;
     };
     same_bool(negated, *other) && same_tree(u.get(), x) && all_same(us.as_slice(), among)
@@ -152,7 +160,13 @@ fn is_chain(right: &TypedExpr, first: &TypedExpr, links: &[Link], kind: SqlType)
 
 #[cycle(same)]
 #[tactic(auto, using(crate::proofs::Equations::others))]
-fn is_case(right: &TypedExpr, operand: &Option<Boxed<TypedExpr>>, branches: &[Branch], otherwise: &Option<Boxed<TypedExpr>>, kind: SqlType) -> bool
+fn is_case(
+    right: &TypedExpr,
+    operand: &Option<Boxed<TypedExpr>>,
+    branches: &[Branch],
+    otherwise: &Option<Boxed<TypedExpr>>,
+    kind: SqlType,
+) -> bool
     ensures { result ≡ is_case kind (some_same same_tree operand.now) (branches_same same_tree branches.now) (some_same same_tree otherwise.now) (out-TypedExpr right.now) }
 {
     let TypedExpr::Case {
@@ -160,7 +174,8 @@ fn is_case(right: &TypedExpr, operand: &Option<Boxed<TypedExpr>>, branches: &[Br
         operand: u,
         branches: others,
         otherwise: v,
-    } = right else {
+    } = right
+    else {
         return false;
     };
     same_type(kind, *type_)
@@ -171,7 +186,13 @@ fn is_case(right: &TypedExpr, operand: &Option<Boxed<TypedExpr>>, branches: &[Br
 
 #[cycle(same)]
 #[tactic(auto, using(crate::proofs::Equations::others))]
-fn is_aggregate(right: &TypedExpr, x: &TypedExpr, function: Aggregate, distinct: bool, kind: SqlType) -> bool
+fn is_aggregate(
+    right: &TypedExpr,
+    x: &TypedExpr,
+    function: Aggregate,
+    distinct: bool,
+    kind: SqlType,
+) -> bool
     ensures { result ≡ is_aggregate function distinct kind (same_tree x.now) (out-TypedExpr right.now) }
 {
     let TypedExpr::Aggregate {
@@ -179,7 +200,8 @@ fn is_aggregate(right: &TypedExpr, x: &TypedExpr, function: Aggregate, distinct:
         distinct: once,
         kind: type_,
         argument: u,
-    } = right else {
+    } = right
+    else {
         return false;
     };
     same_aggregate(function, *other)

@@ -15,11 +15,7 @@ use hv_types::{Field, Over, Place, TypeFault, kind_of, placed, type_expr};
 use hv_value::{Elem, SqlType};
 use std::alloc::Global;
 
-fn array_typed(
-    alloc: Global,
-    fields: &[Field],
-    array: &Expr,
-) -> Result<Boxed<TypedExpr>, TypeFault>
+fn array_typed(alloc: Global, fields: &[Field], array: &Expr) -> Result<Boxed<TypedExpr>, TypeFault>
     ensures { Types result (array_typed fields.now array.now) }
 {
     let array = type_expr(alloc, array, fields, Over::Row)?;

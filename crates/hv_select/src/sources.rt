@@ -97,11 +97,7 @@ fn alone(alloc: Global, name: Text) -> Result<List<Text>, NoMemory>
     Ok(List::from_vec(names))
 }
 
-fn from_first(
-    alloc: Global,
-    source: TypedSource,
-    width: u32,
-) -> Result<Boxed<TypedFrom>, NoMemory>
+fn from_first(alloc: Global, source: TypedSource, width: u32) -> Result<Boxed<TypedFrom>, NoMemory>
     ensures { IfOk result (λ from. from ≡ record { source = source; width = width; joins = []; laterals = [] }) }
 {
     Boxed::new(

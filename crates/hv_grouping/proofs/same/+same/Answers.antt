@@ -8,7 +8,7 @@ pub same_tree-returns-in-Case : goal.same_tree-returns-in-Case
 same_tree-returns-in-Case t c =
     let slice : c.as_slice-in-Case.result.now ≡ c.in-Case.branches = c.as_slice-in-Case.ensures in
     let made : c.is_case.result
-        ≡ is_case c.in-Case.kind (some_same same_tree c.in-Case.operand) (branches_same same_tree c.as_slice-in-Case.result.now) (some_same same_tree c.in-Case.otherwise) (out-TypedExpr c.args.right.now)
+    ≡ is_case c.in-Case.kind (some_same same_tree c.in-Case.operand) (branches_same same_tree c.as_slice-in-Case.result.now) (some_same same_tree c.in-Case.otherwise) (out-TypedExpr c.args.right.now)
     = c.is_case.ensures in
     made
     ∙ ap (λ branches. is_case c.in-Case.kind (some_same same_tree c.in-Case.operand) (branches_same same_tree branches) (some_same same_tree c.in-Case.otherwise) (out-TypedExpr c.args.right.now)) slice
