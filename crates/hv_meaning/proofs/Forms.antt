@@ -1,18 +1,14 @@
 -- A statement of a form that is analysed means something, and one of another form nothing.
 use Rattle.std.specs.Prelude.{is_some}
-use Rattle.std.proofs.Common.{◌≡◌, ◌&&◌, ℕ, Bool, true, false, cond, not, List, [], ◌∷◌, map, slice_get, Option, Some, None, Result, Ok, Err, refl, sym, ap, subst}
+use Rattle.std.proofs.Common.{◌≡◌, ◌&&◌, ℕ, Bool, true, false, cond, not, List, [], map, slice_get, Option, Some, None, Result, Ok, Err, refl, sym, ap, subst}
 use Rattle.std.specs.List.{list_all, list_any}
 use Rattle.hv_base.specs.declared.refusal.Refusal.{Refusal}
 use Rattle.hv_base.specs.declared.refusal.Refusal.TheVariants as refusal
 use Rattle.hv_ast.specs.declared.expr.Expr.{Expr}
 use Rattle.hv_ast.specs.declared.change.Rows.{Rows}
 use Rattle.hv_ast.specs.declared.change.Rows.TheVariants as source_rows
-use Rattle.hv_ast.specs.declared.query.From.{From}
-use Rattle.hv_ast.specs.declared.query.Item.{Item}
-use Rattle.hv_ast.specs.declared.query.Item.TheVariants as item
 use Rattle.hv_ast.specs.declared.query.Query.{Query}
 use Rattle.hv_ast.specs.declared.query.Source.{Source}
-use Rattle.hv_ast.specs.declared.query.Source.TheVariants as source
 use Rattle.hv_ast.specs.declared.statement.Stmt.{Stmt}
 use Rattle.hv_ast.specs.declared.statement.Stmt.TheVariants as stmt
 use Rattle.hv_ast.specs.declared.table.CreateTable.{CreateTable}
@@ -20,86 +16,24 @@ use Rattle.hv_typed.specs.declared.tree.TypedExpr.{TypedExpr}
 use Rattle.hv_logic.specs.declared.catalog.TableInfo.{TableInfo}
 use Rattle.hv_logic.specs.Shapes.{bucket_names}
 use Rattle.hv_query.specs.Rows.{Tables}
-use Rattle.hv_types.specs.declared.places.Place.TheVariants as place
-use Rattle.hv_types.specs.declared.scope.Field.{Field}
 use Rattle.hv_types.specs.declared.scope.Over.TheVariants as over
-use Rattle.hv_types.specs.Scopes.{same_name}
-use Rattle.hv_types.specs.Typing.{typed, condition_of}
+use Rattle.hv_types.specs.Typing.{typed}
 use Rattle.hv_analysis.specs.declared.logic.Logic.{Logic}
-use Rattle.hv_analysis.specs.declared.logic.Opened.{Opened}
-use Rattle.hv_analysis.specs.Analysis.{is_table, is_single_from, is_single_item, is_single, is_whole, queried, rows_analysed, analysed}
+use Rattle.hv_analysis.specs.Analysis.{is_windowless, is_whole, queried, rows_analysed, analysed}
 use Rattle.hv_analysis.specs.Creates.{place_of, created, made, fault_of, unless_fault, names_repeat, is_bucket_column, arrays_route, numbers_fit, is_unkept}
 use Rattle.hv_analysis.specs.Inserts.{row_typed, rows_typed, value_typed, has_count, converts, inserted_into, inserted_at, inserted, columns_of, insert_of, converted_row}
-use Rattle.hv_analysis.specs.Selects.{opened, opened_source, opened_at, opened_info, or_name, item_shown, items_shown, behind, filter_typed, listed, filtered, selected}
+use Rattle.hv_analysis.specs.Sources.{selected}
 use Rattle.hv_meaning.specs.Meaning.{its_tables, info_of, rows_seen, inserted_in, refused_for, meant, meaning_in}
 use Rattle.hv_meaning.specs.Laws.{are_values, has_meaning, MeansSomething, FormsMean, OtherFormsMeanNothing}
 use Rattle.hv_meaning.proofs.Outcomes.{OnOk, then-ok, inserts-are, creates-are}
+use Rattle.hv_meaning.proofs.Queries.{free-selected}
 use Rattle.hv_meaning.proofs.Stored.{both}
-use Rattle.hv_meaning.proofs.Typed.{IsOther, Free, free-then, free-if, free-each, free-placed, typed-free}
+use Rattle.hv_meaning.proofs.Typed.{IsOther, Free, free-then, free-if, free-each, typed-free}
 
 -- ---- analysis of these forms doesn't refuse them as Syntax
 
-free-info : (place : ℕ) (info : Option TableInfo) (alias : List ℕ) → Free (opened_info place info alias)
-free-info place None alias = tt
-free-info place (Some info) alias = tt
-
-free-place : (tables : List TableInfo) (place : Option ℕ) (alias : List ℕ) → Free (opened_at tables place alias)
-free-place tables None alias = tt
-free-place tables (Some place) alias = free-info place (slice_get tables place) alias
-
-free-source : (tables : List TableInfo) (s : Source) → is_table s ≡ true → Free (opened_source tables s)
-free-source tables (source.Table name alias) e = free-place tables (place_of name tables) (or_name alias name)
-free-source tables other e = cc
-
-free-opened : (tables : List TableInfo) (from : Option (From Source)) → is_single_from from ≡ true → Free (opened tables from)
-free-opened tables None e = tt
-free-opened tables (Some from) e = free-source tables from.source (both (is_table from.source) _ e).0
-
-free-filter : (fields : List Field) (filter : Option Expr) → Free (filter_typed fields filter)
-free-filter fields None = tt
-free-filter fields (Some x) =
-    free-then (condition_of fields x over.Row) _
-    (free-then (typed fields x over.Row) _ (typed-free fields x over.Row) (free-placed place.Truth)) (λ typed. tt)
-
-free-item : (opened : Opened) (one : Item) → is_single_item one ≡ true → Free (item_shown opened one)
-free-item opened item.All e = tt
-free-item opened (item.AllOf alias) e = free-if (list_any (same_name alias) opened.aliases) _ _ tt tt
-free-item opened (item.One x alias) e = free-then (typed opened.fields x over.Row) _ (typed-free opened.fields x over.Row) (λ typed. tt)
-free-item opened (item.Window window alias) e = cc
-
-free-behind : {A : Type 0} (done : List A) (r : Result (List A) Refusal) → Free r → Free (behind done r)
-free-behind done (Ok rest) h = tt
-free-behind done (Err why) h = h
-
-free-items : (opened : Opened) (items : List Item) → list_all is_single_item items ≡ true → Free (items_shown opened items)
-free-items opened [] e = tt
-free-items opened (one ∷ items) e =
-    let parts = both (is_single_item one) (list_all is_single_item items) e in
-    free-then (item_shown opened one) _ (free-item opened one parts.0) (λ shown. free-behind shown (items_shown opened items) (free-items opened items parts.1))
-
-free-listed : (query : Query Source) (opened : Opened) (filter : Option TypedExpr) → list_all is_single_item query.select.items ≡ true
-    → Free (listed query opened filter)
-unfolding listed
-free-listed query opened filter e = free-then (items_shown opened query.select.items) _ (free-items opened query.select.items e) (λ shown. tt)
-
-free-filtered : (query : Query Source) (opened : Opened) → list_all is_single_item query.select.items ≡ true → Free (filtered query opened)
-unfolding filtered
-free-filtered query opened e =
-    free-then (filter_typed opened.fields query.select.filter) _ (free-filter opened.fields query.select.filter) (λ filter. free-listed query opened filter e)
-
-free-selected : (tables : List TableInfo) (query : Query Source) → is_single_from query.select.from ≡ true
-    → list_all is_single_item query.select.items ≡ true → Free (selected tables query)
-unfolding selected
-free-selected tables query from items =
-    free-then (opened tables query.select.from) _ (free-opened tables query.select.from from) (λ opened. free-filtered query opened items)
-
-free-queried : (tables : List TableInfo) (query : Query Source) → is_single query ≡ true → Free (queried tables query)
-unfolding is_single
-free-queried tables query single =
-    let select = (both _ _ single).0 in
-    let from = both (is_single_from query.select.from) _ select in
-    let items = both (list_all is_single_item query.select.items) _ from.1 in
-    free-then (selected tables query) _ (free-selected tables query from.0 items.0) (λ typed. tt)
+free-queried : (tables : List TableInfo) (query : Query Source) → is_windowless query ≡ true → Free (queried tables query)
+free-queried tables query e = free-then (selected tables query) _ (free-selected tables query e) (λ typed. tt)
 
 free-rows : (rows : List (List Expr)) → Free (rows_typed rows)
 unfolding rows_typed row_typed

@@ -1,6 +1,7 @@
 pub mod Outcomes
 mod Stored
 mod Typed
+mod Queries
 pub mod Meanings
 pub mod Forms
 pub mod Unseen

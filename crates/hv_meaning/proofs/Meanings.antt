@@ -36,10 +36,10 @@ use Rattle.hv_types.specs.Nodes.{as_kind}
 use Rattle.hv_analysis.specs.declared.logic.Logic.{Logic}
 use Rattle.hv_analysis.specs.declared.logic.Logic.TheVariants as logic
 use Rattle.hv_analysis.specs.declared.logic.TypedInsert.{TypedInsert}
-use Rattle.hv_analysis.specs.Analysis.{analysed, is_single, is_whole, queried, query_analysed, rows_analysed}
+use Rattle.hv_analysis.specs.Analysis.{analysed, is_windowless, is_whole, queried, query_analysed, rows_analysed}
 use Rattle.hv_analysis.specs.Creates.{created, created_beside, place_of, is_table, fault_of, names_repeat, is_bucket_column, arrays_route, numbers_fit}
 use Rattle.hv_analysis.specs.Inserts.{columns_of, has_count, converted_row, insert_of}
-use Rattle.hv_analysis.specs.Selects.{selected}
+use Rattle.hv_analysis.specs.Sources.{selected}
 use Rattle.hv_meaning.specs.Meaning.{its_tables, named_by, info_of, rows_seen, stored_values, stored_row, inserts_of, inserted_in, refused_for, meant, meaning_in, meaning_of}
 use Rattle.hv_meaning.specs.Laws.{MakesNew, TablesAreNew, AreOf, IsRowOf, ChangesNamed, ChangesAreNamed}
 use Rattle.hv_meaning.proofs.Outcomes.{OnOk, then-ok, if-ok, inserts-are, creates-are, makes}
@@ -129,7 +129,7 @@ module _ (P : Option Meaning → Type 0) (unbuilt : P None) (refused : (why : Re
       → P (meant infos rows (query_analysed infos query))
   queries-come query listing =
       meant-is P unbuilt refused infos rows (query_analysed infos query)
-      (if-ok (Comes P unbuilt refused infos rows) (is_single query) (queried infos query) refusal.Syntax (λ single.
+      (if-ok (Comes P unbuilt refused infos rows) (is_windowless query) (queried infos query) refusal.Syntax (λ single.
       then-ok (Comes P unbuilt refused infos rows) (selected infos query) _ (λ typed e. listing _ _)))
 
 unwhole-named : (tree : Stmt) (tables : List Seen) (infos : List TableInfo) (rows : Tables) (b : Bool)

@@ -65,7 +65,7 @@ pub free-if : {A : Type 0} (b : Bool) (r s : Result A Refusal) → Free r → Fr
 free-if true r s h k = h
 free-if false r s h k = k
 
-free-front : {A : Type 0} (a : A) (r : Result (List A) Refusal) → Free r → Free (in_front a r)
+pub free-front : {A : Type 0} (a : A) (r : Result (List A) Refusal) → Free r → Free (in_front a r)
 free-front a (Ok rest) h = tt
 free-front a (Err why) h = h
 

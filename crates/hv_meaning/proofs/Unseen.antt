@@ -7,20 +7,17 @@ use Rattle.std.specs.Cmp.Lexicographic.{pointwise}
 use Rattle.hv_base.specs.declared.refusal.Refusal.{Refusal}
 use Rattle.hv_base.specs.declared.refusal.Refusal.TheVariants as refusal
 use Rattle.hv_locks.specs.declared.table.Lock.{Lock}
-use Rattle.hv_ast.specs.declared.change.Insert.{Insert}
 use Rattle.hv_ast.specs.declared.change.Rows.{Rows}
 use Rattle.hv_ast.specs.declared.change.Rows.TheVariants as source_rows
 use Rattle.hv_ast.specs.declared.statement.Stmt.{Stmt}
 use Rattle.hv_ast.specs.declared.statement.Stmt.TheVariants as stmt
 use Rattle.hv_logic.specs.declared.catalog.TableInfo.{TableInfo}
-use Rattle.hv_logic.specs.declared.meaning.Meaning.{Meaning}
 use Rattle.hv_logic.specs.declared.seen.Seen.{Seen}
 use Rattle.hv_logic.specs.Names.{names_in}
 use Rattle.hv_logic.specs.Tables.{named}
 use Rattle.hv_query.specs.Rows.{Tables}
 use Rattle.hv_analysis.specs.declared.logic.Logic.{Logic}
-use Rattle.hv_analysis.specs.declared.logic.Logic.TheVariants as logic
-use Rattle.hv_analysis.specs.Analysis.{analysed, is_whole, rows_analysed, insert_analysed}
+use Rattle.hv_analysis.specs.Analysis.{analysed, is_whole, rows_analysed}
 use Rattle.hv_analysis.specs.Creates.{created}
 use Rattle.hv_meaning.specs.Meaning.{info_of, rows_seen, named_by, its_tables, meant, meaning_over, meaning_in}
 use Rattle.hv_meaning.specs.Laws.{reads_rows, RowsAreUnseen, RowsAreUnseenIn}

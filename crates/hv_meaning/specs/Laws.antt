@@ -21,7 +21,7 @@ use Rattle.hv_logic.specs.Tables.{named}
 use Rattle.hv_logic.specs.Shapes.{shape_of}
 use Rattle.hv_logic.specs.Sizes.{stored_size}
 use Rattle.hv_rowfile.specs.Layout.{value_spelling, ValueIsTaken, RowIsTaken}
-use Rattle.hv_analysis.specs.Analysis.{is_single, is_whole}
+use Rattle.hv_analysis.specs.Analysis.{is_whole, is_windowless}
 use Rattle.hv_analysis.specs.Inserts.{columns_of}
 use Rattle.hv_meaning.specs.Meaning.{info_of, meaning_in, meaning_of}
 
@@ -32,7 +32,7 @@ are_values (rows.Values values) = true
 are_values (rows.Query query) = false
 
 abbrev pub has_meaning : Stmt → Bool
-has_meaning (stmt.Query query) = is_single query
+has_meaning (stmt.Query query) = is_windowless query
 has_meaning (stmt.Insert insert) = is_whole insert && are_values insert.rows
 has_meaning (stmt.CreateTable create) = true
 has_meaning _ = false
