@@ -55,12 +55,7 @@ impl<D: Shelf> House<D> {
     }
 
     /// The table of that name, with its rows where they are to be read; None where there is none.
-    pub fn see(
-        &mut self,
-        alloc: Global,
-        name: &Text,
-        reads: bool,
-    ) -> Result<Option<Seen>, RowFault>
+    pub fn see(&mut self, alloc: Global, name: &Text, reads: bool) -> Result<Option<Seen>, RowFault>
         requires numbers { AllByRecursion HasNumbers self.old.tables.items }
         ensures asked { IsAsked D.told self.old self.new }
         ensures short { IfErr result IsShortDamage }

@@ -55,10 +55,13 @@ pub seen-more : (told : Option Store) (tables : List Known) (reads : Bool) (lock
     → AreSeen told tables reads (locks ++ lock ∷ []) (seen ++ option_to_list first)
 seen-more told tables reads [] lock seen first are is =
     (first, [], ap (λ (xs : List Seen). xs ++ option_to_list first) are ∙ sym (append-nil (option_to_list first)), is, refl)
-seen-more told tables reads (other ∷ locks) lock seen first are is =
-    (are.0, are.1 ++ option_to_list first,
-    ap (λ (xs : List Seen). xs ++ option_to_list first) are.2 ∙ append_assoc (option_to_list are.0) are.1 (option_to_list first),
-    are.3, seen-more told tables reads locks lock are.1 first are.4 is)
+seen-more told tables reads (other ∷ locks) lock seen first are is = (
+  are.0,
+  are.1 ++ option_to_list first,
+  ap (λ (xs : List Seen). xs ++ option_to_list first) are.2 ∙ append_assoc (option_to_list are.0) are.1 (option_to_list first),
+  are.3,
+  seen-more told tables reads locks lock are.1 first are.4 is,
+)
 
 -- one more of the names was looked at
 pub sees-next : {D : Type 0} (told : D → Option Store) (faults : D → ℕ) (first before now : House D) (reads : Bool) (locks : List Lock) (i : ℕ) (lock : Lock) (seen next : List Seen)
