@@ -1,5 +1,5 @@
 -- What an opening notes, and what it leaves where it stops.
-use Rattle.std.proofs.Common.{refl, ◌≡◌, ℕ, zero, suc, ◌+◌, ◌*◌, ◌^◌, ◌<◌, ◌≤◌, Option, Some, None, Result, Ok, Err, List, [], ◌∷◌, ◌++◌, length, map, fold, take, drop, sym, ap, ◌∙◌, subst, arith, append_assoc, append-nil, length-append, ◌⊎◌, inl, inr}
+use Rattle.std.proofs.Common.{refl, ◌≡◌, ℕ, zero, suc, ◌+◌, ◌^◌, ◌<◌, ◌≤◌, Option, Some, None, Result, Ok, Err, List, [], ◌∷◌, ◌++◌, length, map, fold, take, drop, sym, ap, ◌∙◌, subst, arith, append_assoc, append-nil, length-append, inl, inr}
 use Rattle.std.specs.Prelude.{IfErr, slice_index_or, sum_by, Bool, true, false}
 use Rattle.std.proofs.lemmas.List.Sums.{sum_by-cons}
 use Rattle.hv_history.specs.declared.state.Transaction.{Transaction}
@@ -11,16 +11,14 @@ use Rattle.hv_base.specs.Told.{Tells, Moves}
 use Rattle.hv_shelf.specs.Disk.{Store}
 use Rattle.hv_history.specs.declared.entry.Entry.{Entry}
 use Rattle.hv_history.specs.declared.entry.Entry.TheVariants.{Boot}
-use Rattle.hv_history.specs.Journal.{record_of, place_of, Leads, Reads, IsJournal}
+use Rattle.hv_history.specs.Journal.{record_of, place_of, Reads, IsJournal}
 use Rattle.hv_history.specs.State.{State, nothing_yet, after, state_of, opening_tree}
 use Rattle.hv_history.specs.Book.{tree_at}
 use Rattle.hv_history.specs.Legal.{is_open, one_if, open_one, working_one, load, AllFit, profile}
-use Rattle.hv_journal.specs.Appending.{Holds, HoldsOneMore, ReadsOneMore, KeepsTree, StaysShort}
+use Rattle.hv_journal.specs.Appending.{Holds, KeepsTree, StaysShort}
 use Rattle.hv_journal.proofs.Lengths.{length-record}
-use Rattle.hv_recovery.specs.Recovery.{IsJournalOf}
-use Rattle.hv_known.specs.declared.known.Known.{Known}
 use Rattle.hv_known.specs.declared.tally.Tally.{Tally}
-use Rattle.hv_known.specs.Known.{number_next, marked_from, all_known}
+use Rattle.hv_known.specs.Known.{number_next, marked_from}
 use Rattle.hv_known.specs.Tally.{items_of, view_of, nothing_seen, all_stepped, IsTally, known_from}
 use Rattle.hv_known.proofs.Tallies.{tally-of, known-all}
 use Rattle.hv_house.specs.declared.boot.Left.{Left}
@@ -29,7 +27,7 @@ use Rattle.hv_house.specs.declared.fault.HouseFault.{HouseFault}
 use Rattle.hv_house.specs.declared.fault.HouseFault.TheVariants as house
 use Rattle.hv_house.specs.declared.boot.BootFault.TheVariants as fault
 use Rattle.hv_house.specs.House.{entries_of, IsKept, Knows, IsReady, IsNoted, IsBeside, IsHalted, Leaves}
-use Rattle.hv_house.specs.Booting.{open_numbers, lost_entry, opening_entries, opening_of, boot_fault, LeavesFront, IsCutShort, IsCutOpening, CutsOpening, LosesSome, IsLearned}
+use Rattle.hv_house.specs.Booting.{open_numbers, lost_entry, opening_entries, opening_of, boot_fault, LeavesFront, IsCutOpening, CutsOpening, LosesSome, IsLearned}
 
 -- ---- what is learned of a book
 

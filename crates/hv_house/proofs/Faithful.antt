@@ -1,10 +1,10 @@
 -- The book behind an opening is legal, and its files stand.
-use Rattle.std.proofs.Common.{◌≡◌, ℕ, ◌+◌, ◌≤◌, List, [], ◌∷◌, ◌++◌, fold, refl, sym, ap, ◌∙◌, subst}
+use Rattle.std.proofs.Common.{◌≡◌, ℕ, List, [], ◌∷◌, ◌++◌, fold, sym, ◌∙◌}
 use Rattle.hv_shelf.specs.Disk.{Store}
 use Rattle.hv_history.specs.declared.entry.Entry.{Entry}
 use Rattle.hv_history.specs.State.{State, nothing_yet, after, state_of}
 use Rattle.hv_history.specs.Journal.{IsJournal}
-use Rattle.hv_history.specs.Legal.{HasRoom, AllFit, AllTruthful, IsLegal, IsLegalFrom, profile}
+use Rattle.hv_history.specs.Legal.{HasRoom, AllFit, AllTruthful, profile}
 use Rattle.hv_journal.proofs.Books.{reads_once}
 use Rattle.hv_house.specs.House.{IsFaithful}
 use Rattle.hv_house.specs.Booting.{opening_of, opening_entries}

@@ -1,24 +1,22 @@
 -- The opening of a book whose entries fit: it fits, no transaction is open behind it, and what is known of tables stays.
-use Rattle.std.proofs.Common.{refl, ◌≡◌, ℕ, zero, suc, ◌+◌, ◌<◌, ◌≤◌, Bool, true, false, Option, Some, None, List, [], ◌∷◌, ◌++◌, length, map, fold, sym, ap, ◌∙◌, subst, arith, append_assoc, length-append}
+use Rattle.std.proofs.Common.{refl, ◌≡◌, ℕ, suc, ◌+◌, ◌≤◌, Bool, true, false, Option, Some, None, List, [], ◌∷◌, ◌++◌, length, map, fold, sym, ap, ◌∙◌, subst, arith, append_assoc, length-append}
 use Rattle.std.specs.Prelude.{IsTrue, IsSomeAnd, is_none}
 use Rattle.std.specs.List.{slice_get, AllByRecursion}
 use Rattle.hv_history.specs.declared.entry.Entry.{Entry}
-use Rattle.hv_history.specs.declared.entry.Entry.TheVariants.{Boot, Abort}
+use Rattle.hv_history.specs.declared.entry.Entry.TheVariants.{Boot}
 use Rattle.hv_history.specs.declared.entry.Cause.TheVariants.{Lost}
 use Rattle.hv_history.specs.declared.state.Ending.{Ending}
 use Rattle.hv_history.specs.declared.state.Ending.TheVariants.{Aborted}
 use Rattle.hv_history.specs.declared.state.Table.{Table}
 use Rattle.hv_history.specs.declared.state.Transaction.{Transaction}
 use Rattle.hv_history.specs.State.{State, nothing_yet, numbered, changed, changed_at, unless_ended, while_open, ended, acted, after, state_of}
-use Rattle.hv_history.specs.Legal.{is_open, load, HasRoom, Fits, IsTruthful, AllFit, AllTruthful, IsLegalFrom, IsLegal, LostFits, profile}
+use Rattle.hv_history.specs.Legal.{is_open, load, Fits, IsTruthful, AllFit, AllTruthful, IsLegalFrom, LostFits, profile}
 use Rattle.hv_shelf.specs.Disk.{Tree}
 use Rattle.hv_stands.specs.Files.{Stands}
 use Rattle.hv_stands.specs.Sound.{HasEnded, IsSound, IsIdle}
-use Rattle.hv_stands.proofs.Numbers.{numbered-last}
 use Rattle.hv_stands.proofs.Keeping.{sound-after, sound-all, nothing-sound}
 use Rattle.hv_stands.proofs.StandingFiles.{stands-after}
 use Rattle.hv_stands.proofs.Endings.{fold-append}
-use Rattle.hv_known.specs.declared.known.Known.{Known}
 use Rattle.hv_known.specs.Known.{is_unfinished, is_undone, number_next, marked_from, lost_from, all_known}
 use Rattle.hv_house.specs.Booting.{open_numbers, lost_entry, opening_entries, opening_of}
 

@@ -1,10 +1,6 @@
-use Rattle.std.proofs.Common.{ap, sym, ◌∙◌, subst, List, ℕ}
-use Rattle.std.proofs.lemmas.Result.{err_from_is_err_and}
-use Rattle.hv_base.specs.Told.{Tells}
+use Rattle.std.proofs.Common.{ap, ◌∙◌}
 use Rattle.hv_house.specs.House.{known_of_name}
-use Rattle.hv_house.specs.Rows.{LacksCommits}
 use Rattle.hv_house.proofs.Gives.{known-small}
-use Rattle.hv_house.proofs.Damage.{spoiled}
 use Rattle.hv_house.proofs.house.House.see.Goals as goal
 
 pub rows_for-requires : goal.rows_for-requires
