@@ -1,11 +1,30 @@
--- Every type, expressions, and what a SELECT may have.
-CREATE TABLE IF NOT EXISTS w (i INT, b BIGINT, f BOOLEAN, d DATE, s STRING, x ARRAY<INT>) COMMENT 'all types' STORED AS ORC TBLPROPERTIES ('transactional'='true');
-INSERT INTO w VALUES
-    (1 + 2, 3000000000 * 2, 1 < 2, DATE '2024-02-29', concat('a', 'b'), array(1, 2)),
-    (-5, 7, FALSE, DATE '1999-12-31', 'z', array());
-SELECT * FROM w;                              -- -5 first: rows come in one total order
-SELECT i + 1 AS j, upper(s) FROM w WHERE i > 0;   -- 4, AB under the names j and _c1
-SELECT DISTINCT f IS NULL FROM w LIMIT 1;     -- false
-SELECT 1 + 1;                                 -- 2
-SELECT q FROM w;                              -- FAILED 11 NoColumn
-SELECT i + array(1) FROM w;                   -- FAILED 13 BadType
+-- Every type, expressions, conditions. Behind each query stands what it prints.
+CREATE TABLE IF NOT EXISTS orders (id BIGINT, item STRING COMMENT 'as on the label', qty INT, paid BOOLEAN, day DATE, tags ARRAY<STRING>)
+  STORED AS ORC TBLPROPERTIES ('transactional'='true');
+INSERT INTO orders VALUES
+  (1, 'pen', 3, true, '2024-02-29', array('blue', 'fine')),
+  (2, 'ink', NULL, false, DATE '2024-03-01', array()),
+  (3, concat('note', 'book'), 2 * 5, 1 < 2, date_add('2024-02-28', 3), NULL);
+SELECT * FROM orders;
+--   id  item      qty   paid   day         tags
+--   1   pen       3     true   2024-02-29  ["blue","fine"]
+--   2   ink       NULL  false  2024-03-01  []
+--   3   notebook  10    true   2024-03-02  NULL
+SELECT item, qty * 2 AS doubled FROM orders WHERE paid AND qty > 2;
+--   item      doubled
+--   notebook  20
+--   pen       6
+SELECT item, CASE WHEN qty IS NULL THEN 'unknown' WHEN qty >= 5 THEN 'many' ELSE 'few' END AS how_many FROM orders WHERE day >= '2024-03-01';
+--   item      how_many
+--   ink       unknown
+--   notebook  many
+SELECT id, tags[0] AS first_tag, size(tags) FROM orders WHERE item LIKE '%n%';
+--   id  first_tag  _c2
+--   1   blue       2
+--   2   NULL       0
+--   3   NULL       -1
+SELECT 2147483647 + 1, 7 DIV 2, -7 % 3, 1 DIV 0, substr('warehouse', 5), datediff('2024-03-01', '2024-02-01');
+--   _c0          _c1  _c2  _c3   _c4    _c5
+--   -2147483648  3    -1   NULL  house  29
+SELECT item FROM orders WHERE qty > 'x';
+--   FAILED 13 BadType : a STRING isn't compared with a number
