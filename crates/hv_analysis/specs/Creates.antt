@@ -12,9 +12,8 @@ use Rattle.hv_ast.specs.declared.table.CreateTable.{CreateTable}
 use Rattle.hv_ast.specs.declared.table.Property.{Property}
 use Rattle.hv_ast.specs.declared.types.TypeName.{TypeName}
 use Rattle.hv_ast.specs.declared.types.TypeName.TheVariants as type_name
-use Rattle.hv_logic.specs.declared.catalog.Shape.{Shape}
 use Rattle.hv_logic.specs.declared.catalog.TableInfo.{TableInfo}
-use Rattle.hv_logic.specs.Meaning.{column_of}
+use Rattle.hv_logic.specs.Shapes.{is_column, bucket_names, bucket_place, shape_of}
 use Rattle.hv_types.specs.Scopes.{same_name}
 use Rattle.hv_analysis.specs.declared.logic.Logic.{Logic}
 use Rattle.hv_analysis.specs.declared.logic.Logic.TheVariants as logic
@@ -27,9 +26,6 @@ abbrev pub place_of : List ℕ → List TableInfo → Option ℕ
 place_of name tables = position (is_table name) tables
 
 -- ---- names
-
-abbrev pub is_column : List ℕ → ColumnDefinition → Bool
-is_column name column = same_name column.name name
 
 abbrev pub is_among : List ColumnDefinition → ColumnDefinition → Bool
 is_among columns column = list_any (is_column column.name) columns
@@ -44,13 +40,6 @@ names_repeat create =
     repeats create.columns || (repeats create.partitions || list_any (is_among create.columns) create.partitions)
 
 -- ---- buckets
-
-abbrev pub bucket_names : Option Clustering → List (List ℕ)
-bucket_names None = []
-bucket_names (Some clustering) = clustering.columns
-
-abbrev pub bucket_place : List ColumnDefinition → List ℕ → Option ℕ
-bucket_place columns name = position (is_column name) columns
 
 abbrev pub is_bucket_column : List ColumnDefinition → List ℕ → Bool
 is_bucket_column columns name = is_some (bucket_place columns name)
@@ -92,23 +81,6 @@ is_unkept property =
     || is_property (codes "transactional_properties") (codes "insert_only") property
 
 -- ----
-
-abbrev pub place_or_first : Option ℕ → ℕ
-place_or_first None = 0
-place_or_first (Some place) = place
-
-abbrev pub bucket_count : Option Clustering → ℕ
-bucket_count None = 0
-bucket_count (Some clustering) = clustering.count
-
-abbrev pub shape_of : CreateTable → Shape
-shape_of create = record {
-  name = create.table;
-  columns = map column_of create.columns;
-  parts = map column_of create.partitions;
-  bucketed = map (λ name. place_or_first (bucket_place create.columns name)) (bucket_names create.clustering);
-  buckets = bucket_count create.clustering;
-}
 
 abbrev pub made : Bool → CreateTable → Logic
 made exists create = if exists then logic.Nothing else logic.Make (shape_of create)

@@ -2,13 +2,14 @@
 
 ghost use Rattle.std.specs.Prelude.{◌≡◌, IfOk, map, position, is_some};
 ghost use Rattle.std.specs.List.{list_all, list_any};
+ghost use Rattle.hv_logic.specs.Shapes.{is_column, bucket_names, bucket_place, shape_of};
 ghost use Rattle.hv_types.specs.Faults.{Types};
-ghost use Rattle.hv_analysis.specs.Creates.{place_of, is_table, is_column, is_among, repeats, names_repeat, bucket_names, bucket_place, place_or_first, is_bucket_column, is_array, has_array, is_array_named, arrays_route, buckets_fit, numbers_fit, is_property, is_unkept, bucket_count, shape_of, fault_of, created};
+ghost use Rattle.hv_analysis.specs.Creates.{place_of, is_table, is_among, repeats, names_repeat, is_bucket_column, is_array, has_array, is_array_named, arrays_route, buckets_fit, numbers_fit, is_property, is_unkept, fault_of, created};
 
 use crate::logic::Logic;
 use hv_ast::{Clustering, ColumnDefinition, CreateTable, Property, TypeName};
-use hv_base::{Duplicate, List, NoMemory, Refusal, Text};
-use hv_logic::{Shape, TableInfo, defined_columns};
+use hv_base::{Refusal, Text};
+use hv_logic::{TableInfo, bucket_names, bucket_place, shape_of};
 use hv_types::TypeFault;
 use std::alloc::Global;
 
@@ -64,21 +65,6 @@ fn names_repeat(create: &CreateTable) -> bool
     let columns = create.columns.as_slice();
     let partitions = create.partitions.as_slice();
     repeats(columns) || repeats(partitions) || any_among(columns, partitions)
-}
-
-fn bucket_names(clustering: &Option<Clustering>) -> &[Text]
-    ensures { result.now ≡ bucket_names clustering.now }
-{
-    match clustering {
-        None => &[],
-        Some(clustering) => clustering.columns.as_slice(),
-    }
-}
-
-fn bucket_place(columns: &[ColumnDefinition], name: &Text) -> Option<usize>
-    ensures { result ≡ bucket_place columns.now name.now }
-{
-    columns.iter().position(|column| column.name == *name)
 }
 
 fn are_bucket_columns(columns: &[ColumnDefinition], names: &[Text]) -> bool
@@ -182,58 +168,6 @@ fn any_unkept(properties: &[Property]) -> bool
         }
     }
     false
-}
-
-fn bucket_number(columns: &[ColumnDefinition], name: &Text) -> Result<u32, NoMemory>
-    ensures { IfOk result (λ place. place ≡ place_or_first (bucket_place columns.now name.now)) }
-{
-    let place = match bucket_place(columns, name) {
-        None => 0,
-        Some(place) => place,
-    };
-    match u32::try_from(place) {
-        Ok(place) => Ok(place),
-        Err(_) => Err(NoMemory),
-    }
-}
-
-fn bucket_places(
-    alloc: Global,
-    columns: &[ColumnDefinition],
-    names: &[Text],
-) -> Result<List<u32>, NoMemory>
-    ensures { IfOk result (λ places. places ≡ map (λ name. place_or_first (bucket_place columns.now name)) names.now) }
-{
-    let mut places = Vec::with_capacity(alloc, names.len())?;
-    for name in names {
-        places.push(bucket_number(columns, name)?)?;
-    }
-    Ok(List::from_vec(places))
-}
-
-fn bucket_count(clustering: &Option<Clustering>) -> Result<u32, NoMemory>
-    ensures { IfOk result (λ count. count ≡ bucket_count clustering.now) }
-{
-    match clustering {
-        None => Ok(0),
-        Some(clustering) => match u32::try_from(clustering.count) {
-            Ok(count) => Ok(count),
-            Err(_) => Err(NoMemory),
-        },
-    }
-}
-
-fn shape_of(alloc: Global, create: &CreateTable) -> Result<Shape, NoMemory>
-    ensures { IfOk result (λ shape. shape ≡ shape_of create.now) }
-{
-    let columns = create.columns.as_slice();
-    Ok(Shape {
-        name: create.table.duplicate(alloc)?,
-        columns: defined_columns(alloc, columns)?,
-        parts: defined_columns(alloc, create.partitions.as_slice())?,
-        bucketed: bucket_places(alloc, columns, bucket_names(&create.clustering))?,
-        buckets: bucket_count(&create.clustering)?,
-    })
 }
 
 fn fault_of(exists: bool, create: &CreateTable) -> Option<Refusal>

@@ -1,14 +1,11 @@
 -- The tables that a query is run over, as they are handed in.
 use Rattle.std.specs.Prelude.{List, map, filter}
 use Rattle.hv_value.specs.declared.row.Row.{Row}
-use Rattle.hv_logic.specs.declared.effect.Found.{Found}
 use Rattle.hv_logic.specs.declared.effect.TableRows.{TableRows}
+use Rattle.hv_logic.specs.Rows.{rows_in}
 use Rattle.hv_query.specs.declared.tree.TypedSource.{TypedSource}
 use Rattle.hv_query.specs.declared.tree.TypedSelect.{TypedSelect}
 use Rattle.hv_query.specs.Rows.{Frame, Tables, is_met, shown, kept}
-
-abbrev pub rows_in : List Found → List Row
-rows_in found = map (λ (f : Found). f.row) found
 
 abbrev pub tables_in : List TableRows → Tables
 tables_in tables = map (λ (table : TableRows). rows_in table.rows) tables

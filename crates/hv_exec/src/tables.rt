@@ -1,7 +1,8 @@
 ghost use Rattle.std.specs.Prelude.{◌≡◌, slice_get, IfOk};
 ghost use Rattle.hv_query.specs.Rows.{values_in};
 ghost use Rattle.hv_eval.specs.Frames.{frames_values};
-ghost use Rattle.hv_exec.specs.Tables.{rows_in, row_values, tables_in};
+ghost use Rattle.hv_logic.specs.Rows.{rows_in};
+ghost use Rattle.hv_exec.specs.Tables.{row_values, tables_in};
 
 use hv_base::NoMemory;
 use hv_eval::Frame;

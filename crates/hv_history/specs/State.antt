@@ -17,9 +17,10 @@ use Rattle.hv_logic.specs.declared.effect.Found.{Found}
 use Rattle.hv_logic.specs.declared.meaning.Meaning.{Meaning}
 use Rattle.hv_logic.specs.declared.seen.Seen.{Seen}
 use Rattle.hv_logic.specs.declared.meaning.Meaning.TheVariants.{Change}
-use Rattle.hv_logic.specs.Meaning.{plain_shape, shape_of, meaning_of}
+use Rattle.hv_logic.specs.Shapes.{shape_of}
 use Rattle.hv_logic.specs.Sorting.{sorted_by}
 use Rattle.hv_logic.specs.Rows.{sorted, found_cmp}
+use Rattle.hv_meaning.specs.Meaning.{meaning_of}
 use Rattle.hv_history.specs.declared.entry.Entry.{Entry}
 use Rattle.hv_history.specs.declared.entry.Entry.TheVariants as entry
 use Rattle.hv_history.specs.declared.entry.JobKind.{JobKind}
@@ -246,13 +247,17 @@ commits (Some transaction) = all_written (did 0 transaction)
 abbrev pub new_table : TableInfo → Table
 new_table info = record { info = info; is_live = true; owners = []; writes = []; forgotten = [] }
 
+-- the shape where no text gives one
+abbrev pub no_shape : Shape
+no_shape = record { name = []; columns = []; parts = []; bucketed = []; buckets = 0 }
+
 -- a Create makes a table of the shape that its text gives, and so there are as many tables as Creates
 abbrev pub created_shape : Option Stmt → Shape
 created_shape (Some (stmt.CreateTable create)) = shape_of create
-created_shape _ = plain_shape [] []
+created_shape _ = no_shape
 
 abbrev pub made_shape : Option Transaction → Shape
-made_shape None = plain_shape [] []
+made_shape None = no_shape
 made_shape (Some transaction) = created_shape (opening_tree transaction)
 
 abbrev pub made_by : ℕ → Option Transaction → Table

@@ -2,24 +2,7 @@
 use Rattle.std.proofs.Common.{◌≡◌, ℕ, zero, suc, ◌+◌, ◌-◌, ◌≤◌, List, [], ◌∷◌, ◌++◌, length, take, drop, min, refl, sym, ap, ◌∙◌, arith}
 use Rattle.std.specs.declared.cmp.Ordering.{Ordering}
 use Rattle.std.proofs.lemmas.List.{take-take}
-use Rattle.hv_ast.specs.declared.expr.Expr.{Expr}
-use Rattle.hv_logic.specs.declared.catalog.Column.{Column}
-use Rattle.hv_logic.specs.Meaning.{values_in}
 use Rattle.hv_logic.specs.Sorting.{put_by, sorted_by}
-
--- behind the end of one of the two lists a row has no values
-pub values_in_stops : (columns : List Column) (exprs : List Expr) (i : ℕ) → min (length columns) (length exprs) ≤ i
-    → values_in (drop i columns) (drop i exprs) ≡ []
-values_in_stops [] exprs zero p = refl
-values_in_stops [] exprs (suc i) p = refl
-values_in_stops (column ∷ columns) [] zero p = refl
-values_in_stops (column ∷ columns) [] (suc i) p = none (drop i columns)
-  where
-    none : (columns : List Column) → values_in columns [] ≡ []
-    none [] = refl
-    none (column ∷ columns) = refl
-values_in_stops (column ∷ columns) (expr ∷ exprs) zero p = absurd (omega arith)
-values_in_stops (column ∷ columns) (expr ∷ exprs) (suc i) p = values_in_stops columns exprs i (omega arith)
 
 -- ---- a list that is emptied from its end
 

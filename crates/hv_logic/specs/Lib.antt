@@ -1,5 +1,6 @@
 pub mod Sorting
 pub mod Rows
 pub mod Sizes
-pub mod Meaning
+pub mod Tables
+pub mod Shapes
 pub mod Names

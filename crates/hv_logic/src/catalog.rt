@@ -1,6 +1,3 @@
-ghost use Rattle.std.specs.Prelude.{◌≡◌, IfOk, map};
-ghost use Rattle.hv_logic.specs.Meaning.{column_names};
-
 use hv_base::{Duplicate, List, NoMemory, TableId, Text};
 use hv_value::SqlType;
 use std::alloc::Global;
@@ -66,18 +63,5 @@ impl Duplicate for TableInfo {
             table: self.table,
             shape: self.shape.duplicate(alloc)?,
         })
-    }
-}
-
-impl Shape {
-    /// The names of its columns, in their order.
-    pub fn column_names(&self, alloc: Global) -> Result<List<Text>, NoMemory>
-        ensures { IfOk result (λ names. names ≡ column_names self.now) }
-    {
-        let mut names = Vec::new(alloc);
-        for column in self.columns.as_slice() {
-            names.push(column.name.duplicate(alloc)?)?;
-        }
-        Ok(List::from_vec(names))
     }
 }

@@ -1,5 +1,5 @@
 ghost use Rattle.std.specs.Prelude.{◌≡◌, IfOk, map};
-ghost use Rattle.hv_logic.specs.Meaning.{scalar_of, element_of, type_of, column_of};
+ghost use Rattle.hv_logic.specs.Shapes.{scalar_of, element_of, type_of, column_of};
 
 use crate::catalog::Column;
 use hv_ast::{ColumnDefinition, ScalarName, TypeName};
@@ -51,7 +51,7 @@ fn defined_column(alloc: Global, definition: &ColumnDefinition) -> Result<Column
 }
 
 /// The columns that a CREATE TABLE defines.
-pub fn defined_columns(
+pub(crate) fn defined_columns(
     alloc: Global,
     definitions: &[ColumnDefinition],
 ) -> Result<List<Column>, NoMemory>

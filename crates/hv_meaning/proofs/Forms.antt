@@ -18,6 +18,7 @@ use Rattle.hv_ast.specs.declared.statement.Stmt.TheVariants as stmt
 use Rattle.hv_ast.specs.declared.table.CreateTable.{CreateTable}
 use Rattle.hv_typed.specs.declared.tree.TypedExpr.{TypedExpr}
 use Rattle.hv_logic.specs.declared.catalog.TableInfo.{TableInfo}
+use Rattle.hv_logic.specs.Shapes.{bucket_names}
 use Rattle.hv_query.specs.Rows.{Tables}
 use Rattle.hv_types.specs.declared.places.Place.TheVariants as place
 use Rattle.hv_types.specs.declared.scope.Field.{Field}
@@ -27,12 +28,12 @@ use Rattle.hv_types.specs.Typing.{typed, condition_of}
 use Rattle.hv_analysis.specs.declared.logic.Logic.{Logic}
 use Rattle.hv_analysis.specs.declared.logic.Opened.{Opened}
 use Rattle.hv_analysis.specs.Analysis.{is_table, is_single_from, is_single_item, is_single, is_whole, queried, rows_analysed, analysed}
-use Rattle.hv_analysis.specs.Creates.{place_of, created, made, fault_of, unless_fault, names_repeat, is_bucket_column, bucket_names, arrays_route, numbers_fit, is_unkept}
+use Rattle.hv_analysis.specs.Creates.{place_of, created, made, fault_of, unless_fault, names_repeat, is_bucket_column, arrays_route, numbers_fit, is_unkept}
 use Rattle.hv_analysis.specs.Inserts.{row_typed, rows_typed, value_typed, has_count, converts, inserted_into, inserted_at, inserted, columns_of, insert_of, converted_row}
 use Rattle.hv_analysis.specs.Selects.{opened, opened_source, opened_at, opened_info, or_name, item_shown, items_shown, behind, filter_typed, listed, filtered, selected}
 use Rattle.hv_meaning.specs.Meaning.{its_tables, info_of, rows_seen, inserted_in, refused_for, meant, meaning_in}
 use Rattle.hv_meaning.specs.Laws.{are_values, has_meaning, MeansSomething, FormsMean, OtherFormsMeanNothing}
-use Rattle.hv_meaning.proofs.Running.{OnOk, then-ok, inserts-are, creates-are}
+use Rattle.hv_meaning.proofs.Outcomes.{OnOk, then-ok, inserts-are, creates-are}
 use Rattle.hv_meaning.proofs.Stored.{both}
 use Rattle.hv_meaning.proofs.Typed.{IsOther, Free, free-then, free-if, free-each, free-placed, typed-free}
 

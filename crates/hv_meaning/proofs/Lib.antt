@@ -1,6 +1,6 @@
-mod Steps
-mod Running
+pub mod Outcomes
 mod Stored
 mod Typed
 mod Meanings
 mod Forms
+mod Unseen

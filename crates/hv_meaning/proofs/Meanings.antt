@@ -27,7 +27,8 @@ use Rattle.hv_logic.specs.declared.effect.Effect.{Effect}
 use Rattle.hv_logic.specs.declared.meaning.Meaning.{Meaning}
 use Rattle.hv_logic.specs.declared.meaning.Meaning.TheVariants.{Refused, Listing, Change, Make, RowLimit}
 use Rattle.hv_logic.specs.declared.seen.Seen.{Seen}
-use Rattle.hv_logic.specs.Meaning.{named, column_of}
+use Rattle.hv_logic.specs.Tables.{named}
+use Rattle.hv_logic.specs.Shapes.{column_of, shape_of, bucket_names}
 use Rattle.hv_logic.specs.Names.{shared, rows_names}
 use Rattle.hv_logic.specs.Sizes.{row_fits}
 use Rattle.hv_query.specs.Rows.{Tables}
@@ -36,12 +37,12 @@ use Rattle.hv_analysis.specs.declared.logic.Logic.{Logic}
 use Rattle.hv_analysis.specs.declared.logic.Logic.TheVariants as logic
 use Rattle.hv_analysis.specs.declared.logic.TypedInsert.{TypedInsert}
 use Rattle.hv_analysis.specs.Analysis.{analysed, is_single, is_whole, queried, query_analysed, rows_analysed}
-use Rattle.hv_analysis.specs.Creates.{created, created_beside, place_of, is_table, shape_of, fault_of, names_repeat, is_bucket_column, bucket_names, arrays_route, numbers_fit}
+use Rattle.hv_analysis.specs.Creates.{created, created_beside, place_of, is_table, fault_of, names_repeat, is_bucket_column, arrays_route, numbers_fit}
 use Rattle.hv_analysis.specs.Inserts.{columns_of, has_count, converted_row, insert_of}
 use Rattle.hv_analysis.specs.Selects.{selected}
 use Rattle.hv_meaning.specs.Meaning.{its_tables, named_by, info_of, rows_seen, stored_values, stored_row, inserts_of, inserted_in, refused_for, meant, meaning_in, meaning_of}
 use Rattle.hv_meaning.specs.Laws.{MakesNew, TablesAreNew, AreOf, IsRowOf, ChangesNamed, ChangesAreNamed}
-use Rattle.hv_meaning.proofs.Running.{OnOk, then-ok, if-ok, inserts-are, creates-are, makes}
+use Rattle.hv_meaning.proofs.Outcomes.{OnOk, then-ok, if-ok, inserts-are, creates-are, makes}
 use Rattle.hv_meaning.proofs.Stored.{both, rows-taken}
 
 -- ---- a fact of what a statement comes to

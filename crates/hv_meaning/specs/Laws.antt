@@ -1,5 +1,5 @@
 -- What is proved of meanings.
-use Rattle.std.specs.Prelude.{◌≡◌, ℕ, ◌≤◌, ◌&&◌, Bool, true, false, IsTrue, Option, Some, None, List, [], ◌∷◌, length}
+use Rattle.std.specs.Prelude.{◌≡◌, ℕ, ◌≤◌, ◌&&◌, not, Bool, true, false, IsTrue, Option, Some, None, List, [], ◌∷◌, length, map}
 use Rattle.std.specs.List.{AllByRecursion}
 use Rattle.hv_ast.specs.declared.change.Rows.{Rows}
 use Rattle.hv_ast.specs.declared.change.Rows.TheVariants as rows
@@ -17,13 +17,13 @@ use Rattle.hv_logic.specs.declared.effect.Effect.{Effect}
 use Rattle.hv_logic.specs.declared.meaning.Meaning.{Meaning}
 use Rattle.hv_logic.specs.declared.meaning.Meaning.TheVariants.{Change, Make}
 use Rattle.hv_logic.specs.declared.seen.Seen.{Seen}
-use Rattle.hv_logic.specs.Meaning.{named}
+use Rattle.hv_logic.specs.Tables.{named}
+use Rattle.hv_logic.specs.Shapes.{shape_of}
 use Rattle.hv_logic.specs.Sizes.{stored_size}
 use Rattle.hv_rowfile.specs.Layout.{value_spelling, ValueIsTaken, RowIsTaken}
 use Rattle.hv_analysis.specs.Analysis.{is_single, is_whole}
-use Rattle.hv_analysis.specs.Creates.{shape_of}
 use Rattle.hv_analysis.specs.Inserts.{columns_of}
-use Rattle.hv_meaning.specs.Meaning.{meaning_of}
+use Rattle.hv_meaning.specs.Meaning.{info_of, meaning_in, meaning_of}
 
 -- ---- the forms that have a meaning
 
@@ -99,3 +99,22 @@ pub record IsStored (v : Value) : Type 0 where
 
 abbrev pub TypedValuesAreStored : Type 0
 TypedValuesAreStored = (kind : SqlType) (v : Value) → IsTrue (is_of kind v) → IsStored v
+
+-- ---- a statement that reads no rows means the same whatever rows its tables have, so nobody need read files for it
+
+abbrev pub reads_rows : Stmt → Bool
+reads_rows (stmt.Insert insert) = not (are_values insert.rows)
+reads_rows (stmt.CreateTable create) = false
+reads_rows _ = true
+
+-- over the tables that it names
+abbrev pub RowsAreUnseenIn : Type 0
+RowsAreUnseenIn =
+    (tree : Stmt) (tables others : List Seen) → reads_rows tree ≡ false → map info_of tables ≡ map info_of others
+    → meaning_in tree tables ≡ meaning_in tree others
+
+-- over the live tables
+abbrev pub RowsAreUnseen : Type 0
+RowsAreUnseen =
+    (tree : Stmt) (tables others : List Seen) → reads_rows tree ≡ false → map info_of tables ≡ map info_of others
+    → meaning_of tables tree ≡ meaning_of others tree

@@ -19,14 +19,14 @@ use Rattle.hv_logic.specs.declared.effect.Effect.{Effect}
 use Rattle.hv_logic.specs.declared.meaning.Meaning.{Meaning}
 use Rattle.hv_logic.specs.declared.meaning.Meaning.TheVariants.{Refused, Listing, Change, Make, Plain, RowLimit}
 use Rattle.hv_logic.specs.declared.seen.Seen.{Seen}
-use Rattle.hv_logic.specs.Meaning.{named}
+use Rattle.hv_logic.specs.Tables.{named}
 use Rattle.hv_logic.specs.Names.{names_in}
+use Rattle.hv_logic.specs.Rows.{rows_in}
 use Rattle.hv_logic.specs.Sizes.{row_fits}
 use Rattle.hv_query.specs.declared.tree.OutputColumn.{OutputColumn}
 use Rattle.hv_query.specs.declared.tree.TypedQuery.{TypedQuery}
 use Rattle.hv_query.specs.declared.tree.TypedSource.{TypedSource}
 use Rattle.hv_query.specs.Rows.{Tables, rows_of}
-use Rattle.hv_exec.specs.Tables.{rows_in}
 use Rattle.hv_analysis.specs.declared.logic.Logic.{Logic}
 use Rattle.hv_analysis.specs.declared.logic.Logic.TheVariants as logic
 use Rattle.hv_analysis.specs.declared.logic.TypedInsert.{TypedInsert}

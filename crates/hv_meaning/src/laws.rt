@@ -1,4 +1,4 @@
-ghost use Rattle.hv_meaning.specs.Laws.{FormsMean, OtherFormsMeanNothing, TablesAreNew, ChangesAreNamed, TypedValuesAreStored};
+ghost use Rattle.hv_meaning.specs.Laws.{FormsMean, OtherFormsMeanNothing, TablesAreNew, ChangesAreNamed, TypedValuesAreStored, RowsAreUnseen, RowsAreUnseenIn};
 
 /// The statements of the forms that are analysed mean something, whatever the tables.
 pub fn forms_mean()
@@ -20,4 +20,10 @@ pub fn changes_are_named()
 /// A value of a type is one that a row file takes, and it is counted by what it takes there.
 pub fn typed_values_are_stored()
     ensures law { TypedValuesAreStored }
+{}
+
+/// A statement that reads no rows means the same whatever rows its tables have.
+pub fn rows_are_unseen()
+    ensures named { RowsAreUnseenIn }
+    ensures live { RowsAreUnseen }
 {}

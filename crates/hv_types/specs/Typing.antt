@@ -8,7 +8,7 @@ use Rattle.hv_ast.specs.declared.expr.Expr.TheOpen.{Expr-F}
 use Rattle.hv_ast.specs.declared.expr.Expr.TheFolds.{fold-Expr}
 use Rattle.hv_ast.specs.declared.expr.Operation.{Operation}
 use Rattle.hv_ast.specs.declared.expr.When.{When}
-use Rattle.hv_logic.specs.Meaning.{type_of}
+use Rattle.hv_logic.specs.Shapes.{type_of}
 use Rattle.hv_typed.specs.declared.function.Many.TheVariants as many
 use Rattle.hv_typed.specs.declared.function.Three.{Three}
 use Rattle.hv_typed.specs.declared.function.Three.TheVariants as three

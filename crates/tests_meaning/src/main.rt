@@ -7,7 +7,7 @@ mod tables;
 
 use hv_ast::Stmt;
 use hv_base::{Boxed, NoMemory, Text};
-use hv_meaning::meaning_in;
+use hv_effect::meaning_in;
 use hv_reading::read_text;
 use std::alloc::Global;
 use std::io;

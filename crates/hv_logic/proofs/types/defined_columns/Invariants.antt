@@ -1,5 +1,5 @@
 use Rattle.std.proofs.Common.{◌≡◌, map, take}
-use Rattle.hv_logic.specs.Meaning.{column_of}
+use Rattle.hv_logic.specs.Shapes.{column_of}
 use Rattle.hv_logic.proofs.types.defined_columns.Given as goal
 
 abbrev pub invariant-loop-definition : goal.invariant-loop-definition

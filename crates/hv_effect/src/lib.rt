@@ -1,0 +1,7 @@
+//! The code that gives what a statement comes to over the tables that it names.
+#![tactic(auto)]
+
+mod inserts;
+mod statement;
+
+pub use statement::meaning_in;

@@ -1,0 +1,6 @@
+//! Which tables a statement names, each with its lock.
+#![tactic(auto)]
+
+mod naming;
+
+pub use naming::names_in;
