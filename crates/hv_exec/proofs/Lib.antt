@@ -1,3 +1,3 @@
-pub mod FormLaws
 pub mod Grouped
 pub mod SourceFrames
+pub mod Turns
