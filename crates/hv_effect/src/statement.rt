@@ -1,10 +1,8 @@
-ghost use Rattle.std.specs.Prelude.{◌≡◌, IfOk, IsTrue, Ok, map, slice_get};
+ghost use Rattle.std.specs.Prelude.{◌≡◌, IfOk, Ok, map, slice_get};
 ghost use Rattle.hv_types.specs.Faults.{Types};
 ghost use Rattle.hv_analysis.specs.Analysis.{analysed};
-ghost use Rattle.hv_exec.specs.Forms.{runs};
 ghost use Rattle.hv_exec.specs.Tables.{tables_in};
 ghost use Rattle.hv_meaning.specs.Meaning.{info_of, rows_seen, column_name, listed, inserted_in, refused_for, meant, meaning_over, meaning_in};
-ghost use Rattle.hv_effect.specs.Runs.{LogicRuns};
 
 use crate::inserts::inserted;
 use hv_analysis::{Logic, TypedInsert, analyse};
@@ -51,7 +49,6 @@ fn names_of(alloc: Global, columns: &[OutputColumn]) -> Result<List<Text>, NoMem
 
 // The names of a query's columns, and its rows.
 fn listed(alloc: Global, query: &TypedQuery, rows: &[TableRows]) -> Result<Meaning, NoMemory>
-    requires forms { IsTrue (runs query.now) }
     ensures { IfOk result (λ meaning. meaning ≡ listed query.now (tables_in rows.now)) }
 {
     let found = run(alloc, query, rows, 1)?;
@@ -87,7 +84,6 @@ fn meant(
     rows: &[TableRows],
     logic: Logic,
 ) -> Result<Option<Meaning>, NoMemory>
-    requires runs { LogicRuns logic }
     ensures { IfOk result (λ meaning. meaning ≡ meant infos.now (tables_in rows.now) (Ok logic)) }
 {
     match logic {

@@ -1,3 +1,4 @@
-pub mod FormLaws
 pub mod Grouped
 pub mod SourceFrames
+pub mod Turns
+pub mod Weights

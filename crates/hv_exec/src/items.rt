@@ -4,25 +4,11 @@ ghost use Rattle.hv_query.specs.Rows.{is_met, item_row};
 ghost use Rattle.hv_eval.specs.Frames.{frame_values, frames_values, values_at};
 
 use hv_base::{Boxed, List, NoMemory};
-use hv_eval::{Frame, Scope, eval_at, is_true_at};
+use hv_eval::{Frame, Scope, eval_at};
+use hv_joins::is_met;
 use hv_typed::TypedExpr;
 use hv_value::{Row, Value};
 use std::alloc::Global;
-
-// Whether a condition holds there; no condition holds everywhere.
-#[tactic(auto, unfolding(hv_typed::specs::Evaluation::value_of))]
-pub(crate) fn is_met<'a>(
-    alloc: Global,
-    condition: &'a Option<Boxed<TypedExpr>>,
-    frame: &Frame<'a>,
-) -> Result<bool, NoMemory>
-    ensures { IfOk result (λ met. met ≡ is_met condition.now (frame_values frame.now)) }
-{
-    match condition {
-        None => Ok(true),
-        Some(condition) => is_true_at(alloc, condition.get(), &Scope::alone(*frame)),
-    }
-}
 
 fn keep_if<'a>(kept: &mut Vec<Frame<'a>>, frame: Frame<'a>, keeps: bool) -> Result<(), NoMemory>
     ensures { OnOk result (kept.new.items ≡ kept.old.items ++ (if keeps then frame.entry ∷ [] else [])) }

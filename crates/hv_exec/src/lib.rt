@@ -1,7 +1,7 @@
 //! Queries over rows in memory.
 #![tactic(auto)]
 
-mod forms;
+mod from;
 mod groups;
 mod items;
 mod once;
@@ -10,5 +10,4 @@ mod selects;
 mod tables;
 mod unions;
 
-pub use forms::is_run;
 pub use queries::run;
