@@ -12,7 +12,7 @@ pub(crate) struct Case {
     pub(crate) script: String,
 }
 
-fn case(alloc: Global, is_new: bool, title: &str) -> io::Result<Case> {
+fn empty_case(alloc: Global, is_new: bool, title: &str) -> io::Result<Case> {
     Ok(Case {
         is_new,
         title: String::from_str(alloc, title)?,
@@ -23,10 +23,10 @@ fn case(alloc: Global, is_new: bool, title: &str) -> io::Result<Case> {
 /// The case that a line begins, where it begins one.
 fn begun(alloc: Global, line: &str) -> io::Result<Option<Case>> {
     if let Some(title) = line.strip_prefix("==== new ") {
-        return Ok(Some(case(alloc, true, title)?));
+        return Ok(Some(empty_case(alloc, true, title)?));
     }
     match line.strip_prefix("==== again ") {
-        Some(title) => Ok(Some(case(alloc, false, title)?)),
+        Some(title) => Ok(Some(empty_case(alloc, false, title)?)),
         None => Ok(None),
     }
 }
