@@ -18,7 +18,7 @@ use Rattle.hv_book.specs.Briefs.{brief, held_by, held_next, given_at, given_whil
 use Rattle.hv_book.proofs.NoteLaws.{differ}
 use Rattle.hv_book.proofs.TextLaws.{numbered-map}
 
-same_or_not : (a b : ℕ) → (a ≡ b) ⊎ (a ≡ b → ⊥)
+pub same_or_not : (a b : ℕ) → (a ≡ b) ⊎ (a ≡ b → ⊥)
 same_or_not a b = by (a == b) refl
   where
     by : (c : Bool) → (a == b) ≡ c → (a ≡ b) ⊎ (a ≡ b → ⊥)

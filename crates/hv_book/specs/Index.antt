@@ -5,6 +5,8 @@ use Rattle.hv_ast.specs.declared.statement.Stmt.{Stmt}
 use Rattle.hv_history.specs.declared.entry.Entry.{Entry}
 use Rattle.hv_book.specs.declared.index.Index.{Index}
 use Rattle.hv_book.specs.declared.openings.OpeningNotes.{OpeningNotes}
+use Rattle.hv_book.specs.declared.past.PastNotes.{PastNotes}
+use Rattle.hv_book.specs.Past.{PastSpares, IsPast, past_in}
 use Rattle.hv_book.specs.Notes.{Notes, notes_of}
 use Rattle.hv_history.specs.Book.{tree_of_entry}
 use Rattle.hv_history.specs.State.{Openings, state_of}
@@ -36,7 +38,7 @@ abbrev pub openings_in : OpeningNotes → Openings
 openings_in notes = record { count = notes.count; last = notes.last; only_lost = notes.only_lost; kept = notes.kept.items }
 
 -- what is kept beside the entries is theirs, and there is room beside them for as many as the index has room for
-pub record IsIndexed (entries : Vec Entry) (trees : Vec (Option Stmt)) (index : Index) (openings : OpeningNotes) : Type 0 where
+pub record IsIndexed (entries : Vec Entry) (trees : Vec (Option Stmt)) (index : Index) (openings : OpeningNotes) (kept : PastNotes) : Type 0 where
   pub tree : trees.items ≡ map tree_of_entry entries.items
   pub notes : notes_in index ≡ notes_of entries.items
   pub opening : openings_in openings ≡ (state_of entries.items).openings
@@ -44,3 +46,5 @@ pub record IsIndexed (entries : Vec Entry) (trees : Vec (Option Stmt)) (index : 
   pub entry_room : vec_len entries + index.room ≤ vec_capacity entries
   pub tree_room : vec_len trees + index.room ≤ vec_capacity trees
   pub kept_room : vec_len openings.kept + index.room ≤ vec_capacity openings.kept
+  pub past : IsPast entries.items (past_in kept)
+  pub past_room : PastSpares index.room kept

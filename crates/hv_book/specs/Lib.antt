@@ -2,3 +2,4 @@ pub mod Notes
 pub mod Briefs
 pub mod Index
 pub mod Commits
+pub mod Past

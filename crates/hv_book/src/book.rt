@@ -1,6 +1,7 @@
 use crate::index::Index;
 use crate::notes::{End, Held, JobNote, TableNote, TransactionNote, append};
 use crate::openings::OpeningNotes;
+use crate::past::PastNotes;
 use hv_ast::Stmt;
 use hv_base::{List, NoMemory, Touch};
 use hv_history::{Entry, numbered};
@@ -16,6 +17,7 @@ pub struct Book {
     trees: Vec<Option<Stmt>>,
     index: Index,
     openings: OpeningNotes,
+    past: PastNotes,
 }
 
 impl Model for Book {
@@ -26,7 +28,7 @@ impl Model for Book {
 
     ghost view = { λ book. record { entries = book.entries.items; spare = book.index.room } };
 
-    ghost invariant = { λ book. IsIndexed book.entries book.trees book.index book.openings };
+    ghost invariant = { λ book. IsIndexed book.entries book.trees book.index book.openings book.past };
 }
 
 impl Book {
@@ -37,6 +39,7 @@ impl Book {
     ghost use Rattle.hv_history.specs.State.{state_of, numbered, created_shape};
     ghost use Rattle.hv_book.specs.Briefs.{brief, brief_table, brief_job, open_from, held_by, given_at, tree_in, text_tree};
     ghost use Rattle.hv_book.specs.Index.{openings_in};
+    ghost use Rattle.hv_book.specs.Past.{IsPast, past_in};
     ghost use Rattle.std.specs.List.{list_any};
     ghost use Rattle.std.specs.Prelude.{Bool, List};
     ghost use Rattle.hv_base.specs.declared.ids.Touch.{Touch};
@@ -51,6 +54,7 @@ impl Book {
             trees: Vec::new(alloc),
             index: Index::new(alloc),
             openings: OpeningNotes::new(alloc),
+            past: PastNotes::new(alloc),
         }
     }
 
@@ -153,6 +157,13 @@ impl Book {
         &self.openings
     }
 
+    /// What is kept for the earlier places of the book: its write ids, and its tables.
+    pub fn past(&self) -> &PastNotes
+        ensures past { IsPast self.now.entries (past_in result.now) }
+    {
+        &self.past
+    }
+
     /// The tree of the text that opened the transaction of this number.
     pub fn opening_tree(&self, txn: u64) -> Option<&Stmt>
         ensures tree { option_copied result
@@ -198,6 +209,7 @@ impl Book {
         self.entries.reserve(more)?;
         self.trees.reserve(more)?;
         self.openings.kept.reserve(more)?;
+        self.past.reserve(more)?;
         self.index.reserve(more)
     }
 
@@ -227,6 +239,7 @@ impl Book {
         ensures spare { self.old.spare ≤ self.new.spare + 1 }
     {
         let place = self.entries.as_slice().len() as u64;
+        self.past.note(&self.index, place, &entry);
         self.index.note(place, &entry);
         self.openings.note(place, &entry);
         append(&mut self.entries, entry);

@@ -5,7 +5,9 @@ mod book;
 mod index;
 mod notes;
 mod openings;
+mod past;
 
 pub use book::Book;
 pub use notes::{End, Held, JobNote, TableNote, TransactionNote};
 pub use openings::OpeningNotes;
+pub use past::{EndedId, ForgotNote, IdNote, PastNotes, SpanNote};

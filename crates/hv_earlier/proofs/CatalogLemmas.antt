@@ -1,85 +1,93 @@
 -- A table of an earlier place is the table of that number in the whole book.
-use Rattle.std.proofs.Common.{◌≡◌, ℕ, zero, suc, ◌+◌, ◌<◌, ◌≤◌, Option, Some, None, List, [], ◌∷◌, ◌++◌, length, map, take, drop, get_or, fold, refl, sym, ap, ◌∙◌, append_assoc, subst, arith}
-use Rattle.std.specs.Prelude.{IsSomeAnd}
+use Rattle.std.proofs.Common.{◌≡◌, ℕ, zero, suc, ◌≤◌, true, false, Option, Some, None, List, [], ◌∷◌, ◌++◌, length, take, drop, refl, sym, ap, ◌∙◌, subst, arith}
+use Rattle.std.specs.Prelude.{is_some, IsSomeAnd}
 use Rattle.std.specs.Option.{option_map}
 use Rattle.std.specs.List.{slice_get}
-use Rattle.std.proofs.lemmas.List.{append-nil, drop_all, length-map}
+use Rattle.std.proofs.lemmas.List.{append-nil, drop_all}
 use Rattle.hv_ast.specs.declared.statement.Stmt.{Stmt}
 use Rattle.hv_logic.specs.declared.catalog.TableInfo.{TableInfo}
 use Rattle.hv_history.specs.declared.entry.Entry.{Entry}
 use Rattle.hv_history.specs.declared.state.Table.{Table}
-use Rattle.hv_history.specs.State.{State, numbered, after, nothing_yet, state_of, created_shape}
+use Rattle.hv_history.specs.State.{State, numbered, state_of, created_shape}
 use Rattle.hv_history.specs.Lasting.{TableLater}
 use Rattle.hv_history.proofs.LastingLaws.{goes-on-all}
-use Rattle.hv_book.proofs.TextLaws.{numbered-map}
+use Rattle.hv_book.specs.declared.notes.TableNote.{TableNote}
+use Rattle.hv_book.specs.Briefs.{brief_table}
+use Rattle.hv_book.specs.Past.{table_live}
 use Rattle.hv_meta.specs.Catalogs.{info_if, info_in, live_infos}
-use Rattle.hv_meta.proofs.FactLemmas.{infos-step}
-use Rattle.hv_earlier.specs.declared.tables.Mark.{Mark}
-use Rattle.hv_earlier.specs.Scans.{mark, marks_in, marked_info}
-use Rattle.hv_earlier.proofs.ScanLaws.{marks-are}
+use Rattle.hv_earlier.specs.Places.{live_so}
+use Rattle.hv_earlier.proofs.PlaceLaws.{go-on}
 
--- the state behind a book goes on from that at an earlier place
-go : (xs : List Entry) (position : ℕ) (state : State) → fold after state xs ≡ fold after (fold after state (take position xs)) (drop position xs)
-go xs zero state = refl
-go [] (suc position) state = refl
-go (x ∷ xs) (suc position) state = go xs position (after state x)
+table-later : (entries : List Entry) (position n : ℕ) (t : Table) → numbered (state_of (take position entries)).tables n ≡ Some t
+    → IsSomeAnd (numbered (state_of entries).tables n) (TableLater t)
+table-later entries position n t is =
+    subst (λ (state : State). IsSomeAnd (numbered state.tables n) (TableLater t)) (sym (go-on entries position))
+    ((goes-on-all (drop position entries) (state_of (take position entries))).tables n t is)
 
-same-info : (t : Table) (now : Option Table) (info : TableInfo) → IsSomeAnd now (TableLater t) → ((u : Table) → now ≡ Some u → u.info.shape ≡ info.shape)
-    → t.info.shape ≡ info.shape
-same-info t None info later told = absurd later
-same-info t (Some u) info later told = sym (ap (λ (i : TableInfo). i.shape) later.info) ∙ told u refl
+info-as : (t : Table) (now : Option Table) (note : TableNote) (tree : Option Stmt) → IsSomeAnd now (TableLater t) → Some note ≡ option_map brief_table now
+    → ((u : Table) → now ≡ Some u → u.info.shape ≡ created_shape tree) → t.info ≡ record { table = record { 0 = note.id }; shape = created_shape tree }
+info-as t None note tree later noted told = absurd later
+info-as t (Some u) note tree later noted told =
+    let same : note ≡ brief_table u = cc in
+    let id : u.info.table.0 ≡ note.id = ap (λ (n : TableNote). n.id) (sym same) in
+    sym later.info ∙ (λ i. record { table = record { 0 = id i }; shape = told u refl i })
 
-pub shape-lasts : (entries : List Entry) (position n : ℕ) (t : Table) (info : TableInfo) → numbered (state_of (take position entries)).tables n ≡ Some t
-    → ((u : Table) → numbered (state_of entries).tables n ≡ Some u → u.info.shape ≡ info.shape) → t.info.shape ≡ info.shape
-shape-lasts entries position n t info is told =
-    same-info t (numbered (state_of entries).tables n) info
-    (subst (λ (state : State). IsSomeAnd (numbered state.tables n) (TableLater t)) (sym (go entries position nothing_yet))
-    ((goes-on-all (drop position entries) (state_of (take position entries))).tables n t is))
-    told
+-- a table that was live there
+pub live-info : (entries : List Entry) (position n : ℕ) (note : TableNote) (tree : Option Stmt)
+    → Some note ≡ option_map brief_table (numbered (state_of entries).tables n)
+    → live_so (option_map table_live (numbered (state_of (take position entries)).tables n)) ≡ true
+    → ((u : Table) → numbered (state_of entries).tables n ≡ Some u → u.info.shape ≡ created_shape tree)
+    → info_in (numbered (state_of (take position entries)).tables n) ≡ record { table = record { 0 = note.id }; shape = created_shape tree } ∷ []
+live-info entries position n note tree noted live told = by (numbered (state_of (take position entries)).tables n) refl live
+  where
+    by : (o : Option Table) → numbered (state_of (take position entries)).tables n ≡ o → live_so (option_map table_live o) ≡ true
+        → info_in o ≡ record { table = record { 0 = note.id }; shape = created_shape tree } ∷ []
+    by None is lives = cc
+    by (Some t) is lives =
+        ap (λ b. info_if b t.info) lives
+        ∙ ap (λ info. info ∷ []) (info-as t (numbered (state_of entries).tables n) note tree (table-later entries position n t is) noted told)
 
-marked : (o : Option Table) (m : Mark) (tree : Option Stmt) → Some m ≡ option_map mark o
-    → ((t : Table) → o ≡ Some t → t.info.shape ≡ created_shape tree) → marked_info m (created_shape tree) ≡ info_in o
-marked None m tree is told = cc
-marked (Some t) m tree is told =
-    let same : m ≡ mark t = cc in
-    ap (λ (m : Mark). marked_info m (created_shape tree)) same
-    ∙ ap (λ shape. info_if t.is_live (record { table = t.info.table; shape = shape })) (sym (told t refl))
+pub dead-info : (o : Option Table) (infos : List TableInfo) → live_so (option_map table_live o) ≡ false → infos ≡ infos ++ info_in o
+dead-info None infos dead = sym (append-nil infos)
+dead-info (Some t) infos dead = sym (append-nil infos) ∙ ap (λ b. infos ++ info_if b t.info) (sym dead)
 
-get-there : {A : Type 0} (xs : List A) (i : ℕ) (d : A) → i < length xs → Some (get_or xs i d) ≡ slice_get xs i
-get-there [] i d within = absurd (omega (arith, within))
-get-there (x ∷ xs) zero d within = refl
-get-there (x ∷ xs) (suc i) d within = get-there xs i d (omega (arith, within))
+pub live-there : (o : Option Table) → live_so (option_map table_live o) ≡ true → is_some o ≡ true
+live-there None live = cc
+live-there (Some t) live = refl
 
--- one step of the loop over the tables
-pub catalog-step : (entries : List Entry) (position i n : ℕ) (marks : List Mark) (m : Mark) (tree : Option Stmt) (infos now : List TableInfo)
-    → n ≡ i + 1 → marks ≡ map mark (state_of (take position entries)).tables → i < length marks → m ≡ get_or marks i m
-    → ((t : Table) → numbered (state_of entries).tables n ≡ Some t → t.info.shape ≡ created_shape tree)
-    → now ≡ infos ++ marked_info m (created_shape tree)
-    → now ++ live_infos (drop (i + 1) (state_of (take position entries)).tables) ≡ infos ++ live_infos (drop i (state_of (take position entries)).tables)
-catalog-step entries position i zero marks m tree infos now count are within is told put = absurd (omega (arith, count))
-catalog-step entries position i (suc k) marks m tree infos now count are within is told put =
-    let tables = (state_of (take position entries)).tables in
-    let same : k ≡ i = omega (arith, count) in
-    let there : Some m ≡ slice_get (map mark tables) k =
-    ap (λ (x : Mark). Some x) is ∙ get-there marks i m within ∙ (λ j. slice_get (are j) (sym same j))
-    in
-    let info : marked_info m (created_shape tree) ≡ info_in (numbered tables (suc k)) =
-    marked (numbered tables (suc k)) m tree (there ∙ numbered-map mark tables (suc k))
-    (λ t e. shape-lasts entries position (suc k) t (record { table = t.info.table; shape = created_shape tree }) e told)
-    in
-    ap (λ xs. xs ++ live_infos (drop (i + 1) tables)) put
-    ∙ append_assoc infos (marked_info m (created_shape tree)) (live_infos (drop (i + 1) tables))
-    ∙ ap (λ xs. infos ++ (xs ++ live_infos (drop (i + 1) tables))) info
-    ∙ ap (λ xs. infos ++ xs) (sym (infos-step tables i (suc k) count))
+-- no more tables were there than are
+there-at : {A : Type 0} (xs : List A) (n : ℕ) → slice_get xs n ≡ None → length xs ≤ n
+there-at [] n is = omega arith
+there-at (x ∷ xs) zero is = cc
+there-at (x ∷ xs) (suc n) is = let rest = there-at xs n is in omega (arith, rest)
 
-pub marks-at : (entries : List Entry) (position : ℕ) (front known : List Entry) (marks : List Mark) → marks ≡ marks_in front → front ≡ take position known → known ≡ entries
-    → marks ≡ map mark (state_of (take position entries)).tables
-marks-at entries position front known marks by is same =
-    by ∙ marks-are front ∙ ap (λ (xs : List Entry). map mark (state_of xs).tables) (is ∙ ap (take position) same)
+not-there : {A : Type 0} (xs : List A) (n : ℕ) → length xs ≤ n → slice_get xs n ≡ None
+not-there [] n le = refl
+not-there (x ∷ xs) zero le = absurd (omega (arith, le))
+not-there (x ∷ xs) (suc n) le = not-there xs n (omega (arith, le))
 
--- the end of that loop
-pub catalog-end : (tables : List Table) (i : ℕ) (marks : List Mark) (infos : List TableInfo) → marks ≡ map mark tables → length marks ≤ i
-    → infos ++ live_infos (drop i tables) ≡ live_infos tables → infos ≡ live_infos tables
-catalog-end tables i marks infos are past kept =
-    let long : length marks ≡ length tables = ap length are ∙ length-map tables mark in
-    sym (append-nil infos) ∙ ap (λ (ts : List Table). infos ++ live_infos ts) (sym (drop_all i tables (omega (arith, long, past)))) ∙ kept
+pub no-more-tables : (entries : List Entry) (position : ℕ) → length (state_of (take position entries)).tables ≤ length (state_of entries).tables
+no-more-tables entries position =
+    there-at (state_of (take position entries)).tables (length (state_of entries).tables) (by (slice_get (state_of (take position entries)).tables (length (state_of entries).tables)) refl)
+  where
+    none : slice_get (state_of entries).tables (length (state_of entries).tables) ≡ None
+    none = not-there (state_of entries).tables (length (state_of entries).tables) (omega arith)
+
+    so : (t : Table) (now : Option Table) → now ≡ None → IsSomeAnd now (TableLater t) → Some t ≡ None
+    so t None e later = absurd later
+    so t (Some u) e later = cc
+
+    by : (o : Option Table) → slice_get (state_of (take position entries)).tables (length (state_of entries).tables) ≡ o → o ≡ None
+    by None is = refl
+    by (Some t) is =
+        so t (numbered (state_of entries).tables (suc (length (state_of entries).tables))) none
+        (table-later entries position (suc (length (state_of entries).tables)) t is)
+
+-- the end of the loop over the tables
+pub catalog-end : (entries : List Entry) (position i : ℕ) (infos : List TableInfo) → length (state_of entries).tables ≤ i
+    → infos ++ live_infos (drop i (state_of (take position entries)).tables) ≡ live_infos (state_of (take position entries)).tables
+    → infos ≡ live_infos (state_of (take position entries)).tables
+catalog-end entries position i infos past kept =
+    let fewer = no-more-tables entries position in
+    sym (append-nil infos)
+    ∙ ap (λ (ts : List Table). infos ++ live_infos ts) (sym (drop_all i (state_of (take position entries)).tables (omega (arith, fewer, past)))) ∙ kept

@@ -1,3 +1,5 @@
 pub mod ListLemmas
-pub mod ScanLaws
+pub mod PlaceLaws
+pub mod ExceptionLaws
+pub mod SortedLaws
 pub mod CatalogLemmas

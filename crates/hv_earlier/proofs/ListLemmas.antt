@@ -1,15 +1,18 @@
 -- The exceptions of a list rise, and none is above the number of ids.
-use Rattle.std.proofs.Common.{◌≡◌, ℕ, zero, suc, ◌+◌, ◌<◌, ◌≤◌, Bool, true, false, Option, Some, None, List, [], ◌∷◌, ◌++◌, length, get_or, sym, subst, arith}
+use Rattle.std.proofs.Common.{◌≡◌, ℕ, zero, suc, ◌+◌, ◌<◌, ◌≤◌, Bool, true, false, Option, Some, None, List, [], ◌∷◌, ◌++◌, length, map, take, get_or, sym, subst, arith}
 use Rattle.std.specs.Prelude.{◌==◌, All}
 use Rattle.std.specs.List.{list_any}
 use Rattle.std.specs.List.Sorted.{IsStrictlyIncreasing}
 use Rattle.std.proofs.lemmas.List.Elements.{All-cons, All-nil}
-use Rattle.hv_history.specs.State.{numbered}
+use Rattle.hv_history.specs.declared.entry.Entry.{Entry}
+use Rattle.hv_history.specs.State.{numbered, state_of}
+use Rattle.hv_book.specs.Past.{owners_in, forgotten_in}
+use Rattle.hv_earlier.specs.Fates.{fate_of}
 use Rattle.hv_wids.specs.declared.list.Exception.{Exception}
 use Rattle.hv_wids.specs.WriteIds.{ids_of}
 use Rattle.hv_earlier.specs.declared.fates.Fate.{Fate}
 use Rattle.hv_earlier.specs.declared.fates.Fate.TheVariants as fate
-use Rattle.hv_earlier.specs.Lists.{exception, unless_forgotten, exception_by, exceptions_from}
+use Rattle.hv_earlier.specs.Lists.{exception, unless_forgotten, exception_by, exceptions_from, list_at}
 
 -- each number is above those before it, and the first is at least `low`
 abbrev pub RisesFrom : ℕ → List ℕ → Type 0
@@ -75,3 +78,23 @@ list-rises fates forgotten owners =
 
 pub list-within : (fates : List Fate) (forgotten owners : List ℕ) → All (λ (one : Exception). one.write.0 ≤ length owners) (exceptions_from fates forgotten 1 owners)
 list-within fates forgotten owners = (are-right fates forgotten 1 (length owners) owners (omega arith)).within
+
+pub list-rises-from : (fates : List Fate) (forgotten owners : List ℕ) → RisesFrom 1 (ids_of (exceptions_from fates forgotten 1 owners))
+list-rises-from fates forgotten owners = (are-right fates forgotten 1 (length owners) owners (omega arith)).rises
+
+-- the same of the list at a place
+pub at-rises-from : (entries : List Entry) (position table : ℕ) → RisesFrom 1 (ids_of (list_at entries position table).exceptions)
+at-rises-from entries position table =
+    list-rises-from (map fate_of (state_of (take position entries)).transactions) (forgotten_in (numbered (state_of (take position entries)).tables table))
+    (owners_in (numbered (state_of (take position entries)).tables table))
+
+pub at-rises : (entries : List Entry) (position table : ℕ) → IsStrictlyIncreasing (ids_of (list_at entries position table).exceptions)
+at-rises entries position table =
+    list-rises (map fate_of (state_of (take position entries)).transactions) (forgotten_in (numbered (state_of (take position entries)).tables table))
+    (owners_in (numbered (state_of (take position entries)).tables table))
+
+pub at-within : (entries : List Entry) (position table : ℕ)
+    → All (λ (one : Exception). one.write.0 ≤ length (owners_in (numbered (state_of (take position entries)).tables table))) (list_at entries position table).exceptions
+at-within entries position table =
+    list-within (map fate_of (state_of (take position entries)).transactions) (forgotten_in (numbered (state_of (take position entries)).tables table))
+    (owners_in (numbered (state_of (take position entries)).tables table))

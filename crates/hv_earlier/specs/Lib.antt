@@ -1,3 +1,3 @@
 pub mod Fates
 pub mod Lists
-pub mod Scans
+pub mod Places

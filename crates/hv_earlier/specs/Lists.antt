@@ -6,8 +6,8 @@ use Rattle.hv_wids.specs.declared.list.Exception.{Exception}
 use Rattle.hv_wids.specs.WriteIds.{WriteIds}
 use Rattle.hv_logic.specs.declared.catalog.TableInfo.{TableInfo}
 use Rattle.hv_history.specs.declared.entry.Entry.{Entry}
-use Rattle.hv_history.specs.declared.state.Table.{Table}
 use Rattle.hv_history.specs.State.{State, state_of, numbered}
+use Rattle.hv_book.specs.Past.{owners_in, forgotten_in}
 use Rattle.hv_meta.specs.Catalogs.{live_infos}
 use Rattle.hv_earlier.specs.declared.fates.Fate.{Fate}
 use Rattle.hv_earlier.specs.declared.fates.Fate.TheVariants as fate
@@ -33,14 +33,6 @@ abbrev pub exceptions_from : List Fate → List ℕ → ℕ → List ℕ → Lis
 exceptions_from fates forgotten write [] = []
 exceptions_from fates forgotten write (txn ∷ owners) =
     exception_by forgotten write (numbered fates txn) ++ exceptions_from fates forgotten (write + 1) owners
-
-abbrev pub owners_in : Option Table → List ℕ
-owners_in None = []
-owners_in (Some table) = table.owners
-
-abbrev pub forgotten_in : Option Table → List ℕ
-forgotten_in None = []
-forgotten_in (Some table) = table.forgotten
 
 -- the highest id is the number of ids that were given
 abbrev pub list_by : List Fate → List ℕ → List ℕ → WriteIds

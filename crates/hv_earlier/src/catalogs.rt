@@ -1,60 +1,74 @@
-ghost use Rattle.std.specs.Prelude.{◌≡◌, ◌+◌, ◌++◌, IfOk, OnOk};
-ghost use Rattle.std.specs.Option.{option_copied};
-ghost use Rattle.hv_history.specs.State.{created_shape};
+ghost use Rattle.std.specs.Prelude.{◌≡◌, ◌++◌, IfOk, OnOk, take};
+ghost use Rattle.std.specs.Option.{option_copied, option_map};
+ghost use Rattle.hv_history.specs.State.{state_of, numbered, created_shape};
+ghost use Rattle.hv_meta.specs.Catalogs.{info_in};
+ghost use Rattle.hv_book.specs.Past.{table_live};
 ghost use Rattle.hv_earlier.specs.Lists.{catalog_at};
-ghost use Rattle.hv_earlier.specs.Scans.{marked_info};
+ghost use Rattle.hv_earlier.specs.Places.{live_so};
 
-use crate::earlier::front;
-use crate::tables::{Mark, marks_in};
+use crate::counts::was_live;
 use hv_ast::Stmt;
 use hv_base::{List, NoMemory, TableId};
-use hv_book::Book;
+use hv_book::{Book, TableNote};
+use hv_history::numbered;
 use hv_logic::{Catalog, TableInfo};
-use hv_meta::{live_catalog, made_shape};
+use hv_meta::made_shape;
 use std::alloc::Global;
 
-/// Appends a table that was made by this text, where it is live.
-fn put_marked(
+fn made_info(alloc: Global, note: &TableNote, tree: Option<&Stmt>) -> Result<TableInfo, NoMemory>
+    ensures { IfOk result (λ info. info ≡ record {
+      table = record { 0 = note.now.id };
+      shape = created_shape (option_copied tree.entry);
+    }) }
+{
+    Ok(TableInfo {
+        table: TableId(note.id),
+        shape: made_shape(alloc, tree)?,
+    })
+}
+
+/// Whether the table of this number was there and live at that place.
+fn is_live_at(book: &Book, position: usize, table: u64) -> bool
+    ensures live { result ≡ live_so
+        (option_map table_live (numbered (state_of (take position book.now.entries)).tables table)) }
+{
+    match was_live(book, position, table) {
+        Some(live) => live,
+        None => false,
+    }
+}
+
+/// Appends the table of this number, where it was live at that place.
+fn put_info(
     alloc: Global,
-    mark: Mark,
-    tree: Option<&Stmt>,
+    book: &Book,
+    position: usize,
+    table: u64,
     infos: &mut Vec<TableInfo>,
 ) -> Result<(), NoMemory>
-    ensures { OnOk result (infos.new.items
-        ≡ infos.old.items ++ marked_info mark (created_shape (option_copied tree.entry))) }
+    ensures { OnOk result (infos.new.items ≡ infos.old.items
+        ++ info_in (numbered (state_of (take position book.now.entries)).tables table)) }
 {
-    if mark.is_live {
-        let table = TableId(mark.id);
-        let shape = made_shape(alloc, tree)?;
-        infos.push(TableInfo { table, shape })?;
+    if !is_live_at(book, position, table) {
+        return Ok(());
+    }
+    if let Some(note) = numbered(book.tables(), table) {
+        infos.push(made_info(alloc, note, book.table_tree(table))?)?;
     }
     Ok(())
 }
 
-/// The live tables behind the entries before this place.
-fn earlier_catalog(alloc: Global, book: &Book, position: usize) -> Result<Catalog, NoMemory>
-    ensures catalog { IfOk result (λ catalog.
-        catalog.tables ≡ catalog_at book.now.entries position) }
-{
-    let marks = marks_in(alloc, front(book.entries(), position))?;
-    let mut infos = Vec::new(alloc);
-    for i in 0..marks.len() {
-        put_marked(alloc, marks[i], book.table_tree(i as u64 + 1), &mut infos)?;
-    }
-    Ok(Catalog {
-        tables: List::from_vec(infos),
-    })
-}
-
-/// The live tables at a place of the book, from 0, by number: the entries before it count. Behind
-/// the last entry it walks the tables alone, and at an earlier place the entries before it.
+/// The live tables at a place of the book, from 0, by number: the entries before it count. It walks
+/// the tables alone.
 pub fn catalog_at(alloc: Global, book: &Book, position: usize) -> Result<Catalog, NoMemory>
     ensures catalog { IfOk result (λ catalog.
         catalog.tables ≡ catalog_at book.now.entries position) }
 {
-    if position < book.entries().len() {
-        earlier_catalog(alloc, book, position)
-    } else {
-        live_catalog(alloc, book)
+    let mut infos = Vec::new(alloc);
+    for i in 0..book.tables().len() {
+        put_info(alloc, book, position, i as u64 + 1, &mut infos)?;
     }
+    Ok(Catalog {
+        tables: List::from_vec(infos),
+    })
 }

@@ -1,28 +1,63 @@
-ghost use Rattle.std.specs.Prelude.{◌≡◌, IfOk, take};
+ghost use Rattle.std.specs.Prelude.{◌≡◌, ◌≤◌, ℕ, IfOk, OnOk, length, take};
+ghost use Rattle.std.specs.List.{AllByRecursion};
+ghost use Rattle.std.specs.List.Sorted.{IsNonDecreasingBy};
+ghost use Rattle.hv_wids.specs.declared.list.Exception.{Exception};
+ghost use Rattle.hv_book.specs.Past.{total, PlacesRise};
 ghost use Rattle.hv_earlier.specs.Lists.{list_at};
+ghost use Rattle.hv_earlier.specs.Places.{IsSpot, EndsBefore, write_of};
 
-use crate::exceptions::list_by;
-use crate::fates::fates_in;
-use crate::tables::kept_in;
-use hv_base::{NoMemory, TableId};
-use hv_book::Book;
-use hv_history::Entry;
-use hv_wids::WriteIdList;
+use crate::counts::spot_at;
+use crate::exceptions::{Spot, put_ended, put_ids};
+use hv_base::{NoMemory, TableId, WriteId};
+use hv_book::{Book, EndedId};
+use hv_wids::{Exception, WriteIdList};
 use std::alloc::Global;
 
-/// The entries before this place.
-pub fn front(entries: &[Entry], position: usize) -> &[Entry]
-    ensures { result.now ≡ take position entries.now }
+/// How many of these ended before a place. It walks back from the last one.
+fn ended_before(ended: &[EndedId], position: u64) -> usize
+    requires rising { PlacesRise ended.now }
+    ensures bound { result ≤ length ended.now }
+    ensures before { AllByRecursion (EndsBefore position) (take result ended.now) }
 {
-    if position < entries.len() {
-        &entries[..position]
-    } else {
-        entries
+    for i in (0..ended.len()).rev() {
+        if ended[i].at < position {
+            return i + 1;
+        }
     }
+    0
 }
 
-/// The write id list of a table at a place of the book, from 0: the entries before it count. It
-/// walks these entries.
+/// The exceptions of a list, in no order: of the ids that have not committed, and of those that
+/// committed from that place on.
+fn exceptions_at(alloc: Global, book: &Book, spot: Spot) -> Result<Vec<Exception>, NoMemory>
+    requires spot { IsSpot book.now.entries spot }
+    ensures exceptions { IfOk result (λ exceptions. (weight : Exception → ℕ) → total weight exceptions.items
+        ≡ total weight (list_at book.now.entries spot.position spot.table).exceptions) }
+{
+    let past = book.past();
+    let notes = book.transactions();
+    let forgotten = past.forgotten.as_slice();
+    let committed = past.committed.as_slice();
+    let from = ended_before(committed, spot.position);
+    let mut exceptions = Vec::new(alloc);
+    put_ids(&mut exceptions, notes, forgotten, spot, &past.pending)?;
+    put_ended(&mut exceptions, notes, forgotten, spot, &past.aborted)?;
+    put_ended(&mut exceptions, notes, forgotten, spot, &committed[from..])?;
+    Ok(exceptions)
+}
+
+/// Sorts exceptions by their ids.
+fn sort_ids(exceptions: &mut Vec<Exception>) -> Result<(), NoMemory>
+    ensures same { (weight : Exception → ℕ) → total weight exceptions.new.items
+        ≡ total weight exceptions.old.items }
+    ensures sorted { OnOk result (IsNonDecreasingBy write_of exceptions.new.items) }
+{
+    exceptions.sort_by_key(|exception| exception.write.0)?;
+    Ok(())
+}
+
+/// The write id list of a table at a place of the book, from 0: the entries before it count. It walks
+/// the ids that have not committed, those that committed from that place on, and the entries there.
 pub fn list_at(
     alloc: Global,
     book: &Book,
@@ -31,8 +66,8 @@ pub fn list_at(
 ) -> Result<WriteIdList, NoMemory>
     ensures list { IfOk result (λ list. list ≡ list_at book.now.entries position table.0) }
 {
-    let entries = front(book.entries(), position);
-    let fates = fates_in(alloc, entries)?;
-    let kept = kept_in(alloc, entries, table.0)?;
-    list_by(alloc, &fates, &kept.forgotten, &kept.owners)
+    let spot = spot_at(book, position, table.0);
+    let mut exceptions = exceptions_at(alloc, book, spot)?;
+    sort_ids(&mut exceptions)?;
+    Ok(WriteIdList::new(WriteId(spot.high), exceptions))
 }

@@ -1,37 +1,49 @@
-ghost use Rattle.std.specs.Prelude.{◌≡◌, ◌==◌, ◌++◌, ◌+◌, ◌≤◌, length, map, All, IfOk, OnOk, Option, None, Some};
-ghost use Rattle.std.specs.List.{list_any};
-ghost use Rattle.std.specs.Option.{option_copied};
-ghost use Rattle.std.specs.List.Sorted.{IsStrictlyIncreasing};
-ghost use Rattle.hv_history.specs.State.{numbered};
-ghost use Rattle.hv_wids.specs.WriteIds.{ids_of};
-ghost use Rattle.hv_earlier.specs.Lists.{exception_by, exceptions_from, list_by};
+ghost use Rattle.std.specs.Prelude.{◌≡◌, ◌++◌, OnOk};
+ghost use Rattle.std.specs.List.{list_any, flat_map};
+ghost use Rattle.hv_earlier.specs.Places.{is_forgot, exception_then, exceptions_of, ended_exceptions};
 
-use crate::fates::Fate;
+use crate::fates::{Fate, fate_in};
 use hv_base::{NoMemory, WriteId};
-use hv_history::numbered;
-use hv_wids::{Exception, WriteIdList};
-use std::alloc::Global;
+use hv_book::{EndedId, ForgotNote, IdNote, TransactionNote};
+use hv_wids::Exception;
 
-fn is_among(numbers: &[u64], number: u64) -> bool
-    ensures { result ≡ list_any (λ other. other == number) numbers.now }
+/// Where a list is asked: the place, the table, how many ids of it were given before that place, and how
+/// many transactions were opened.
+#[derive(Clone, Copy)]
+pub struct Spot {
+    pub position: u64,
+    pub table: u64,
+    pub high: u64,
+    pub transactions: u64,
+}
+
+fn is_forgot(note: &ForgotNote, spot: Spot, write: u64) -> bool
+    ensures { result ≡ is_forgot spot write note.now }
 {
-    for other in numbers {
-        if *other == number {
+    note.table == spot.table && note.at < spot.position && note.write == write
+}
+
+fn is_forgotten(forgotten: &[ForgotNote], spot: Spot, write: u64) -> bool
+    ensures { result ≡ list_any (is_forgot spot write) forgotten.now }
+{
+    for note in forgotten {
+        if is_forgot(note, spot, write) {
             return true;
         }
     }
     false
 }
 
-/// Puts a write id behind the exceptions, where it is one.
+/// Puts a write id behind the exceptions, where it was one.
 fn put_exception(
     exceptions: &mut Vec<Exception>,
-    forgotten: &[u64],
+    forgotten: &[ForgotNote],
+    spot: Spot,
     write: u64,
-    fate: Option<&Fate>,
+    fate: Option<Fate>,
 ) -> Result<(), NoMemory>
     ensures { OnOk result (exceptions.new.items
-        ≡ exceptions.old.items ++ exception_by forgotten.now write (option_copied fate.entry)) }
+        ≡ exceptions.old.items ++ exception_then forgotten.now spot write fate) }
 {
     let write_id = WriteId(write);
     match fate {
@@ -40,7 +52,7 @@ fn put_exception(
             aborted: false,
         })?,
         Some(Fate::Aborted) => {
-            if !is_among(forgotten, write) {
+            if !is_forgotten(forgotten, spot, write) {
                 exceptions.push(Exception {
                     write: write_id,
                     aborted: true,
@@ -52,36 +64,68 @@ fn put_exception(
     Ok(())
 }
 
-fn exceptions_of(
-    alloc: Global,
-    fates: &[Fate],
-    forgotten: &[u64],
-    owners: &[u64],
-) -> Result<Vec<Exception>, NoMemory>
-    ensures { IfOk result (λ exceptions. exceptions.items
-        ≡ exceptions_from fates.now forgotten.now 1 owners.now) }
+#[tactic(auto, unfolding(crate::specs::Places::exceptions_of))]
+fn put_id(
+    exceptions: &mut Vec<Exception>,
+    notes: &[TransactionNote],
+    forgotten: &[ForgotNote],
+    spot: Spot,
+    id: IdNote,
+) -> Result<(), NoMemory>
+    ensures { OnOk result (exceptions.new.items
+        ≡ exceptions.old.items ++ exceptions_of notes.now forgotten.now spot id) }
 {
-    let mut exceptions = Vec::new(alloc);
-    for (at, txn) in owners.iter().enumerate() {
-        put_exception(
-            &mut exceptions,
-            forgotten,
-            at as u64 + 1,
-            numbered(fates, *txn),
-        )?;
+    if id.table == spot.table && id.write <= spot.high {
+        let fate = fate_in(notes, spot.position, spot.transactions, id.txn);
+        put_exception(exceptions, forgotten, spot, id.write, fate)?;
     }
-    Ok(exceptions)
+    Ok(())
 }
 
-/// The list of a table whose write ids were given to these transactions.
-pub fn list_by(
-    alloc: Global,
-    fates: &[Fate],
-    forgotten: &[u64],
-    owners: &[u64],
-) -> Result<WriteIdList, NoMemory>
-    ensures { IfOk result (λ list. list ≡ list_by fates.now forgotten.now owners.now) }
+/// Puts those of these ids behind the exceptions that were some.
+pub fn put_ids(
+    exceptions: &mut Vec<Exception>,
+    notes: &[TransactionNote],
+    forgotten: &[ForgotNote],
+    spot: Spot,
+    ids: &[IdNote],
+) -> Result<(), NoMemory>
+    ensures { OnOk result (exceptions.new.items
+        ≡ exceptions.old.items ++ flat_map (exceptions_of notes.now forgotten.now spot) ids.now) }
 {
-    let exceptions = exceptions_of(alloc, fates, forgotten, owners)?;
-    Ok(WriteIdList::new(WriteId(owners.len() as u64), exceptions))
+    for id in ids {
+        put_id(exceptions, notes, forgotten, spot, *id)?;
+    }
+    Ok(())
+}
+
+#[tactic(auto, unfolding(crate::specs::Places::ended_exceptions))]
+fn put_ended_one(
+    exceptions: &mut Vec<Exception>,
+    notes: &[TransactionNote],
+    forgotten: &[ForgotNote],
+    spot: Spot,
+    ended: &EndedId,
+) -> Result<(), NoMemory>
+    ensures { OnOk result (exceptions.new.items
+        ≡ exceptions.old.items ++ ended_exceptions notes.now forgotten.now spot ended.now) }
+{
+    put_id(exceptions, notes, forgotten, spot, ended.id)
+}
+
+/// The same of ids whose transactions ended.
+pub fn put_ended(
+    exceptions: &mut Vec<Exception>,
+    notes: &[TransactionNote],
+    forgotten: &[ForgotNote],
+    spot: Spot,
+    ids: &[EndedId],
+) -> Result<(), NoMemory>
+    ensures { OnOk result (exceptions.new.items
+        ≡ exceptions.old.items ++ flat_map (ended_exceptions notes.now forgotten.now spot) ids.now) }
+{
+    for ended in ids {
+        put_ended_one(exceptions, notes, forgotten, spot, ended)?;
+    }
+    Ok(())
 }

@@ -2,10 +2,10 @@
 #![tactic(auto)]
 
 mod catalogs;
+mod counts;
 mod earlier;
 mod exceptions;
 mod fates;
-mod tables;
 
 pub use catalogs::catalog_at;
 pub use earlier::list_at;

@@ -1,18 +1,46 @@
-use Rattle.std.proofs.Common.{◌≡◌, List, IfOk, take, subst, ap, ◌∙◌}
-use Rattle.hv_wids.specs.WriteIds.{WriteIds}
-use Rattle.hv_history.specs.declared.entry.Entry.{Entry}
-use Rattle.hv_history.specs.State.{state_of}
-use Rattle.hv_earlier.specs.Lists.{list_by, list_in, list_at}
-use Rattle.hv_earlier.specs.Scans.{kept_shown}
-use Rattle.hv_earlier.proofs.ScanLaws.{list-is}
+use Rattle.std.proofs.Common.{◌≤◌, List, sym, ◌∙◌, subst}
+use Rattle.std.specs.Prelude.{All}
+use Rattle.std.specs.List.Sorted.{IsStrictlyIncreasing}
+use Rattle.hv_wids.specs.declared.list.Exception.{Exception}
+use Rattle.hv_wids.specs.WriteIds.{ids_of}
+use Rattle.hv_earlier.specs.Lists.{list_at}
+use Rattle.hv_earlier.proofs.ListLemmas.{at-rises-from, at-rises, at-within}
+use Rattle.hv_earlier.proofs.SortedLaws.{sorted-list}
 use Rattle.hv_earlier.proofs.earlier.list_at.Goals as goal
+
+pub new-requires-clause-rises : goal.new-requires-clause-rises
+new-requires-clause-rises c =
+    let entries = c.args.book.now.entries in
+    let spot = c.spot_at-spot.result in
+    let same =
+    sorted-list c.sort_ids.new.exceptions.items (list_at entries spot.position spot.table).exceptions c.in_ok-sort_ids.ensures.sorted (at-rises-from entries spot.position spot.table)
+    (λ f. c.in_ok-sort_ids.ensures.same f ∙ c.in_ok-exceptions.ensures.exceptions f)
+    in
+    let P : List Exception → Type 0 = λ exceptions. IsStrictlyIncreasing (ids_of exceptions) in
+    subst P (sym same) (at-rises entries spot.position spot.table)
+
+pub new-requires-clause-within : goal.new-requires-clause-within
+new-requires-clause-within c =
+    let entries = c.args.book.now.entries in
+    let spot = c.spot_at-spot.result in
+    let same =
+    sorted-list c.sort_ids.new.exceptions.items (list_at entries spot.position spot.table).exceptions c.in_ok-sort_ids.ensures.sorted (at-rises-from entries spot.position spot.table)
+    (λ f. c.in_ok-sort_ids.ensures.same f ∙ c.in_ok-exceptions.ensures.exceptions f)
+    in
+    subst (λ (exceptions : List Exception). All (λ (one : Exception). one.write.0 ≤ spot.high) exceptions) (sym same)
+    (subst (λ high. All (λ (one : Exception). one.write.0 ≤ high) (list_at entries spot.position spot.table).exceptions) (sym c.spot_at-spot.ensures.spot.high) (at-within entries spot.position spot.table))
 
 pub returns : goal.returns
 returns c =
-    let same : list_by c.deref.result.now c.deref-2.result.now c.deref-3.result.now ≡ list_at c.args.book.now.entries c.args.position c.args.table.0 =
-    (λ i. list_by (c.deref.ensures.value i) (c.deref-2.ensures.value i) (c.deref-3.ensures.value i))
-    ∙ list-is c.front-entries.result.now c.args.table.0 c.in_ok-fates.fates.items (kept_shown c.in_ok-kept.kept) c.in_ok-fates.ensures c.in_ok-kept.ensures
-    ∙ ap (λ (xs : List Entry). list_in (state_of xs) c.args.table.0) (c.front-entries.ensures ∙ ap (take c.args.position) c.entries.ensures.entries)
+    let entries = c.args.book.now.entries in
+    let spot = c.spot_at-spot.result in
+    let same =
+    sorted-list c.sort_ids.new.exceptions.items (list_at entries spot.position spot.table).exceptions c.in_ok-sort_ids.ensures.sorted (at-rises-from entries spot.position spot.table)
+    (λ f. c.in_ok-sort_ids.ensures.same f ∙ c.in_ok-exceptions.ensures.exceptions f)
     in
-    let P : WriteIds → Type 0 = λ x. IfOk c.list_by.result (λ list. list ≡ x) in
-    record { list = subst P same c.list_by.ensures }
+    record {
+      list =
+          c.new.ensures
+          ∙ (λ i. record { high = record { 0 = c.spot_at-spot.ensures.spot.high i }; exceptions = same i })
+          ∙ (λ i. list_at entries (c.spot_at-spot.ensures.position i) (c.spot_at-spot.ensures.table i));
+    }

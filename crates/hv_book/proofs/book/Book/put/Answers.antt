@@ -3,6 +3,9 @@ use Rattle.std.proofs.Common.{◌≡◌, ◌∷◌, [], ◌++◌, length, map, s
 use Rattle.hv_history.specs.Book.{Kept, tree_of_entry}
 use Rattle.hv_history.specs.State.{State, Openings, state_of, openings_behind}
 use Rattle.hv_book.specs.Notes.{Notes, notes_of, noted}
+use Rattle.hv_book.specs.Index.{notes_in}
+use Rattle.hv_book.specs.Past.{Past, PastSpares, IsPast, past_in, past_behind}
+use Rattle.hv_book.proofs.PastLaws.{past-next}
 use Rattle.hv_book.proofs.BookLaws.{follows, high-below, boots-below, notes_of-snoc, state_of-snoc, AreBelow}
 use Rattle.hv_book.proofs.book.Book.put.Goals as goal
 
@@ -13,6 +16,11 @@ note-requires-clause-below c =
 
 pub note-requires-2-clause-below : goal.note-requires-2-clause-below
 note-requires-2-clause-below c =
+    subst (λ n. AreBelow n c.self.inside.index.tables.items) (ap length (sym c.as_slice.ensures.value))
+    (subst (λ (n : Notes). AreBelow (length c.self.inside.entries.items) n.tables) (sym c.self.invariant.notes) (high-below c.self.inside.entries.items))
+
+pub note-requires-3-clause-below : goal.note-requires-3-clause-below
+note-requires-3-clause-below c =
     let most = boots-below c.self.inside.entries.items in
     let same = ap (λ (o : Openings). o.count) c.self.invariant.opening in
     let place = ap length c.as_slice.ensures.value in
@@ -28,14 +36,21 @@ invariant_of-self c =
           ∙ ap (λ t. map tree_of_entry xs ++ t ∷ []) c.requires.tree
           ∙ sym (map-append tree_of_entry xs (c.args.entry ∷ [])) ∙ ap (map tree_of_entry) (sym c.append.ensures.items);
       notes =
-          c.note.ensures.notes ∙ ap (noted (length c.as_slice.result.now) c.args.entry) c.self.invariant.notes
+          c.note-2.ensures.notes ∙ ap (noted (length c.as_slice.result.now) c.args.entry) c.self.invariant.notes
           ∙ ap (λ n. noted n c.args.entry (notes_of xs)) place ∙ sym (notes_of-snoc xs c.args.entry) ∙ ap notes_of (sym c.append.ensures.items);
       opening =
-          c.note-2.ensures.openings ∙ ap (openings_behind (length c.as_slice.result.now) c.args.entry) c.self.invariant.opening
+          c.note-3.ensures.openings ∙ ap (openings_behind (length c.as_slice.result.now) c.args.entry) c.self.invariant.opening
           ∙ ap (λ n. openings_behind n c.args.entry (state_of xs).openings) (place ∙ sym (follows xs).entries)
           ∙ ap (λ (s : State). s.openings) (sym (state_of-snoc xs c.args.entry)) ∙ ap (λ ys. (state_of ys).openings) (sym c.append.ensures.items);
-      spares = c.note.ensures.spares;
-      entry_room = omega (arith, c.append.ensures.len, c.append.ensures.capacity, c.note.ensures.room, c.self.invariant.entry_room, c.requires.room, ap (λ (k : Kept). k.spare) c.self.view_is);
-      tree_room = omega (arith, c.append-2.ensures.len, c.append-2.ensures.capacity, c.note.ensures.room, c.self.invariant.tree_room, c.requires.room, ap (λ (k : Kept). k.spare) c.self.view_is);
-      kept_room = omega (arith, c.note-2.ensures.len, c.note-2.ensures.capacity, c.note.ensures.room, c.self.invariant.kept_room, c.requires.room, ap (λ (k : Kept). k.spare) c.self.view_is);
+      spares = c.note-2.ensures.spares;
+      entry_room = omega (arith, c.append.ensures.len, c.append.ensures.capacity, c.note-2.ensures.room, c.self.invariant.entry_room, c.requires.room, ap (λ (k : Kept). k.spare) c.self.view_is);
+      tree_room = omega (arith, c.append-2.ensures.len, c.append-2.ensures.capacity, c.note-2.ensures.room, c.self.invariant.tree_room, c.requires.room, ap (λ (k : Kept). k.spare) c.self.view_is);
+      kept_room = omega (arith, c.note-3.ensures.len, c.note-3.ensures.capacity, c.note-2.ensures.room, c.self.invariant.kept_room, c.requires.room, ap (λ (k : Kept). k.spare) c.self.view_is);
+      past =
+          subst (λ (p : Past). IsPast c.append.new.items.items p) (sym c.note.ensures.past)
+          (subst (λ ys. IsPast ys (past_behind (length c.as_slice.result.now) (notes_in c.self.inside.index) c.args.entry (past_in c.self.inside.past))) (sym c.append.ensures.items)
+          (subst (λ n. IsPast (xs ++ c.args.entry ∷ []) (past_behind n (notes_in c.self.inside.index) c.args.entry (past_in c.self.inside.past))) (sym place)
+          (subst (λ (n : Notes). IsPast (xs ++ c.args.entry ∷ []) (past_behind (length xs) n c.args.entry (past_in c.self.inside.past))) (sym c.self.invariant.notes)
+          (past-next xs c.args.entry (past_in c.self.inside.past) c.self.invariant.past))));
+      past_room = subst (λ n. PastSpares n c.note.new.self) (omega (arith, c.note-2.ensures.room)) c.note.ensures.spares;
     }

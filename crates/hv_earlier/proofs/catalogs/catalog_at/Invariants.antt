@@ -1,7 +1,7 @@
 use Rattle.std.proofs.Common.{◌≡◌, ◌++◌, drop, take}
 use Rattle.hv_history.specs.State.{state_of}
 use Rattle.hv_meta.specs.Catalogs.{live_infos}
-use Rattle.hv_earlier.proofs.catalogs.earlier_catalog.Given as goal
+use Rattle.hv_earlier.proofs.catalogs.catalog_at.Given as goal
 
 abbrev pub invariant-loop-i : goal.invariant-loop-i
 invariant-loop-i l =
