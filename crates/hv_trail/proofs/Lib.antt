@@ -1,0 +1,6 @@
+pub mod LastingLaws
+pub mod MarkLaws
+pub mod OwnLaws
+pub mod StepLaws
+pub mod SerialLaws
+pub mod WorkedRows
