@@ -127,7 +127,7 @@ impl Others<Mute, Toy> for Guest {
     }
 }
 
-fn says<W: Actor<Mute, Toy>>(alloc: Global, actor: &mut W, who: u64) -> bool {
+fn speak<W: Actor<Mute, Toy>>(alloc: Global, actor: &mut W, who: u64) -> bool {
     actor.hold(alloc, Says { who })
 }
 
@@ -150,7 +150,7 @@ fn alone_it_speaks_in_turn(rt: HostRuntime) -> Result<(), Fail> {
         items: Vec::new(alloc),
     };
     for who in [1, 2, 3] {
-        assert!(rt; says(alloc, &mut house, who));
+        assert!(rt; speak(alloc, &mut house, who));
     }
     spoke(&rt, house.items.as_slice(), &[1, 2, 3])
 }
@@ -164,7 +164,7 @@ fn others_speak_between(rt: HostRuntime) -> Result<(), Fail> {
     };
     let mut crowd = Crowd::new(alloc, house, Guest, 2)?;
     for who in [1, 2, 3] {
-        assert!(rt; says(alloc, &mut crowd, who));
+        assert!(rt; speak(alloc, &mut crowd, who));
     }
     let house = crowd.into_house();
     spoke(&rt, house.items.as_slice(), &[9, 1, 9, 2, 3])
