@@ -18,4 +18,4 @@ pub use own::{own_entries_make_the_record, own_places_rise};
 pub use serial::{one_after_another, replies_last};
 pub use steps::{a_step_adds_one, steps_add_up};
 pub use trail::{Mark, Reader, TrailItem};
-pub use worked::{worked_marks, worked_places, worked_records};
+pub use worked::{worked_marks, worked_places, worked_records, worked_steps};

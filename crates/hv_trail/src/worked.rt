@@ -6,7 +6,10 @@ ghost use Rattle.hv_trail.specs.declared.trail.Mark.TheVariants as mark;
 ghost use Rattle.hv_trail.specs.declared.trail.TrailItem.TheVariants as item;
 ghost use Rattle.hv_trail.specs.Trail.{book_of, marks_of, broken};
 ghost use Rattle.hv_trail.specs.Own.{own_places};
-ghost use Rattle.hv_trail.specs.Worked.{both_open, both_ended, put_at, wrote, record_of, snapshot_at, ids_of, ending_of};
+ghost use Rattle.hv_trail.specs.Steps as step;
+ghost use Rattle.hv_trail.specs.Steps.{gains};
+ghost use Rattle.hv_history.specs.declared.entry.Entry.TheVariants as entry;
+ghost use Rattle.hv_trail.specs.Worked.{both_open, both_ended, made, put_at, wrote, record_of, snapshot_at, ids_of, ending_of};
 
 /// The worked trail of fourteen items: its twelve entries and two marks, and who was broken.
 pub fn worked_marks()
@@ -32,4 +35,16 @@ pub fn worked_records()
 pub fn worked_places()
     ensures first { own_places 2 both_ended ≡ 4 ∷ 6 ∷ 8 ∷ 9 ∷ 13 ∷ [] }
     ensures second { own_places 3 both_ended ≡ 5 ∷ 7 ∷ 10 ∷ 11 ∷ 12 ∷ [] }
+{}
+
+/// Rows of the table of steps: a put, one that fails, a commit, one that meets a conflict, and one that is refused.
+pub fn worked_steps()
+    ensures put { gains (step.Put (reader.Txn (record { 0 = 2 })) put_at []) step.Done
+        ≡ item.Marked (mark.Wrote (reader.Txn (record { 0 = 2 })) put_at) ∷ [] }
+    ensures failed { gains (step.Put (reader.Txn (record { 0 = 3 })) put_at []) (step.Failed 1)
+        ≡ item.Marked (mark.Broke (Some (reader.Txn (record { 0 = 3 }))) true 1) ∷ [] }
+    ensures commit { gains (step.Commit (record { 0 = 2 }) wrote) step.Done ≡ item.Noted (entry.Commit (record { 0 = 2 }) wrote) ∷ [] }
+    ensures conflict { gains (step.Commit (record { 0 = 3 }) wrote) (step.Conflict (record { 0 = 2 }) made [])
+        ≡ item.Noted (entry.Abort (record { 0 = 3 }) (cause.Conflict (record { 0 = 2 }) made [])) ∷ [] }
+    ensures refused { gains (step.Commit (record { 0 = 3 }) wrote) step.Refused ≡ [] }
 {}

@@ -1,0 +1,86 @@
+-- What an actor knows of a house that it reaches again, and what its own steps left.
+-- Source: this project's profile.
+use Rattle.std.specs.Prelude.{◌≡◌, ℕ, zero, suc, ◌+◌, ◌-◌, Option, List, [], ◌∷◌, ◌++◌, length, map}
+use Rattle.hv_shelf.specs.Disk.{Store}
+use Rattle.hv_trail.specs.declared.trail.TrailItem.{TrailItem}
+use Rattle.hv_trail.specs.Lasting.{GoesOn}
+use Rattle.hv_trail.specs.Steps.{HouseSeen, Call, Outcome, Step}
+
+-- What was seen is a front of its trail. What lies behind is of others, and is as `between` says.
+pub record Reached {D : Type 0} (between : List TrailItem → Type 0) (root : D) (seen : List TrailItem) (house : HouseSeen D) : Type 0 where
+  pub start : house.start ≡ root
+  pub others : List TrailItem
+  pub goes_on : house.trail ≡ seen ++ others
+  pub between_is : between others
+
+-- these items, at places from this one on
+abbrev pub placed_from : ℕ → List TrailItem → List (ℕ × TrailItem)
+placed_from at [] = []
+placed_from at (item ∷ items) = (at, item) ∷ placed_from (at + 1) items
+
+abbrev pub places_of : List (ℕ × TrailItem) → List ℕ
+places_of own = map (λ (mine : ℕ × TrailItem). mine.0) own
+
+abbrev pub items_of : List (ℕ × TrailItem) → List TrailItem
+items_of own = map (λ (mine : ℕ × TrailItem). mine.1) own
+
+-- so many numbers, from this one on
+abbrev pub numbers_from : ℕ → ℕ → List ℕ
+numbers_from at zero = []
+numbers_from at (suc count) = at ∷ numbers_from (at + 1) count
+
+-- One's own items in their order, each at its place, with others' before, between and behind. What was added stands from `at` on.
+abbrev pub Woven : (List TrailItem → Type 0) → ℕ → List (ℕ × TrailItem) → List TrailItem → Type 0
+Woven between at [] added = between added
+Woven between at (mine ∷ own) added =
+    (others : List TrailItem) × (rest : List TrailItem)
+    × (added ≡ others ++ mine.1 ∷ rest) × (mine.0 ≡ at + length others) × between others × Woven between (mine.0 + 1) own rest
+
+-- One's own steps added these items, in their order, and gained their places; all that was seen before goes on. This one word
+-- stands for the rest.
+pub record Went (between : List TrailItem → Type 0) (gained : List TrailItem) (own own' : List ℕ) (before now : List TrailItem) : Type 0 where
+  pub placed : List (ℕ × TrailItem)
+  pub items : items_of placed ≡ gained
+  pub places : own' ≡ own ++ places_of placed
+  pub added : List TrailItem
+  pub seen : now ≡ before ++ added
+  pub woven : Woven between (length before) placed added
+  pub goes_on : GoesOn before now
+
+-- one step, over a house that was reached
+pub record Held {D : Type 0} (told : D → Option Store) (faults : D → ℕ) (between : List TrailItem → Type 0) (root : D) (seen seen' : List TrailItem)
+    (call : Call) (outcome : Outcome) (does : HouseSeen D → Type 0) : Type 0 where
+  pub house : HouseSeen D
+  pub then_ : HouseSeen D
+  pub reached : Reached between root seen house
+  pub step : Step told faults call outcome house then_
+  pub does_it : does house
+  pub saw : seen' ≡ then_.trail
+
+-- nothing is a row of others' items, and two rows are one
+pub record AreRows (between : List TrailItem → Type 0) : Type 0 where
+  pub none : between []
+  pub more : (xs ys : List TrailItem) → between xs → between ys → between (xs ++ ys)
+
+-- others add nothing
+abbrev pub Nothing : List TrailItem → Type 0
+Nothing others = others ≡ []
+
+-- others add anything
+abbrev pub Anything : List TrailItem → Type 0
+Anything others = Unit {0}
+
+-- the places of one who acts alone: all behind those that the opening left
+abbrev pub own_alone : {D : Type 0} → HouseSeen D → List ℕ
+own_alone house = numbers_from house.opened (length house.trail - house.opened)
+
+-- some items were added, by others
+pub record Adds {D : Type 0} (before now : HouseSeen D) : Type 0 where
+  pub gains : List TrailItem
+  pub trail : now.trail ≡ before.trail ++ gains
+  pub start : now.start ≡ before.start
+  pub opened : now.opened ≡ before.opened
+
+-- the places of one among others: those that it keeps, and from `since` on all of them
+abbrev pub own_among : List ℕ → ℕ → List TrailItem → List ℕ
+own_among early since trail = early ++ numbers_from since (length trail - since)

@@ -1,0 +1,91 @@
+ghost use Rattle.std.specs.Prelude.{◌≡◌, ◌≤◌, ℕ, List, length};
+ghost use Rattle.hv_trail.specs.declared.trail.TrailItem.{TrailItem};
+ghost use Rattle.hv_trail.specs.Steps.{HouseSeen, Call, Outcome, gains, Step};
+ghost use Rattle.hv_actor.specs.Acting.{Reached, Held, Went, AreRows};
+
+use hv_shelf::Shelf;
+use std::alloc::Global;
+
+/// A house over a store, as those see it who act on it.
+pub trait Housed<D: Shelf>: Drop {
+    ghost seen: { Self → HouseSeen D };
+
+    /// How many items its trail has.
+    fn items(&self) -> u64
+        ensures items { result ≡ length (seen self.now).trail };
+
+    /// How many of them its opening left, all of which still stand.
+    fn opened(&self) -> u64
+        ensures opened { result ≡ (seen self.now).opened }
+        ensures within { (seen self.now).opened ≤ length (seen self.now).trail };
+}
+
+/// Something that is done in one hold of a house: one call on it, with what is tested before it.
+pub trait Act<D: Shelf, H: Housed<D>>: Drop {
+    type Answer;
+
+    /// When it may be done.
+    ghost can: { Self → HouseSeen D → Type 0 };
+
+    /// The call that it makes, by what it answers.
+    ghost call: { Self → Self.Answer → Call };
+
+    /// How that call ended.
+    ghost outcome: { Self → Self.Answer → Outcome };
+
+    /// What is true of its answer, over the house as it was.
+    ghost does: { Self → HouseSeen D → Self.Answer → Type 0 };
+
+    fn act(self, alloc: Global, house: &mut H) -> Self::Answer
+        requires can { can self (H.seen house.old) }
+        ensures step { Step D.told D.faults (call self result) (outcome self result) (H.seen house.old) (H.seen house.new) }
+        ensures does { does self (H.seen house.old) result };
+}
+
+/// One who acts on a house, step by step, and may not be the only one.
+pub trait Actor<D: Shelf, H: Housed<D>> {
+    /// The store that the house was opened over.
+    ghost root: { Self → D };
+
+    /// The trail, as far as it was seen.
+    ghost seen: { Self → List TrailItem };
+
+    /// The places of the trail that are its own.
+    ghost own: { Self → List ℕ };
+
+    /// What others may add between two of its steps.
+    ghost between: { List TrailItem → Type 0 };
+
+    /// Lets one step happen. What the house is then was seen, and what the step added is its own.
+    fn hold<A: Act<D, H>>(&mut self, alloc: Global, act: A) -> A::Answer
+        requires can { (house : HouseSeen D) → Reached between (root self.old) (seen self.old) house → A.can act house }
+        ensures root { root self.new ≡ root self.old }
+        ensures held { Held D.told D.faults between (root self.old) (seen self.old) (seen self.new)
+            (A.call act result) (A.outcome act result) (λ house. A.does act house result) }
+        ensures went { Went between (gains (A.call act result) (A.outcome act result))
+            (own self.old) (own self.new) (seen self.old) (seen self.new) };
+
+    /// What two rows of others' items may be, they may be together.
+    ghost rows: { AreRows between };
+}
+
+/// A house on which nobody else acts.
+impl<D: Shelf, H: Housed<D>> Actor<D, H> for H {
+    ghost use Rattle.hv_actor.specs.Acting.{Nothing, own_alone};
+    ghost use Rattle.hv_actor.specs.Rows.{nothing_rows};
+
+    ghost root = { λ h. (H.seen h).start };
+
+    ghost seen = { λ h. (H.seen h).trail };
+
+    ghost own = { λ h. own_alone (H.seen h) };
+
+    ghost between = { Nothing };
+
+    ghost rows = { nothing_rows };
+
+    fn hold<A: Act<D, H>>(&mut self, alloc: Global, act: A) -> A::Answer {
+        let _opened = self.opened();
+        act.act(alloc, self)
+    }
+}

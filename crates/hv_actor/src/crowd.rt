@@ -1,0 +1,149 @@
+ghost use Rattle.std.specs.Prelude.{◌≡◌, ◌≤◌, ◌<◌, ◌+◌, ◌-◌, ◌++◌, min, length, vec_len, vec_capacity, IfOk, true};
+ghost use Rattle.hv_trail.specs.Steps.{HouseSeen, gains};
+ghost use Rattle.hv_actor.specs.Acting.{Reached, Held, Went, Adds, Anything, numbers_from, own_among};
+
+use crate::actor::{Act, Actor, Housed};
+use hv_base::NoMemory;
+use hv_shelf::Shelf;
+use std::alloc::Global;
+use std::marker::PhantomData;
+
+/// Others who act on a house.
+pub trait Others<D: Shelf, H: Housed<D>>: Drop {
+    /// Lets them do what they want to do now.
+    fn go(&mut self, alloc: Global, house: &mut H)
+        ensures adds { Adds (H.seen house.old) (H.seen house.new) };
+}
+
+/// A house on which others act too: before each step of the one who holds it, as often as there is room to keep
+/// which places are its own, and not from then on.
+pub struct Crowd<D: Shelf, H: Housed<D>, O: Others<D, H>> {
+    house: H,
+    others: O,
+    early: Vec<u64>,
+    since: u64,
+    store: PhantomData<D>,
+}
+
+/// Keeps a place in a list that has room, where an item stands there.
+fn keep(early: &mut Vec<u64>, at: u64, now: u64)
+    requires room { vec_len early.old < vec_capacity early.old }
+    requires least { at ≤ now }
+    requires most { now ≤ at + 1 }
+    ensures places { early.new.items ≡ early.old.items ++ numbers_from at (now - at) }
+{
+    if at < now {
+        early.push(at).unwrap();
+    }
+}
+
+impl<D: Shelf, H: Housed<D>, O: Others<D, H>> Crowd<D, H, O> {
+    /// The house among these others, who come so many times.
+    pub fn new(alloc: Global, house: H, others: O, times: usize) -> Result<Crowd<D, H, O>, NoMemory>
+        ensures house { IfOk result (λ crowd. crowd.house ≡ house) }
+    {
+        let early = Vec::with_capacity(alloc, times)?;
+        let since = house.items();
+        Ok(Crowd {
+            house,
+            others,
+            early,
+            since,
+            store: PhantomData,
+        })
+    }
+
+    /// The house, when the others have gone.
+    pub fn into_house(self) -> H
+        ensures house { result ≡ self.house }
+    {
+        let Crowd {
+            house,
+            others: _others,
+            early: _early,
+            since: _since,
+            store: _store,
+        } = self;
+        house
+    }
+}
+
+impl<D: Shelf, H: Housed<D>, O: Others<D, H>> Crowd<D, H, O> {
+    /// Ends the places that were all its own where the trail ends, if they began behind it.
+    fn settle(&mut self)
+        ensures house { self.new.house ≡ self.old.house }
+        ensures early { self.new.early ≡ self.old.early }
+        ensures since { self.new.since ≡ min self.old.since (length (H.seen self.old.house).trail) }
+    {
+        self.since = self.since.min(self.house.items());
+    }
+
+    /// Whether others may come: there is room to keep one more place, and no place is its own but those that are kept.
+    fn has_room(&self) -> bool
+        ensures room { result ≡ true → vec_len self.now.early < vec_capacity self.now.early }
+        ensures since { result ≡ true → self.now.since ≡ length (H.seen self.now.house).trail }
+    {
+        self.early.len() < self.early.capacity() && self.since == self.house.items()
+    }
+
+    /// One step, behind those of the others.
+    fn behind_others<A: Act<D, H>>(&mut self, alloc: Global, act: A) -> A::Answer
+        requires can { (house : HouseSeen D) → Reached Anything (H.seen self.old.house).start (H.seen self.old.house).trail house → A.can act house }
+        requires room { vec_len self.old.early < vec_capacity self.old.early }
+        requires since { self.old.since ≡ length (H.seen self.old.house).trail }
+        ensures root { (H.seen self.new.house).start ≡ (H.seen self.old.house).start }
+        ensures held { Held D.told D.faults Anything (H.seen self.old.house).start (H.seen self.old.house).trail (H.seen self.new.house).trail
+            (A.call act result) (A.outcome act result) (λ house. A.does act house result) }
+        ensures went { Went Anything (gains (A.call act result) (A.outcome act result))
+            (own_among self.old.early.items self.old.since (H.seen self.old.house).trail)
+            (own_among self.new.early.items self.new.since (H.seen self.new.house).trail)
+            (H.seen self.old.house).trail (H.seen self.new.house).trail }
+    {
+        self.others.go(alloc, &mut self.house);
+        let at = self.house.items();
+        let answer = act.act(alloc, &mut self.house);
+        let now = self.house.items();
+        keep(&mut self.early, at, now);
+        self.since = now;
+        answer
+    }
+
+    /// One step, and nobody comes before it.
+    fn undisturbed<A: Act<D, H>>(&mut self, alloc: Global, act: A) -> A::Answer
+        requires can { (house : HouseSeen D) → Reached Anything (H.seen self.old.house).start (H.seen self.old.house).trail house → A.can act house }
+        requires since { self.old.since ≤ length (H.seen self.old.house).trail }
+        ensures root { (H.seen self.new.house).start ≡ (H.seen self.old.house).start }
+        ensures held { Held D.told D.faults Anything (H.seen self.old.house).start (H.seen self.old.house).trail (H.seen self.new.house).trail
+            (A.call act result) (A.outcome act result) (λ house. A.does act house result) }
+        ensures went { Went Anything (gains (A.call act result) (A.outcome act result))
+            (own_among self.old.early.items self.old.since (H.seen self.old.house).trail)
+            (own_among self.new.early.items self.new.since (H.seen self.new.house).trail)
+            (H.seen self.old.house).trail (H.seen self.new.house).trail }
+    {
+        act.act(alloc, &mut self.house)
+    }
+}
+
+impl<D: Shelf, H: Housed<D>, O: Others<D, H>> Actor<D, H> for Crowd<D, H, O> {
+    ghost use Rattle.hv_actor.specs.Acting.{Anything, own_among};
+    ghost use Rattle.hv_actor.specs.Rows.{anything_rows};
+
+    ghost root = { λ c. (H.seen c.house).start };
+
+    ghost seen = { λ c. (H.seen c.house).trail };
+
+    ghost own = { λ c. own_among c.early.items c.since (H.seen c.house).trail };
+
+    ghost between = { Anything };
+
+    ghost rows = { anything_rows };
+
+    fn hold<A: Act<D, H>>(&mut self, alloc: Global, act: A) -> A::Answer {
+        self.settle();
+        if self.has_room() {
+            self.behind_others(alloc, act)
+        } else {
+            self.undisturbed(alloc, act)
+        }
+    }
+}

@@ -1,0 +1,13 @@
+//! Who acts on a house: alone, or with others between.
+#![tactic(auto)]
+
+mod actor;
+mod crowd;
+mod laws;
+
+pub use actor::{Act, Actor, Housed};
+pub use crowd::{Crowd, Others};
+pub use laws::{alone_adds_its_own, own_places_have_own_items, steps_go_together};
+
+#[cfg(test)]
+mod tests;
