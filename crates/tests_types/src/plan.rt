@@ -103,14 +103,20 @@ fn keys(alloc: Global, keys: &[SortKey], out: &mut Vec<u8>) -> Out {
     Ok(())
 }
 
+#[cycle(plan)]
 fn source(source: &TypedSource, alloc: Global, width: u32, out: &mut Vec<u8>) -> Out {
     match source {
         TypedSource::Table(place) => number(alloc, " #", u64::from(*place), out)?,
-        TypedSource::Query(_) => text(" ()", out)?,
+        TypedSource::Query(query) => {
+            text(" (", out)?;
+            plan(query.get(), alloc, out)?;
+            text(" )", out)?;
+        }
     }
     number(alloc, "/", u64::from(width), out)
 }
 
+#[cycle(plan)]
 fn joins(joins: &[TypedJoin], alloc: Global, out: &mut Vec<u8>) -> Out {
     for join in joins {
         text(kind(join.kind), out)?;
@@ -120,23 +126,26 @@ fn joins(joins: &[TypedJoin], alloc: Global, out: &mut Vec<u8>) -> Out {
     Ok(())
 }
 
-fn from(from: &Option<TypedFrom>, alloc: Global, out: &mut Vec<u8>) -> Out {
-    match from {
-        None => Ok(()),
-        Some(from) => {
-            text(" from", out)?;
-            source(&from.source, alloc, from.width, out)?;
-            joins(from.joins.as_slice(), alloc, out)?;
-            laterals(alloc, from.laterals.as_slice(), out)
+#[cycle(plan)]
+fn from(from: &TypedFrom, alloc: Global, out: &mut Vec<u8>) -> Out {
+    text(" from", out)?;
+    source(&from.source, alloc, from.width, out)?;
+    joins(from.joins.as_slice(), alloc, out)?;
+    laterals(alloc, from.laterals.as_slice(), out)
+}
+
+#[cycle(plan)]
+fn select(select: &TypedSelect, alloc: Global, out: &mut Vec<u8>) -> Out {
+    match &select.from {
+        None => rest(alloc, select, out),
+        Some(sources) => {
+            from(sources, alloc, out)?;
+            rest(alloc, select, out)
         }
     }
 }
 
-fn select(select: &TypedSelect, alloc: Global, out: &mut Vec<u8>) -> Out {
-    from(&select.from, alloc, out)?;
-    rest(alloc, select, out)
-}
-
+#[cycle(plan)]
 fn unions(unions: &[TypedUnion], alloc: Global, out: &mut Vec<u8>) -> Out {
     for union in unions {
         text(if union.all { " all" } else { " union" }, out)?;
@@ -145,8 +154,9 @@ fn unions(unions: &[TypedUnion], alloc: Global, out: &mut Vec<u8>) -> Out {
     Ok(())
 }
 
-/// The sources with the places of their tables and their widths (a query among them is `()`), joins, lateral views, conditions, groups,
-/// items, unions, keys and limit of a query.
+/// The sources with the places of their tables, or in brackets what was made of a query among them, and their widths; joins, lateral
+/// views, conditions, groups, items, unions, keys and limit of a query.
+#[cycle(plan)]
 pub(crate) fn plan(query: &TypedQuery, alloc: Global, out: &mut Vec<u8>) -> Out {
     select(&query.select, alloc, out)?;
     unions(query.unions.as_slice(), alloc, out)?;
