@@ -1,16 +1,12 @@
 -- What comes behind what is done.
-use Rattle.std.proofs.Common.{◌≡◌, List, [], ◌∷◌, ◌++◌, Result, Ok, Err, refl, sym, ap, ◌∙◌, drop, map, set, append_assoc}
+use Rattle.std.proofs.Common.{◌≡◌, List, [], ◌∷◌, ◌++◌, Result, Ok, Err, refl, sym, ap, ◌∙◌, drop, append_assoc}
 use Rattle.std.proofs.lemmas.List.{append-nil}
 use Rattle.hv_base.specs.declared.refusal.Refusal.{Refusal}
 use Rattle.hv_typed.specs.declared.tree.TypedExpr.{TypedExpr}
-use Rattle.hv_ast.specs.declared.change.Assignment.{Assignment}
 use Rattle.hv_logic.specs.declared.catalog.Column.{Column}
-use Rattle.hv_logic.specs.declared.catalog.Shape.{Shape}
-use Rattle.hv_types.specs.Faults.{and_then, in_front}
+use Rattle.hv_types.specs.Faults.{in_front}
 use Rattle.hv_types.specs.Nodes.{as_kind}
-use Rattle.hv_changes.specs.Columns.{field_of}
-use Rattle.hv_changes.specs.Inserts.{converted_row, first_type, kind_at}
-use Rattle.hv_changes.specs.Updates.{place_set, value_set, kinds_of, all_set}
+use Rattle.hv_changes.specs.Inserts.{converted_row, first_type}
 use Rattle.hv_select.specs.Selects.{behind}
 
 pub behind-in_front : {A : Type 0} (done : List A) (a : A) (rest : Result (List A) Refusal) → behind done (in_front a rest) ≡ behind (done ++ a ∷ []) rest
@@ -41,20 +37,3 @@ pub row-end : (columns rest : List Column) (made row : List TypedExpr) → IsMad
 row-end columns rest made row is = sym (append-nil made) ∙ is [] ∙ ap (converted_row columns) (append-nil row)
 
 pub ruleset orders = (behind-in_front, behind-behind, behind-nothing)
-
--- ---- one assignment more
-
-module _ (shape : Shape) (columns : List Column) where
-  pub set-end : (before : List Assignment) (values : List TypedExpr) → all_set shape columns before values [] ≡ Ok values
-  unfolding all_set
-  set-end before values = refl
-
-  pub set-step : (before : List Assignment) (values : List TypedExpr) (a : Assignment) (rest : List Assignment)
-      → all_set shape columns before values (a ∷ rest)
-      ≡ and_then (place_set shape columns before a.column) (λ place.
-      and_then (value_set (map (field_of shape.name) columns) (kind_at (kinds_of columns) place) a.value) (λ x.
-      all_set shape columns (before ++ a ∷ []) (set values place x) rest))
-  unfolding all_set
-  set-step before values a rest = refl
-
-pub ruleset sets = (set-end, set-step)

@@ -67,14 +67,21 @@ kept place (kind ∷ kinds) = tree.Column place kind ∷ kept (place + 1) kinds
 abbrev pub kinds_of : List Column → List SqlType
 kinds_of columns = map column_kind columns
 
--- of a table of these columns, behind these assignments, which came to these values
-module _ (shape : Shape) (columns : List Column) where
+-- of a table of these columns, of these types, behind these assignments, which came to these values
+module _ (shape : Shape) (columns : List Column) (fields : List Field) (kinds : List SqlType) where
+  unfoldable pub one_set : List Assignment → List TypedExpr → Assignment → Result (List TypedExpr) Refusal
+  one_set before values assignment =
+      and_then (place_set shape columns before assignment.column) (λ place.
+      and_then (value_set fields (kind_at kinds place) assignment.value) (λ x. Ok (slice_set values place x)))
+
   unfoldable pub all_set : List Assignment → List TypedExpr → List Assignment → Result (List TypedExpr) Refusal
   all_set before values [] = Ok values
   all_set before values (assignment ∷ rest) =
-      and_then (place_set shape columns before assignment.column) (λ place.
-      and_then (value_set (map (field_of shape.name) columns) (kind_at (kinds_of columns) place) assignment.value) (λ x.
-      all_set (before ++ assignment ∷ []) (slice_set values place x) rest))
+      and_then (one_set before values assignment) (λ values. all_set (before ++ assignment ∷ []) values rest)
+
+abbrev pub sets_of : Shape → List Column → List Assignment → Result (List TypedExpr) Refusal
+sets_of shape columns assignments =
+    all_set shape columns (map (field_of shape.name) columns) (kinds_of columns) [] (kept 0 (kinds_of columns)) assignments
 
 -- ---- the statements
 
@@ -84,7 +91,7 @@ update_of place values filter =
 
 unfoldable pub updated : ℕ → Shape → Update → Result TypedChange Refusal
 updated place shape update =
-    and_then (all_set shape (columns_of shape) [] (kept 0 (kinds_of (columns_of shape))) update.assignments) (λ values.
+    and_then (sets_of shape (columns_of shape) update.assignments) (λ values.
     and_then (filter_typed (fields_of shape) update.filter) (λ filter. Ok (update_of place values filter)))
 
 -- nothing is inserted

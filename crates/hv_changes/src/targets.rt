@@ -80,11 +80,7 @@ fn are_listed(names: &[Text], columns: &[Column]) -> bool
 
 /// The columns that the values of an INSERT's source are for, in their order, or the first fault of its
 /// column list.
-pub fn targets_of(
-    alloc: Global,
-    shape: &Shape,
-    names: &[Text],
-) -> Result<List<Column>, TypeFault>
+pub fn targets_of(alloc: Global, shape: &Shape, names: &[Text]) -> Result<List<Column>, TypeFault>
     ensures { Types result (targets_of shape.now names.now) }
 {
     let columns = columns_of(alloc, shape)?;

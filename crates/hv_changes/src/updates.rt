@@ -3,9 +3,9 @@
 ghost use Rattle.std.specs.Prelude.{◌≡◌, IfOk, [], slice_set};
 ghost use Rattle.hv_types.specs.Faults.{Types};
 ghost use Rattle.hv_select.specs.Sources.{filter_typed};
-ghost use Rattle.hv_changes.specs.Columns.{columns_of, fields_of};
+ghost use Rattle.hv_changes.specs.Columns.{fields_of};
 ghost use Rattle.hv_changes.specs.Inserts.{kind_at};
-ghost use Rattle.hv_changes.specs.Updates.{is_bucketed, is_fixed, is_set, if_free, place_set, if_converts, value_set, kept, kinds_of, all_set, update_of, updated, delete_of, deleted, truncated};
+ghost use Rattle.hv_changes.specs.Updates.{is_bucketed, is_fixed, is_set, if_free, place_set, if_converts, value_set, kept, one_set, all_set, sets_of, update_of, updated, delete_of, deleted, truncated};
 
 use crate::change::{Deletes, Origin, TypedChange};
 use crate::columns::{column_kinds, columns_of, fields_named, fields_of, place_named};
@@ -96,8 +96,8 @@ fn value_set(
 }
 
 /// Each column as it is.
-fn kept(alloc: Global, kinds: &[SqlType]) -> Result<Vec<TypedExpr>, NoMemory>
-    ensures { IfOk result (λ values. values.items ≡ kept 0 kinds.now) }
+fn kept(alloc: Global, kinds: &[SqlType]) -> Result<List<TypedExpr>, NoMemory>
+    ensures { IfOk result (λ values. values ≡ kept 0 kinds.now) }
 {
     let mut values = Vec::with_capacity(alloc, kinds.len())?;
     for i in 0..kinds.len() {
@@ -106,36 +106,78 @@ fn kept(alloc: Global, kinds: &[SqlType]) -> Result<Vec<TypedExpr>, NoMemory>
         };
         values.push(TypedExpr::Column(place, kinds[i]))?;
     }
-    Ok(values)
+    Ok(List::from_vec(values))
 }
 
-fn set_value(values: &mut Vec<TypedExpr>, place: usize, value: Boxed<TypedExpr>)
-    ensures { values.new.items ≡ slice_set values.old.items place value }
+fn with_value(values: List<TypedExpr>, place: usize, value: Boxed<TypedExpr>) -> List<TypedExpr>
+    ensures { result ≡ slice_set values place value }
 {
+    let mut values = values.into_vec();
     if place < values.len() {
         values[place] = value.into_inner();
     }
+    List::from_vec(values)
 }
 
-#[tactic(auto, using(crate::proofs::Orders::sets))]
+/// One assignment more.
+#[tactic(auto, unfolding(crate::specs::Updates::one_set))]
+fn one_set(
+    alloc: Global,
+    shape: &Shape,
+    columns: &[Column],
+    fields: &[Field],
+    kinds: &[SqlType],
+    before: &[Assignment],
+    values: List<TypedExpr>,
+    assignment: &Assignment,
+) -> Result<List<TypedExpr>, TypeFault>
+    ensures { Types result (one_set shape.now columns.now fields.now kinds.now before.now values assignment.now) }
+{
+    let place = place_set(shape, columns, before, &assignment.column)?;
+    let value = value_set(alloc, fields, kind_at(kinds, place), &assignment.value)?;
+    Ok(with_value(values, place, value))
+}
+
+#[tactic(auto, unfolding(crate::specs::Updates::all_set))]
 fn all_set(
+    alloc: Global,
+    shape: &Shape,
+    columns: &[Column],
+    fields: &[Field],
+    kinds: &[SqlType],
+    assignments: &[Assignment],
+) -> Result<List<TypedExpr>, TypeFault>
+    ensures { Types result (all_set shape.now columns.now fields.now kinds.now [] (kept 0 kinds.now) assignments.now) }
+{
+    let mut values = kept(alloc, kinds)?;
+    for (i, assignment) in assignments.iter().enumerate() {
+        let before = &assignments[..i];
+        values = one_set(
+            alloc, shape, columns, fields, kinds, before, values, assignment,
+        )?;
+    }
+    Ok(values)
+}
+
+/// The values of an updated row.
+fn sets_of(
     alloc: Global,
     shape: &Shape,
     columns: &[Column],
     assignments: &[Assignment],
 ) -> Result<List<TypedExpr>, TypeFault>
-    ensures { Types result (all_set shape.now columns.now [] (kept 0 (kinds_of columns.now)) assignments.now) }
+    ensures { Types result (sets_of shape.now columns.now assignments.now) }
 {
     let fields = fields_named(alloc, &shape.name, columns)?;
     let kinds = column_kinds(alloc, columns)?;
-    let mut values = kept(alloc, kinds.as_slice())?;
-    for (i, assignment) in assignments.iter().enumerate() {
-        let place = place_set(shape, columns, &assignments[..i], &assignment.column)?;
-        let kind = kind_at(kinds.as_slice(), place);
-        let value = value_set(alloc, fields.as_slice(), kind, &assignment.value)?;
-        set_value(&mut values, place, value);
-    }
-    Ok(List::from_vec(values))
+    all_set(
+        alloc,
+        shape,
+        columns,
+        fields.as_slice(),
+        kinds.as_slice(),
+        assignments,
+    )
 }
 
 fn filter_typed(
@@ -163,7 +205,12 @@ pub fn updated(
     ensures { Types result (updated place shape.now update.now) }
 {
     let columns = columns_of(alloc, shape)?;
-    let values = all_set(alloc, shape, columns.as_slice(), update.assignments.as_slice())?;
+    let values = sets_of(
+        alloc,
+        shape,
+        columns.as_slice(),
+        update.assignments.as_slice(),
+    )?;
     let filter = filter_typed(alloc, shape, &update.filter)?;
     Ok(TypedChange {
         table: place,
@@ -173,11 +220,7 @@ pub fn updated(
     })
 }
 
-fn delete_of(
-    alloc: Global,
-    place: u32,
-    filter: Option<Boxed<TypedExpr>>,
-) -> TypedChange
+fn delete_of(alloc: Global, place: u32, filter: Option<Boxed<TypedExpr>>) -> TypedChange
     ensures { result ≡ delete_of place filter }
 {
     TypedChange {

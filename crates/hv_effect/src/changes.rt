@@ -23,7 +23,7 @@ pub(crate) fn query_rows(
 ) -> Result<Vec<Row>, NoMemory>
     ensures { IfOk result (λ rows. rows.items ≡ rows_of query.now (tables_of (found_of tables.now))) }
 {
-    Ok(run(alloc, query, tables, 1)?)
+    Ok(run(alloc, &*query, &*tables, 1)?)
 }
 
 fn inserts_of(
@@ -57,10 +57,17 @@ fn change_effect(
 ) -> Result<Effect, NoMemory>
     ensures { IfOk result (λ effect. effect ≡ change_effect shape.now change.now found.now (tables_of (found_of tables.now))) }
 {
-    let gone = matched(alloc, &change.deletes, found)?;
+    let gone = matched(alloc, &change.deletes, &*found)?;
     let inserts = inserts_of(alloc, shape, change, gone.as_slice(), tables)?;
     let width = shape.columns.len();
-    let deletes = deleted(alloc, width, &change.deletes, inserts.as_slice(), found, gone)?;
+    let deletes = deleted(
+        alloc,
+        width,
+        &change.deletes,
+        inserts.as_slice(),
+        found,
+        gone,
+    )?;
     Ok(Effect {
         inserts,
         deletes: List::from_vec(deletes),

@@ -12,22 +12,18 @@ use hv_typed::TypedExpr;
 use hv_value::{Row, Value};
 use std::alloc::Global;
 
-fn is_matched(
+fn is_matched<'a>(
     alloc: Global,
-    condition: &Option<Boxed<TypedExpr>>,
-    found: &Found,
+    condition: &'a Option<Boxed<TypedExpr>>,
+    found: &'a Found,
 ) -> Result<bool, NoMemory>
     ensures { IfOk result (λ met. met ≡ is_matched condition.now found.now) }
 {
-    is_met(
-        alloc,
-        &*condition,
-        &Frame::of(found.row.values.as_slice()),
-    )
+    is_met(alloc, condition, &Frame::of(found.row.values.as_slice()))
 }
 
 fn keep(alloc: Global, kept: &mut Vec<Found>, met: bool, found: &Found) -> Result<(), NoMemory>
-    ensures { OnOk result (kept.new.items ≡ (if met then kept.old.items ++ found.now ∷ [] else kept.old.items)) }
+    ensures { OnOk result (kept.new.items ≡ kept.old.items ++ (if met then found.now ∷ [] else [])) }
 {
     if met {
         kept.push(found.duplicate(alloc)?)?;
@@ -35,10 +31,10 @@ fn keep(alloc: Global, kept: &mut Vec<Found>, met: bool, found: &Found) -> Resul
     Ok(())
 }
 
-fn all_matched(
+fn all_matched<'a>(
     alloc: Global,
-    condition: &Option<Boxed<TypedExpr>>,
-    found: &[Found],
+    condition: &'a Option<Boxed<TypedExpr>>,
+    found: &'a [Found],
 ) -> Result<Vec<Found>, NoMemory>
     ensures { IfOk result (λ kept. kept.items ≡ filter (is_matched condition.now) found.now) }
 {
@@ -51,10 +47,10 @@ fn all_matched(
 }
 
 /// The rows for which its condition is true.
-pub(crate) fn matched(
+pub(crate) fn matched<'a>(
     alloc: Global,
-    deletes: &Deletes,
-    found: &[Found],
+    deletes: &'a Deletes,
+    found: &'a [Found],
 ) -> Result<Vec<Found>, NoMemory>
     ensures { IfOk result (λ kept. kept.items ≡ matched deletes.now found.now) }
 {

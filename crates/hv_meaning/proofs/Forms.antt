@@ -14,6 +14,7 @@ use Rattle.hv_ast.specs.declared.query.Source.{Source}
 use Rattle.hv_ast.specs.declared.statement.Stmt.{Stmt}
 use Rattle.hv_ast.specs.declared.statement.Stmt.TheVariants as stmt
 use Rattle.hv_ast.specs.declared.table.CreateTable.{CreateTable}
+use Rattle.hv_value.specs.declared.sql_type.SqlType.{SqlType}
 use Rattle.hv_value.specs.Conversion.{is_convertible}
 use Rattle.hv_typed.specs.declared.tree.TypedExpr.{TypedExpr}
 use Rattle.hv_logic.specs.declared.catalog.Column.{Column}
@@ -21,6 +22,7 @@ use Rattle.hv_logic.specs.declared.catalog.Shape.{Shape}
 use Rattle.hv_logic.specs.declared.catalog.TableInfo.{TableInfo}
 use Rattle.hv_logic.specs.declared.effect.Found.{Found}
 use Rattle.hv_logic.specs.Shapes.{bucket_names}
+use Rattle.hv_types.specs.declared.scope.Field.{Field}
 use Rattle.hv_types.specs.declared.scope.Over.TheVariants as over
 use Rattle.hv_types.specs.Kinds.{kind_of}
 use Rattle.hv_types.specs.Typing.{typed}
@@ -28,7 +30,7 @@ use Rattle.hv_select.specs.Sources.{filter_typed}
 use Rattle.hv_changes.specs.declared.change.TypedChange.{TypedChange}
 use Rattle.hv_changes.specs.Columns.{columns_of, field_of, fields_of, is_named}
 use Rattle.hv_changes.specs.Inserts.{is_empty, is_listed, if_new, column_named, columns_listed, are_listed, targets_of, row_typed, rows_typed, value_typed, has_count, converts, kind_at, outputs_convert, values_inserted, query_inserted}
-use Rattle.hv_changes.specs.Updates.{is_fixed, is_set, if_free, place_set, value_set, kept, kinds_of, all_set, updated, deleted}
+use Rattle.hv_changes.specs.Updates.{is_fixed, is_set, if_free, place_set, value_set, kept, kinds_of, one_set, all_set, sets_of, updated, deleted}
 use Rattle.hv_analysis.specs.declared.logic.Logic.{Logic}
 use Rattle.hv_analysis.specs.declared.logic.Logic.TheVariants as logic
 use Rattle.hv_analysis.specs.Analysis.{is_windowless, are_windowless, is_form, query_analysed, change_analysed, form_analysed, analysed}
@@ -90,17 +92,22 @@ free-place : (shape : Shape) (before : List Assignment) (name : List ℕ) (place
 free-place shape before name None = tt
 free-place shape before name (Some place) = free-if (is_fixed shape place) _ _ tt (free-if (is_set before name) _ _ tt tt)
 
-free-sets : (shape : Shape) (columns : List Column) (before : List Assignment) (values : List TypedExpr) (assignments : List Assignment)
-    → Free (all_set shape columns before values assignments)
-unfolding all_set
-free-sets shape columns before values [] = tt
-free-sets shape columns before values (a ∷ rest) =
-    let fields = map (field_of shape.name) columns in
-    free-then (place_set shape columns before a.column) _ (free-place shape before a.column (position (is_named a.column) columns)) (λ place.
-    free-then (value_set fields (kind_at (kinds_of columns) place) a.value) _
-    (free-then (typed fields a.value over.Row) _ (typed-free fields a.value over.Row) (λ x.
-    free-if (is_convertible (kind_of x) (kind_at (kinds_of columns) place)) _ _ tt tt)) (λ x.
-    free-sets shape columns (before ++ a ∷ []) _ rest))
+free-value : (fields : List Field) (kind : SqlType) (x : Expr) → Free (value_set fields kind x)
+free-value fields kind x =
+    free-then (typed fields x over.Row) _ (typed-free fields x over.Row) (λ y. free-if (is_convertible (kind_of y) kind) _ _ tt tt)
+
+module _ (shape : Shape) (columns : List Column) (fields : List Field) (kinds : List SqlType) where
+  free-set : (before : List Assignment) (values : List TypedExpr) (a : Assignment) → Free (one_set shape columns fields kinds before values a)
+  unfolding one_set
+  free-set before values a =
+      free-then (place_set shape columns before a.column) _ (free-place shape before a.column (position (is_named a.column) columns)) (λ place.
+      free-then (value_set fields (kind_at kinds place) a.value) _ (free-value fields (kind_at kinds place) a.value) (λ x. tt))
+
+  free-sets : (before : List Assignment) (values : List TypedExpr) (assignments : List Assignment) → Free (all_set shape columns fields kinds before values assignments)
+  unfolding all_set
+  free-sets before values [] = tt
+  free-sets before values (a ∷ rest) =
+      free-then (one_set shape columns fields kinds before values a) _ (free-set before values a) (λ values. free-sets (before ++ a ∷ []) values rest)
 
 free-changing : (tables : List TableInfo) (place : ℕ) (shape : Shape) (tree : Stmt) → is_change tree ≡ true → is_form tree ≡ true → Free (changing tables place shape tree)
 unfolding changing inserted updated deleted is_form
@@ -108,8 +115,8 @@ free-changing tables place shape (stmt.Insert insert) c e =
     free-then (targets_of shape insert.columns) _ (free-targets shape insert.columns) (λ targets.
     free-source tables place shape insert insert.rows targets (both (is_empty insert.partition) (are_windowless insert.rows) e).1)
 free-changing tables place shape (stmt.Update update) c e =
-    free-then (all_set shape (columns_of shape) [] (kept 0 (kinds_of (columns_of shape))) update.assignments) _
-    (free-sets shape (columns_of shape) [] (kept 0 (kinds_of (columns_of shape))) update.assignments) (λ values.
+    free-then (sets_of shape (columns_of shape) update.assignments) _
+    (free-sets shape (columns_of shape) (map (field_of shape.name) (columns_of shape)) (kinds_of (columns_of shape)) [] (kept 0 (kinds_of (columns_of shape))) update.assignments) (λ values.
     free-then (filter_typed (fields_of shape) update.filter) _ (free-filter (fields_of shape) update.filter) (λ filter. tt))
 free-changing tables place shape (stmt.Delete delete) c e =
     free-then (filter_typed (fields_of shape) delete.filter) _ (free-filter (fields_of shape) delete.filter) (λ filter. tt)

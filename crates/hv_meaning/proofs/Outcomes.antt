@@ -24,7 +24,7 @@ use Rattle.hv_changes.specs.declared.change.Origin.TheVariants as origin
 use Rattle.hv_changes.specs.declared.change.TypedChange.{TypedChange}
 use Rattle.hv_changes.specs.Columns.{columns_of, fields_of}
 use Rattle.hv_changes.specs.Inserts.{targets_of, rows_typed, has_count, converts, converted_row, column_kind, output_kind, outputs_convert, values_inserted, query_inserted, insert_of}
-use Rattle.hv_changes.specs.Updates.{kept, kinds_of, all_set, update_of, updated, delete_of, deleted}
+use Rattle.hv_changes.specs.Updates.{sets_of, update_of, updated, delete_of, deleted}
 use Rattle.hv_analysis.specs.declared.logic.Logic.{Logic}
 use Rattle.hv_analysis.specs.declared.logic.Logic.TheVariants as logic
 use Rattle.hv_analysis.specs.Creates.{place_of, created, created_beside, made, unless_fault, fault_of}
@@ -82,7 +82,7 @@ module _ (P : TypedChange → Type 0) (tables : List TableInfo) (place : ℕ) (s
   pub updates-are : (update : Update) → ((values : List TypedExpr) (filter : Option TypedExpr) → P (update_of place values filter)) → OnOk P (updated place shape update)
   unfolding updated
   updates-are update each =
-      then-ok P (all_set shape (columns_of shape) [] (kept 0 (kinds_of (columns_of shape))) update.assignments) _ (λ values e.
+      then-ok P (sets_of shape (columns_of shape) update.assignments) _ (λ values e.
       then-ok P (filter_typed (fields_of shape) update.filter) _ (λ filter f. each values filter))
 
   pub deletes-are : (delete : Delete) → ((filter : Option TypedExpr) → P (delete_of place filter)) → OnOk P (deleted place shape delete)

@@ -66,12 +66,7 @@ impl Tables {
         }
     }
 
-    fn add_named(
-        &self,
-        alloc: Global,
-        name: &Text,
-        named: &mut Vec<Seen>,
-    ) -> Result<(), NoMemory> {
+    fn add_named(&self, alloc: Global, name: &Text, named: &mut Vec<Seen>) -> Result<(), NoMemory> {
         for table in &self.tables {
             if table.info.shape.name == *name {
                 named.push(seen(alloc, table)?)?;
