@@ -23,7 +23,8 @@ pub(crate) fn query_rows(
 ) -> Result<Vec<Row>, NoMemory>
     ensures { IfOk result (λ rows. rows.items ≡ rows_of query.now (tables_of (found_of tables.now))) }
 {
-    Ok(run(alloc, &*query, &*tables, 1)?)
+    let rows = run(alloc, &*query, &*tables, 1)?;
+    Ok(rows)
 }
 
 fn inserts_of(

@@ -5,4 +5,4 @@ use Rattle.hv_effect.proofs.Steps.{tables-found}
 use Rattle.hv_effect.proofs.changes.query_rows.Goals as goal
 
 pub returns : goal.returns
-returns c = c.in_ok-run.ensures ∙ ap (rows_of c.args.query.now) (tables-found c.args.tables.now)
+returns c = c.in_ok-rows.ensures ∙ ap (rows_of c.args.query.now) (tables-found c.args.tables.now)
