@@ -36,8 +36,8 @@ fn inserts_of(
 ) -> Result<List<Row>, NoMemory>
     ensures { IfOk result (λ made. made ≡ inserts_of shape.now change.now gone.now (tables_of (found_of tables.now))) }
 {
-    let columns = columns_of(alloc, shape)?;
-    let columns = columns.as_slice();
+    let all = columns_of(alloc, shape)?;
+    let columns = all.as_slice();
     let values = change.values.as_slice();
     match &change.origin {
         Origin::Values(rows) => rows_alone(alloc, columns, values, rows.as_slice()),

@@ -1,7 +1,7 @@
 -- What a statement's meaning can be, by the statement's form.
 use Rattle.std.proofs.lemmas.List.{length-append, length-map}
 use Rattle.std.proofs.lemmas.Bool.{leb-true}
-use Rattle.std.proofs.Common.{◌≡◌, ◌++◌, ℕ, zero, suc, Bool, true, false, cond, not, nat_eq, List, [], ◌∷◌, map, slice_get, length, Option, Some, None, Result, Ok, Err, refl, sym, ap, ◌∙◌, subst, eqb-true, arith, ◌+◌, ◌≤◌, ◌&&◌}
+use Rattle.std.proofs.Common.{◌≡◌, ◌++◌, ℕ, zero, suc, Bool, true, false, cond, not, nat_eq, List, [], ◌∷◌, map, slice_get, length, Option, Some, None, Result, Ok, Err, refl, sym, ap, ◌∙◌, subst, arith, ◌+◌, ◌≤◌, ◌&&◌}
 use Rattle.std.specs.Prelude.{is_some, nat_lt, position, nat_le, filter, drop}
 use Rattle.std.specs.List.{position_or_len, flat_map}
 use Rattle.std.specs.List.{AllByRecursion, list_all}
@@ -51,9 +51,9 @@ use Rattle.hv_analysis.specs.Analysis.{analysed, form_analysed, is_form, query_a
 use Rattle.hv_analysis.specs.Creates.{created, created_beside, place_of, is_table, fault_of, names_repeat, is_bucket_column, arrays_route, numbers_fit}
 use Rattle.hv_analysis.specs.Changes.{changing, change_of}
 use Rattle.hv_analysis.specs.Sources.{selected}
-use Rattle.hv_meaning.specs.Meaning.{its_tables, named_by, info_of, found_in, tables_of, is_matched, matched, frames_from, first_value, stored_values, stored_row, inserts_of, is_received, deleted, change_effect, or_none, changed_in, refused_for, meant, meaning_in, meaning_of}
+use Rattle.hv_meaning.specs.Meaning.{its_tables, named_by, info_of, found_in, tables_of, is_matched, matched, frames_from, first_value, stored_values, stored_row, is_received, deleted, change_effect, or_none, changed_in, refused_for, meant, meaning_in, meaning_of}
 use Rattle.hv_meaning.specs.Laws.{MakesNew, TablesAreNew, AreOf, IsRowOf, AreOfRows, change_name, ChangesNamed, ChangesAreNamed, only_inserts, InsertsDeleteNothing}
-use Rattle.hv_meaning.proofs.Outcomes.{OnOk, on_ok, then-ok, if-ok, IsChangeOf, inserts-are, changes-are, creates-are, makes}
+use Rattle.hv_meaning.proofs.Outcomes.{OnOk, on_ok, then-ok, IsChangeOf, inserts-are, changes-are, creates-are, makes}
 use Rattle.hv_meaning.proofs.Stored.{both, rows-taken}
 
 -- ---- a fact of what a statement comes to
