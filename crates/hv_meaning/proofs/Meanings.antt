@@ -1,6 +1,6 @@
 -- What a statement's meaning can be, by the statement's form.
 use Rattle.std.proofs.lemmas.List.{length-append, length-map}
-use Rattle.std.proofs.lemmas.Bool.{leb-true}
+use Rattle.std.proofs.lemmas.Bool.{leb-true, le-ltb, lt-ltb}
 use Rattle.std.proofs.Common.{◌≡◌, ◌++◌, ℕ, zero, suc, Bool, true, false, cond, not, nat_eq, List, [], ◌∷◌, map, slice_get, length, Option, Some, None, Result, Ok, Err, refl, sym, ap, ◌∙◌, subst, arith, ◌+◌, ◌≤◌, ◌&&◌}
 use Rattle.std.specs.Prelude.{is_some, nat_lt, position, nat_le, filter, drop}
 use Rattle.std.specs.List.{position_or_len, flat_map}
@@ -88,19 +88,21 @@ module _ (P : Option Meaning → Type 0) (unbuilt : P None) (refused : (why : Re
 
 len-none : {X : Type 0} (p : X → Bool) (xs : List X) → AllByRecursion (λ (x : X). p x ≡ false) xs → position_or_len p xs ≡ length xs
 len-none p [] h = refl
-len-none p (x ∷ xs) h = ap (λ b. cond (not b) (suc (position_or_len p xs)) 0) h.0 ∙ ap suc (len-none p xs h.1)
-
-not-less : (n : ℕ) → nat_lt n n ≡ false
-not-less zero = refl
-not-less (suc n) = not-less n
+len-none p (x ∷ xs) h =
+    let rest = len-none p xs h.1 in
+    let more : 1 + position_or_len p xs ≡ length (x ∷ xs) = omega (arith, rest) in
+    ap (λ b. cond (not b) (1 + position_or_len p xs) 0) h.0 ∙ more
 
 place-none : {X : Type 0} (p : X → Bool) (xs : List X) → AllByRecursion (λ (x : X). p x ≡ false) xs → position p xs ≡ None
 place-none p xs h =
-    ap (λ n. cond (nat_lt n (length xs)) (Some n) None) (len-none p xs h) ∙ ap (λ b. cond b (Some (length xs)) None) (not-less (length xs))
+    ap (λ n. cond (nat_lt n (length xs)) (Some n) None) (len-none p xs h)
+    ∙ ap (λ b. cond b (Some (length xs)) None) (le-ltb (length xs) (length xs) (omega arith))
 
 place-first : {X : Type 0} (p : X → Bool) (x : X) (xs : List X) → p x ≡ true → position p (x ∷ xs) ≡ Some 0
 place-first p x xs here =
-    ap (λ n. cond (nat_lt n (suc (length xs))) (Some n) None) (ap (λ b. cond (not b) (suc (position_or_len p xs)) 0) here)
+    let first : position_or_len p (x ∷ xs) ≡ 0 = ap (λ b. cond (not b) (1 + position_or_len p xs) 0) here in
+    ap (λ n. cond (nat_lt n (length (x ∷ xs))) (Some n) None) first
+    ∙ ap (λ b. cond b (Some 0) None) (lt-ltb 0 (length (x ∷ xs)) (omega arith))
 
 first-same : (name : List ℕ) (first seen : Seen) (rest : Option Seen) → (rest ≡ Some seen → pointwise nat_eq seen.info.shape.name name ≡ true)
     → (b : Bool) → pointwise nat_eq first.info.shape.name name ≡ b → cond b (Some first) rest ≡ Some seen
