@@ -13,7 +13,6 @@ use Rattle.hv_logic.specs.declared.catalog.TableInfo.{TableInfo}
 use Rattle.hv_query.specs.declared.tree.TypedQuery.{TypedQuery}
 use Rattle.hv_query.specs.declared.tree.TypedSource.{TypedSource}
 use Rattle.hv_query.specs.declared.tree.TypedSource.TheVariants as typed_source
-use Rattle.hv_types.specs.declared.scope.Field.{Field}
 use Rattle.hv_types.specs.Faults.{and_then}
 use Rattle.hv_select.specs.declared.opened.Brought.{Brought}
 use Rattle.hv_select.specs.Sources.{query_brought}

@@ -2,7 +2,7 @@
 -- can't be set (FixedColumn: a partition or bucket column), one that is set twice (BadCount), the value's own faults, its
 -- conversion (BadType). Values and conditions are over the table's row, without aggregates.
 -- Source: Hive Language Manual, DML (Update, Delete) and DDL (Truncate Table); the order of faults is this project's profile.
-use Rattle.std.specs.Prelude.{ℕ, ◌+◌, ◌==◌, Bool, if◌then◌else◌, ◌||◌, nat_le, List, [], ◌∷◌, ◌++◌, length, map, position, slice_index_or, slice_set, Option, None, Some, Result, Ok, Err}
+use Rattle.std.specs.Prelude.{ℕ, ◌+◌, ◌==◌, Bool, if◌then◌else◌, ◌||◌, nat_le, List, [], ◌∷◌, ◌++◌, length, map, position, slice_set, Option, None, Some, Result, Ok, Err}
 use Rattle.std.specs.List.{list_any}
 use Rattle.hv_base.specs.declared.refusal.Refusal.{Refusal}
 use Rattle.hv_base.specs.declared.refusal.Refusal.TheVariants as refusal
