@@ -1,5 +1,5 @@
 -- The typed statement, or its first fault. A form that isn't built yet is Syntax.
-use Rattle.std.specs.Prelude.{ℕ, Bool, true, false, not, if◌then◌else◌, ◌&&◌, List, [], ◌∷◌, Option, None, Some, Result, Ok, Err}
+use Rattle.std.specs.Prelude.{ℕ, Bool, true, false, not, if◌then◌else◌, ◌&&◌, List, Option, None, Some, Result, Ok, Err}
 use Rattle.std.specs.List.{list_all, list_any}
 use Rattle.hv_base.specs.declared.refusal.Refusal.{Refusal}
 use Rattle.hv_base.specs.declared.refusal.Refusal.TheVariants as refusal
@@ -20,15 +20,12 @@ use Rattle.hv_ast.specs.declared.statement.Stmt.{Stmt}
 use Rattle.hv_ast.specs.declared.statement.Stmt.TheVariants as stmt
 use Rattle.hv_logic.specs.declared.catalog.TableInfo.{TableInfo}
 use Rattle.hv_types.specs.Faults.{and_then}
+use Rattle.hv_changes.specs.Inserts.{is_empty}
 use Rattle.hv_analysis.specs.declared.logic.Logic.{Logic}
 use Rattle.hv_analysis.specs.declared.logic.Logic.TheVariants as logic
 use Rattle.hv_analysis.specs.Creates.{created}
-use Rattle.hv_analysis.specs.Inserts.{inserted}
+use Rattle.hv_analysis.specs.Changes.{change_of}
 use Rattle.hv_analysis.specs.Sources.{selected}
-
-abbrev pub is_empty : {A : Type 0} → List A → Bool
-is_empty [] = true
-is_empty (a ∷ rest) = false
 
 -- ---- a query without windows, in all its selects and in those of its subqueries
 
@@ -70,28 +67,40 @@ is_windowless_source = fold-Source Bool layer_windowless
 unfoldable pub is_windowless : Query Source → Bool
 is_windowless query = is_windowless_query is_windowless_source query
 
--- ---- INSERT INTO table VALUES
+-- ---- the forms that are built: INSERT without PARTITION, and no list of partitions in TRUNCATE
 
-abbrev pub is_whole : Insert → Bool
-is_whole insert = not insert.overwrite && (is_empty insert.partition && is_empty insert.columns)
+abbrev pub are_windowless : Rows → Bool
+are_windowless (rows.Values values) = true
+are_windowless (rows.Query query) = is_windowless query
+
+abbrev pub is_plain_insert : Insert → Bool
+is_plain_insert insert = is_empty insert.partition && are_windowless insert.rows
+
+unfoldable pub is_form : Stmt → Bool
+is_form (stmt.Query query) = is_windowless query
+is_form (stmt.Insert insert) = is_plain_insert insert
+is_form (stmt.Update update) = true
+is_form (stmt.Delete delete) = true
+is_form (stmt.Truncate truncate) = is_empty truncate.partition
+is_form (stmt.CreateTable create) = true
+is_form _ = false
 
 -- ----
 
-abbrev pub queried : List TableInfo → Query Source → Result Logic Refusal
-queried tables query = and_then (selected tables query) (λ typed. Ok (logic.Query typed))
-
 abbrev pub query_analysed : List TableInfo → Query Source → Result Logic Refusal
-query_analysed tables query = if is_windowless query then queried tables query else Err refusal.Syntax
+query_analysed tables query = and_then (selected tables query) (λ typed. Ok (logic.Query typed))
 
-abbrev pub rows_analysed : List TableInfo → List ℕ → Rows → Result Logic Refusal
-rows_analysed tables name (rows.Values values) = inserted tables name values
-rows_analysed tables name (rows.Query query) = Err refusal.Syntax
+abbrev pub change_analysed : List TableInfo → List ℕ → Stmt → Result Logic Refusal
+change_analysed tables name tree = and_then (change_of tables name tree) (λ change. Ok (logic.Change change))
 
-abbrev pub insert_analysed : List TableInfo → Insert → Result Logic Refusal
-insert_analysed tables insert = if is_whole insert then rows_analysed tables insert.table insert.rows else Err refusal.Syntax
+unfoldable pub form_analysed : List TableInfo → Stmt → Result Logic Refusal
+form_analysed tables (stmt.Query query) = query_analysed tables query
+form_analysed tables (stmt.Insert insert) = change_analysed tables insert.table (stmt.Insert insert)
+form_analysed tables (stmt.Update update) = change_analysed tables update.table (stmt.Update update)
+form_analysed tables (stmt.Delete delete) = change_analysed tables delete.table (stmt.Delete delete)
+form_analysed tables (stmt.Truncate truncate) = change_analysed tables truncate.table (stmt.Truncate truncate)
+form_analysed tables (stmt.CreateTable create) = created tables create
+form_analysed tables _ = Err refusal.Syntax
 
 unfoldable pub analysed : List TableInfo → Stmt → Result Logic Refusal
-analysed tables (stmt.Query query) = query_analysed tables query
-analysed tables (stmt.Insert insert) = insert_analysed tables insert
-analysed tables (stmt.CreateTable create) = created tables create
-analysed tables _ = Err refusal.Syntax
+analysed tables tree = if is_form tree then form_analysed tables tree else Err refusal.Syntax

@@ -2,7 +2,7 @@
 -- a column named twice (Ambiguous); a bucket column that is none or a partition column (NoColumn); an ARRAY as partition or
 -- bucket column (BadType); numbers above the limits, and properties of tables that aren't kept here (Limit).
 -- Source: Hive Language Manual, Create Table; the limits and the order are this project's profile.
-use Rattle.std.specs.Prelude.{ℕ, ◌+◌, Bool, true, false, not, if◌then◌else◌, ◌&&◌, ◌||◌, nat_le, is_some, List, [], ◌∷◌, length, map, position, Option, None, Some, Result, Ok, Err, codes}
+use Rattle.std.specs.Prelude.{ℕ, ◌+◌, Bool, true, false, not, if◌then◌else◌, ◌&&◌, ◌||◌, nat_le, is_some, List, [], ◌∷◌, length, position, Option, None, Some, Result, Ok, Err, codes}
 use Rattle.std.specs.List.{list_all, list_any}
 use Rattle.hv_base.specs.declared.refusal.Refusal.{Refusal}
 use Rattle.hv_base.specs.declared.refusal.Refusal.TheVariants as refusal

@@ -1,4 +1,4 @@
 pub mod Creates
-pub mod Inserts
 pub mod Sources
+pub mod Changes
 pub mod Analysis

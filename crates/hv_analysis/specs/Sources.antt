@@ -13,16 +13,12 @@ use Rattle.hv_logic.specs.declared.catalog.TableInfo.{TableInfo}
 use Rattle.hv_query.specs.declared.tree.TypedQuery.{TypedQuery}
 use Rattle.hv_query.specs.declared.tree.TypedSource.{TypedSource}
 use Rattle.hv_query.specs.declared.tree.TypedSource.TheVariants as typed_source
-use Rattle.hv_types.specs.declared.scope.Field.{Field}
 use Rattle.hv_types.specs.Faults.{and_then}
 use Rattle.hv_select.specs.declared.opened.Brought.{Brought}
 use Rattle.hv_select.specs.Sources.{query_brought}
 use Rattle.hv_select.specs.Queries.{query_typed}
+use Rattle.hv_changes.specs.Columns.{columns_of, field_of}
 use Rattle.hv_analysis.specs.Creates.{place_of}
-use Rattle.hv_analysis.specs.Inserts.{columns_of}
-
-abbrev pub field_of : List ℕ → Column → Field
-field_of alias column = record { source = alias; name = column.name; kind = column.kind }
 
 abbrev pub or_name : Option (List ℕ) → List ℕ → List ℕ
 or_name None name = name

@@ -2,47 +2,82 @@
 
 ghost use Rattle.std.specs.Prelude.{◌≡◌};
 ghost use Rattle.hv_types.specs.Faults.{Types};
-ghost use Rattle.hv_analysis.specs.Analysis.{is_whole, query_analysed, insert_analysed, analysed};
+ghost use Rattle.hv_analysis.specs.Analysis.{are_windowless, is_plain_insert, is_form, query_analysed, change_analysed, form_analysed, analysed};
 
+use crate::changes::change_of;
 use crate::creates::created;
-use crate::inserts::inserted;
 use crate::logic::Logic;
 use crate::queries::selected;
 use crate::windows::is_windowless;
 use hv_ast::{Insert, Query, Rows, Stmt};
-use hv_base::Refusal;
+use hv_base::{Refusal, Text};
 use hv_logic::TableInfo;
 use hv_types::TypeFault;
 use std::alloc::Global;
 
 const SYNTAX: TypeFault = TypeFault::Refused(Refusal::Syntax);
 
-/// Whether an INSERT adds rows for all columns, in their order.
-pub fn is_whole(insert: &Insert) -> bool
-    ensures { result ≡ is_whole insert.now }
+fn are_windowless(rows: &Rows) -> bool
+    ensures { result ≡ are_windowless rows.now }
 {
-    !insert.overwrite && insert.partition.is_empty() && insert.columns.is_empty()
+    match rows {
+        Rows::Values(_) => true,
+        Rows::Query(query) => is_windowless(query),
+    }
+}
+
+fn is_plain_insert(insert: &Insert) -> bool
+    ensures { result ≡ is_plain_insert insert.now }
+{
+    insert.partition.is_empty() && are_windowless(&insert.rows)
+}
+
+/// Whether statements of this form are analysed.
+#[tactic(auto, unfolding(crate::specs::Analysis::is_form))]
+pub fn is_form(stmt: &Stmt) -> bool
+    ensures { result ≡ is_form stmt.now }
+{
+    match stmt {
+        Stmt::Query(query) => is_windowless(query),
+        Stmt::Insert(insert) => is_plain_insert(insert),
+        Stmt::Update(_) => true,
+        Stmt::Delete(_) => true,
+        Stmt::Truncate(truncate) => truncate.partition.is_empty(),
+        Stmt::CreateTable(_) => true,
+        _ => false,
+    }
 }
 
 fn query_analysed(alloc: Global, tables: &[TableInfo], query: &Query) -> Result<Logic, TypeFault>
     ensures { Types result (query_analysed tables.now query.now) }
 {
-    if !is_windowless(query) {
-        return Err(SYNTAX);
-    }
     let query = selected(alloc, tables, query)?;
     Ok(Logic::Query(query.into_inner()))
 }
 
-fn insert_analysed(alloc: Global, tables: &[TableInfo], insert: &Insert) -> Result<Logic, TypeFault>
-    ensures { Types result (insert_analysed tables.now insert.now) }
+fn change_analysed(
+    alloc: Global,
+    tables: &[TableInfo],
+    name: &Text,
+    stmt: &Stmt,
+) -> Result<Logic, TypeFault>
+    ensures { Types result (change_analysed tables.now name.now stmt.now) }
 {
-    if !is_whole(insert) {
-        return Err(SYNTAX);
-    }
-    match &insert.rows {
-        Rows::Values(rows) => inserted(alloc, tables, &insert.table, rows.as_slice()),
-        Rows::Query(_) => Err(SYNTAX),
+    Ok(Logic::Change(change_of(alloc, tables, name, stmt)?))
+}
+
+#[tactic(auto, unfolding(crate::specs::Analysis::form_analysed))]
+fn form_analysed(alloc: Global, tables: &[TableInfo], stmt: &Stmt) -> Result<Logic, TypeFault>
+    ensures { Types result (form_analysed tables.now stmt.now) }
+{
+    match stmt {
+        Stmt::Query(query) => query_analysed(alloc, tables, query),
+        Stmt::Insert(insert) => change_analysed(alloc, tables, &insert.table, stmt),
+        Stmt::Update(update) => change_analysed(alloc, tables, &update.table, stmt),
+        Stmt::Delete(delete) => change_analysed(alloc, tables, &delete.table, stmt),
+        Stmt::Truncate(truncate) => change_analysed(alloc, tables, &truncate.table, stmt),
+        Stmt::CreateTable(create) => created(alloc, tables, create),
+        _ => Err(SYNTAX),
     }
 }
 
@@ -52,10 +87,9 @@ fn insert_analysed(alloc: Global, tables: &[TableInfo], insert: &Insert) -> Resu
 pub fn analyse(alloc: Global, tables: &[TableInfo], stmt: &Stmt) -> Result<Logic, TypeFault>
     ensures { Types result (analysed tables.now stmt.now) }
 {
-    match stmt {
-        Stmt::Query(query) => query_analysed(alloc, tables, query),
-        Stmt::Insert(insert) => insert_analysed(alloc, tables, insert),
-        Stmt::CreateTable(create) => created(alloc, tables, create),
-        _ => Err(SYNTAX),
+    if is_form(stmt) {
+        form_analysed(alloc, tables, stmt)
+    } else {
+        Err(SYNTAX)
     }
 }

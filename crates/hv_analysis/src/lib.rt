@@ -2,12 +2,12 @@
 #![tactic(auto)]
 
 mod analysis;
+mod changes;
 mod creates;
-mod inserts;
 mod logic;
 mod queries;
 mod windows;
 
-pub use analysis::{analyse, is_whole};
-pub use logic::{Logic, TypedInsert};
+pub use analysis::{analyse, is_form};
+pub use logic::Logic;
 pub use windows::is_windowless;

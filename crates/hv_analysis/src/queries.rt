@@ -1,46 +1,26 @@
 //! Queries over the live tables, with their subqueries.
 
-ghost use Rattle.std.specs.Prelude.{◌≡◌, IfOk, map};
+ghost use Rattle.std.specs.Prelude.{◌≡◌, IfOk};
 ghost use Rattle.hv_types.specs.Faults.{Types};
 ghost use Rattle.hv_select.specs.Sources.{all_joined, opened};
 ghost use Rattle.hv_select.specs.Queries.{select_typed, all_united, query_typed};
 ghost use Rattle.hv_analysis.specs.Creates.{place_of};
-ghost use Rattle.hv_analysis.specs.Sources.{field_of, or_name, table_brought, place_brought, brought, selected};
+ghost use Rattle.hv_analysis.specs.Sources.{or_name, table_brought, place_brought, brought, selected};
 
 use crate::creates::place_of;
-use crate::inserts::columns_of;
 use hv_ast::{From, Join, Query, Select, Source, Union};
-use hv_base::{Boxed, Duplicate, List, NoMemory, Refusal, Text};
+use hv_base::{Boxed, Duplicate, NoMemory, Refusal, Text};
+use hv_changes::{columns_of, fields_named};
 use hv_logic::{Column, TableInfo};
 use hv_query::{TypedQuery, TypedSource};
 use hv_select::{
     Brought, Listed, Opened, Sources, United, all_viewed, alone, first_source, join_onto,
     opened_none, opened_of, query_brought, query_over, select_over, unite,
 };
-use hv_types::{Field, TypeFault};
+use hv_types::TypeFault;
 use std::alloc::Global;
 
 const NO_TABLE: TypeFault = TypeFault::Refused(Refusal::NoTable);
-
-fn field_of(alloc: Global, alias: &Text, column: &Column) -> Result<Field, NoMemory>
-    ensures { IfOk result (λ field. field ≡ field_of alias.now column.now) }
-{
-    Ok(Field {
-        source: alias.duplicate(alloc)?,
-        name: column.name.duplicate(alloc)?,
-        kind: column.kind,
-    })
-}
-
-fn fields_of(alloc: Global, alias: &Text, columns: &[Column]) -> Result<List<Field>, NoMemory>
-    ensures { IfOk result (λ fields. fields ≡ map (field_of alias.now) columns.now) }
-{
-    let mut fields = Vec::with_capacity(alloc, columns.len())?;
-    for column in columns {
-        fields.push(field_of(alloc, alias, column)?)?;
-    }
-    Ok(List::from_vec(fields))
-}
 
 fn table_brought(
     alloc: Global,
@@ -53,7 +33,7 @@ fn table_brought(
     let Ok(place) = u32::try_from(place) else {
         return Err(NoMemory);
     };
-    let fields = fields_of(alloc, alias, columns)?;
+    let fields = fields_named(alloc, alias, columns)?;
     let alias = alias.duplicate(alloc)?;
     Boxed::new(
         alloc,

@@ -3,7 +3,7 @@
 ghost use Rattle.std.specs.Prelude.{◌≡◌};
 ghost use Rattle.hv_built.specs.Built.{are_values, is_built_insert, is_built_table, is_built};
 
-use hv_analysis::{is_whole, is_windowless};
+use hv_analysis::is_windowless;
 use hv_ast::{CreateTable, Insert, Rows, Stmt};
 
 fn are_values(rows: &Rows) -> bool
@@ -18,7 +18,7 @@ fn are_values(rows: &Rows) -> bool
 fn is_built_insert(insert: &Insert) -> bool
     ensures { result ≡ is_built_insert insert.now }
 {
-    is_whole(insert) && are_values(&insert.rows)
+    !insert.overwrite && insert.partition.is_empty() && are_values(&insert.rows)
 }
 
 fn is_built_table(create: &CreateTable) -> bool

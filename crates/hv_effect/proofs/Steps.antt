@@ -1,19 +1,12 @@
--- One step more of what is defined down a list.
-use Rattle.std.proofs.Common.{◌≡◌, ℕ, zero, suc, ◌≤◌, List, [], ◌∷◌, length, drop, min, refl, arith}
-use Rattle.hv_typed.specs.declared.tree.TypedExpr.{TypedExpr}
-use Rattle.hv_logic.specs.declared.catalog.Column.{Column}
-use Rattle.hv_meaning.specs.Meaning.{stored_values}
+-- The rows that stand in tables, and the rows that a query is run over.
+use Rattle.std.proofs.Common.{◌≡◌, List, [], ◌∷◌, refl, ap}
+use Rattle.hv_value.specs.declared.row.Row.{Row}
+use Rattle.hv_logic.specs.declared.effect.TableRows.{TableRows}
+use Rattle.hv_logic.specs.Rows.{rows_in}
+use Rattle.hv_exec.specs.Tables.{tables_in}
+use Rattle.hv_meaning.specs.Meaning.{tables_of}
+use Rattle.hv_effect.specs.Tables.{found_of}
 
--- behind the end of one of the two lists a row has no values
-pub stored_values_stops : (columns : List Column) (exprs : List TypedExpr) (i : ℕ) → min (length columns) (length exprs) ≤ i
-    → stored_values (drop i columns) (drop i exprs) ≡ []
-stored_values_stops [] exprs zero p = refl
-stored_values_stops [] exprs (suc i) p = refl
-stored_values_stops (column ∷ columns) [] zero p = refl
-stored_values_stops (column ∷ columns) [] (suc i) p = none (drop i columns)
-  where
-    none : (columns : List Column) → stored_values columns [] ≡ []
-    none [] = refl
-    none (column ∷ columns) = refl
-stored_values_stops (column ∷ columns) (expr ∷ exprs) zero p = absurd (omega arith)
-stored_values_stops (column ∷ columns) (expr ∷ exprs) (suc i) p = stored_values_stops columns exprs i (omega arith)
+pub tables-found : (tables : List TableRows) → tables_in tables ≡ tables_of (found_of tables)
+tables-found [] = refl
+tables-found (table ∷ tables) = ap (λ (more : List (List Row)). rows_in table.rows ∷ more) (tables-found tables)

@@ -1,14 +1,13 @@
-ghost use Rattle.std.specs.Prelude.{◌≡◌, IfOk, Ok, map, slice_get};
+ghost use Rattle.std.specs.Prelude.{◌≡◌, IfOk, Ok, map};
 ghost use Rattle.hv_types.specs.Faults.{Types};
 ghost use Rattle.hv_analysis.specs.Analysis.{analysed};
-ghost use Rattle.hv_exec.specs.Tables.{tables_in};
-ghost use Rattle.hv_meaning.specs.Meaning.{info_of, rows_seen, column_name, listed, inserted_in, refused_for, meant, meaning_over, meaning_in};
+ghost use Rattle.hv_meaning.specs.Meaning.{info_of, found_in, tables_of, column_name, listed, refused_for, meant, meaning_over, meaning_in};
+ghost use Rattle.hv_effect.specs.Tables.{found_of};
 
-use crate::inserts::inserted;
-use hv_analysis::{Logic, TypedInsert, analyse};
+use crate::changes::{changed_in, query_rows};
+use hv_analysis::{Logic, analyse};
 use hv_ast::Stmt;
 use hv_base::{Duplicate, List, NoMemory, Refusal, Text};
-use hv_exec::run;
 use hv_logic::{Meaning, Seen, TableInfo, TableRows};
 use hv_query::{OutputColumn, TypedQuery};
 use hv_types::TypeFault;
@@ -22,7 +21,7 @@ struct Parts {
 
 fn parts_of(alloc: Global, tables: Vec<Seen>) -> Result<Parts, NoMemory>
     ensures infos { IfOk result (λ parts. parts.infos.items ≡ map info_of tables.items) }
-    ensures rows { IfOk result (λ parts. tables_in parts.rows.items ≡ map rows_seen tables.items) }
+    ensures rows { IfOk result (λ parts. found_of parts.rows.items ≡ map found_in tables.items) }
 {
     let mut infos = Vec::new(alloc);
     let mut rows = Vec::new(alloc);
@@ -49,24 +48,11 @@ fn names_of(alloc: Global, columns: &[OutputColumn]) -> Result<List<Text>, NoMem
 
 // The names of a query's columns, and its rows.
 fn listed(alloc: Global, query: &TypedQuery, rows: &[TableRows]) -> Result<Meaning, NoMemory>
-    ensures { IfOk result (λ meaning. meaning ≡ listed query.now (tables_in rows.now)) }
+    ensures { IfOk result (λ meaning. meaning ≡ listed query.now (tables_of (found_of rows.now))) }
 {
-    let found = run(alloc, query, rows, 1)?;
+    let found = query_rows(alloc, query, rows)?;
     let names = names_of(alloc, query.columns.as_slice())?;
     Ok(Meaning::Listing(names, List::from_vec(found)))
-}
-
-fn inserted_in(
-    alloc: Global,
-    infos: &[TableInfo],
-    insert: &TypedInsert,
-) -> Result<Option<Meaning>, NoMemory>
-    ensures { IfOk result (λ meaning. meaning ≡ inserted_in (slice_get infos.now insert.now.table) insert.now) }
-{
-    match infos.get(insert.table as usize) {
-        Some(info) => Ok(Some(inserted(alloc, info, insert.rows.as_slice())?)),
-        None => Ok(None),
-    }
 }
 
 fn refused_for(why: Refusal) -> Option<Meaning>
@@ -84,11 +70,11 @@ fn meant(
     rows: &[TableRows],
     logic: Logic,
 ) -> Result<Option<Meaning>, NoMemory>
-    ensures { IfOk result (λ meaning. meaning ≡ meant infos.now (tables_in rows.now) (Ok logic)) }
+    ensures { IfOk result (λ meaning. meaning ≡ meant infos.now (found_of rows.now) (Ok logic)) }
 {
     match logic {
         Logic::Query(query) => Ok(Some(listed(alloc, &query, rows)?)),
-        Logic::Insert(insert) => inserted_in(alloc, infos, &insert),
+        Logic::Change(change) => changed_in(alloc, infos, rows, &change),
         Logic::Make(shape) => Ok(Some(Meaning::Make(shape))),
         Logic::Nothing => Ok(Some(Meaning::Plain)),
     }
@@ -100,7 +86,7 @@ fn meaning_over(
     infos: &[TableInfo],
     rows: &[TableRows],
 ) -> Result<Option<Meaning>, NoMemory>
-    ensures { IfOk result (λ meaning. meaning ≡ meaning_over tree.now infos.now (tables_in rows.now)) }
+    ensures { IfOk result (λ meaning. meaning ≡ meaning_over tree.now infos.now (found_of rows.now)) }
 {
     match analyse(alloc, infos, tree) {
         Ok(logic) => meant(alloc, infos, rows, logic),

@@ -1,10 +1,12 @@
 -- A statement of a form that is analysed means something, and one of another form nothing.
-use Rattle.std.specs.Prelude.{is_some}
-use Rattle.std.proofs.Common.{◌≡◌, ◌&&◌, ℕ, Bool, true, false, cond, not, List, [], map, slice_get, Option, Some, None, Result, Ok, Err, refl, sym, ap, subst}
+use Rattle.std.specs.Prelude.{is_some, position}
+use Rattle.std.proofs.Common.{◌≡◌, ◌&&◌, ◌==◌, ◌++◌, ℕ, Bool, true, false, cond, not, List, [], ◌∷◌, length, map, slice_get, Option, Some, None, Result, Ok, Err, refl, sym, ap, ◌∙◌, subst}
 use Rattle.std.specs.List.{list_all, list_any}
 use Rattle.hv_base.specs.declared.refusal.Refusal.{Refusal}
 use Rattle.hv_base.specs.declared.refusal.Refusal.TheVariants as refusal
 use Rattle.hv_ast.specs.declared.expr.Expr.{Expr}
+use Rattle.hv_ast.specs.declared.change.Assignment.{Assignment}
+use Rattle.hv_ast.specs.declared.change.Insert.{Insert}
 use Rattle.hv_ast.specs.declared.change.Rows.{Rows}
 use Rattle.hv_ast.specs.declared.change.Rows.TheVariants as source_rows
 use Rattle.hv_ast.specs.declared.query.Query.{Query}
@@ -12,46 +14,126 @@ use Rattle.hv_ast.specs.declared.query.Source.{Source}
 use Rattle.hv_ast.specs.declared.statement.Stmt.{Stmt}
 use Rattle.hv_ast.specs.declared.statement.Stmt.TheVariants as stmt
 use Rattle.hv_ast.specs.declared.table.CreateTable.{CreateTable}
+use Rattle.hv_value.specs.declared.sql_type.SqlType.{SqlType}
+use Rattle.hv_value.specs.Conversion.{is_convertible}
 use Rattle.hv_typed.specs.declared.tree.TypedExpr.{TypedExpr}
+use Rattle.hv_logic.specs.declared.catalog.Column.{Column}
+use Rattle.hv_logic.specs.declared.catalog.Shape.{Shape}
 use Rattle.hv_logic.specs.declared.catalog.TableInfo.{TableInfo}
+use Rattle.hv_logic.specs.declared.effect.Found.{Found}
 use Rattle.hv_logic.specs.Shapes.{bucket_names}
-use Rattle.hv_query.specs.Rows.{Tables}
+use Rattle.hv_types.specs.declared.scope.Field.{Field}
 use Rattle.hv_types.specs.declared.scope.Over.TheVariants as over
+use Rattle.hv_types.specs.Kinds.{kind_of}
 use Rattle.hv_types.specs.Typing.{typed}
+use Rattle.hv_select.specs.Sources.{filter_typed}
+use Rattle.hv_changes.specs.declared.change.TypedChange.{TypedChange}
+use Rattle.hv_changes.specs.Columns.{columns_of, field_of, fields_of, is_named}
+use Rattle.hv_changes.specs.Inserts.{is_empty, is_listed, if_new, column_named, columns_listed, are_listed, targets_of, row_typed, rows_typed, value_typed, has_count, converts, kind_at, outputs_convert, values_inserted, query_inserted}
+use Rattle.hv_changes.specs.Updates.{is_fixed, is_set, if_free, place_set, value_set, kept, kinds_of, one_set, all_set, sets_of, updated, deleted}
 use Rattle.hv_analysis.specs.declared.logic.Logic.{Logic}
-use Rattle.hv_analysis.specs.Analysis.{is_windowless, is_whole, queried, rows_analysed, analysed}
+use Rattle.hv_analysis.specs.declared.logic.Logic.TheVariants as logic
+use Rattle.hv_analysis.specs.Analysis.{is_windowless, are_windowless, is_form, query_analysed, change_analysed, form_analysed, analysed}
+use Rattle.hv_analysis.specs.Changes.{source_inserted, inserted, changing, changing_table, changing_at, change_of}
 use Rattle.hv_analysis.specs.Creates.{place_of, created, made, fault_of, unless_fault, names_repeat, is_bucket_column, arrays_route, numbers_fit, is_unkept}
-use Rattle.hv_analysis.specs.Inserts.{row_typed, rows_typed, value_typed, has_count, converts, inserted_into, inserted_at, inserted, columns_of, insert_of, converted_row}
 use Rattle.hv_analysis.specs.Sources.{selected}
-use Rattle.hv_meaning.specs.Meaning.{its_tables, info_of, rows_seen, inserted_in, refused_for, meant, meaning_in}
-use Rattle.hv_meaning.specs.Laws.{are_values, has_meaning, MeansSomething, FormsMean, OtherFormsMeanNothing}
-use Rattle.hv_meaning.proofs.Outcomes.{OnOk, then-ok, inserts-are, creates-are}
-use Rattle.hv_meaning.proofs.Queries.{free-selected}
+use Rattle.hv_meaning.specs.Meaning.{its_tables, info_of, found_in, tables_of, changed_in, refused_for, meant, meaning_in}
+use Rattle.hv_meaning.specs.Laws.{MeansSomething, FormsMean, OtherFormsMeanNothing}
+use Rattle.hv_meaning.proofs.Outcomes.{OnOk, on_ok, then-ok, IsChangeOf, changes-are, creates-are}
+use Rattle.hv_meaning.proofs.Queries.{free-filter, free-selected}
 use Rattle.hv_meaning.proofs.Stored.{both}
-use Rattle.hv_meaning.proofs.Typed.{IsOther, Free, free-then, free-if, free-each, typed-free}
+use Rattle.hv_meaning.proofs.Typed.{IsOther, Free, free-then, free-if, free-front, free-each, typed-free}
 
 -- ---- analysis of these forms doesn't refuse them as Syntax
 
-free-queried : (tables : List TableInfo) (query : Query Source) → is_windowless query ≡ true → Free (queried tables query)
+-- a statement that changes a table
+abbrev is_change : Stmt → Bool
+is_change (stmt.Insert insert) = true
+is_change (stmt.Update update) = true
+is_change (stmt.Delete delete) = true
+is_change (stmt.Truncate truncate) = true
+is_change _ = false
+
+free-queried : (tables : List TableInfo) (query : Query Source) → is_windowless query ≡ true → Free (query_analysed tables query)
 free-queried tables query e = free-then (selected tables query) _ (free-selected tables query e) (λ typed. tt)
+
+free-new : (before : List (List ℕ)) (name : List ℕ) (found : Option Column) → Free (if_new before name found)
+free-new before name None = tt
+free-new before name (Some column) = free-if (is_listed before name) _ _ tt tt
+
+free-listed : (columns : List Column) (before names : List (List ℕ)) → Free (columns_listed columns before names)
+unfolding columns_listed
+free-listed columns before [] = tt
+free-listed columns before (name ∷ names) =
+    free-then (if_new before name (column_named name columns)) _ (free-new before name (column_named name columns)) (λ column.
+    free-front column (columns_listed columns (before ++ name ∷ []) names) (free-listed columns (before ++ name ∷ []) names))
+
+free-targets : (shape : Shape) (names : List (List ℕ)) → Free (targets_of shape names)
+free-targets shape [] = tt
+free-targets shape (name ∷ names) =
+    free-then (columns_listed (columns_of shape) [] (name ∷ names)) _ (free-listed (columns_of shape) [] (name ∷ names)) (λ targets.
+    free-if (are_listed (name ∷ names) shape.parts) _ _ tt tt)
 
 free-rows : (rows : List (List Expr)) → Free (rows_typed rows)
 unfolding rows_typed row_typed
 free-rows rows = free-each row_typed rows (λ exprs. free-each value_typed exprs (λ x. typed-free [] x over.Row))
 
-free-into : (place : ℕ) (info : Option TableInfo) (rows : List (List Expr)) → Free (inserted_into place info rows)
-free-into place None rows = tt
-free-into place (Some info) rows =
+free-source : (tables : List TableInfo) (place : ℕ) (shape : Shape) (insert : Insert) (r : Rows) (targets : List Column)
+    → are_windowless r ≡ true → Free (source_inserted tables place shape insert r targets)
+unfolding source_inserted values_inserted query_inserted
+free-source tables place shape insert (source_rows.Values rows) targets e =
     free-then (rows_typed rows) _ (free-rows rows) (λ typed.
-    free-if (list_all (has_count _) typed) _ _ (free-if (list_all (converts (columns_of info.shape)) typed) _ _ tt tt) tt)
+    free-if (list_all (has_count _) typed) _ _ (free-if (list_all (converts targets) typed) _ _ tt tt) tt)
+free-source tables place shape insert (source_rows.Query query) targets e =
+    free-then (selected tables query) _ (free-selected tables query e) (λ typed.
+    free-if (length typed.columns == length targets) _ _ (free-if (outputs_convert targets typed.columns) _ _ tt tt) tt)
 
-free-at : (tables : List TableInfo) (place : Option ℕ) (rows : List (List Expr)) → Free (inserted_at tables place rows)
-free-at tables None rows = tt
-free-at tables (Some place) rows = free-into place (slice_get tables place) rows
+free-place : (shape : Shape) (before : List Assignment) (name : List ℕ) (place : Option ℕ) → Free (if_free shape before name place)
+free-place shape before name None = tt
+free-place shape before name (Some place) = free-if (is_fixed shape place) _ _ tt (free-if (is_set before name) _ _ tt tt)
 
-free-inserted : (tables : List TableInfo) (name : List ℕ) (rows : List (List Expr)) → Free (inserted tables name rows)
-unfolding inserted
-free-inserted tables name rows = free-at tables (place_of name tables) rows
+free-value : (fields : List Field) (kind : SqlType) (x : Expr) → Free (value_set fields kind x)
+free-value fields kind x =
+    free-then (typed fields x over.Row) _ (typed-free fields x over.Row) (λ y. free-if (is_convertible (kind_of y) kind) _ _ tt tt)
+
+module _ (shape : Shape) (columns : List Column) (fields : List Field) (kinds : List SqlType) where
+  free-set : (before : List Assignment) (values : List TypedExpr) (a : Assignment) → Free (one_set shape columns fields kinds before values a)
+  unfolding one_set
+  free-set before values a =
+      free-then (place_set shape columns before a.column) _ (free-place shape before a.column (position (is_named a.column) columns)) (λ place.
+      free-then (value_set fields (kind_at kinds place) a.value) _ (free-value fields (kind_at kinds place) a.value) (λ x. tt))
+
+  free-sets : (before : List Assignment) (values : List TypedExpr) (assignments : List Assignment) → Free (all_set shape columns fields kinds before values assignments)
+  unfolding all_set
+  free-sets before values [] = tt
+  free-sets before values (a ∷ rest) =
+      free-then (one_set shape columns fields kinds before values a) _ (free-set before values a) (λ values. free-sets (before ++ a ∷ []) values rest)
+
+free-changing : (tables : List TableInfo) (place : ℕ) (shape : Shape) (tree : Stmt) → is_change tree ≡ true → is_form tree ≡ true → Free (changing tables place shape tree)
+unfolding changing inserted updated deleted is_form
+free-changing tables place shape (stmt.Insert insert) c e =
+    free-then (targets_of shape insert.columns) _ (free-targets shape insert.columns) (λ targets.
+    free-source tables place shape insert insert.rows targets (both (is_empty insert.partition) (are_windowless insert.rows) e).1)
+free-changing tables place shape (stmt.Update update) c e =
+    free-then (sets_of shape (columns_of shape) update.assignments) _
+    (free-sets shape (columns_of shape) (map (field_of shape.name) (columns_of shape)) (kinds_of (columns_of shape)) [] (kept 0 (kinds_of (columns_of shape))) update.assignments) (λ values.
+    free-then (filter_typed (fields_of shape) update.filter) _ (free-filter (fields_of shape) update.filter) (λ filter. tt))
+free-changing tables place shape (stmt.Delete delete) c e =
+    free-then (filter_typed (fields_of shape) delete.filter) _ (free-filter (fields_of shape) delete.filter) (λ filter. tt)
+free-changing tables place shape (stmt.Truncate truncate) c e = tt
+free-changing tables place shape other c e = cc
+
+free-change : (tables : List TableInfo) (name : List ℕ) (tree : Stmt) → is_change tree ≡ true → is_form tree ≡ true → Free (change_analysed tables name tree)
+unfolding change_of
+free-change tables name tree c e = free-then (change_of tables name tree) _ (at (place_of name tables)) (λ change. tt)
+  where
+    into : (place : ℕ) (info : Option TableInfo) → Free (changing_table tables tree place info)
+    into place None = tt
+    into place (Some info) = free-changing tables place info.shape tree c e
+
+    at : (place : Option ℕ) → Free (changing_at tables tree place)
+    at None = tt
+    at (Some place) = into place (slice_get tables place)
 
 abbrev FreeFault : Option Refusal → Type 0
 FreeFault None = Unit {0}
@@ -86,57 +168,50 @@ some-other : (why : Refusal) → IsOther why → MeansSomething (refused_for why
 some-other refusal.Syntax h = absurd h
 some-other why h = tt
 
-abbrev Means : List TableInfo → Tables → Logic → Type 0
-Means infos rows logic = MeansSomething (meant infos rows (Ok logic))
+abbrev Means : List TableInfo → List (List Found) → Logic → Type 0
+Means infos found logic = MeansSomething (meant infos found (Ok logic))
 
-free-means : (infos : List TableInfo) (rows : Tables) (r : Result Logic Refusal) → Free r → OnOk (Means infos rows) r → MeansSomething (meant infos rows r)
-free-means infos rows (Ok logic) free h = h
-free-means infos rows (Err why) free h = some-other why free
+free-means : (infos : List TableInfo) (found : List (List Found)) (r : Result Logic Refusal) → Free r → OnOk (Means infos found) r → MeansSomething (meant infos found r)
+free-means infos found (Ok logic) free h = h
+free-means infos found (Err why) free h = some-other why free
 
-insert-means : (infos : List TableInfo) (rows : Tables) (place : ℕ) (info : TableInfo) (typed : List (List TypedExpr)) → slice_get infos place ≡ Some info
-    → Means infos rows (insert_of place (columns_of info.shape) typed)
-insert-means infos rows place info typed here =
-    subst (λ (o : Option TableInfo). MeansSomething (inserted_in o (record { table = place; rows = map (converted_row (columns_of info.shape)) typed })))
-    (sym here) tt
+change-means : (infos : List TableInfo) (found : List (List Found)) (name : List ℕ) (tree : Stmt) (change : TypedChange) → IsChangeOf infos name tree change
+    → Means infos found (logic.Change change)
+change-means infos found name tree change is =
+    subst (λ (o : Option TableInfo). MeansSomething (changed_in o (slice_get found change.table) (tables_of found) change))
+    (sym (ap (slice_get infos) is.table ∙ is.here)) tt
 
-means : (tree : Stmt) (infos : List TableInfo) (rows : Tables) → has_meaning tree ≡ true → MeansSomething (meant infos rows (analysed infos tree))
-unfolding analysed
-means (stmt.Query query) infos rows e =
-    subst (λ b. MeansSomething (meant infos rows (cond b (queried infos query) (Err refusal.Syntax)))) (sym e)
-    (free-means infos rows (queried infos query) (free-queried infos query e) (then-ok (Means infos rows) (selected infos query) _ (λ typed is. tt)))
-means (stmt.Insert insert) infos rows e =
-    let parts = both (is_whole insert) (are_values insert.rows) e in
-    subst (λ b. MeansSomething (meant infos rows (cond b (rows_analysed infos insert.table insert.rows) (Err refusal.Syntax)))) (sym parts.0)
-    (by insert.rows parts.1)
-  where
-    by : (r : Rows) → are_values r ≡ true → MeansSomething (meant infos rows (rows_analysed infos insert.table r))
-    by (source_rows.Values values) is =
-        free-means infos rows (inserted infos insert.table values) (free-inserted infos insert.table values)
-        (inserts-are (Means infos rows) infos insert.table values (λ place info typed here counts. insert-means infos rows place info typed here))
-    by (source_rows.Query query) is = cc
-means (stmt.CreateTable create) infos rows e =
-    free-means infos rows (created infos create) (free-created infos create) (creates-are (Means infos rows) infos create tt tt)
-means other infos rows e = cc
+change-mean : (infos : List TableInfo) (found : List (List Found)) (name : List ℕ) (tree : Stmt) → is_change tree ≡ true → is_form tree ≡ true
+    → MeansSomething (meant infos found (change_analysed infos name tree))
+change-mean infos found name tree c e =
+    free-means infos found (change_analysed infos name tree) (free-change infos name tree c e)
+    (then-ok (Means infos found) (change_of infos name tree) _ (λ change is.
+    change-means infos found name tree change (on_ok (IsChangeOf infos name tree) (change_of infos name tree) change (changes-are infos name tree) is)))
+
+means-form : (tree : Stmt) (infos : List TableInfo) (found : List (List Found)) → is_form tree ≡ true → MeansSomething (meant infos found (form_analysed infos tree))
+unfolding form_analysed is_form
+means-form (stmt.Query query) infos found e =
+    free-means infos found (query_analysed infos query) (free-queried infos query e) (then-ok (Means infos found) (selected infos query) _ (λ typed is. tt))
+means-form (stmt.Insert insert) infos found e = change-mean infos found insert.table (stmt.Insert insert) refl e
+means-form (stmt.Update update) infos found e = change-mean infos found update.table (stmt.Update update) refl e
+means-form (stmt.Delete delete) infos found e = change-mean infos found delete.table (stmt.Delete delete) refl e
+means-form (stmt.Truncate truncate) infos found e = change-mean infos found truncate.table (stmt.Truncate truncate) refl e
+means-form (stmt.CreateTable create) infos found e =
+    free-means infos found (created infos create) (free-created infos create) (creates-are (Means infos found) infos create tt tt)
+means-form other infos found e = cc
 
 pub forms-mean : FormsMean
-unfolding meaning_in
-forms-mean tree tables e = means tree (map info_of (its_tables tree tables)) (map rows_seen (its_tables tree tables)) e
+unfolding meaning_in analysed
+forms-mean tree tables e =
+    let infos = map info_of (its_tables tree tables) in
+    let found = map found_in (its_tables tree tables) in
+    subst (λ b. MeansSomething (meant infos found (cond b (form_analysed infos tree) (Err refusal.Syntax)))) (sym e) (means-form tree infos found e)
 
 -- ---- another form means nothing
 
-nothing : (tree : Stmt) (infos : List TableInfo) (rows : Tables) → has_meaning tree ≡ false → meant infos rows (analysed infos tree) ≡ None
-unfolding analysed
-nothing (stmt.Query query) infos rows e = ap (λ b. meant infos rows (cond b (queried infos query) (Err refusal.Syntax))) e
-nothing (stmt.Insert insert) infos rows e = by insert.rows (is_whole insert) e
-  where
-    by : (r : Rows) (whole : Bool) → (whole && are_values r) ≡ false
-        → meant infos rows (cond whole (rows_analysed infos insert.table r) (Err refusal.Syntax)) ≡ None
-    by r false is = refl
-    by (source_rows.Values values) true is = cc
-    by (source_rows.Query query) true is = refl
-nothing (stmt.CreateTable create) infos rows e = cc
-nothing other infos rows e = refl
-
 pub others-nothing : OtherFormsMeanNothing
-unfolding meaning_in
-others-nothing tree tables e = nothing tree (map info_of (its_tables tree tables)) (map rows_seen (its_tables tree tables)) e
+unfolding meaning_in analysed
+others-nothing tree tables e =
+    let infos = map info_of (its_tables tree tables) in
+    let found = map found_in (its_tables tree tables) in
+    ap (λ b. meant infos found (cond b (form_analysed infos tree) (Err refusal.Syntax))) e

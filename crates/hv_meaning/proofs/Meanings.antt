@@ -1,8 +1,8 @@
 -- What a statement's meaning can be, by the statement's form.
 use Rattle.std.proofs.lemmas.List.{length-append, length-map}
-use Rattle.std.proofs.lemmas.Bool.{leb-true}
-use Rattle.std.proofs.Common.{◌≡◌, ◌++◌, ℕ, zero, suc, Bool, true, false, cond, not, nat_eq, List, [], ◌∷◌, map, slice_get, length, Option, Some, None, Result, Ok, Err, refl, sym, ap, ◌∙◌, subst, eqb-true, arith, ◌+◌, ◌≤◌, ◌&&◌}
-use Rattle.std.specs.Prelude.{is_some, nat_lt, position, nat_le}
+use Rattle.std.proofs.lemmas.Bool.{leb-true, le-ltb, lt-ltb}
+use Rattle.std.proofs.Common.{◌≡◌, ◌++◌, ℕ, zero, suc, Bool, true, false, cond, not, nat_eq, List, [], ◌∷◌, map, slice_get, length, Option, Some, None, Result, Ok, Err, refl, sym, ap, ◌∙◌, subst, arith, ◌+◌, ◌≤◌, ◌&&◌}
+use Rattle.std.specs.Prelude.{is_some, nat_lt, position, nat_le, filter, drop}
 use Rattle.std.specs.List.{position_or_len, flat_map}
 use Rattle.std.specs.List.{AllByRecursion, list_all}
 use Rattle.std.specs.Option.{option_to_list}
@@ -10,39 +10,50 @@ use Rattle.std.specs.Cmp.Lexicographic.{pointwise}
 use Rattle.hv_base.specs.declared.refusal.Refusal.{Refusal}
 use Rattle.hv_base.specs.declared.refusal.Refusal.TheVariants as refusal
 use Rattle.hv_ast.specs.declared.change.Insert.{Insert}
-use Rattle.hv_ast.specs.declared.change.Rows.{Rows}
-use Rattle.hv_ast.specs.declared.change.Rows.TheVariants as source_rows
 use Rattle.hv_ast.specs.declared.query.Query.{Query}
 use Rattle.hv_ast.specs.declared.query.Source.{Source}
 use Rattle.hv_ast.specs.declared.statement.Stmt.{Stmt}
 use Rattle.hv_ast.specs.declared.statement.Stmt.TheVariants as stmt
 use Rattle.hv_ast.specs.declared.table.CreateTable.{CreateTable}
 use Rattle.hv_value.specs.declared.row.Row.{Row}
+use Rattle.hv_value.specs.declared.sql_type.SqlType.{SqlType}
+use Rattle.hv_value.specs.declared.sql_type.SqlType.TheVariants as type
+use Rattle.hv_value.specs.declared.value.Value.TheOpen.{Value-F}
+use Rattle.hv_value.specs.declared.value.Value.TheVariants as value
+use Rattle.hv_value.specs.declared.value.Value.TheVariants.{rolls-Null}
+use Rattle.hv_value.specs.declared.value.Value.TheViews.{out-Value, out-roll-Value}
+use Rattle.hv_value.specs.Conversion.{is_of, is_layer_in}
 use Rattle.hv_value.proofs.ConversionLemmas.{converted-is_of}
 use Rattle.hv_typed.specs.declared.tree.TypedExpr.{TypedExpr}
 use Rattle.hv_typed.specs.Evaluation.{value_of}
 use Rattle.hv_logic.specs.declared.catalog.Column.{Column}
+use Rattle.hv_logic.specs.declared.catalog.Shape.{Shape}
 use Rattle.hv_logic.specs.declared.catalog.TableInfo.{TableInfo}
 use Rattle.hv_logic.specs.declared.effect.Effect.{Effect}
+use Rattle.hv_logic.specs.declared.effect.Found.{Found}
 use Rattle.hv_logic.specs.declared.meaning.Meaning.{Meaning}
 use Rattle.hv_logic.specs.declared.meaning.Meaning.TheVariants.{Refused, Listing, Change, Make, RowLimit}
 use Rattle.hv_logic.specs.declared.seen.Seen.{Seen}
 use Rattle.hv_logic.specs.Tables.{named}
 use Rattle.hv_logic.specs.Shapes.{column_of, shape_of, bucket_names}
+use Rattle.hv_locks.specs.declared.table.Lock.{Lock}
 use Rattle.hv_logic.specs.Names.{shared, rows_names}
 use Rattle.hv_logic.specs.Sizes.{row_fits}
-use Rattle.hv_query.specs.Rows.{Tables}
-use Rattle.hv_types.specs.Nodes.{as_kind}
+use Rattle.hv_query.specs.Rows.{Frame, Tables}
+use Rattle.hv_changes.specs.declared.change.Deletes.{Deletes}
+use Rattle.hv_changes.specs.declared.change.Deletes.TheVariants as deletes
+use Rattle.hv_changes.specs.declared.change.TypedChange.{TypedChange}
+use Rattle.hv_changes.specs.Columns.{columns_of}
+use Rattle.hv_changes.specs.Inserts.{overwritten}
 use Rattle.hv_analysis.specs.declared.logic.Logic.{Logic}
 use Rattle.hv_analysis.specs.declared.logic.Logic.TheVariants as logic
-use Rattle.hv_analysis.specs.declared.logic.TypedInsert.{TypedInsert}
-use Rattle.hv_analysis.specs.Analysis.{analysed, is_windowless, is_whole, queried, query_analysed, rows_analysed}
+use Rattle.hv_analysis.specs.Analysis.{analysed, form_analysed, is_form, query_analysed, change_analysed}
 use Rattle.hv_analysis.specs.Creates.{created, created_beside, place_of, is_table, fault_of, names_repeat, is_bucket_column, arrays_route, numbers_fit}
-use Rattle.hv_analysis.specs.Inserts.{columns_of, has_count, converted_row, insert_of}
+use Rattle.hv_analysis.specs.Changes.{changing, change_of}
 use Rattle.hv_analysis.specs.Sources.{selected}
-use Rattle.hv_meaning.specs.Meaning.{its_tables, named_by, info_of, rows_seen, stored_values, stored_row, inserts_of, inserted_in, refused_for, meant, meaning_in, meaning_of}
-use Rattle.hv_meaning.specs.Laws.{MakesNew, TablesAreNew, AreOf, IsRowOf, ChangesNamed, ChangesAreNamed}
-use Rattle.hv_meaning.proofs.Outcomes.{OnOk, then-ok, if-ok, inserts-are, creates-are, makes}
+use Rattle.hv_meaning.specs.Meaning.{its_tables, named_by, info_of, found_in, tables_of, is_matched, matched, frames_from, first_value, stored_values, stored_row, is_received, deleted, change_effect, or_none, changed_in, refused_for, meant, meaning_in, meaning_of}
+use Rattle.hv_meaning.specs.Laws.{MakesNew, TablesAreNew, AreOf, IsRowOf, AreOfRows, change_name, ChangesNamed, ChangesAreNamed, only_inserts, InsertsDeleteNothing}
+use Rattle.hv_meaning.proofs.Outcomes.{OnOk, on_ok, then-ok, IsChangeOf, inserts-are, changes-are, creates-are, makes}
 use Rattle.hv_meaning.proofs.Stored.{both, rows-taken}
 
 -- ---- a fact of what a statement comes to
@@ -52,129 +63,46 @@ module _ (P : Option Meaning → Type 0) (unbuilt : P None) (refused : (why : Re
   refused-is refusal.Syntax = unbuilt
   refused-is why = refused why
 
-  abbrev pub Comes : List TableInfo → Tables → Logic → Type 0
-  Comes infos rows logic = P (meant infos rows (Ok logic))
+  abbrev pub Comes : List TableInfo → List (List Found) → Logic → Type 0
+  Comes infos found logic = P (meant infos found (Ok logic))
 
-  pub meant-is : (infos : List TableInfo) (rows : Tables) (r : Result Logic Refusal) → OnOk (Comes infos rows) r → P (meant infos rows r)
-  meant-is infos rows (Ok logic) h = h
-  meant-is infos rows (Err why) h = refused-is why
+  pub meant-is : (infos : List TableInfo) (found : List (List Found)) (r : Result Logic Refusal) → OnOk (Comes infos found) r → P (meant infos found r)
+  meant-is infos found (Ok logic) h = h
+  meant-is infos found (Err why) h = refused-is why
 
--- ---- the table that an INSERT, or a CREATE TABLE, names
+  -- a statement of a form that isn't built comes to nothing
+  pub form-is : (tree : Stmt) (infos : List TableInfo) (found : List (List Found)) → P (meant infos found (form_analysed infos tree)) → P (meant infos found (analysed infos tree))
+  unfolding analysed
+  form-is tree infos found h = by (is_form tree)
+    where
+      by : (b : Bool) → P (meant infos found (cond b (form_analysed infos tree) (Err refusal.Syntax)))
+      by true = h
+      by false = unbuilt
 
-abbrev infos_of : Option Seen → List TableInfo
-infos_of found = map info_of (option_to_list found ++ [])
+  pub queries-come : (infos : List TableInfo) (found : List (List Found)) (query : Query Source) → ((names : List (List ℕ)) (rows : List Row) → P (Some (Listing names rows)))
+      → P (meant infos found (query_analysed infos query))
+  queries-come infos found query listing =
+      meant-is infos found (query_analysed infos query) (then-ok (Comes infos found) (selected infos query) _ (λ typed e. listing _ _))
 
-abbrev Found : Option Seen → TableInfo → Type 0
-Found found info = (seen : Seen) × (found ≡ Some seen) × (info ≡ seen.info)
+-- ---- places of names
 
-one-found : (found : Option Seen) (place : ℕ) (info : TableInfo) → slice_get (infos_of found) place ≡ Some info → Found found info
-one-found None zero info e = cc
-one-found None (suc place) info e = cc
-one-found (Some seen) zero info e = let same : seen.info ≡ info = cc in (seen, refl, sym same)
-one-found (Some seen) (suc zero) info e = cc
-one-found (Some seen) (suc (suc place)) info e = cc
+len-none : {X : Type 0} (p : X → Bool) (xs : List X) → AllByRecursion (λ (x : X). p x ≡ false) xs → position_or_len p xs ≡ length xs
+len-none p [] h = refl
+len-none p (x ∷ xs) h =
+    let rest = len-none p xs h.1 in
+    let more : 1 + position_or_len p xs ≡ length (x ∷ xs) = omega (arith, rest) in
+    ap (λ b. cond (not b) (1 + position_or_len p xs) 0) h.0 ∙ more
 
--- ---- rows of a table's types
+place-none : {X : Type 0} (p : X → Bool) (xs : List X) → AllByRecursion (λ (x : X). p x ≡ false) xs → position p xs ≡ None
+place-none p xs h =
+    ap (λ n. cond (nat_lt n (length xs)) (Some n) None) (len-none p xs h)
+    ∙ ap (λ b. cond b (Some (length xs)) None) (le-ltb (length xs) (length xs) (omega arith))
 
-row-of : (columns : List Column) (xs : List TypedExpr) → length xs ≡ length columns → AreOf columns (stored_values columns (converted_row columns xs))
-row-of [] [] e = tt
-row-of [] (x ∷ xs) e = absurd (omega (arith, e))
-row-of (column ∷ columns) [] e = absurd (omega (arith, e))
-row-of (column ∷ columns) (x ∷ xs) e =
-    (converted-is_of (value_of (as_kind column.kind x) []) column.kind, row-of columns xs (omega (arith, e)))
-
-rows-of : (columns : List Column) (rows : List (List TypedExpr)) → list_all (has_count (length columns)) rows ≡ true
-    → AllByRecursion (IsRowOf columns) (map (stored_row columns) (map (converted_row columns) rows))
-rows-of columns [] counts = tt
-rows-of columns (xs ∷ rows) counts =
-    let parts = both (has_count (length columns) xs) (list_all (has_count (length columns)) rows) counts in
-    (row-of columns xs (eqb-true (length xs) (length columns) parts.0), rows-of columns rows parts.1)
-
--- ---- changes
-
-module _ (tree : Stmt) (tables : List Seen) where
-  abbrev Named : Option Meaning → Type 0
-  Named (Some (Change info effect)) = ChangesNamed tree tables info effect
-  Named _ = Unit {0}
-
-  within-named : (fits : Bool) (info : TableInfo) (effect : Effect) → (fits ≡ true → ChangesNamed tree tables info effect)
-      → Named (Some (cond fits (Change info effect) RowLimit))
-  within-named true info effect h = h refl
-  within-named false info effect h = tt
-
-insert-named : (insert : Insert) (tables : List Seen) (rows : Tables) (place : ℕ) (info : TableInfo) (typed : List (List TypedExpr))
-    → slice_get (infos_of (named insert.table tables)) place ≡ Some info → list_all (has_count (length (columns_of info.shape))) typed ≡ true
-    → Named (stmt.Insert insert) tables (meant (infos_of (named insert.table tables)) rows (Ok (insert_of place (columns_of info.shape) typed)))
-insert-named insert tables rows place info typed here counts =
-    let columns = columns_of info.shape in
-    let typed_rows = map (converted_row columns) typed in
-    let effect = inserts_of info.shape typed_rows in
-    let found = one-found (named insert.table tables) place info here in
-    let all = rows-of columns typed counts in
-    subst (λ (o : Option TableInfo). Named (stmt.Insert insert) tables (inserted_in o (record { table = place; rows = typed_rows }))) (sym here)
-    (within-named (stmt.Insert insert) tables (list_all row_fits effect.inserts) info effect (λ fit. record {
-      seen = found.0;
-      name = insert.table;
-      name_is = refl;
-      here = found.1;
-      info_is = found.2;
-      deletes = refl;
-      typed = all;
-      taken = λ few. rows-taken columns effect.inserts few all fit;
-    }))
-
--- what a query comes to
-module _ (P : Option Meaning → Type 0) (unbuilt : P None) (refused : (why : Refusal) → P (Some (Refused why))) (infos : List TableInfo) (rows : Tables) where
-  pub queries-come : (query : Query Source) → ((names : List (List ℕ)) (found : List Row) → P (Some (Listing names found)))
-      → P (meant infos rows (query_analysed infos query))
-  queries-come query listing =
-      meant-is P unbuilt refused infos rows (query_analysed infos query)
-      (if-ok (Comes P unbuilt refused infos rows) (is_windowless query) (queried infos query) refusal.Syntax (λ single.
-      then-ok (Comes P unbuilt refused infos rows) (selected infos query) _ (λ typed e. listing _ _)))
-
-unwhole-named : (tree : Stmt) (tables : List Seen) (infos : List TableInfo) (rows : Tables) (b : Bool)
-    → Named tree tables (meant infos rows (cond b (Err refusal.Syntax) (Err refusal.Syntax)))
-unwhole-named tree tables infos rows true = tt
-unwhole-named tree tables infos rows false = tt
-
--- what an INSERT comes to, where it names this table
-insert-comes : (insert : Insert) (tables : List Seen) (r : Rows) (tree : Stmt) → tree ≡ stmt.Insert insert
-    → Named tree tables (meant (map info_of (flat_map (named_by tables) (shared insert.table ∷ rows_names r)))
-    (map rows_seen (flat_map (named_by tables) (shared insert.table ∷ rows_names r)))
-    (cond (is_whole insert) (rows_analysed (map info_of (flat_map (named_by tables) (shared insert.table ∷ rows_names r))) insert.table r) (Err refusal.Syntax)))
-insert-comes insert tables (source_rows.Values values) tree is =
-    let N = Named tree tables in
-    let infos = infos_of (named insert.table tables) in
-    let seen_rows = map rows_seen (option_to_list (named insert.table tables) ++ []) in
-    meant-is N tt (λ why. tt) infos seen_rows _
-    (if-ok (Comes N tt (λ why. tt) infos seen_rows) (is_whole insert) _ refusal.Syntax (λ whole.
-    inserts-are (Comes N tt (λ why. tt) infos seen_rows) infos insert.table values
-    (λ place info typed here counts.
-    subst (λ (t : Stmt). Named t tables (meant infos seen_rows (Ok (insert_of place (columns_of info.shape) typed)))) (sym is)
-    (insert-named insert tables seen_rows place info typed here counts))))
-insert-comes insert tables (source_rows.Query query) tree is =
-    unwhole-named tree tables (map info_of (flat_map (named_by tables) (shared insert.table ∷ rows_names (source_rows.Query query))))
-    (map rows_seen (flat_map (named_by tables) (shared insert.table ∷ rows_names (source_rows.Query query)))) (is_whole insert)
-
-named-all : (tree : Stmt) (tables : List Seen) → Named tree tables (meaning_of tables tree)
-unfolding meaning_in analysed
-named-all (stmt.Query query) tables = queries-come (Named (stmt.Query query) tables) tt (λ why. tt) _ _ query (λ names found. tt)
-named-all (stmt.Insert insert) tables = insert-comes insert tables insert.rows (stmt.Insert insert) refl
-named-all (stmt.CreateTable create) tables =
-    let N = Named (stmt.CreateTable create) tables in
-    let infos = map info_of (its_tables (stmt.CreateTable create) tables) in
-    let rows = map rows_seen (its_tables (stmt.CreateTable create) tables) in
-    meant-is N tt (λ why. tt) infos rows (created infos create) (creates-are (Comes N tt (λ why. tt) infos rows) infos create tt tt)
-named-all other tables = tt
-
-pub changes-named : ChangesAreNamed
-changes-named tree tables info effect e = subst (Named tree tables) e (named-all tree tables)
-
--- ---- new tables
-
-abbrev MakesAt : Stmt → List Seen → Option Meaning → Type 0
-MakesAt tree tables (Some (Make shape)) = MakesNew tree tables shape
-MakesAt tree tables _ = Unit {0}
+place-first : {X : Type 0} (p : X → Bool) (x : X) (xs : List X) → p x ≡ true → position p (x ∷ xs) ≡ Some 0
+place-first p x xs here =
+    let first : position_or_len p (x ∷ xs) ≡ 0 = ap (λ b. cond (not b) (1 + position_or_len p xs) 0) here in
+    ap (λ n. cond (nat_lt n (length (x ∷ xs))) (Some n) None) first
+    ∙ ap (λ b. cond b (Some 0) None) (lt-ltb 0 (length (x ∷ xs)) (omega arith))
 
 first-same : (name : List ℕ) (first seen : Seen) (rest : Option Seen) → (rest ≡ Some seen → pointwise nat_eq seen.info.shape.name name ≡ true)
     → (b : Bool) → pointwise nat_eq first.info.shape.name name ≡ b → cond b (Some first) rest ≡ Some seen
@@ -189,10 +117,264 @@ named-same name [] seen e = cc
 named-same name (first ∷ tables) seen e =
     first-same name first seen (named name tables) (named-same name tables seen) (pointwise nat_eq first.info.shape.name name) refl e
 
-place-first : (test : TableInfo → Bool) (info : TableInfo) → test info ≡ true → is_some (position test (info ∷ [])) ≡ true
-place-first test info here =
-    let first : position_or_len test (info ∷ []) ≡ 0 = ap (λ b. cond (not b) (suc 0) 0) here in
-    ap (λ n. is_some (cond (nat_lt n 1) (Some n) None)) first
+-- ---- the table that a change names: it is the first of those that the statement names
+
+-- a table of another name
+abbrev HasOther : List ℕ → Seen → Type 0
+HasOther name seen = pointwise nat_eq seen.info.shape.name name ≡ false
+
+other-by : (name : List ℕ) (seen : Seen) (rest : List Seen) (b : Bool) → pointwise nat_eq seen.info.shape.name name ≡ b
+    → cond b (Some seen) (named name rest) ≡ None → (named name rest ≡ None → AllByRecursion (HasOther name) rest)
+    → HasOther name seen × AllByRecursion (HasOther name) rest
+other-by name seen rest true is none more = cc
+other-by name seen rest false is none more = (is, more none)
+
+other-named : (name : List ℕ) (tables : List Seen) → named name tables ≡ None → AllByRecursion (HasOther name) tables
+other-named name [] e = tt
+other-named name (seen ∷ tables) e = other-by name seen tables (pointwise nat_eq seen.info.shape.name name) refl e (other-named name tables)
+
+module _ (P : Seen → Type 0) where
+  first-all : (seen : Seen) (rest : Option Seen) (b : Bool) → P seen → AllByRecursion P (option_to_list rest) → AllByRecursion P (option_to_list (cond b (Some seen) rest))
+  first-all seen rest true one more = (one, tt)
+  first-all seen rest false one more = more
+
+  found-all : (name : List ℕ) (tables : List Seen) → AllByRecursion P tables → AllByRecursion P (option_to_list (named name tables))
+  found-all name [] all = tt
+  found-all name (seen ∷ tables) all =
+      first-all seen (named name tables) (pointwise nat_eq seen.info.shape.name name) all.0 (found-all name tables all.1)
+
+  all-beside : (xs ys : List Seen) → AllByRecursion P xs → AllByRecursion P ys → AllByRecursion P (xs ++ ys)
+  all-beside [] ys all more = more
+  all-beside (x ∷ xs) ys all more = (all.0, all-beside xs ys all.1 more)
+
+  all-named : (tables : List Seen) (locks : List Lock) → AllByRecursion P tables → AllByRecursion P (flat_map (named_by tables) locks)
+  all-named tables [] all = tt
+  all-named tables (lock ∷ locks) all =
+      all-beside (named_by tables lock) (flat_map (named_by tables) locks) (found-all lock.name tables all) (all-named tables locks all)
+
+abbrev IsNot : List ℕ → TableInfo → Type 0
+IsNot name info = is_table name info ≡ false
+
+others-infos : (name : List ℕ) (tables : List Seen) → AllByRecursion (HasOther name) tables → AllByRecursion (IsNot name) (map info_of tables)
+others-infos name [] all = tt
+others-infos name (seen ∷ tables) all = (all.0, others-infos name tables all.1)
+
+-- the place is the first, and its table the one of that name
+record IsTarget (name : List ℕ) (tables : List Seen) (info : TableInfo) (rows : List Found) : Type 0 where
+  seen : Seen
+  here : named name tables ≡ Some seen
+  info_is : info ≡ seen.info
+  rows_are : rows ≡ seen.rows
+
+module _ (name : List ℕ) (tables : List Seen) (rest : List Seen) (info : TableInfo) where
+  target-first : (seen : Seen) (n : ℕ) → named name tables ≡ Some seen → n ≡ 0 → slice_get (map info_of (seen ∷ rest)) n ≡ Some info
+      → IsTarget name tables info (or_none (slice_get (map found_in (seen ∷ rest)) n))
+  target-first seen zero is zeroth found = let same : seen.info ≡ info = cc in record { seen = seen; here = is; info_is = sym same; rows_are = refl }
+  target-first seen (suc n) is zeroth found = absurd (omega (arith, zeroth))
+
+  target-by : (o : Option Seen) (place : ℕ) → named name tables ≡ o → (o ≡ None → AllByRecursion (HasOther name) rest)
+      → place_of name (map info_of (option_to_list o ++ rest)) ≡ Some place
+      → slice_get (map info_of (option_to_list o ++ rest)) place ≡ Some info
+      → IsTarget name tables info (or_none (slice_get (map found_in (option_to_list o ++ rest)) place))
+  target-by None place is others placed found =
+      let none : place_of name (map info_of rest) ≡ None = place-none (is_table name) (map info_of rest) (others-infos name rest (others refl)) in
+      let never : None ≡ Some place = sym none ∙ placed in
+      cc
+  target-by (Some seen) place is others placed found =
+      let zeroth : place_of name (map info_of (seen ∷ rest)) ≡ Some 0 =
+      place-first (is_table name) seen.info (map info_of rest) (named-same name tables seen is) in
+      let same : Some place ≡ Some 0 = sym placed ∙ zeroth in
+      let is_zero : place ≡ 0 = cc in
+      target-first seen place is is_zero found
+
+target : (name : List ℕ) (tables : List Seen) (locks : List Lock) (place : ℕ) (info : TableInfo)
+    → place_of name (map info_of (named_by tables (shared name) ++ flat_map (named_by tables) locks)) ≡ Some place
+    → slice_get (map info_of (named_by tables (shared name) ++ flat_map (named_by tables) locks)) place ≡ Some info
+    → IsTarget name tables info (or_none (slice_get (map found_in (named_by tables (shared name) ++ flat_map (named_by tables) locks)) place))
+target name tables locks place info =
+    target-by name tables (flat_map (named_by tables) locks) info (named name tables) place refl
+    (λ none. all-named (HasOther name) tables locks (other-named name tables none))
+
+-- ---- rows of a table's types
+
+null-layer : (kind : SqlType) → is_layer_in kind Value-F.Null ≡ true
+null-layer type.Null = refl
+null-layer type.Boolean = refl
+null-layer type.Int = refl
+null-layer type.BigInt = refl
+null-layer type.Str = refl
+null-layer type.Date = refl
+null-layer (type.ArrayOf e) = refl
+
+null-of : (kind : SqlType) → is_of kind value.Null ≡ true
+null-of kind = ap (is_layer_in kind) (ap out-Value (sym rolls-Null) ∙ out-roll-Value Value-F.Null) ∙ null-layer kind
+
+first-of : (column : Column) (xs : List TypedExpr) (frame : Frame) → is_of column.kind (first_value column xs frame) ≡ true
+first-of column [] frame = null-of column.kind
+first-of column (x ∷ xs) frame = converted-is_of (value_of x frame) column.kind
+
+row-of : (columns : List Column) (xs : List TypedExpr) (frame : Frame) → AreOf columns (stored_values columns xs frame)
+row-of [] xs frame = tt
+row-of (column ∷ columns) xs frame = (first-of column xs frame, row-of columns (drop 1 xs) frame)
+
+rows-of : (columns : List Column) (xs : List TypedExpr) (frames : List Frame) → AllByRecursion (IsRowOf columns) (map (stored_row columns xs) frames)
+rows-of columns xs [] = tt
+rows-of columns xs (frame ∷ frames) = (row-of columns xs frame, rows-of columns xs frames)
+
+-- ---- rows that stand
+
+abbrev never : Found → Bool
+never found = false
+
+none-kept : (rows : List Found) → [] ≡ filter never rows
+none-kept [] = refl
+none-kept (row ∷ rows) = none-kept rows
+
+deleted-stand : (width : ℕ) (gone : Deletes) (rows : List Row) (found : List Found) → AreOfRows found (deleted width gone rows found)
+deleted-stand width deletes.Nothing rows found = record { test = never; deletes_are = none-kept found }
+deleted-stand width (deletes.Matching condition) rows found = record { test = is_matched condition; deletes_are = refl }
+deleted-stand width deletes.Received rows found = record { test = is_received width rows; deletes_are = refl }
+
+-- ---- changes
+
+module _ (tree : Stmt) (tables : List Seen) where
+  abbrev Named : Option Meaning → Type 0
+  Named (Some (Change info effect)) = ChangesNamed tree tables info effect
+  Named _ = Unit {0}
+
+  within-named : (fits : Bool) (info : TableInfo) (effect : Effect) → (fits ≡ true → ChangesNamed tree tables info effect)
+      → Named (Some (cond fits (Change info effect) RowLimit))
+  within-named true info effect h = h refl
+  within-named false info effect h = tt
+
+-- the rows that were found, or none
+some-found : (info : TableInfo) (found : Option (List Found)) (rows : Tables) (change : TypedChange)
+    → changed_in (Some info) found rows change ≡ changed_in (Some info) (Some (or_none found)) rows change
+some-found info None rows change = refl
+some-found info (Some those) rows change = refl
+
+effect-named : (tree : Stmt) (tables : List Seen) (name : List ℕ) (all_rows : Tables) → change_name tree ≡ Some name
+    → (info : TableInfo) (rows : List Found) (change : TypedChange) → IsTarget name tables info rows
+    → Named tree tables (changed_in (Some info) (Some rows) all_rows change)
+effect-named tree tables name all_rows names info rows change aim =
+    let columns = columns_of info.shape in
+    let effect = change_effect info.shape change rows all_rows in
+    let all = rows-of columns change.values (frames_from change.origin (matched change.deletes rows) all_rows) in
+    within-named tree tables (list_all row_fits effect.inserts) info effect (λ fit. record {
+      seen = aim.seen;
+      name = name;
+      name_is = names;
+      here = aim.here;
+      info_is = aim.info_is;
+      stand = subst (λ (found : List Found). AreOfRows found effect.deletes) aim.rows_are
+          (deleted-stand (length info.shape.columns) change.deletes effect.inserts rows);
+      typed = all;
+      taken = λ few. rows-taken columns effect.inserts few all fit;
+    })
+
+-- over the target and these other tables
+module _ (tree : Stmt) (tables : List Seen) (name : List ℕ) (locks : List Lock) where
+  abbrev its : List Seen
+  its = named_by tables (shared name) ++ flat_map (named_by tables) locks
+
+  target-named : change_name tree ≡ Some name → (change : TypedChange) → IsChangeOf (map info_of its) name tree change
+      → Named tree tables (changed_in (slice_get (map info_of its) change.table) (slice_get (map found_in its) change.table) (tables_of (map found_in its)) change)
+  target-named names change is =
+      let all_rows = tables_of (map found_in its) in
+      let aim = target name tables locks is.place is.info is.named is.here in
+      subst (λ (n : ℕ). Named tree tables (changed_in (slice_get (map info_of its) n) (slice_get (map found_in its) n) all_rows change)) (sym is.table)
+      (subst (λ (o : Option TableInfo). Named tree tables (changed_in o (slice_get (map found_in its) is.place) all_rows change)) (sym is.here)
+      (subst (λ (o : Option Meaning). Named tree tables o) (sym (some-found is.info (slice_get (map found_in its) is.place) all_rows change))
+      (effect-named tree tables name all_rows names is.info (or_none (slice_get (map found_in its) is.place)) change aim)))
+
+  change-named : change_name tree ≡ Some name → Named tree tables (meant (map info_of its) (map found_in its) (change_analysed (map info_of its) name tree))
+  change-named names =
+      meant-is (Named tree tables) tt (λ why. tt) (map info_of its) (map found_in its) _
+      (then-ok (Comes (Named tree tables) tt (λ why. tt) (map info_of its) (map found_in its)) (change_of (map info_of its) name tree) _ (λ change e.
+      target-named names change
+      (on_ok (IsChangeOf (map info_of its) name tree) (change_of (map info_of its) name tree) change (changes-are (map info_of its) name tree) e)))
+
+named-form : (tree : Stmt) (tables : List Seen)
+    → Named tree tables (meant (map info_of (its_tables tree tables)) (map found_in (its_tables tree tables)) (form_analysed (map info_of (its_tables tree tables)) tree))
+unfolding form_analysed
+named-form (stmt.Query query) tables = queries-come (Named (stmt.Query query) tables) tt (λ why. tt) _ _ query (λ names rows. tt)
+named-form (stmt.Insert insert) tables = change-named (stmt.Insert insert) tables insert.table (rows_names insert.rows) refl
+named-form (stmt.Update update) tables = change-named (stmt.Update update) tables update.table [] refl
+named-form (stmt.Delete delete) tables = change-named (stmt.Delete delete) tables delete.table [] refl
+named-form (stmt.Truncate truncate) tables = change-named (stmt.Truncate truncate) tables truncate.table [] refl
+named-form (stmt.CreateTable create) tables =
+    let N = Named (stmt.CreateTable create) tables in
+    let infos = map info_of (its_tables (stmt.CreateTable create) tables) in
+    let found = map found_in (its_tables (stmt.CreateTable create) tables) in
+    meant-is N tt (λ why. tt) infos found (created infos create) (creates-are (Comes N tt (λ why. tt) infos found) infos create tt tt)
+named-form other tables = tt
+
+named-all : (tree : Stmt) (tables : List Seen) → Named tree tables (meaning_of tables tree)
+unfolding meaning_in
+named-all tree tables = form-is (Named tree tables) tt (λ why. tt) tree (map info_of (its_tables tree tables)) (map found_in (its_tables tree tables)) (named-form tree tables)
+
+pub changes-named : ChangesAreNamed
+changes-named tree tables info effect e = subst (Named tree tables) e (named-all tree tables)
+
+-- ---- INSERT INTO deletes nothing
+
+abbrev Keeps : Option Meaning → Type 0
+Keeps (Some (Change info effect)) = effect.deletes ≡ []
+Keeps _ = Unit {0}
+
+within-keeps : (fits : Bool) (info : TableInfo) (effect : Effect) → effect.deletes ≡ [] → Keeps (Some (cond fits (Change info effect) RowLimit))
+within-keeps true info effect h = h
+within-keeps false info effect h = tt
+
+change-keeps : (info : Option TableInfo) (found : Option (List Found)) (tables : Tables) (change : TypedChange) → change.deletes ≡ deletes.Nothing
+    → Keeps (changed_in info found tables change)
+change-keeps None found tables change none = tt
+change-keeps (Some info) found tables change none =
+    within-keeps (list_all row_fits (change_effect info.shape change (or_none found) tables).inserts) info (change_effect info.shape change (or_none found) tables)
+    (ap (λ (gone : Deletes). deleted (length info.shape.columns) gone (change_effect info.shape change (or_none found) tables).inserts (or_none found)) none)
+
+abbrev GoesNothing : TypedChange → Type 0
+GoesNothing change = change.deletes ≡ deletes.Nothing
+
+not-true : (b : Bool) → not b ≡ true → b ≡ false
+not-true true e = cc
+not-true false e = refl
+
+insert-keeps : (tables : List TableInfo) (place : ℕ) (shape : Shape) (insert : Insert) → not insert.overwrite ≡ true
+    → OnOk GoesNothing (changing tables place shape (stmt.Insert insert))
+unfolding changing
+insert-keeps tables place shape insert into =
+    inserts-are GoesNothing tables place shape insert (λ targets kinds o is. ap (λ b. overwritten b shape) (not-true insert.overwrite into))
+
+keeps-change : (infos : List TableInfo) (found : List (List Found)) (insert : Insert) → not insert.overwrite ≡ true
+    → Keeps (meant infos found (change_analysed infos insert.table (stmt.Insert insert)))
+keeps-change infos found insert into =
+    meant-is Keeps tt (λ why. tt) infos found _
+    (then-ok (Comes Keeps tt (λ why. tt) infos found) (change_of infos insert.table (stmt.Insert insert)) _ (λ change e.
+    let is = on_ok (IsChangeOf infos insert.table (stmt.Insert insert)) (change_of infos insert.table (stmt.Insert insert)) change (changes-are infos insert.table (stmt.Insert insert)) e in
+    change-keeps (slice_get infos change.table) (slice_get found change.table) (tables_of found) change
+    (on_ok GoesNothing (changing infos is.place is.info.shape (stmt.Insert insert)) change (insert-keeps infos is.place is.info.shape insert into) is.is)))
+
+keeps-form : (tree : Stmt) (infos : List TableInfo) (found : List (List Found)) → only_inserts tree ≡ true → Keeps (meant infos found (form_analysed infos tree))
+unfolding form_analysed
+keeps-form (stmt.Insert insert) infos found e = keeps-change infos found insert e
+keeps-form other infos found e = cc
+
+pub inserts-keep : InsertsDeleteNothing
+unfolding meaning_in
+inserts-keep tree tables info effect only e =
+    subst Keeps e
+    (form-is Keeps tt (λ why. tt) tree (map info_of (its_tables tree tables)) (map found_in (its_tables tree tables))
+    (keeps-form tree (map info_of (its_tables tree tables)) (map found_in (its_tables tree tables)) only))
+
+-- ---- new tables
+
+abbrev MakesAt : Stmt → List Seen → Option Meaning → Type 0
+MakesAt tree tables (Some (Make shape)) = MakesNew tree tables shape
+MakesAt tree tables _ = Unit {0}
+
+abbrev infos_of : Option Seen → List TableInfo
+infos_of found = map info_of (option_to_list found ++ [])
 
 none-of : (b : Bool) (why : Refusal) (rest : Option Refusal) → cond b (Some why) rest ≡ None → (b ≡ false) × (rest ≡ None)
 none-of true why rest e = cc
@@ -216,7 +398,7 @@ few-columns exists create e =
     let parts = length-map create.partitions column_of in
     omega (arith, most, whole, columns, parts)
 
-create-comes : (create : CreateTable) (tables : List Seen) (rows : Tables) (found : Option Seen) → named create.table tables ≡ found
+create-comes : (create : CreateTable) (tables : List Seen) (rows : List (List Found)) (found : Option Seen) → named create.table tables ≡ found
     → OnOk (Comes (MakesAt (stmt.CreateTable create) tables) tt (λ why. tt) (infos_of found) rows)
     (created_beside (is_some (place_of create.table (infos_of found))) create)
 create-comes create tables rows None is =
@@ -225,7 +407,7 @@ create-comes create tables rows None is =
 create-comes create tables rows (Some seen) is =
     let Q = Comes (MakesAt (stmt.CreateTable create) tables) tt (λ why. tt) (infos_of (Some seen)) rows in
     subst (λ (b : Bool). OnOk Q (created_beside b create))
-    (sym (place-first (is_table create.table) seen.info (named-same create.table tables seen is)))
+    (sym (ap is_some (place-first (is_table create.table) seen.info [] (named-same create.table tables seen is))))
     (makes Q (fault_of true create) logic.Nothing (λ none. tt))
 
 within-makes : (tree : Stmt) (tables : List Seen) (fits : Bool) (info : TableInfo) (effect : Effect)
@@ -233,34 +415,38 @@ within-makes : (tree : Stmt) (tables : List Seen) (fits : Bool) (info : TableInf
 within-makes tree tables true info effect = tt
 within-makes tree tables false info effect = tt
 
-inserted-makes : (tree : Stmt) (tables : List Seen) (info : Option TableInfo) (insert : TypedInsert) → MakesAt tree tables (inserted_in info insert)
-inserted-makes tree tables None insert = tt
-inserted-makes tree tables (Some info) insert =
-    within-makes tree tables (list_all row_fits (inserts_of info.shape insert.rows).inserts) info (inserts_of info.shape insert.rows)
+changed-makes : (tree : Stmt) (tables : List Seen) (info : Option TableInfo) (found : Option (List Found)) (rows : Tables) (change : TypedChange)
+    → MakesAt tree tables (changed_in info found rows change)
+changed-makes tree tables None found rows change = tt
+changed-makes tree tables (Some info) found rows change =
+    within-makes tree tables (list_all row_fits (change_effect info.shape change (or_none found) rows).inserts) info (change_effect info.shape change (or_none found) rows)
 
-insert-makes : (insert : Insert) (tables : List Seen) (r : Rows) (infos : List TableInfo) (rows : Tables)
-    → MakesAt (stmt.Insert insert) tables (meant infos rows (cond (is_whole insert) (rows_analysed infos insert.table r) (Err refusal.Syntax)))
-insert-makes insert tables r infos rows =
-    let M = MakesAt (stmt.Insert insert) tables in
-    meant-is M tt (λ why. tt) infos rows _
-    (if-ok (Comes M tt (λ why. tt) infos rows) (is_whole insert) (rows_analysed infos insert.table r) refusal.Syntax (λ whole. by r))
-  where
-    by : (r : Rows) → OnOk (Comes (MakesAt (stmt.Insert insert) tables) tt (λ why. tt) infos rows) (rows_analysed infos insert.table r)
-    by (source_rows.Values values) =
-        inserts-are (Comes (MakesAt (stmt.Insert insert) tables) tt (λ why. tt) infos rows) infos insert.table values
-        (λ place info typed here counts. inserted-makes (stmt.Insert insert) tables (slice_get infos place) _)
-    by (source_rows.Query query) = tt
+change-makes : (tree : Stmt) (tables : List Seen) (infos : List TableInfo) (found : List (List Found)) (name : List ℕ) (said : Stmt)
+    → MakesAt tree tables (meant infos found (change_analysed infos name said))
+change-makes tree tables infos found name said =
+    meant-is (MakesAt tree tables) tt (λ why. tt) infos found _
+    (then-ok (Comes (MakesAt tree tables) tt (λ why. tt) infos found) (change_of infos name said) _ (λ change e.
+    changed-makes tree tables (slice_get infos change.table) (slice_get found change.table) (tables_of found) change))
+
+makes-form : (tree : Stmt) (tables : List Seen)
+    → MakesAt tree tables (meant (map info_of (its_tables tree tables)) (map found_in (its_tables tree tables)) (form_analysed (map info_of (its_tables tree tables)) tree))
+unfolding form_analysed created
+makes-form (stmt.Query query) tables = queries-come (MakesAt (stmt.Query query) tables) tt (λ why. tt) _ _ query (λ names rows. tt)
+makes-form (stmt.Insert insert) tables = change-makes (stmt.Insert insert) tables _ _ insert.table (stmt.Insert insert)
+makes-form (stmt.Update update) tables = change-makes (stmt.Update update) tables _ _ update.table (stmt.Update update)
+makes-form (stmt.Delete delete) tables = change-makes (stmt.Delete delete) tables _ _ delete.table (stmt.Delete delete)
+makes-form (stmt.Truncate truncate) tables = change-makes (stmt.Truncate truncate) tables _ _ truncate.table (stmt.Truncate truncate)
+makes-form (stmt.CreateTable create) tables =
+    let infos = map info_of (its_tables (stmt.CreateTable create) tables) in
+    let found = map found_in (its_tables (stmt.CreateTable create) tables) in
+    meant-is (MakesAt (stmt.CreateTable create) tables) tt (λ why. tt) infos found (created infos create)
+    (create-comes create tables found (named create.table tables) refl)
+makes-form other tables = tt
 
 makes-all : (tree : Stmt) (tables : List Seen) → MakesAt tree tables (meaning_of tables tree)
-unfolding meaning_in analysed created
-makes-all (stmt.Query query) tables = queries-come (MakesAt (stmt.Query query) tables) tt (λ why. tt) _ _ query (λ names found. tt)
-makes-all (stmt.Insert insert) tables = insert-makes insert tables insert.rows _ _
-makes-all (stmt.CreateTable create) tables =
-    let infos = map info_of (its_tables (stmt.CreateTable create) tables) in
-    let rows = map rows_seen (its_tables (stmt.CreateTable create) tables) in
-    meant-is (MakesAt (stmt.CreateTable create) tables) tt (λ why. tt) infos rows (created infos create)
-    (create-comes create tables rows (named create.table tables) refl)
-makes-all other tables = tt
+unfolding meaning_in
+makes-all tree tables =
+    form-is (MakesAt tree tables) tt (λ why. tt) tree (map info_of (its_tables tree tables)) (map found_in (its_tables tree tables)) (makes-form tree tables)
 
 pub tables-new : TablesAreNew
 tables-new tree tables shape e = subst (MakesAt tree tables) e (makes-all tree tables)

@@ -1,18 +1,35 @@
 -- What analysis can give, form by form.
-use Rattle.std.proofs.Common.{◌≡◌, ℕ, Bool, true, false, cond, List, slice_get, length, Option, Some, None, Result, Ok, Err, refl, subst}
+use Rattle.std.proofs.Common.{◌≡◌, ℕ, Bool, true, false, cond, ◌==◌, List, map, slice_get, length, Option, Some, None, Result, Ok, Err, refl, subst}
 use Rattle.std.specs.List.{list_all}
 use Rattle.hv_base.specs.declared.refusal.Refusal.{Refusal}
 use Rattle.hv_base.specs.declared.refusal.Refusal.TheVariants as refusal
-use Rattle.hv_ast.specs.declared.expr.Expr.{Expr}
+use Rattle.hv_ast.specs.declared.change.Delete.{Delete}
+use Rattle.hv_ast.specs.declared.change.Insert.{Insert}
+use Rattle.hv_ast.specs.declared.change.Rows.{Rows}
+use Rattle.hv_ast.specs.declared.change.Rows.TheVariants as source_rows
+use Rattle.hv_ast.specs.declared.change.Update.{Update}
+use Rattle.hv_ast.specs.declared.statement.Stmt.{Stmt}
+use Rattle.hv_ast.specs.declared.statement.Stmt.TheVariants as stmt
 use Rattle.hv_ast.specs.declared.table.CreateTable.{CreateTable}
 use Rattle.hv_typed.specs.declared.tree.TypedExpr.{TypedExpr}
+use Rattle.hv_value.specs.declared.sql_type.SqlType.{SqlType}
+use Rattle.hv_logic.specs.declared.catalog.Column.{Column}
+use Rattle.hv_logic.specs.declared.catalog.Shape.{Shape}
 use Rattle.hv_logic.specs.declared.catalog.TableInfo.{TableInfo}
 use Rattle.hv_logic.specs.Shapes.{shape_of}
 use Rattle.hv_types.specs.Faults.{and_then}
+use Rattle.hv_select.specs.Sources.{filter_typed}
+use Rattle.hv_changes.specs.declared.change.Origin.{Origin}
+use Rattle.hv_changes.specs.declared.change.Origin.TheVariants as origin
+use Rattle.hv_changes.specs.declared.change.TypedChange.{TypedChange}
+use Rattle.hv_changes.specs.Columns.{columns_of, fields_of}
+use Rattle.hv_changes.specs.Inserts.{targets_of, rows_typed, has_count, converts, converted_row, column_kind, output_kind, outputs_convert, values_inserted, query_inserted, insert_of}
+use Rattle.hv_changes.specs.Updates.{sets_of, update_of, updated, delete_of, deleted}
 use Rattle.hv_analysis.specs.declared.logic.Logic.{Logic}
 use Rattle.hv_analysis.specs.declared.logic.Logic.TheVariants as logic
 use Rattle.hv_analysis.specs.Creates.{place_of, created, created_beside, made, unless_fault, fault_of}
-use Rattle.hv_analysis.specs.Inserts.{inserted, inserted_at, inserted_into, values_checked, insert_of, rows_typed, columns_of, has_count, converts}
+use Rattle.hv_analysis.specs.Changes.{source_inserted, inserted, changing, changing_table, changing_at, change_of}
+use Rattle.hv_analysis.specs.Sources.{selected}
 
 -- ---- a fact of what is Ok
 
@@ -34,30 +51,88 @@ pub if-ok : {A : Type 0} (P : A → Type 0) (b : Bool) (r : Result A Refusal) (w
 if-ok P true r why h = h refl
 if-ok P false r why h = tt
 
--- ---- what an INSERT, and a CREATE TABLE, can come to
+-- ---- what an INSERT, an UPDATE and a DELETE can come to
+
+-- the rows of VALUES are over no row
+abbrev pub IsFrom : Rows → Origin → Type 0
+IsFrom (source_rows.Values values) o = (rows : List (List TypedExpr)) × (o ≡ origin.Values rows)
+IsFrom (source_rows.Query query) o = Unit {0}
+
+module _ (P : TypedChange → Type 0) (tables : List TableInfo) (place : ℕ) (shape : Shape) where
+  abbrev Inserts : Insert → Rows → Type 0
+  Inserts insert r = (targets : List Column) (kinds : List SqlType) (o : Origin) → IsFrom r o → P (insert_of place shape insert.overwrite targets kinds o)
+
+  source-is : (insert : Insert) (r : Rows) (targets : List Column) → Inserts insert r → OnOk P (source_inserted tables place shape insert r targets)
+  unfolding source_inserted values_inserted query_inserted
+  source-is insert (source_rows.Values values) targets each =
+      then-ok P (rows_typed values) _ (λ typed e.
+      if-ok P (list_all (has_count (length targets)) typed) _ refusal.BadCount (λ counts.
+      if-ok P (list_all (converts targets) typed) _ refusal.BadType (λ all.
+      each targets (map column_kind targets) (origin.Values (map (converted_row targets) typed)) (map (converted_row targets) typed, refl))))
+  source-is insert (source_rows.Query query) targets each =
+      then-ok P (selected tables query) _ (λ typed e.
+      if-ok P (length typed.columns == length targets) _ refusal.BadCount (λ counts.
+      if-ok P (outputs_convert targets typed.columns) _ refusal.BadType (λ all.
+      each targets (map output_kind typed.columns) (origin.Query typed) tt)))
+
+  pub inserts-are : (insert : Insert) → Inserts insert insert.rows → OnOk P (inserted tables place shape insert)
+  unfolding inserted
+  inserts-are insert each = then-ok P (targets_of shape insert.columns) _ (λ targets e. source-is insert insert.rows targets each)
+
+  pub updates-are : (update : Update) → ((values : List TypedExpr) (filter : Option TypedExpr) → P (update_of place values filter)) → OnOk P (updated place shape update)
+  unfolding updated
+  updates-are update each =
+      then-ok P (sets_of shape (columns_of shape) update.assignments) _ (λ values e.
+      then-ok P (filter_typed (fields_of shape) update.filter) _ (λ filter f. each values filter))
+
+  pub deletes-are : (delete : Delete) → ((filter : Option TypedExpr) → P (delete_of place filter)) → OnOk P (deleted place shape delete)
+  unfolding deleted
+  deletes-are delete each = then-ok P (filter_typed (fields_of shape) delete.filter) _ (λ filter e. each filter)
+
+-- a change is of its table
+abbrev IsAt : ℕ → TypedChange → Type 0
+IsAt place change = change.table ≡ place
+
+pub changes-at : (tables : List TableInfo) (place : ℕ) (shape : Shape) (tree : Stmt) → OnOk (λ (change : TypedChange). change.table ≡ place) (changing tables place shape tree)
+unfolding changing
+changes-at tables place shape (stmt.Insert insert) = inserts-are (IsAt place) tables place shape insert (λ targets kinds o is. refl)
+changes-at tables place shape (stmt.Update update) = updates-are (IsAt place) tables place shape update (λ values filter. refl)
+changes-at tables place shape (stmt.Delete delete) = deletes-are (IsAt place) tables place shape delete (λ filter. refl)
+changes-at tables place shape (stmt.Truncate truncate) = refl
+changes-at tables place shape other = tt
+
+-- a change of the table of that name
+pub record IsChangeOf (tables : List TableInfo) (name : List ℕ) (tree : Stmt) (change : TypedChange) : Type 0 where
+  pub place : ℕ
+  pub info : TableInfo
+  pub named : place_of name tables ≡ Some place
+  pub here : slice_get tables place ≡ Some info
+  pub table : change.table ≡ place
+  pub is : changing tables place info.shape tree ≡ Ok change
+
+pub changes-are : (tables : List TableInfo) (name : List ℕ) (tree : Stmt) → OnOk (IsChangeOf tables name tree) (change_of tables name tree)
+unfolding change_of
+changes-are tables name tree = at (place_of name tables) refl
+  where
+    only : (place : ℕ) (info : TableInfo) → place_of name tables ≡ Some place → slice_get tables place ≡ Some info
+        → (r : Result TypedChange Refusal) → changing tables place info.shape tree ≡ r → OnOk (λ (change : TypedChange). change.table ≡ place) r
+        → OnOk (IsChangeOf tables name tree) r
+    only place info named here (Ok change) is table = record { place = place; info = info; named = named; here = here; table = table; is = is }
+    only place info named here (Err why) is table = tt
+
+    into : (place : ℕ) (info : Option TableInfo) → place_of name tables ≡ Some place → slice_get tables place ≡ info
+        → OnOk (IsChangeOf tables name tree) (changing_table tables tree place info)
+    into place None named here = tt
+    into place (Some info) named here =
+        only place info named here (changing tables place info.shape tree) refl (changes-at tables place info.shape tree)
+
+    at : (place : Option ℕ) → place_of name tables ≡ place → OnOk (IsChangeOf tables name tree) (changing_at tables tree place)
+    at None named = tt
+    at (Some place) named = into place (slice_get tables place) named refl
+
+-- ---- what a CREATE TABLE can come to
 
 module _ (P : Logic → Type 0) where
-  pub inserts-are : (tables : List TableInfo) (name : List ℕ) (values : List (List Expr))
-      → ((place : ℕ) (info : TableInfo) (typed : List (List TypedExpr)) → slice_get tables place ≡ Some info
-      → list_all (has_count (length (columns_of info.shape))) typed ≡ true → P (insert_of place (columns_of info.shape) typed))
-      → OnOk P (inserted tables name values)
-  unfolding inserted
-  inserts-are tables name values each = at (place_of name tables)
-    where
-      checked : (place : ℕ) (info : TableInfo) (typed : List (List TypedExpr)) → slice_get tables place ≡ Some info
-          → OnOk P (values_checked place (columns_of info.shape) typed)
-      checked place info typed here =
-          if-ok P (list_all (has_count (length (columns_of info.shape))) typed) _ refusal.BadCount (λ counts.
-          if-ok P (list_all (converts (columns_of info.shape)) typed) _ refusal.BadType (λ all. each place info typed here counts))
-
-      into : (place : ℕ) (info : Option TableInfo) → slice_get tables place ≡ info → OnOk P (inserted_into place info values)
-      into place None here = tt
-      into place (Some info) here = then-ok P (rows_typed values) _ (λ typed e. checked place info typed here)
-
-      at : (place : Option ℕ) → OnOk P (inserted_at tables place values)
-      at None = tt
-      at (Some place) = into place (slice_get tables place) refl
-
   pub makes : (fault : Option Refusal) (made : Logic) → (fault ≡ None → P made) → OnOk P (unless_fault fault made)
   makes None made h = h refl
   makes (Some why) made h = tt

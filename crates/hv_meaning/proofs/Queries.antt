@@ -64,7 +64,7 @@ neither false b e = (refl, e)
 
 -- ---- conditions, joins and lateral views
 
-free-filter : (fields : List Field) (filter : Option Expr) → Free (filter_typed fields filter)
+pub free-filter : (fields : List Field) (filter : Option Expr) → Free (filter_typed fields filter)
 free-filter fields None = tt
 free-filter fields (Some x) =
     free-then (condition_of fields x over.Row) _

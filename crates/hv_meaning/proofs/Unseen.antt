@@ -1,5 +1,5 @@
 -- A statement that reads no rows means the same whatever rows its tables have.
-use Rattle.std.proofs.Common.{◌≡◌, ◌++◌, ℕ, Bool, true, false, cond, List, [], ◌∷◌, map, Option, Some, None, Result, Ok, Err, refl, sym, ap, ◌∙◌, nat_eq}
+use Rattle.std.proofs.Common.{◌≡◌, ◌++◌, ◌||◌, not, slice_get, ℕ, Bool, true, false, cond, List, [], ◌∷◌, map, Option, Some, None, Result, Ok, Err, refl, sym, ap, ◌∙◌, nat_eq}
 use Rattle.std.proofs.lemmas.List.{map-append}
 use Rattle.std.specs.List.{flat_map}
 use Rattle.std.specs.Option.{option_map, option_to_list}
@@ -7,51 +7,110 @@ use Rattle.std.specs.Cmp.Lexicographic.{pointwise}
 use Rattle.hv_base.specs.declared.refusal.Refusal.{Refusal}
 use Rattle.hv_base.specs.declared.refusal.Refusal.TheVariants as refusal
 use Rattle.hv_locks.specs.declared.table.Lock.{Lock}
+use Rattle.hv_ast.specs.declared.change.Insert.{Insert}
 use Rattle.hv_ast.specs.declared.change.Rows.{Rows}
 use Rattle.hv_ast.specs.declared.change.Rows.TheVariants as source_rows
 use Rattle.hv_ast.specs.declared.statement.Stmt.{Stmt}
 use Rattle.hv_ast.specs.declared.statement.Stmt.TheVariants as stmt
+use Rattle.hv_logic.specs.declared.catalog.Column.{Column}
+use Rattle.hv_logic.specs.declared.catalog.Shape.{Shape}
 use Rattle.hv_logic.specs.declared.catalog.TableInfo.{TableInfo}
+use Rattle.hv_logic.specs.declared.effect.Effect.{Effect}
+use Rattle.hv_logic.specs.declared.effect.Found.{Found}
 use Rattle.hv_logic.specs.declared.seen.Seen.{Seen}
 use Rattle.hv_logic.specs.Names.{names_in}
 use Rattle.hv_logic.specs.Tables.{named}
 use Rattle.hv_query.specs.Rows.{Tables}
+use Rattle.hv_value.specs.declared.sql_type.SqlType.{SqlType}
+use Rattle.hv_typed.specs.declared.tree.TypedExpr.{TypedExpr}
+use Rattle.hv_changes.specs.declared.change.Deletes.{Deletes}
+use Rattle.hv_changes.specs.declared.change.Deletes.TheVariants as deletes
+use Rattle.hv_changes.specs.declared.change.Origin.{Origin}
+use Rattle.hv_changes.specs.declared.change.Origin.TheVariants as origin
+use Rattle.hv_changes.specs.declared.change.TypedChange.{TypedChange}
+use Rattle.hv_changes.specs.Columns.{columns_of}
+use Rattle.hv_changes.specs.Inserts.{overwritten, insert_of}
 use Rattle.hv_analysis.specs.declared.logic.Logic.{Logic}
-use Rattle.hv_analysis.specs.Analysis.{analysed, is_whole, rows_analysed}
+use Rattle.hv_analysis.specs.Analysis.{analysed, form_analysed, is_form}
+use Rattle.hv_analysis.specs.Changes.{changing, change_of}
 use Rattle.hv_analysis.specs.Creates.{created}
-use Rattle.hv_meaning.specs.Meaning.{info_of, rows_seen, named_by, its_tables, meant, meaning_over, meaning_in}
-use Rattle.hv_meaning.specs.Laws.{reads_rows, RowsAreUnseen, RowsAreUnseenIn}
-use Rattle.hv_meaning.proofs.Outcomes.{OnOk, if-ok, inserts-are, creates-are}
+use Rattle.hv_meaning.specs.Meaning.{info_of, found_in, tables_of, named_by, its_tables, matched, frames_from, stored_row, effect_of, change_effect, within_limit, or_none, changed_in, meant, meaning_over, meaning_in}
+use Rattle.hv_meaning.specs.Laws.{are_values, reads_rows, RowsAreUnseen, RowsAreUnseenIn}
+use Rattle.hv_meaning.proofs.Outcomes.{OnOk, on_ok, then-ok, IsFrom, IsChangeOf, inserts-are, changes-are, creates-are}
 
 -- ---- over these descriptions, with one tables' rows and with others
 
-module _ (infos : List TableInfo) (rows others : Tables) where
-  abbrev Same : Logic → Type 0
-  Same logic = meant infos rows (Ok logic) ≡ meant infos others (Ok logic)
+-- nothing is deleted, and the new rows are made of values
+record IsAlone (change : TypedChange) : Type 0 where
+  gone : change.deletes ≡ deletes.Nothing
+  rows : List (List TypedExpr)
+  made : change.origin ≡ origin.Values rows
 
-  same-meant : (r : Result Logic Refusal) → OnOk Same r → meant infos rows r ≡ meant infos others r
+-- of a change, what its parts come to
+abbrev effect-by : Shape → List TypedExpr → Deletes → Origin → List Found → Tables → Effect
+effect-by shape values gone o found tables =
+    effect_of shape gone (map (stored_row (columns_of shape) values) (frames_from o (matched gone found) tables)) found
+
+either : (a b : Bool) → (a || b) ≡ false → (a ≡ false) × (b ≡ false)
+either true b h = cc
+either false b h = (refl, h)
+
+module _ (infos : List TableInfo) (found others : List (List Found)) where
+  abbrev Same : Logic → Type 0
+  Same logic = meant infos found (Ok logic) ≡ meant infos others (Ok logic)
+
+  same-meant : (r : Result Logic Refusal) → OnOk Same r → meant infos found r ≡ meant infos others r
   same-meant (Ok logic) h = h
   same-meant (Err why) h = refl
 
-  unseen-over : (tree : Stmt) → reads_rows tree ≡ false → meaning_over tree infos rows ≡ meaning_over tree infos others
+  same-effect : (shape : Shape) (change : TypedChange) (rows more : List Found) → IsAlone change
+      → change_effect shape change rows (tables_of found) ≡ change_effect shape change more (tables_of others)
+  same-effect shape change rows more alone =
+      (λ i. effect-by shape change.values (alone.gone i) (alone.made i) rows (tables_of found))
+      ∙ sym (λ i. effect-by shape change.values (alone.gone i) (alone.made i) more (tables_of others))
+
+  same-change : (info : Option TableInfo) (rows more : Option (List Found)) (change : TypedChange) → IsAlone change
+      → changed_in info rows (tables_of found) change ≡ changed_in info more (tables_of others) change
+  same-change None rows more change alone = refl
+  same-change (Some info) rows more change alone =
+      ap (λ effect. Some (within_limit info effect)) (same-effect info.shape change (or_none rows) (or_none more) alone)
+
+  made-alone : (place : ℕ) (shape : Shape) (insert : Insert) (r : Rows) (targets : List Column) (kinds : List SqlType) (o : Origin) → IsFrom r o
+      → (insert.overwrite ≡ false) × (not (are_values r) ≡ false) → IsAlone (insert_of place shape insert.overwrite targets kinds o)
+  made-alone place shape insert (source_rows.Values values) targets kinds o is neither =
+      record { gone = ap (λ b. overwritten b shape) neither.0; rows = is.0; made = is.1 }
+  made-alone place shape insert (source_rows.Query query) targets kinds o is neither = let never = neither.1 in cc
+
+  insert-alone : (place : ℕ) (shape : Shape) (insert : Insert) → reads_rows (stmt.Insert insert) ≡ false → OnOk IsAlone (changing infos place shape (stmt.Insert insert))
+  unfolding changing
+  insert-alone place shape insert e =
+      inserts-are IsAlone infos place shape insert (λ targets kinds o is.
+      made-alone place shape insert insert.rows targets kinds o is (either insert.overwrite (not (are_values insert.rows)) e))
+
+  unseen-form : (tree : Stmt) → reads_rows tree ≡ false → meant infos found (form_analysed infos tree) ≡ meant infos others (form_analysed infos tree)
+  unfolding form_analysed
+  unseen-form (stmt.Insert insert) e =
+      same-meant _
+      (then-ok Same (change_of infos insert.table (stmt.Insert insert)) _ (λ change is.
+      let of = on_ok (IsChangeOf infos insert.table (stmt.Insert insert)) (change_of infos insert.table (stmt.Insert insert)) change (changes-are infos insert.table (stmt.Insert insert)) is in
+      same-change (slice_get infos change.table) (slice_get found change.table) (slice_get others change.table) change
+      (on_ok IsAlone (changing infos of.place of.info.shape (stmt.Insert insert)) change (insert-alone of.place of.info.shape insert e) of.is)))
+  unseen-form (stmt.CreateTable create) e = same-meant (created infos create) (creates-are Same infos create refl refl)
+  unseen-form other e = cc
+
+  unseen-over : (tree : Stmt) → reads_rows tree ≡ false → meaning_over tree infos found ≡ meaning_over tree infos others
   unfolding analysed
-  unseen-over (stmt.Insert insert) e = by insert.rows e
+  unseen-over tree e = by (is_form tree)
     where
-      by : (r : Rows) → reads_rows (stmt.Insert (record insert { rows = r })) ≡ false
-          → meant infos rows (cond (is_whole insert) (rows_analysed infos insert.table r) (Err refusal.Syntax))
-          ≡ meant infos others (cond (is_whole insert) (rows_analysed infos insert.table r) (Err refusal.Syntax))
-      by (source_rows.Values values) is =
-          same-meant _
-          (if-ok Same (is_whole insert) _ refusal.Syntax (λ whole. inserts-are Same infos insert.table values (λ place info typed here counts. refl)))
-      by (source_rows.Query query) is = cc
-  unseen-over (stmt.CreateTable create) e = same-meant (created infos create) (creates-are Same infos create refl refl)
-  unseen-over other e = cc
+      by : (b : Bool) → meant infos found (cond b (form_analysed infos tree) (Err refusal.Syntax)) ≡ meant infos others (cond b (form_analysed infos tree) (Err refusal.Syntax))
+      by true = unseen-form tree e
+      by false = refl
 
 pub unseen-in : RowsAreUnseenIn
 unfolding meaning_in
 unseen-in tree tables others e same =
-    unseen-over (map info_of tables) (map rows_seen tables) (map rows_seen others) tree e
-    ∙ ap (λ infos. meaning_over tree infos (map rows_seen others)) same
+    unseen-over (map info_of tables) (map found_in tables) (map found_in others) tree e
+    ∙ ap (λ infos. meaning_over tree infos (map found_in others)) same
 
 -- ---- the descriptions of the tables that a statement names
 

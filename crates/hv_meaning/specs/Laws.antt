@@ -1,5 +1,5 @@
 -- What is proved of meanings.
-use Rattle.std.specs.Prelude.{◌≡◌, ℕ, ◌≤◌, ◌&&◌, not, Bool, true, false, IsTrue, Option, Some, None, List, [], ◌∷◌, length, map}
+use Rattle.std.specs.Prelude.{◌≡◌, ℕ, ◌≤◌, ◌||◌, not, Bool, true, false, IsTrue, Option, Some, None, List, [], ◌∷◌, length, map, filter}
 use Rattle.std.specs.List.{AllByRecursion}
 use Rattle.hv_ast.specs.declared.change.Rows.{Rows}
 use Rattle.hv_ast.specs.declared.change.Rows.TheVariants as rows
@@ -14,6 +14,7 @@ use Rattle.hv_logic.specs.declared.catalog.Column.{Column}
 use Rattle.hv_logic.specs.declared.catalog.Shape.{Shape}
 use Rattle.hv_logic.specs.declared.catalog.TableInfo.{TableInfo}
 use Rattle.hv_logic.specs.declared.effect.Effect.{Effect}
+use Rattle.hv_logic.specs.declared.effect.Found.{Found}
 use Rattle.hv_logic.specs.declared.meaning.Meaning.{Meaning}
 use Rattle.hv_logic.specs.declared.meaning.Meaning.TheVariants.{Change, Make}
 use Rattle.hv_logic.specs.declared.seen.Seen.{Seen}
@@ -21,21 +22,14 @@ use Rattle.hv_logic.specs.Tables.{named}
 use Rattle.hv_logic.specs.Shapes.{shape_of}
 use Rattle.hv_logic.specs.Sizes.{stored_size}
 use Rattle.hv_rowfile.specs.Layout.{value_spelling, ValueIsTaken, RowIsTaken}
-use Rattle.hv_analysis.specs.Analysis.{is_whole, is_windowless}
-use Rattle.hv_analysis.specs.Inserts.{columns_of}
+use Rattle.hv_changes.specs.Columns.{columns_of}
+use Rattle.hv_analysis.specs.Analysis.{is_form}
 use Rattle.hv_meaning.specs.Meaning.{info_of, meaning_in, meaning_of}
 
 -- ---- the forms that have a meaning
 
-abbrev pub are_values : Rows → Bool
-are_values (rows.Values values) = true
-are_values (rows.Query query) = false
-
 abbrev pub has_meaning : Stmt → Bool
-has_meaning (stmt.Query query) = is_windowless query
-has_meaning (stmt.Insert insert) = is_whole insert && are_values insert.rows
-has_meaning (stmt.CreateTable create) = true
-has_meaning _ = false
+has_meaning tree = is_form tree
 
 abbrev pub MeansSomething : Option Meaning → Type 0
 MeansSomething None = ⊥
@@ -60,11 +54,19 @@ abbrev pub TablesAreNew : Type 0
 TablesAreNew =
     (tree : Stmt) (tables : List Seen) (shape : Shape) → meaning_of tables tree ≡ Some (Make shape) → MakesNew tree tables shape
 
--- ---- a change is of the table that an INSERT names, and deletes nothing
+-- ---- a change is of the table that the statement names, and deletes rows that stand in it
 
-abbrev pub insert_name : Stmt → Option (List ℕ)
-insert_name (stmt.Insert insert) = Some insert.table
-insert_name _ = None
+abbrev pub change_name : Stmt → Option (List ℕ)
+change_name (stmt.Insert insert) = Some insert.table
+change_name (stmt.Update update) = Some update.table
+change_name (stmt.Delete delete) = Some delete.table
+change_name (stmt.Truncate truncate) = Some truncate.table
+change_name _ = None
+
+-- of the rows that stand, those that a test is true of, in their order: each once
+pub record AreOfRows (rows deletes : List Found) : Type 0 where
+  pub test : Found → Bool
+  pub deletes_are : deletes ≡ filter test rows
 
 -- a value for each column, of its type
 abbrev pub AreOf : List Column → List Value → Type 0
@@ -79,10 +81,10 @@ IsRowOf columns row = AreOf columns row.values
 pub record ChangesNamed (tree : Stmt) (tables : List Seen) (info : TableInfo) (effect : Effect) : Type 0 where
   pub seen : Seen
   pub name : List ℕ
-  pub name_is : insert_name tree ≡ Some name
+  pub name_is : change_name tree ≡ Some name
   pub here : named name tables ≡ Some seen
   pub info_is : info ≡ seen.info
-  pub deletes : effect.deletes ≡ []
+  pub stand : AreOfRows seen.rows effect.deletes
   pub typed : AllByRecursion (IsRowOf (columns_of info.shape)) effect.inserts
   pub taken : length (columns_of info.shape) ≤ 65535 → AllByRecursion RowIsTaken effect.inserts
 
@@ -90,6 +92,17 @@ abbrev pub ChangesAreNamed : Type 0
 ChangesAreNamed =
     (tree : Stmt) (tables : List Seen) (info : TableInfo) (effect : Effect) → meaning_of tables tree ≡ Some (Change info effect)
     → ChangesNamed tree tables info effect
+
+-- ---- INSERT INTO deletes nothing
+
+abbrev pub only_inserts : Stmt → Bool
+only_inserts (stmt.Insert insert) = not insert.overwrite
+only_inserts _ = false
+
+abbrev pub InsertsDeleteNothing : Type 0
+InsertsDeleteNothing =
+    (tree : Stmt) (tables : List Seen) (info : TableInfo) (effect : Effect) → only_inserts tree ≡ true
+    → meaning_of tables tree ≡ Some (Change info effect) → effect.deletes ≡ []
 
 -- ---- a value of a type is one that a row file takes, and is counted by what it takes there
 
@@ -102,8 +115,13 @@ TypedValuesAreStored = (kind : SqlType) (v : Value) → IsTrue (is_of kind v) �
 
 -- ---- a statement that reads no rows means the same whatever rows its tables have, so nobody need read files for it
 
+abbrev pub are_values : Rows → Bool
+are_values (rows.Values values) = true
+are_values (rows.Query query) = false
+
+-- OVERWRITE looks at the rows that it deletes
 abbrev pub reads_rows : Stmt → Bool
-reads_rows (stmt.Insert insert) = not (are_values insert.rows)
+reads_rows (stmt.Insert insert) = insert.overwrite || not (are_values insert.rows)
 reads_rows (stmt.CreateTable create) = false
 reads_rows _ = true
 

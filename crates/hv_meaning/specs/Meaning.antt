@@ -1,21 +1,27 @@
 -- What a statement comes to over the tables that it names. Source: Hive Language Manual, DDL (Create Table), DML
--- (Inserting values into tables from SQL), Select.
-use Rattle.std.specs.Prelude.{ℕ, if◌then◌else◌, Option, Some, None, List, [], ◌∷◌, map, slice_get, Result, Ok, Err}
-use Rattle.std.specs.List.{flat_map, list_all}
+-- (Inserting values into tables from SQL, Inserting data into
+-- Hive Tables from queries, Update, Delete), Select.
+use Rattle.std.specs.Prelude.{ℕ, Bool, if◌then◌else◌, Option, Some, None, List, [], ◌∷◌, length, map, filter, drop, slice_get, Result, Ok, Err}
+use Rattle.std.specs.List.{flat_map, list_all, list_any}
 use Rattle.std.specs.Option.{option_to_list}
+use Rattle.std.specs.Ordering.{is_eq}
+use Rattle.std.specs.Cmp.Lexicographic.{slice_cmp}
 use Rattle.hv_base.specs.declared.refusal.Refusal.{Refusal}
 use Rattle.hv_base.specs.declared.refusal.Refusal.TheVariants as refusal
 use Rattle.hv_ast.specs.declared.statement.Stmt.{Stmt}
 use Rattle.hv_locks.specs.declared.table.Lock.{Lock}
 use Rattle.hv_value.specs.declared.value.Value.{Value}
+use Rattle.hv_value.specs.declared.value.Value.TheVariants as value
 use Rattle.hv_value.specs.declared.row.Row.{Row}
 use Rattle.hv_value.specs.Conversion.{converted}
+use Rattle.hv_value.specs.Order.{value_cmp}
 use Rattle.hv_typed.specs.declared.tree.TypedExpr.{TypedExpr}
-use Rattle.hv_typed.specs.Evaluation.{value_of}
+use Rattle.hv_typed.specs.Evaluation.{value_of, values_of}
 use Rattle.hv_logic.specs.declared.catalog.Column.{Column}
 use Rattle.hv_logic.specs.declared.catalog.Shape.{Shape}
 use Rattle.hv_logic.specs.declared.catalog.TableInfo.{TableInfo}
 use Rattle.hv_logic.specs.declared.effect.Effect.{Effect}
+use Rattle.hv_logic.specs.declared.effect.Found.{Found}
 use Rattle.hv_logic.specs.declared.meaning.Meaning.{Meaning}
 use Rattle.hv_logic.specs.declared.meaning.Meaning.TheVariants.{Refused, Listing, Change, Make, Plain, RowLimit}
 use Rattle.hv_logic.specs.declared.seen.Seen.{Seen}
@@ -26,12 +32,16 @@ use Rattle.hv_logic.specs.Sizes.{row_fits}
 use Rattle.hv_query.specs.declared.tree.OutputColumn.{OutputColumn}
 use Rattle.hv_query.specs.declared.tree.TypedQuery.{TypedQuery}
 use Rattle.hv_query.specs.declared.tree.TypedSource.{TypedSource}
-use Rattle.hv_query.specs.Rows.{Tables, rows_of}
+use Rattle.hv_query.specs.Rows.{Frame, Tables, is_met, rows_of}
+use Rattle.hv_changes.specs.declared.change.Deletes.{Deletes}
+use Rattle.hv_changes.specs.declared.change.Deletes.TheVariants as deletes
+use Rattle.hv_changes.specs.declared.change.Origin.{Origin}
+use Rattle.hv_changes.specs.declared.change.Origin.TheVariants as origin
+use Rattle.hv_changes.specs.declared.change.TypedChange.{TypedChange}
+use Rattle.hv_changes.specs.Columns.{columns_of}
 use Rattle.hv_analysis.specs.declared.logic.Logic.{Logic}
 use Rattle.hv_analysis.specs.declared.logic.Logic.TheVariants as logic
-use Rattle.hv_analysis.specs.declared.logic.TypedInsert.{TypedInsert}
 use Rattle.hv_analysis.specs.Analysis.{analysed}
-use Rattle.hv_analysis.specs.Inserts.{columns_of}
 
 -- ---- the live tables that a statement names, in the order in which it names them: a name means one of these
 
@@ -44,8 +54,12 @@ its_tables tree tables = flat_map (named_by tables) (names_in tree)
 abbrev pub info_of : Seen → TableInfo
 info_of seen = seen.info
 
-abbrev pub rows_seen : Seen → List Row
-rows_seen seen = rows_in seen.rows
+abbrev pub found_in : Seen → List Found
+found_in seen = seen.rows
+
+-- the tables that a query is run over, where these rows stand
+abbrev pub tables_of : List (List Found) → Tables
+tables_of found = map rows_in found
 
 -- ---- a query: the names of its columns, and its rows
 
@@ -55,28 +69,78 @@ column_name column = column.name
 abbrev pub listed : TypedQuery TypedSource → Tables → Meaning
 listed query rows = Listing (map column_name query.columns) (rows_of query rows)
 
--- ---- an INSERT: each row has a value for each column, converted by itself to the column's type; a row has its limit
+-- ---- the rows that a change deletes: those for which a condition is true, in their order
 
-abbrev pub stored_value : Column → TypedExpr → Value
-stored_value column x = converted (value_of x []) column.kind
+abbrev pub is_matched : Option TypedExpr → Found → Bool
+is_matched condition found = is_met condition found.row.values
 
-abbrev pub stored_values : List Column → List TypedExpr → List Value
-stored_values [] xs = []
-stored_values (column ∷ columns) [] = []
-stored_values (column ∷ columns) (x ∷ xs) = stored_value column x ∷ stored_values columns xs
+abbrev pub matched : Deletes → List Found → List Found
+matched (deletes.Matching condition) found = filter (is_matched condition) found
+matched _ found = []
 
-abbrev pub stored_row : List Column → List TypedExpr → Row
-stored_row columns xs = record { values = stored_values columns xs }
+-- those that a new row is made for: UPDATE makes one for each row that it deletes, INSERT for each row of its source
 
-abbrev pub inserts_of : Shape → List (List TypedExpr) → Effect
-inserts_of shape rows = record { inserts = map (stored_row (columns_of shape)) rows; deletes = [] }
+abbrev pub values_alone : List TypedExpr → Frame
+values_alone xs = values_of xs []
+
+abbrev pub frame_of : Row → Frame
+frame_of row = row.values
+
+abbrev pub found_frame : Found → Frame
+found_frame found = found.row.values
+
+abbrev pub frames_from : Origin → List Found → Tables → List Frame
+frames_from (origin.Values rows) gone tables = map values_alone rows
+frames_from (origin.Query query) gone tables = map frame_of (rows_of query tables)
+frames_from origin.Deleted gone tables = map found_frame gone
+
+-- ---- a new row: each value is converted by itself to its column's type, and a column without one is NULL
+
+abbrev pub first_value : Column → List TypedExpr → Frame → Value
+first_value column [] frame = value.Null
+first_value column (x ∷ xs) frame = converted (value_of x frame) column.kind
+
+abbrev pub stored_values : List Column → List TypedExpr → Frame → List Value
+stored_values [] xs frame = []
+stored_values (column ∷ columns) xs frame = first_value column xs frame ∷ stored_values columns (drop 1 xs) frame
+
+abbrev pub stored_row : List Column → List TypedExpr → Frame → Row
+stored_row columns xs frame = record { values = stored_values columns xs frame }
+
+abbrev pub inserts_of : Shape → TypedChange → List Found → Tables → List Row
+inserts_of shape change gone tables = map (stored_row (columns_of shape) change.values) (frames_from change.origin gone tables)
+
+-- ---- and the rows of the partitions that get a new row, which have the same values in the columns behind so many
+
+abbrev pub same_parts : ℕ → Found → Row → Bool
+same_parts width found row = is_eq (slice_cmp value_cmp (drop width found.row.values) (drop width row.values))
+
+abbrev pub is_received : ℕ → List Row → Found → Bool
+is_received width rows found = list_any (same_parts width found) rows
+
+abbrev pub deleted : ℕ → Deletes → List Row → List Found → List Found
+deleted width deletes.Received rows found = filter (is_received width rows) found
+deleted width gone rows found = matched gone found
+
+-- ---- a change of a table where these rows stand; a row has its limit
+
+abbrev pub effect_of : Shape → Deletes → List Row → List Found → Effect
+effect_of shape gone rows found = record { inserts = rows; deletes = deleted (length shape.columns) gone rows found }
+
+abbrev pub change_effect : Shape → TypedChange → List Found → Tables → Effect
+change_effect shape change found tables =
+    effect_of shape change.deletes (inserts_of shape change (matched change.deletes found) tables) found
 
 abbrev pub within_limit : TableInfo → Effect → Meaning
 within_limit info effect = if list_all row_fits effect.inserts then Change info effect else RowLimit
 
-abbrev pub inserted_in : Option TableInfo → TypedInsert → Option Meaning
-inserted_in None insert = None
-inserted_in (Some info) insert = Some (within_limit info (inserts_of info.shape insert.rows))
+abbrev pub or_none : Option (List Found) → List Found
+or_none None = []
+or_none (Some found) = found
+
+abbrev pub changed_in : Option TableInfo → Option (List Found) → Tables → TypedChange → Option Meaning
+changed_in None found tables change = None
+changed_in (Some info) found tables change = Some (within_limit info (change_effect info.shape change (or_none found) tables))
 
 -- ---- a form that isn't built has no meaning
 
@@ -84,20 +148,21 @@ abbrev pub refused_for : Refusal → Option Meaning
 refused_for refusal.Syntax = None
 refused_for why = Some (Refused why)
 
-abbrev pub meant : List TableInfo → Tables → Result Logic Refusal → Option Meaning
-meant infos rows (Ok (logic.Query query)) = Some (listed query rows)
-meant infos rows (Ok (logic.Insert insert)) = inserted_in (slice_get infos insert.table) insert
-meant infos rows (Ok (logic.Make shape)) = Some (Make shape)
-meant infos rows (Ok logic.Nothing) = Some Plain
-meant infos rows (Err why) = refused_for why
+abbrev pub meant : List TableInfo → List (List Found) → Result Logic Refusal → Option Meaning
+meant infos found (Ok (logic.Query query)) = Some (listed query (tables_of found))
+meant infos found (Ok (logic.Change change)) =
+    changed_in (slice_get infos change.table) (slice_get found change.table) (tables_of found) change
+meant infos found (Ok (logic.Make shape)) = Some (Make shape)
+meant infos found (Ok logic.Nothing) = Some Plain
+meant infos found (Err why) = refused_for why
 
--- over tables of these descriptions, with these rows
-abbrev pub meaning_over : Stmt → List TableInfo → Tables → Option Meaning
-meaning_over tree infos rows = meant infos rows (analysed infos tree)
+-- over tables of these descriptions, where these rows stand
+abbrev pub meaning_over : Stmt → List TableInfo → List (List Found) → Option Meaning
+meaning_over tree infos found = meant infos found (analysed infos tree)
 
 -- over the tables that a statement names
 unfoldable pub meaning_in : Stmt → List Seen → Option Meaning
-meaning_in tree tables = meaning_over tree (map info_of tables) (map rows_seen tables)
+meaning_in tree tables = meaning_over tree (map info_of tables) (map found_in tables)
 
 -- what a statement comes to over the live tables
 abbrev pub meaning_of : List Seen → Stmt → Option Meaning

@@ -1,4 +1,4 @@
-ghost use Rattle.hv_meaning.specs.Laws.{FormsMean, OtherFormsMeanNothing, TablesAreNew, ChangesAreNamed, TypedValuesAreStored, RowsAreUnseen, RowsAreUnseenIn};
+ghost use Rattle.hv_meaning.specs.Laws.{FormsMean, OtherFormsMeanNothing, TablesAreNew, ChangesAreNamed, InsertsDeleteNothing, TypedValuesAreStored, RowsAreUnseen, RowsAreUnseenIn};
 
 /// The statements of the forms that are analysed mean something, whatever the tables.
 pub fn forms_mean()
@@ -11,10 +11,15 @@ pub fn made_tables_are_new()
     ensures law { TablesAreNew }
 {}
 
-/// A change is of the table that the INSERT names, and deletes nothing; each row has a value of its type
-/// for each column, and a row file takes it.
+/// A change is of the table that the statement names, and deletes rows that stand in it, each once and in
+/// their order; each new row has a value of its type for each column, and a row file takes it.
 pub fn changes_are_named()
     ensures law { ChangesAreNamed }
+{}
+
+/// INSERT INTO deletes nothing.
+pub fn inserts_delete_nothing()
+    ensures law { InsertsDeleteNothing }
 {}
 
 /// A value of a type is one that a row file takes, and it is counted by what it takes there.

@@ -484,7 +484,7 @@ module _ {D : Type 0} (told : D → Option Store) (h0 h3 h4 h5 : House D) (numbe
         let found : KnownOf h4 info (known_of (state_of book) there.0) =
         ap (λ (ks : List Known). numbered ks info.table.0) tables-known
         ∙ numbered-map (known_of (state_of book)) (state_of book).tables info.table.0 ∙ ap (option_map (known_of (state_of book))) there.1 in
-        let can = inserts-written book tree info effect (length there.0.owners + 1) given.ready.idle means_this (omega arith) few in
+        let can = inserts-written book tree info effect (length there.0.owners + 1) given.ready.idle given.is.built means_this (omega arith) few in
         (known_of (state_of book) there.0, found, can.0)
     can-end seen sees (Listing names rows) is few = tt
     can-end seen sees (Make shape) is few = tt

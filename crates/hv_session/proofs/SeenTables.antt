@@ -255,7 +255,7 @@ module _ (told : Option Store) (known : List Known) (book : List Entry) (tree : 
   -- whatever rows were seen, it means the same, or lists some rows
   pub meant-or-listing : (seen : List Seen) → IsSeen told known tree seen → (meaning_in tree seen ≡ meant book tree) ⊎ Lists (meaning_in tree seen)
   meant-or-listing seen is =
-      by (same-or-lists tree seen (seen_read tree tables) (infos-seen (state_of book) tree told tables (names_in tree) seen (known-seen seen is)))
+      by (same-or-lists tree seen (seen_read tree tables) built (infos-seen (state_of book) tree told tables (names_in tree) seen (known-seen seen is)))
     where
       by : (meaning_in tree seen ≡ meaning_in tree (seen_read tree tables)) ⊎ Lists (meaning_in tree seen)
           → (meaning_in tree seen ≡ meant book tree) ⊎ Lists (meaning_in tree seen)

@@ -8,7 +8,7 @@ use Rattle.hv_logic.specs.declared.meaning.Meaning.{Meaning}
 use Rattle.hv_logic.specs.declared.meaning.Meaning.TheVariants.{Change}
 use Rattle.hv_logic.specs.declared.seen.Seen.{Seen}
 use Rattle.hv_logic.specs.Names.{names_in}
-use Rattle.hv_analysis.specs.Inserts.{columns_of}
+use Rattle.hv_changes.specs.Columns.{columns_of}
 use Rattle.hv_meaning.specs.Laws.{reads_rows}
 use Rattle.hv_known.specs.declared.known.Known.{Known}
 use Rattle.hv_house.specs.declared.house.House.{House}

@@ -2,9 +2,9 @@
 
 ghost use Rattle.std.specs.Prelude.{◌≡◌, ◌≤◌, Some, IfOk, OnOk, IfErr, nat_le, length, true};
 ghost use Rattle.std.specs.List.{AllByRecursion};
-ghost use Rattle.hv_analysis.specs.Inserts.{columns_of};
+ghost use Rattle.hv_changes.specs.Columns.{columns_of};
 ghost use Rattle.hv_meaning.specs.Meaning.{meaning_in};
-ghost use Rattle.hv_meaning.specs.Laws.{MeansSomething, reads_rows};
+ghost use Rattle.hv_meaning.specs.Laws.{MeansSomething, are_values, reads_rows};
 ghost use Rattle.hv_house.specs.Faults.{StoreCause, StoreFails, IsShortDamage, IsDamage};
 ghost use Rattle.hv_house.specs.House.{HasNumbers, IsAsked};
 ghost use Rattle.hv_house.specs.Seeing.{IsSpoiled};
@@ -19,15 +19,21 @@ use hv_names::names_in;
 use hv_shelf::Shelf;
 use std::alloc::Global;
 
+fn are_values(rows: &Rows) -> bool
+    ensures { result ≡ are_values rows.now }
+{
+    match rows {
+        Rows::Values(_) => true,
+        Rows::Query(_) => false,
+    }
+}
+
 /// Whether the rows of the tables that a statement names matter to it.
 fn reads_rows(tree: &Stmt) -> bool
     ensures { result ≡ reads_rows tree.now }
 {
     match tree {
-        Stmt::Insert(insert) => match &insert.rows {
-            Rows::Values(_) => false,
-            Rows::Query(_) => true,
-        },
+        Stmt::Insert(insert) => insert.overwrite || !are_values(&insert.rows),
         Stmt::CreateTable(_) => false,
         _ => true,
     }

@@ -56,7 +56,7 @@ touches-none info effect some none =
 pub nothing-inserted : NothingIsInserted
 nothing-inserted book number text tree info effect idle space is means none =
     nothing-goes book number text tree (Some (Change info effect)) idle space is means
-    (touches-none info effect none (deletes-nothing tree (seen_tables (state_of book).tables) info effect means))
+    (touches-none info effect none (deletes-nothing tree (seen_tables (state_of book).tables) info effect is.built means))
 
 -- ---- the write id
 
@@ -180,5 +180,5 @@ rows-inserted book number text tree info effect table idle space is means some a
     (s.entries + 1 + 1 + 1 + 1) (tables_inserted s.tables (next_of s) info.table.0 (written_by write 0 effect)) (writes_of m 0 given) given
     (Committed (s.entries + 1 + 1 + 1) wrote) (counts_line wrote) false idle space is means
     (inserted-behind s number text info effect write)
-    (inserted-legal s number text info effect table idle space at some (deletes-nothing tree (seen_tables s.tables) info effect means))
+    (inserted-legal s number text info effect table idle space at some (deletes-nothing tree (seen_tables s.tables) info effect is.built means))
     refl refl

@@ -7,7 +7,6 @@ use Rattle.std.proofs.lemmas.List.{append-nil}
 use Rattle.hv_base.specs.declared.ids.Limits.{Limits}
 use Rattle.hv_base.specs.declared.ids.Touch.{Touch}
 use Rattle.hv_ast.specs.declared.statement.Stmt.{Stmt}
-use Rattle.hv_grammar.specs.Texts.{tree_of}
 use Rattle.hv_logic.specs.declared.catalog.TableInfo.{TableInfo}
 use Rattle.hv_logic.specs.declared.effect.Effect.{Effect}
 use Rattle.hv_logic.specs.declared.meaning.Meaning.{Meaning}
@@ -178,13 +177,9 @@ owner-table owners tables k write txn are e =
 single-with : (t next : Transaction) (statement : Statement) → next.statements ≡ statement ∷ [] → IsStatement statement.text → DeletesNone statement.meaning → IsSingle next
 single-with t next statement one text none = record { statement = statement; one = one; text = text; deletes = none }
 
-deletes-in : (s : State) (text : List ℕ) → DeletesNone (meaning_in s text)
+deletes-in : (s : State) (text : List ℕ) → IsStatement text → DeletesNone (meaning_in s text)
 unfolding meaning_in
-deletes-in s text = by (tree_of text)
-  where
-    by : (o : Option Stmt) → DeletesNone (means s o)
-    by None = tt
-    by (Some tree) = deletes-none tree _
+deletes-in s text is = subst (λ (o : Option Stmt). DeletesNone (means s o)) (sym is.1.read) (deletes-none is.0 _ is.1.built)
 
 deletes-first : (o now : Option Meaning) → DeletesNone o → DeletesNone now → DeletesNone (first_known o now)
 deletes-first None now before next = next
@@ -193,7 +188,7 @@ deletes-first (Some m) now before next = before
 single-started : (s : State) (number : ℕ) (t : Transaction) → IsSingle t → IsSingle (started s number t)
 single-started s zero t single =
     single-with t (started s zero t) (meant_in s single.statement) (ap (λ ss. changed_at (meant_in s) ss zero) single.one) single.text
-    (deletes-first single.statement.meaning (meaning_in s single.statement.text) single.deletes (deletes-in s single.statement.text))
+    (deletes-first single.statement.meaning (meaning_in s single.statement.text) single.deletes (deletes-in s single.statement.text single.text))
 single-started s (suc n) t single =
     single-with t (started s (suc n) t) single.statement (ap (λ ss. changed_at (meant_in s) ss (suc n)) single.one) single.text single.deletes
 

@@ -16,6 +16,7 @@ use Rattle.hv_meaning.proofs.Meanings.{changes-named}
 use Rattle.hv_stands.specs.Files.{records_of}
 use Rattle.hv_stands.specs.Sound.{IsWhole}
 use Rattle.hv_stands.specs.Laws.{InsertsCanBeWritten}
+use Rattle.hv_stands.proofs.Meanings.{deletes-nothing}
 
 -- ---- rows
 
@@ -65,6 +66,6 @@ effect-written write effect some taken none = (
 )
 
 pub inserts-written : InsertsCanBeWritten
-inserts-written book tree info effect write idle e some few =
+inserts-written book tree info effect write idle built e some few =
     let change = changes-named tree (seen_tables (state_of book).tables) info effect e in
-    effect-written write effect some (change.taken few) change.deletes
+    effect-written write effect some (change.taken few) (deletes-nothing tree (seen_tables (state_of book).tables) info effect built e)

@@ -7,6 +7,7 @@ use Rattle.hv_base.specs.declared.ids.Limits.{Limits}
 use Rattle.hv_shelf.specs.declared.place.Place.{Place}
 use Rattle.hv_shelf.specs.Disk.{Tree}
 use Rattle.hv_ast.specs.declared.statement.Stmt.{Stmt}
+use Rattle.hv_built.specs.Built.{IsBuilt}
 use Rattle.hv_built.specs.Running.{Runs}
 use Rattle.hv_value.specs.declared.row.Row.{Row}
 use Rattle.hv_logic.specs.declared.catalog.Shape.{Shape}
@@ -14,7 +15,7 @@ use Rattle.hv_logic.specs.declared.catalog.TableInfo.{TableInfo}
 use Rattle.hv_logic.specs.declared.effect.Effect.{Effect}
 use Rattle.hv_logic.specs.declared.meaning.Meaning.{Meaning}
 use Rattle.hv_logic.specs.declared.meaning.Meaning.TheVariants.{Listing, Change, Make, Plain, RowLimit}
-use Rattle.hv_analysis.specs.Inserts.{columns_of}
+use Rattle.hv_changes.specs.Columns.{columns_of}
 use Rattle.hv_meaning.specs.Meaning.{meaning_in, meaning_of}
 use Rattle.hv_rowfile.specs.Layout.{CanWrite, IsFile}
 use Rattle.hv_history.specs.declared.entry.Entry.{Entry}
@@ -117,7 +118,7 @@ NothingIsInserted =
 abbrev pub InsertsCanBeWritten : Type 0
 InsertsCanBeWritten =
     (book : List Entry) (tree : Stmt) (info : TableInfo) (effect : Effect) (write : ℕ)
-    → IsIdle (state_of book) → meant book tree ≡ Some (Change info effect) → 1 ≤ write
+    → IsIdle (state_of book) → IsBuilt tree → meant book tree ≡ Some (Change info effect) → 1 ≤ write
     → length (columns_of info.shape) ≤ 65535
     → CanWrite false 0 (records_of (written_by write 0 effect).inserts)
     × AllByRecursion IsWhole (written_by write 0 effect).inserts × (effect.deletes ≡ [])

@@ -6,7 +6,7 @@ use hv_reading::{TextFault, read_statement, read_text};
 use std::alloc::Global;
 use std::test::Fail;
 
-const RUNNING: [&str; 41] = [
+const RUNNING: [&str; 42] = [
     "CREATE TABLE t (a INT)",
     "CREATE TABLE t (a INTEGER)",
     "CREATE TABLE t (a INT, b STRING)",
@@ -30,6 +30,7 @@ const RUNNING: [&str; 41] = [
     "INSERT INTO t VALUES (- 1)",
     "INSERT INTO t VALUES (1, a)",
     "INSERT INTO t VALUES (1), (NULL)",
+    "INSERT INTO t (a) VALUES (1)",
     "SELECT * FROM t",
     "SELECT * FROM default.t",
     "SELECT DISTINCT * FROM t",
@@ -50,12 +51,11 @@ const RUNNING: [&str; 41] = [
     "SELECT * FROM t ORDER BY a",
 ];
 
-const OTHERS: [&str; 17] = [
+const OTHERS: [&str; 16] = [
     "CREATE TABLE t (a INT) PARTITIONED BY (p INT)",
     "CREATE TABLE t (a INT) CLUSTERED BY (a) INTO 4 BUCKETS",
     "INSERT OVERWRITE TABLE t VALUES (1)",
     "INSERT INTO t PARTITION (p) VALUES (1)",
-    "INSERT INTO t (a) VALUES (1)",
     "INSERT INTO t SELECT * FROM u",
     "EXPLAIN FORMATTED SELECT * FROM t",
     "UPDATE t SET a = 1",

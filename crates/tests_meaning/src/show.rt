@@ -1,6 +1,7 @@
 //! What is printed.
 
 use hv_base::{NoMemory, Refusal, Text};
+use hv_logic::Found;
 use hv_value::{Row, print_value};
 use std::alloc::Global;
 
@@ -37,6 +38,18 @@ fn row(row: &Row, out: &mut Vec<u8>) -> Result<(), NoMemory> {
 pub(crate) fn rows(rows: &[Row], out: &mut Vec<u8>) -> Result<(), NoMemory> {
     for one in rows {
         row(one, out)?;
+    }
+    Ok(())
+}
+
+/// Deleted rows, where there are any.
+pub(crate) fn deletes(deletes: &[Found], out: &mut Vec<u8>) -> Result<(), NoMemory> {
+    if deletes.is_empty() {
+        return Ok(());
+    }
+    out.extend_from_slice(b" deleted")?;
+    for found in deletes {
+        row(&found.row, out)?;
     }
     Ok(())
 }

@@ -1,59 +1,43 @@
 //! The tables that the statements make, each with its rows.
 
 use crate::show;
-use hv_ast::{From, Source, Stmt};
+use hv_ast::Stmt;
 use hv_base::{Duplicate, List, NoMemory, RowId, TableId, Text, WriteId};
-use hv_logic::{Effect, Found, Meaning, Seen, Shape, TableInfo};
+use hv_logic::{Effect, Found, Meaning, Seen, Shape, TableInfo, compare_found};
+use hv_names::names_in;
 use hv_value::Row;
 use std::alloc::Global;
 
 #[derive(Drop)]
 struct Table {
     info: TableInfo,
-    rows: Vec<Row>,
+    rows: Vec<Found>,
 }
 
 #[derive(Drop)]
 pub(crate) struct Tables {
     tables: Vec<Table>,
+    /// How many rows were inserted.
+    count: u64,
 }
 
-fn source_name(from: &Option<From>) -> Option<&Text> {
-    match from {
-        None => None,
-        Some(from) => match &from.source {
-            Source::Table(name, _) => Some(name),
-            Source::Query(_, _) => None,
-        },
-    }
-}
-
-fn name_in(stmt: &Stmt) -> Option<&Text> {
-    match stmt {
-        Stmt::Query(query) => source_name(&query.select.from),
-        Stmt::Insert(insert) => Some(&insert.table),
-        Stmt::CreateTable(create) => Some(&create.table),
-        _ => None,
-    }
-}
-
-fn found(alloc: Global, row: &Row) -> Result<Found, NoMemory> {
+fn found(alloc: Global, row: Row, number: u64) -> Result<Found, NoMemory> {
     Ok(Found {
         partition: Text::of(alloc, "")?,
         id: RowId {
             write: WriteId(1),
             statement: 0,
             bucket: 0,
-            row: 0,
+            row: number,
         },
-        row: row.duplicate(alloc)?,
+        row,
     })
 }
 
 fn seen(alloc: Global, table: &Table) -> Result<Seen, NoMemory> {
     let mut rows = Vec::new(alloc);
-    for row in &table.rows {
-        rows.push(found(alloc, row)?)?;
+    for found in &table.rows {
+        rows.push(found.duplicate(alloc)?)?;
     }
     Ok(Seen {
         info: table.info.duplicate(alloc)?,
@@ -61,23 +45,42 @@ fn seen(alloc: Global, table: &Table) -> Result<Seen, NoMemory> {
     })
 }
 
+fn is_among(found: &Found, rows: &[Found]) -> bool {
+    for other in rows {
+        if compare_found(found, other).is_eq() {
+            return true;
+        }
+    }
+    false
+}
+
+fn remove(rows: &mut Vec<Found>, gone: &[Found]) {
+    rows.retain(|found| !is_among(found, gone));
+}
+
 impl Tables {
     pub(crate) fn new(alloc: Global) -> Tables {
         Tables {
             tables: Vec::new(alloc),
+            count: 0,
         }
     }
 
-    /// The tables that the statement names.
-    pub(crate) fn named_in(&self, alloc: Global, stmt: &Stmt) -> Result<Vec<Seen>, NoMemory> {
-        let mut named = Vec::new(alloc);
-        let Some(name) = name_in(stmt) else {
-            return Ok(named);
-        };
+    fn add_named(&self, alloc: Global, name: &Text, named: &mut Vec<Seen>) -> Result<(), NoMemory> {
         for table in &self.tables {
             if table.info.shape.name == *name {
                 named.push(seen(alloc, table)?)?;
             }
+        }
+        Ok(())
+    }
+
+    /// The tables that the statement names.
+    pub(crate) fn named_in(&self, alloc: Global, stmt: &Stmt) -> Result<Vec<Seen>, NoMemory> {
+        let names = names_in(alloc, stmt)?;
+        let mut named = Vec::new(alloc);
+        for i in 0..names.len() {
+            self.add_named(alloc, &names[i].name, &mut named)?;
         }
         Ok(named)
     }
@@ -89,10 +92,13 @@ impl Tables {
         Ok(self.tables.push(Table { info, rows })?)
     }
 
-    fn insert(&mut self, place: usize, effect: Effect) -> Result<(), NoMemory> {
+    fn change(&mut self, alloc: Global, place: usize, effect: Effect) -> Result<(), NoMemory> {
+        let Effect { inserts, deletes } = effect;
         if let Some(table) = self.tables.get_mut(place) {
-            for row in effect.inserts.into_vec() {
-                table.rows.push(row)?;
+            remove(&mut table.rows, deletes.as_slice());
+            for row in inserts.into_vec() {
+                self.count = self.count.saturating_add(1);
+                table.rows.push(found(alloc, row, self.count)?)?;
             }
         }
         Ok(())
@@ -116,7 +122,8 @@ impl Tables {
             Meaning::Change(info, effect) => {
                 out.extend_from_slice(b"inserted")?;
                 show::rows(effect.inserts.as_slice(), out)?;
-                self.insert(info.table.0 as usize, effect)
+                show::deletes(effect.deletes.as_slice(), out)?;
+                self.change(alloc, info.table.0 as usize, effect)
             }
             Meaning::Make(shape) => {
                 out.extend_from_slice(b"made")?;

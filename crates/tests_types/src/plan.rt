@@ -37,6 +37,11 @@ fn exprs(alloc: Global, exprs: &[TypedExpr], out: &mut Vec<u8>) -> Out {
     Ok(())
 }
 
+/// The values of a new row.
+pub(crate) fn values(alloc: Global, values: &[TypedExpr], out: &mut Vec<u8>) -> Out {
+    exprs(alloc, values, out)
+}
+
 fn kind(kind: JoinKind) -> &'static str {
     match kind {
         JoinKind::Inner => " inner",

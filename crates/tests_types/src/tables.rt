@@ -1,9 +1,10 @@
 //! The tables that the statements make, each with its rows.
 
-use crate::plan::plan;
+use crate::plan::{plan, values};
 use crate::show;
-use hv_analysis::{Logic, TypedInsert};
+use hv_analysis::Logic;
 use hv_base::{Boxed, List, NoMemory, TableId};
+use hv_changes::{Deletes, Origin, TypedChange};
 use hv_eval::eval;
 use hv_logic::{Shape, TableInfo};
 use hv_query::{TypedFrom, TypedQuery, TypedSource};
@@ -56,6 +57,16 @@ fn is_plain(query: &TypedQuery) -> bool {
         && query.order.is_empty()
 }
 
+/// Which rows go: none, all, those of a WHERE, those of the partitions that get a row.
+fn deleted(deletes: &Deletes) -> &'static str {
+    match deletes {
+        Deletes::Nothing => "",
+        Deletes::Matching(None) => "all, ",
+        Deletes::Matching(Some(_)) => "where, ",
+        Deletes::Received => "partitions, ",
+    }
+}
+
 impl Tables {
     pub(crate) fn new(alloc: Global) -> Tables {
         Tables {
@@ -74,24 +85,47 @@ impl Tables {
         Ok(self.rows.push(Vec::new(alloc))?)
     }
 
+    /// Rows of VALUES.
     fn insert(
         &mut self,
         alloc: Global,
-        insert: &TypedInsert,
+        change: &TypedChange,
+        rows: &[List<TypedExpr>],
         out: &mut Vec<u8>,
     ) -> Result<(), NoMemory> {
         out.extend_from_slice(b"inserted")?;
         let none = Row {
             values: List::empty(alloc),
         };
-        for exprs in insert.rows.as_slice() {
-            let row = evaluated(alloc, exprs, &none)?;
+        for exprs in rows {
+            let frame = evaluated(alloc, exprs, &none)?;
+            let row = evaluated(alloc, &change.values, &frame)?;
             show::row(&row, out)?;
-            if let Some(rows) = self.rows.get_mut(insert.table as usize) {
+            if let Some(rows) = self.rows.get_mut(change.table as usize) {
                 rows.push(row)?;
             }
         }
         Ok(())
+    }
+
+    fn change(
+        &mut self,
+        alloc: Global,
+        change: &TypedChange,
+        out: &mut Vec<u8>,
+    ) -> Result<(), NoMemory> {
+        out.extend_from_slice(deleted(&change.deletes).as_bytes())?;
+        match &change.origin {
+            Origin::Values(rows) => self.insert(alloc, change, rows.as_slice(), out),
+            Origin::Query(_) => {
+                out.extend_from_slice(b"selected:")?;
+                values(alloc, change.values.as_slice(), out)
+            }
+            Origin::Deleted => {
+                out.extend_from_slice(b"updated:")?;
+                values(alloc, change.values.as_slice(), out)
+            }
+        }
     }
 
     /// Each row for which the condition is true, by its items.
@@ -145,7 +179,7 @@ impl Tables {
                 show::shape(alloc, &shape, out)?;
                 self.make(alloc, shape)
             }
-            Logic::Insert(insert) => self.insert(alloc, &insert, out),
+            Logic::Change(change) => self.change(alloc, &change, out),
             Logic::Query(query) => self.query(alloc, &query, out),
         }
     }

@@ -1,7 +1,0 @@
-use Rattle.std.proofs.Common.{◌≡◌, drop}
-use Rattle.std.specs.List.{list_all}
-use Rattle.hv_analysis.specs.Inserts.{has_count}
-use Rattle.hv_analysis.proofs.inserts.all_counted.Given as goal
-
-abbrev pub invariant-loop-row : goal.invariant-loop-row
-invariant-loop-row l = list_all (has_count l.count) (drop l.row-index l.rows) ≡ list_all (has_count l.count) l.rows

@@ -1,6 +1,0 @@
-use Rattle.std.proofs.Common.{◌≡◌, map}
-use Rattle.hv_analysis.specs.Inserts.{converted_row}
-use Rattle.hv_analysis.proofs.inserts.converted_rows.Given as goal
-
-abbrev pub invariant-loop-row : goal.invariant-loop-row
-invariant-loop-row l = l.made.items ≡ map (converted_row l.columns) l.yielded

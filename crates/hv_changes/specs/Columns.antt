@@ -1,0 +1,21 @@
+-- A table's columns as its rows have their values, by name and in scope.
+use Rattle.std.specs.Prelude.{ℕ, Bool, List, ◌++◌, map}
+use Rattle.hv_logic.specs.declared.catalog.Column.{Column}
+use Rattle.hv_logic.specs.declared.catalog.Shape.{Shape}
+use Rattle.hv_types.specs.declared.scope.Field.{Field}
+use Rattle.hv_types.specs.Scopes.{same_name}
+
+-- the values of a row are those of the columns and then those of the partition columns
+abbrev pub columns_of : Shape → List Column
+columns_of shape = shape.columns ++ shape.parts
+
+abbrev pub is_named : List ℕ → Column → Bool
+is_named name column = same_name column.name name
+
+-- a column in scope, under the name of its source
+abbrev pub field_of : List ℕ → Column → Field
+field_of alias column = record { source = alias; name = column.name; kind = column.kind }
+
+-- the columns of a table that is updated, or deleted from
+abbrev pub fields_of : Shape → List Field
+fields_of shape = map (field_of shape.name) (columns_of shape)

@@ -1,0 +1,69 @@
+ghost use Rattle.std.specs.Prelude.{◌≡◌, IfOk, map, position};
+ghost use Rattle.hv_changes.specs.Columns.{columns_of, is_named, field_of, fields_of};
+ghost use Rattle.hv_changes.specs.Inserts.{column_kind};
+
+use hv_base::{Duplicate, List, NoMemory, Text};
+use hv_logic::{Column, Shape};
+use hv_types::Field;
+use hv_value::SqlType;
+use std::alloc::Global;
+
+/// The columns of a table as its rows have their values: its columns and then its partition columns.
+pub fn columns_of(alloc: Global, shape: &Shape) -> Result<List<Column>, NoMemory>
+    ensures { IfOk result (λ columns. columns ≡ columns_of shape.now) }
+{
+    let mut columns = shape.columns.duplicate(alloc)?.into_vec();
+    let mut parts = shape.parts.duplicate(alloc)?.into_vec();
+    columns.append(&mut parts)?;
+    Ok(List::from_vec(columns))
+}
+
+fn field_of(alloc: Global, alias: &Text, column: &Column) -> Result<Field, NoMemory>
+    ensures { IfOk result (λ field. field ≡ field_of alias.now column.now) }
+{
+    Ok(Field {
+        source: alias.duplicate(alloc)?,
+        name: column.name.duplicate(alloc)?,
+        kind: column.kind,
+    })
+}
+
+/// Columns in scope, under the name of their source.
+pub fn fields_named(
+    alloc: Global,
+    alias: &Text,
+    columns: &[Column],
+) -> Result<List<Field>, NoMemory>
+    ensures { IfOk result (λ fields. fields ≡ map (field_of alias.now) columns.now) }
+{
+    let mut fields = Vec::with_capacity(alloc, columns.len())?;
+    for column in columns {
+        fields.push(field_of(alloc, alias, column)?)?;
+    }
+    Ok(List::from_vec(fields))
+}
+
+/// The columns of a table that is updated, or deleted from.
+pub(crate) fn fields_of(alloc: Global, shape: &Shape) -> Result<List<Field>, NoMemory>
+    ensures { IfOk result (λ fields. fields ≡ fields_of shape.now) }
+{
+    let columns = columns_of(alloc, shape)?;
+    fields_named(alloc, &shape.name, columns.as_slice())
+}
+
+pub(crate) fn column_kinds(alloc: Global, columns: &[Column]) -> Result<Vec<SqlType>, NoMemory>
+    ensures { IfOk result (λ kinds. kinds.items ≡ map column_kind columns.now) }
+{
+    let mut kinds = Vec::with_capacity(alloc, columns.len())?;
+    for column in columns {
+        kinds.push(column.kind)?;
+    }
+    Ok(kinds)
+}
+
+/// The place of the column of that name.
+pub(crate) fn place_named(columns: &[Column], name: &Text) -> Option<usize>
+    ensures { result ≡ position (is_named name.now) columns.now }
+{
+    columns.iter().position(|column| column.name == *name)
+}

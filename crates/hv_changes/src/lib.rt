@@ -1,0 +1,18 @@
+//! The parts of a change of a table: INSERT with its columns and its source, UPDATE, DELETE, TRUNCATE.
+//!
+//! The target is found, and a query as a source is taken, by the crate above.
+#![tactic(auto)]
+
+mod change;
+mod columns;
+mod inserts;
+mod queries;
+mod targets;
+mod updates;
+mod values;
+
+pub use change::{Deletes, Origin, TypedChange};
+pub use columns::{columns_of, fields_named};
+pub use inserts::{query_inserted, rows_inserted};
+pub use targets::targets_of;
+pub use updates::{deleted, truncated, updated};

@@ -1,0 +1,114 @@
+//! What a change of a table comes to.
+
+ghost use Rattle.std.specs.Prelude.{◌≡◌, IfOk, slice_get};
+ghost use Rattle.hv_query.specs.Rows.{rows_of};
+ghost use Rattle.hv_meaning.specs.Meaning.{tables_of, inserts_of, change_effect, within_limit, or_none, changed_in};
+ghost use Rattle.hv_effect.specs.Tables.{found_of};
+
+use crate::deletes::{deleted, matched};
+use crate::rows::{rows_alone, rows_selected, rows_updated};
+use hv_base::{Duplicate, List, NoMemory};
+use hv_changes::{Origin, TypedChange, columns_of};
+use hv_exec::run;
+use hv_logic::{Effect, Found, Meaning, Shape, TableInfo, TableRows, all_fit};
+use hv_query::TypedQuery;
+use hv_value::Row;
+use std::alloc::Global;
+
+/// The rows of a query over these tables.
+pub(crate) fn query_rows(
+    alloc: Global,
+    query: &TypedQuery,
+    tables: &[TableRows],
+) -> Result<Vec<Row>, NoMemory>
+    ensures { IfOk result (λ rows. rows.items ≡ rows_of query.now (tables_of (found_of tables.now))) }
+{
+    let rows = run(alloc, &*query, &*tables, 1)?;
+    Ok(rows)
+}
+
+fn inserts_of(
+    alloc: Global,
+    shape: &Shape,
+    change: &TypedChange,
+    gone: &[Found],
+    tables: &[TableRows],
+) -> Result<List<Row>, NoMemory>
+    ensures { IfOk result (λ made. made ≡ inserts_of shape.now change.now gone.now (tables_of (found_of tables.now))) }
+{
+    let all = columns_of(alloc, shape)?;
+    let columns = all.as_slice();
+    let values = change.values.as_slice();
+    match &change.origin {
+        Origin::Values(rows) => rows_alone(alloc, columns, values, rows.as_slice()),
+        Origin::Query(query) => {
+            let rows = query_rows(alloc, query.get(), tables)?;
+            rows_selected(alloc, columns, values, rows.as_slice())
+        }
+        Origin::Deleted => rows_updated(alloc, columns, values, gone),
+    }
+}
+
+fn change_effect(
+    alloc: Global,
+    shape: &Shape,
+    change: &TypedChange,
+    found: &[Found],
+    tables: &[TableRows],
+) -> Result<Effect, NoMemory>
+    ensures { IfOk result (λ effect. effect ≡ change_effect shape.now change.now found.now (tables_of (found_of tables.now))) }
+{
+    let gone = matched(alloc, &change.deletes, &*found)?;
+    let inserts = inserts_of(alloc, shape, change, gone.as_slice(), tables)?;
+    let width = shape.columns.len();
+    let deletes = deleted(
+        alloc,
+        width,
+        &change.deletes,
+        inserts.as_slice(),
+        found,
+        gone,
+    )?;
+    Ok(Effect {
+        inserts,
+        deletes: List::from_vec(deletes),
+    })
+}
+
+fn within_limit(alloc: Global, info: &TableInfo, effect: Effect) -> Result<Meaning, NoMemory>
+    ensures { IfOk result (λ meaning. meaning ≡ within_limit info.now effect) }
+{
+    if all_fit(effect.inserts.as_slice()) {
+        Ok(Meaning::Change(info.duplicate(alloc)?, effect))
+    } else {
+        Ok(Meaning::RowLimit)
+    }
+}
+
+fn rows_at(tables: &[TableRows], place: usize) -> &[Found]
+    ensures { result.now ≡ or_none (slice_get (found_of tables.now) place) }
+{
+    match tables.get(place) {
+        Some(table) => table.rows.as_slice(),
+        None => &[],
+    }
+}
+
+/// What a change comes to over tables of these descriptions, where these rows stand.
+pub(crate) fn changed_in(
+    alloc: Global,
+    infos: &[TableInfo],
+    tables: &[TableRows],
+    change: &TypedChange,
+) -> Result<Option<Meaning>, NoMemory>
+    ensures { IfOk result (λ meaning. meaning ≡ changed_in (slice_get infos.now change.now.table)
+        (slice_get (found_of tables.now) change.now.table) (tables_of (found_of tables.now)) change.now) }
+{
+    let place = change.table as usize;
+    let Some(info) = infos.get(place) else {
+        return Ok(None);
+    };
+    let found = rows_at(tables, place);
+    let effect = change_effect(alloc, &info.shape, change, found, tables)?;
+    Ok(Some(within_limit(alloc, info, effect)?))
+}

@@ -1,0 +1,149 @@
+//! New rows, made of a change's values.
+
+ghost use Rattle.std.specs.Prelude.{◌≡◌, IfOk, [], drop, map};
+ghost use Rattle.hv_typed.specs.Evaluation.{values_of};
+ghost use Rattle.hv_meaning.specs.Meaning.{values_alone, frame_of, found_frame, first_value, stored_values, stored_row};
+
+use hv_base::{List, NoMemory};
+use hv_eval::eval;
+use hv_logic::{Column, Found};
+use hv_typed::TypedExpr;
+use hv_value::{Row, Value, convert};
+use std::alloc::Global;
+
+// The first value as the column has it.
+fn first_value(
+    alloc: Global,
+    column: &Column,
+    exprs: &[TypedExpr],
+    frame: &Row,
+) -> Result<Value, NoMemory>
+    ensures { IfOk result (λ value. value ≡ first_value column.now exprs.now frame.now.values) }
+{
+    match exprs {
+        [] => Ok(Value::Null),
+        [expr, ..] => {
+            let value = eval(alloc, expr, frame)?;
+            convert(alloc, &value, &column.kind)
+        }
+    }
+}
+
+fn behind_first(exprs: &[TypedExpr]) -> &[TypedExpr]
+    ensures { result.now ≡ drop 1 exprs.now }
+{
+    match exprs {
+        [] => exprs,
+        [_, behind @ ..] => behind,
+    }
+}
+
+fn stored_values(
+    alloc: Global,
+    columns: &[Column],
+    exprs: &[TypedExpr],
+    frame: &Row,
+) -> Result<List<Value>, NoMemory>
+    ensures { IfOk result (λ values. values ≡ stored_values columns.now exprs.now frame.now.values) }
+{
+    let mut rest = exprs;
+    let mut values = Vec::with_capacity(alloc, columns.len())?;
+    for column in columns {
+        values.push(first_value(alloc, column, rest, frame)?)?;
+        rest = behind_first(rest);
+    }
+    Ok(List::from_vec(values))
+}
+
+/// A row of these columns, each value over the row that it is made from.
+pub(crate) fn stored_row(
+    alloc: Global,
+    columns: &[Column],
+    exprs: &[TypedExpr],
+    frame: &Row,
+) -> Result<Row, NoMemory>
+    ensures { IfOk result (λ row. row ≡ stored_row columns.now exprs.now frame.now.values) }
+{
+    Ok(Row {
+        values: stored_values(alloc, columns, exprs, frame)?,
+    })
+}
+
+// The values of a row of VALUES, over no row.
+fn row_alone(alloc: Global, exprs: &[TypedExpr], none: &Row) -> Result<Row, NoMemory>
+    requires none { none.now.values ≡ [] }
+    ensures { IfOk result (λ row. row.values ≡ values_alone exprs.now) }
+{
+    let mut values = Vec::with_capacity(alloc, exprs.len())?;
+    for expr in exprs {
+        values.push(eval(alloc, expr, none)?)?;
+    }
+    Ok(Row {
+        values: List::from_vec(values),
+    })
+}
+
+fn alone_stored(
+    alloc: Global,
+    columns: &[Column],
+    exprs: &[TypedExpr],
+    row: &[TypedExpr],
+    none: &Row,
+) -> Result<Row, NoMemory>
+    requires none { none.now.values ≡ [] }
+    ensures { IfOk result (λ made. made ≡ stored_row columns.now exprs.now (values_alone row.now)) }
+{
+    let frame = row_alone(alloc, row, none)?;
+    stored_row(alloc, columns, exprs, &frame)
+}
+
+/// Of rows of VALUES.
+pub(crate) fn rows_alone(
+    alloc: Global,
+    columns: &[Column],
+    exprs: &[TypedExpr],
+    rows: &[List<TypedExpr>],
+) -> Result<List<Row>, NoMemory>
+    ensures { IfOk result (λ made. made ≡ map (stored_row columns.now exprs.now) (map values_alone rows.now)) }
+{
+    let none = Row {
+        values: List::empty(alloc),
+    };
+    let mut made = Vec::with_capacity(alloc, rows.len())?;
+    for row in rows {
+        made.push(alone_stored(alloc, columns, exprs, row.as_slice(), &none)?)?;
+    }
+    Ok(List::from_vec(made))
+}
+
+/// Of the rows of a query.
+pub(crate) fn rows_selected(
+    alloc: Global,
+    columns: &[Column],
+    exprs: &[TypedExpr],
+    rows: &[Row],
+) -> Result<List<Row>, NoMemory>
+    ensures { IfOk result (λ made. made ≡ map (stored_row columns.now exprs.now) (map frame_of rows.now)) }
+{
+    let mut made = Vec::with_capacity(alloc, rows.len())?;
+    for row in rows {
+        made.push(stored_row(alloc, columns, exprs, row)?)?;
+    }
+    Ok(List::from_vec(made))
+}
+
+/// Of rows that stand in a table.
+pub(crate) fn rows_updated(
+    alloc: Global,
+    columns: &[Column],
+    exprs: &[TypedExpr],
+    found: &[Found],
+) -> Result<List<Row>, NoMemory>
+    ensures { IfOk result (λ made. made ≡ map (stored_row columns.now exprs.now) (map found_frame found.now)) }
+{
+    let mut made = Vec::with_capacity(alloc, found.len())?;
+    for one in found {
+        made.push(stored_row(alloc, columns, exprs, &one.row)?)?;
+    }
+    Ok(List::from_vec(made))
+}
