@@ -9,9 +9,9 @@ use Rattle.hv_history.specs.declared.state.Transaction.{Transaction}
 use Rattle.hv_history.specs.State.{State, numbered, changed, changed_at, owned, written_to}
 use Rattle.hv_logic.specs.declared.catalog.Shape.{Shape}
 use Rattle.hv_stands.specs.Sound.{given_of, owners_of, given_among, owner_among, IsSound}
-use Rattle.hv_stands.specs.Laws.{made_table, tables_inserted}
+use Rattle.hv_stands.specs.Laws.{made_table, tables_changed}
 use Rattle.hv_stands.proofs.Numbers.{one_value, numbered-map, map-more, numbered-more}
-use Rattle.hv_stands.proofs.Soundness.{inserted_to, tables_inserted-once}
+use Rattle.hv_stands.proofs.Soundness.{changed_by, tables_changed-once}
 use Rattle.hv_known.specs.declared.known.Known.{Known}
 use Rattle.hv_known.specs.Known.{is_undone, is_marked, number_next, lost_from, lost_ids, known_of, all_known}
 
@@ -68,9 +68,9 @@ known-made s now t number shape sound are tables =
     ap (map (known_of now)) tables ∙ map-more (known_of now) s.tables (made_table number shape)
     ∙ ap (λ ks. ks ++ record { info = record { table = record { 0 = number }; shape = shape }; given = 0; lost = [] } ∷ []) (all-known-same s now t sound are)
 
-inserted-known : (now : State) (n : ℕ) (written : Written) → is_marked (numbered (map is_undone now.transactions) n) ≡ false → (table : Table)
-    → known_of now (inserted_to n written table) ≡ record (known_of now table) { given = length table.owners + 1 }
-inserted-known now n written done table =
+written-known : (now : State) (n : ℕ) (written : Written) → is_marked (numbered (map is_undone now.transactions) n) ≡ false → (table : Table)
+    → known_of now (changed_by n written table) ≡ record (known_of now table) { given = length table.owners + 1 }
+written-known now n written done table =
     λ i. record {
       info = table.info;
       given = owned-count i;
@@ -81,21 +81,21 @@ inserted-known now n written done table =
     owned-count = omega (arith, length-append table.owners (n ∷ []))
 
 changed-known : (now : State) (n : ℕ) (written : Written) → is_marked (numbered (map is_undone now.transactions) n) ≡ false → (tables : List Table) (k : ℕ)
-    → map (known_of now) (changed (inserted_to n written) tables k) ≡ changed (λ (known : Known). record known { given = known.given + 1 }) (map (known_of now) tables) k
+    → map (known_of now) (changed (changed_by n written) tables k) ≡ changed (λ (known : Known). record known { given = known.given + 1 }) (map (known_of now) tables) k
 changed-known now n written done tables zero = refl
 changed-known now n written done tables (suc k) = at tables k
   where
     at : (tables : List Table) (k : ℕ)
-        → map (known_of now) (changed_at (inserted_to n written) tables k) ≡ changed_at (λ (known : Known). record known { given = known.given + 1 }) (map (known_of now) tables) k
+        → map (known_of now) (changed_at (changed_by n written) tables k) ≡ changed_at (λ (known : Known). record known { given = known.given + 1 }) (map (known_of now) tables) k
     at [] k = refl
-    at (t ∷ tables) zero = ap (λ y. y ∷ map (known_of now) tables) (inserted-known now n written done t)
+    at (t ∷ tables) zero = ap (λ y. y ∷ map (known_of now) tables) (written-known now n written done t)
     at (t ∷ tables) (suc k) = ap (λ ys. known_of now t ∷ ys) (at tables k)
 
-pub known-inserted : (s now : State) (t : Transaction) (n number : ℕ) (written : Written) → IsSound s → now.transactions ≡ s.transactions ++ t ∷ []
-    → now.tables ≡ tables_inserted s.tables n number written → is_marked (numbered (map is_undone now.transactions) n) ≡ false
+pub known-changed : (s now : State) (t : Transaction) (n number : ℕ) (written : Written) → IsSound s → now.transactions ≡ s.transactions ++ t ∷ []
+    → now.tables ≡ tables_changed s.tables n number written → is_marked (numbered (map is_undone now.transactions) n) ≡ false
     → all_known now ≡ changed (λ (known : Known). record known { given = known.given + 1 }) (all_known s) number
-known-inserted s now t n number written sound are tables done =
-    ap (map (known_of now)) (tables ∙ tables_inserted-once s.tables n number written)
+known-changed s now t n number written sound are tables done =
+    ap (map (known_of now)) (tables ∙ tables_changed-once s.tables n number written)
     ∙ changed-known now n written done s.tables number
     ∙ ap (λ ks. changed (λ (known : Known). record known { given = known.given + 1 }) ks number) (all-known-same s now t sound are)
 

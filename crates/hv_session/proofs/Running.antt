@@ -1,6 +1,5 @@
 -- A statement from its Start to its end: what the house is then, and that the reply is its answer.
 use Rattle.std.proofs.Common.{◌≡◌, ℕ, ◌+◌, ◌<◌, ◌≤◌, Bool, true, false, is_none, Option, Some, None, List, [], ◌∷◌, ◌++◌, length, map, refl, sym, ap, ◌∙◌, subst, arith, append_assoc, ◌⊎◌, inl, inr}
-use Rattle.std.specs.FinMap as files
 use Rattle.std.specs.List.{AllByRecursion}
 use Rattle.std.specs.Option.{option_map}
 use Rattle.std.proofs.lemmas.List.{length-append}
@@ -14,7 +13,6 @@ use Rattle.hv_ast.specs.declared.statement.Stmt.{Stmt}
 use Rattle.hv_built.specs.Running.{Runs}
 use Rattle.hv_journal.specs.Appending.{KeepsTree}
 use Rattle.hv_value.specs.declared.row.Row.{Row}
-use Rattle.hv_rowfile.specs.Layout.{IsFile}
 use Rattle.hv_logic.specs.declared.catalog.Shape.{Shape}
 use Rattle.hv_logic.specs.declared.catalog.TableInfo.{TableInfo}
 use Rattle.hv_logic.specs.declared.effect.Effect.{Effect}
@@ -37,29 +35,29 @@ use Rattle.hv_history.specs.State.{nothing_yet, after, state_of, numbered, chang
 use Rattle.hv_history.specs.Legal.{profile}
 use Rattle.hv_history.specs.Answers.{listing, counts_line, ok_line, cause_text}
 use Rattle.hv_dirs.specs.Names.{write_end}
-use Rattle.hv_stands.specs.Files.{Stands, own_place, file_of, records_of}
+use Rattle.hv_stands.specs.Files.{Stands, IsEncoded, with_files}
 use Rattle.hv_stands.specs.Sound.{HasEnded, IsSound, IsIdle}
 use Rattle.hv_stands.specs.Endings.{next_number, statement_entries, HasSpace, is_abort, Goes}
-use Rattle.hv_stands.specs.Laws.{meant, committing, IsCauseOf, IsQuiet, made_table, next_table, inserting, tables_inserted}
-use Rattle.hv_stands.proofs.Written.{inserts-written}
+use Rattle.hv_stands.specs.Laws.{meant, committing, IsCauseOf, IsQuiet, made_table, next_table, changing, changes_in, tables_changed}
+use Rattle.hv_stands.proofs.Written.{changes-written}
 use Rattle.hv_stands.proofs.Queries.{queries-end, plains-end}
 use Rattle.hv_stands.proofs.Refusals.{refusals-end}
 use Rattle.hv_stands.proofs.Creates.{tables-made}
-use Rattle.hv_stands.proofs.Inserts.{nothing-inserted, rows-inserted}
+use Rattle.hv_stands.proofs.Changes.{nothing-changed, rows-changed}
 use Rattle.hv_stands.proofs.Tables.{changed-table}
 use Rattle.hv_stands.proofs.Numbers.{numbered-map, numbered-last}
 use Rattle.hv_stands.proofs.Keeping.{sound-all}
 use Rattle.hv_stands.proofs.Endings.{fold-append}
-use Rattle.hv_stands.proofs.Statements.{quiet-statements-stand, inserted-files-stand}
+use Rattle.hv_stands.proofs.Statements.{quiet-statements-stand, changed-files-stand}
 use Rattle.hv_house.specs.declared.house.House.{House}
 use Rattle.hv_known.specs.declared.known.Known.{Known}
 use Rattle.hv_known.specs.Known.{is_unfinished, is_undone, is_marked, known_of, all_known}
-use Rattle.hv_known.proofs.Staying.{known-quiet, known-made, known-inserted}
+use Rattle.hv_known.proofs.Staying.{known-quiet, known-made, known-changed}
 use Rattle.hv_house.specs.House.{entries_of, with_next, HasNumbers, book_limit, IsKept, Knows, IsReady, IsFaithful, IsNoted, IsAsked}
 use Rattle.hv_house.specs.Seeing.{IsSpoiled}
 use Rattle.hv_session.specs.Seeing.{IsSeen, IsNarrow}
 use Rattle.hv_session.specs.Started.{IsStarted}
-use Rattle.hv_session.specs.Ends.{IsDone, Commits, Refuses, PutsFile, Inserts, KnownOf, next_written, ChangesRows, next_id, Makes, EndsAs, CanEnd}
+use Rattle.hv_session.specs.Ends.{IsDone, Commits, Refuses, PutsCommit, Writes, KnownOf, next_written, ChangesRows, next_id, Makes, EndsAs, CanEnd}
 use Rattle.hv_session.specs.Halting.{IsEnding, next_txn}
 use Rattle.hv_session.specs.Answered.{WentThrough, AddsAtMost, HasRun}
 use Rattle.hv_session.proofs.Books.{entries-counted, space-left, legal-goes-on, length-map, numbers-known}
@@ -333,7 +331,7 @@ module _ {D : Type 0} (told : D → Option Store) (h0 h3 h4 h5 : House D) (numbe
         subst (λ (b : Bool). Ran (event ∷ []) text_now b) (sym done.accepted)
         (subst (λ (r : List ℕ). Ran (event ∷ []) r false) (sym done.text_is) ran)
 
-    -- it inserts rows
+    -- it changes rows
     known-of : (info : TableInfo) (known : Known) (table : Table) → KnownOf h4 info known → numbered (state_of book).tables info.table.0 ≡ Some table
         → known ≡ known_of (state_of book) table
     known-of info known table found at =
@@ -351,61 +349,60 @@ module _ {D : Type 0} (told : D → Option Store) (h0 h3 h4 h5 : House D) (numbe
       written = next_written (known_of (state_of book) table) effect
 
       wrote : List Touch
-      wrote = inserting info effect ∷ []
+      wrote = changing info effect ∷ []
 
-      insert_ends : List Entry
-      insert_ends = entry.Given (record { 0 = next_number book }) info.table (record { 0 = length table.owners + 1 }) ∷ committing book (inserting info effect ∷ []) ∷ []
+      change_ends : List Entry
+      change_ends = entry.Given (record { 0 = next_number book }) info.table (record { 0 = length table.owners + 1 }) ∷ committing book (changing info effect ∷ []) ∷ []
 
       tables_then : List Table
-      tables_then = tables_inserted (state_of book).tables (next_number book) info.table.0 (next_written (known_of (state_of book) table) effect)
+      tables_then = tables_changed (state_of book).tables (next_number book) info.table.0 (next_written (known_of (state_of book) table) effect)
 
-      insert-stands : (s now : Store) → IsFaithful book s → IsFile false 0 (records_of (next_written (known_of (state_of book) table) effect).inserts)
-          → now.tree ≡ files.insert s.tree (own_place info.table.0 (length table.owners + 1)) (file_of (next_written (known_of (state_of book) table) effect))
-          → Goes book (statement_entries book number text insert_ends) number text (counts_line (inserting info effect ∷ [])) false tables_then
-          → Stands (state_of (book ++ statement_entries book number text insert_ends)) now.tree
-      unfolding insert_ends tables_then
-      insert-stands s now faithful file put goes =
-          subst (Stands (state_of (book ++ statement_entries book number text insert_ends))) (sym put)
-          (inserted-files-stand book number text tree info effect table s.tree given.ready.idle small given.is is at goes.legal file faithful.stands)
+      change-stands : (s now : Store) → IsFaithful book s → IsEncoded (next_written (known_of (state_of book) table) effect)
+          → now.tree ≡ with_files s.tree info.table.0 (next_written (known_of (state_of book) table) effect)
+          → Goes book (statement_entries book number text change_ends) number text (counts_line (changing info effect ∷ [])) false tables_then
+          → Stands (state_of (book ++ statement_entries book number text change_ends)) now.tree
+      unfolding change_ends tables_then
+      change-stands s now faithful file put goes =
+          subst (Stands (state_of (book ++ statement_entries book number text change_ends))) (sym put)
+          (changed-files-stand book number text tree info effect table s.tree given.ready.idle small given.is is at goes.legal file faithful.stands)
 
-      inserted : 0 < length effect.inserts → Inserts told h4 h5 txn info (next_written (known_of (state_of book) table) effect) (inserting info effect ∷ [])
-          → Ran insert_ends (counts_line (inserting info effect ∷ [])) false
-      unfolding insert_ends tables_then
-      inserted some ins =
-          let goes = rows-inserted book number text tree info effect table given.ready.idle space given.is is some at in
-          let noted : entries_of h5 ≡ entries_of h4 ++ insert_ends =
+      changed-rows : 0 < changes_in effect → Writes told h4 h5 txn info (next_written (known_of (state_of book) table) effect) (changing info effect ∷ [])
+          → Ran change_ends (counts_line (changing info effect ∷ [])) false
+      unfolding change_ends tables_then
+      changed-rows some ins =
+          let goes = rows-changed book number text tree info effect table given.ready.idle space given.is is some at in
+          let noted : entries_of h5 ≡ entries_of h4 ++ change_ends =
           ins.entries
-          ∙ ap (λ (t : TxnId). entries_of h4 ++ entry.Given t info.table (record { 0 = length table.owners + 1 }) ∷ entry.Commit t (inserting info effect ∷ []) ∷ []) txn-is in
-          let left = leaves book (statement_entries book number text insert_ends) number text (counts_line (inserting info effect ∷ [])) false tables_then goes in
-          let known : h5.tables.items ≡ all_known (state_of (book ++ statement_entries book number text insert_ends)) =
+          ∙ ap (λ (t : TxnId). entries_of h4 ++ entry.Given t info.table (record { 0 = length table.owners + 1 }) ∷ entry.Commit t (changing info effect ∷ []) ∷ []) txn-is in
+          let left = leaves book (statement_entries book number text change_ends) number text (counts_line (changing info effect ∷ [])) false tables_then goes in
+          let known : h5.tables.items ≡ all_known (state_of (book ++ statement_entries book number text change_ends)) =
           ins.tables ∙ ap (λ (ks : List Known). changed with_next ks info.table.0) tables-known
-          ∙ sym (known-inserted (state_of book) (state_of (book ++ statement_entries book number text insert_ends)) goes.last (next_number book) info.table.0
+          ∙ sym (known-changed (state_of book) (state_of (book ++ statement_entries book number text change_ends)) goes.last (next_number book) info.table.0
           (next_written (known_of (state_of book) table) effect) given.ready.idle.sound goes.transactions goes.tables_are
-          (done-marked (state_of book).transactions goes.last (state_of (book ++ statement_entries book number text insert_ends)).transactions goes.transactions goes.last_ended goes.last_refused)) in
-          let place = own_place info.table.0 (length table.owners + 1) in
-          let bytes = file_of (next_written (known_of (state_of book) table) effect) in
-          let through : Moves (PutsFile place bytes) (told h0.shelf) (told h5.shelf) =
-          keeps-puts place bytes (told h0.shelf) (told h4.shelf) (told h5.shelf)
+          (done-marked (state_of book).transactions goes.last (state_of (book ++ statement_entries book number text change_ends)).transactions goes.transactions goes.last_ended goes.last_refused)) in
+          let written_now = next_written (known_of (state_of book) table) effect in
+          let through : Moves (PutsCommit info.table.0 written_now) (told h0.shelf) (told h5.shelf) =
+          keeps-puts info.table.0 written_now (told h0.shelf) (told h4.shelf) (told h5.shelf)
           (subst (λ (o : Option Store). Moves KeepsTree (told h0.shelf) o) (sym given.asked.store) given.started.tree) ins.put in
           record {
-            ready = ready-behind insert_ends tables_then ins.kept noted left ins.opened known;
+            ready = ready-behind change_ends tables_then ins.kept noted left ins.opened known;
             noted = noted;
             short = omega arith;
-            through = any-of (PutsFile place bytes) (told h0.shelf) (told h5.shelf) through;
+            through = any-of (PutsCommit info.table.0 written_now) (told h0.shelf) (told h5.shelf) through;
             shows = λ s e faithful.
-                let now = became (PutsFile place bytes) (told h0.shelf) (told h5.shelf) s through e in
-                shown insert_ends (counts_line (inserting info effect ∷ [])) false tables_then s now.now now.tells noted faithful
-                (inr (inl (info.table, record { 0 = length table.owners + 1 }, inserting info effect ∷ [], refl))) goes
-                (insert-stands s now.now faithful ins.file now.made goes);
+                let now = became (PutsCommit info.table.0 written_now) (told h0.shelf) (told h5.shelf) s through e in
+                shown change_ends (counts_line (changing info effect ∷ [])) false tables_then s now.now now.tells noted faithful
+                (inr (inl (info.table, record { 0 = length table.owners + 1 }, changing info effect ∷ [], refl))) goes
+                (change-stands s now.now faithful ins.file now.made goes);
           }
 
-    changes : (info : TableInfo) (effect : Effect) (text_now : List ℕ) (refused : Bool) → meant book tree ≡ Some (Change info effect) → 0 < length effect.inserts
+    changes : (info : TableInfo) (effect : Effect) (text_now : List ℕ) (refused : Bool) → meant book tree ≡ Some (Change info effect) → 0 < changes_in effect
         → ChangesRows told h4 h5 txn info effect text_now refused → HasRun told h0 h5 number text text_now refused
     changes info effect text_now refused is some change =
         let there = changed-table book tree info effect given.ready.idle is in
         let known = known-of info change.0 there.0 change.1 there.1 in
-        let ins = subst (λ (k : Known). Inserts told h4 h5 txn info (next_written k effect) (inserting info effect ∷ [])) known change.2 in
-        let ran = has-run (insert_ends info effect there.0 is there.1) (counts_line (inserting info effect ∷ [])) false (inserted info effect there.0 is there.1 some ins) in
+        let ins = subst (λ (k : Known). Writes told h4 h5 txn info (next_written k effect) (changing info effect ∷ [])) known change.2 in
+        let ran = has-run (change_ends info effect there.0 is there.1) (counts_line (changing info effect ∷ [])) false (changed-rows info effect there.0 is there.1 some ins) in
         subst (λ (b : Bool). HasRun told h0 h5 number text text_now b) (sym change.3.accepted)
         (subst (λ (r : List ℕ). HasRun told h0 h5 number text r false) (sym change.3.text_is) ran)
 
@@ -421,13 +418,6 @@ module _ {D : Type 0} (told : D → Option Store) (h0 h3 h4 h5 : House D) (numbe
         by : (meaning_in tree seen ≡ meant book tree) ⊎ Lists (meaning_in tree seen) → meant book tree ≡ Some m
         by (inl e) = sym e ∙ sym is
         by (inr l) = absurd (subst NoListing (is ∙ l.2) unlisted)
-
-    no-rows : (effect : Effect) → length effect.inserts ≡ 0 → effect.inserts ≡ []
-    no-rows effect e = by effect.inserts e
-      where
-        by : (rows : List Row) → length rows ≡ 0 → rows ≡ []
-        by [] e = refl
-        by (row ∷ rows) e = absurd (omega (arith, e))
 
     idle-run : (reply text_now : List ℕ) (refused : Bool) → Commits told h4 h5 txn [] → IsDone reply text_now refused
         → ((s : Store) → told h0.shelf ≡ Some s → IsFaithful book s
@@ -448,7 +438,7 @@ module _ {D : Type 0} (told : D → Option Store) (h0 h3 h4 h5 : House D) (numbe
         (λ s e faithful. queries-end book number text tree names rows given.ready.idle space given.is (sym (means-told seen sees s e faithful) ∙ sym is))
     ended seen sees (Change info effect) is text_now refused (inl none) =
         idle-run (counts_line []) text_now refused none.1 none.2
-        (λ s e faithful. nothing-inserted book number text tree info effect given.ready.idle space given.is (meant-of seen sees (Change info effect) is tt) (no-rows effect none.0))
+        (λ s e faithful. nothing-changed book number text tree info effect given.ready.idle space given.is (meant-of seen sees (Change info effect) is tt) none.0)
     ended seen sees (Change info effect) is text_now refused (inr some) =
         changes info effect text_now refused (meant-of seen sees (Change info effect) is tt) some.0 some.1
     ended seen sees (Make shape) is text_now refused ends =
@@ -484,8 +474,8 @@ module _ {D : Type 0} (told : D → Option Store) (h0 h3 h4 h5 : House D) (numbe
         let found : KnownOf h4 info (known_of (state_of book) there.0) =
         ap (λ (ks : List Known). numbered ks info.table.0) tables-known
         ∙ numbered-map (known_of (state_of book)) (state_of book).tables info.table.0 ∙ ap (option_map (known_of (state_of book))) there.1 in
-        let can = inserts-written book tree info effect (length there.0.owners + 1) given.ready.idle means_this (omega arith) few in
-        (known_of (state_of book) there.0, found, can.0)
+        (known_of (state_of book) there.0, found,
+        λ deletes. changes-written book tree info effect (length there.0.owners + 1) deletes given.ready.idle means_this (omega arith) few)
     can-end seen sees (Listing names rows) is few = tt
     can-end seen sees (Make shape) is few = tt
     can-end seen sees (Refused why) is few = tt

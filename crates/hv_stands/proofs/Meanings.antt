@@ -1,5 +1,6 @@
 -- What a statement's meaning says, by the laws of meanings.
-use Rattle.std.proofs.Common.{◌≡◌, ◌⊎◌, inl, inr, ℕ, IsTrue, IsNone, Option, Some, None, Result, Ok, Err, List, [], map, refl, sym, ap, ◌∙◌, subst}
+use Rattle.std.proofs.Common.{◌≡◌, ◌⊎◌, inl, inr, ℕ, ◌≤◌, Bool, false, IsTrue, IsNone, Option, Some, Result, Ok, Err, List, [], ◌∷◌, length, map, filter, refl, sym, ap, ◌∙◌, subst}
+use Rattle.std.specs.List.{AllByRecursion}
 use Rattle.hv_base.specs.declared.refusal.Refusal.{Refusal}
 use Rattle.hv_ast.specs.declared.statement.Stmt.{Stmt}
 use Rattle.hv_ast.specs.declared.statement.Stmt.TheVariants as stmt
@@ -8,19 +9,21 @@ use Rattle.hv_built.specs.Built.{IsBuilt}
 use Rattle.hv_logic.specs.declared.catalog.Shape.{Shape}
 use Rattle.hv_logic.specs.declared.catalog.TableInfo.{TableInfo}
 use Rattle.hv_logic.specs.declared.effect.Effect.{Effect}
+use Rattle.hv_logic.specs.declared.effect.Found.{Found}
 use Rattle.hv_logic.specs.declared.seen.Seen.{Seen}
 use Rattle.hv_logic.specs.declared.meaning.Meaning.{Meaning}
-use Rattle.hv_logic.specs.declared.meaning.Meaning.TheVariants.{Refused, Listing, Change, Make, Plain, RowLimit}
+use Rattle.hv_logic.specs.declared.meaning.Meaning.TheVariants.{Listing, Change, Make}
 use Rattle.hv_logic.specs.Tables.{named}
 use Rattle.hv_query.specs.Rows.{Tables}
 use Rattle.hv_analysis.specs.declared.logic.Logic.{Logic}
 use Rattle.hv_analysis.specs.declared.logic.Logic.TheVariants as logic
 use Rattle.hv_analysis.specs.Analysis.{analysed}
+use Rattle.hv_analysis.specs.Inserts.{columns_of}
+use Rattle.hv_rowfile.specs.Layout.{RowIsTaken}
 use Rattle.hv_meaning.specs.Meaning.{info_of, rows_seen, meant, meaning_over, meaning_in, meaning_of}
 use Rattle.hv_meaning.specs.Laws.{has_meaning, MeansSomething}
 use Rattle.hv_meaning.proofs.Forms.{forms-mean}
 use Rattle.hv_meaning.proofs.Meanings.{tables-new, changes-named}
-use Rattle.hv_stands.specs.Sound.{DeletesNone}
 use Rattle.hv_history.specs.State.{created_shape}
 use Rattle.hv_history.specs.Legal.{is_create, made_name}
 
@@ -42,23 +45,39 @@ makes-new tree tables shape e =
       shape_is = ap (λ (t : Stmt). created_shape (Some t)) new.tree_is ∙ sym new.shape_is;
     }
 
--- ---- a change deletes nothing
+-- ---- a change is of a table that is seen, and deletes rows that stand in it
 
-pub deletes-nothing : (tree : Stmt) (tables : List Seen) (info : TableInfo) (effect : Effect) → meaning_of tables tree ≡ Some (Change info effect)
-    → effect.deletes ≡ []
-deletes-nothing tree tables info effect e = let change = changes-named tree tables info effect e in change.deletes
+-- of these rows those that a test is true of, in their order
+abbrev pub ArePicked : List Found → List Found → Type 0
+ArePicked rows picked = (test : Found → Bool) × (picked ≡ filter test rows)
 
-pub deletes-none : (tree : Stmt) (tables : List Seen) → DeletesNone (meaning_of tables tree)
-deletes-none tree tables = by (meaning_of tables tree) refl
-  where
-    by : (o : Option Meaning) → meaning_of tables tree ≡ o → DeletesNone o
-    by None is = tt
-    by (Some (Refused why)) is = tt
-    by (Some (Listing names rows)) is = tt
-    by (Some (Change info effect)) is = deletes-nothing tree tables info effect is
-    by (Some (Make shape)) is = tt
-    by (Some Plain) is = tt
-    by (Some RowLimit) is = tt
+abbrev no_row : Found → Bool
+no_row found = false
+
+none-picked : (rows : List Found) → filter no_row rows ≡ []
+none-picked [] = refl
+none-picked (found ∷ rows) = none-picked rows
+
+pub record ChangesSeen (tables : List Seen) (info : TableInfo) (effect : Effect) : Type 0 where
+  pub name : List ℕ
+  pub seen : Seen
+  pub here : named name tables ≡ Some seen
+  pub info_is : info ≡ seen.info
+  pub deletes : ArePicked seen.rows effect.deletes
+  pub taken : length (columns_of info.shape) ≤ 65535 → AllByRecursion RowIsTaken effect.inserts
+
+pub changes-seen : (tree : Stmt) (tables : List Seen) (info : TableInfo) (effect : Effect) → meaning_of tables tree ≡ Some (Change info effect)
+    → ChangesSeen tables info effect
+changes-seen tree tables info effect e =
+    let change = changes-named tree tables info effect e in
+    record {
+      name = change.name;
+      seen = change.seen;
+      here = change.here;
+      info_is = change.info_is;
+      deletes = (no_row, change.deletes ∙ sym (none-picked change.seen.rows));
+      taken = change.taken;
+    }
 
 -- ---- a statement of a form that is built means something
 
