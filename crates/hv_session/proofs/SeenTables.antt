@@ -14,7 +14,11 @@ use Rattle.hv_shelf.specs.Disk.{Store, Tree}
 use Rattle.hv_shelf.specs.declared.place.Place.{Place}
 use Rattle.hv_ast.specs.declared.statement.Stmt.{Stmt}
 use Rattle.hv_built.specs.Built.{IsBuilt}
+use Rattle.hv_logic.specs.declared.catalog.TableInfo.{TableInfo}
+use Rattle.hv_logic.specs.declared.effect.Effect.{Effect}
 use Rattle.hv_logic.specs.declared.effect.Found.{Found}
+use Rattle.hv_logic.specs.declared.meaning.Meaning.{Meaning}
+use Rattle.hv_logic.specs.declared.meaning.Meaning.TheVariants.{Change}
 use Rattle.hv_logic.specs.declared.seen.Seen.{Seen}
 use Rattle.hv_logic.specs.Names.{names_in}
 use Rattle.hv_meaning.specs.Meaning.{info_of, meaning_in}
@@ -31,11 +35,11 @@ use Rattle.hv_stands.specs.Files.{Stands, records_of, HasRecords, own_dir, own_p
 use Rattle.hv_stands.specs.Sound.{IsSound, IsIdle, HasFewOwners, HasSoundWrites, HasOther, IsDone, IsOfCommitted, AreOfCommitted}
 use Rattle.hv_stands.specs.Reading.{written_with, records_in, is_among, IsRead, table_of_name, named_in, rows_seen, seen_of, seen_read}
 use Rattle.hv_stands.specs.Laws.{meant}
-use Rattle.hv_stands.proofs.Meanings.{Lists, same-or-lists, built-means}
+use Rattle.hv_stands.proofs.Meanings.{ComesOfRows, same-or-rows, built-means}
 use Rattle.hv_stands.proofs.ReadRows.{read-content}
-use Rattle.hv_stands.proofs.SeenTables.{reading-enough}
+use Rattle.hv_stands.proofs.SeenTables.{reading-enough, read-infos}
 use Rattle.hv_stands.proofs.Numbers.{one_value, numbered-map, numbered-within}
-use Rattle.hv_stands.proofs.Tables.{named-numbered}
+use Rattle.hv_stands.proofs.Tables.{named-numbered, CanChangeTable, change-of-seen}
 use Rattle.hv_stands.proofs.Soundness.{all-numbered, all-mapped}
 use Rattle.hv_stands.proofs.StandingFiles.{commits-have-files, made-of-table, made-file}
 use Rattle.hv_stands.proofs.MadeFiles.{own_dir-same, file-write}
@@ -253,22 +257,33 @@ module _ (told : Option Store) (known : List Known) (book : List Entry) (tree : 
   known-seen : (seen : List Seen) → IsSeen told known tree seen → AreSeen told (map (known_of (state_of book)) tables) (reads_rows tree) (names_in tree) seen
   known-seen seen is = subst (λ (ks : List Known). AreSeen told ks (reads_rows tree) (names_in tree) seen) knows is
 
-  -- whatever rows were seen, it means the same, or lists some rows
-  pub meant-or-listing : (seen : List Seen) → IsSeen told known tree seen → (meaning_in tree seen ≡ meant book tree) ⊎ Lists (meaning_in tree seen)
-  meant-or-listing seen is =
-      by (same-or-lists tree seen (seen_read tree tables) (infos-seen (state_of book) tree told tables (names_in tree) seen (known-seen seen is)))
+  -- whatever rows were seen, it means the same, or what may come of rows
+  pub meant-or-rows : (seen : List Seen) → IsSeen told known tree seen → (meaning_in tree seen ≡ meant book tree) ⊎ ComesOfRows (meaning_in tree seen)
+  meant-or-rows seen is =
+      by (same-or-rows tree seen (seen_read tree tables) (infos-seen (state_of book) tree told tables (names_in tree) seen (known-seen seen is)))
     where
-      by : (meaning_in tree seen ≡ meaning_in tree (seen_read tree tables)) ⊎ Lists (meaning_in tree seen)
-          → (meaning_in tree seen ≡ meant book tree) ⊎ Lists (meaning_in tree seen)
+      by : (meaning_in tree seen ≡ meaning_in tree (seen_read tree tables)) ⊎ ComesOfRows (meaning_in tree seen)
+          → (meaning_in tree seen ≡ meant book tree) ⊎ ComesOfRows (meaning_in tree seen)
       by (inl e) = inl (e ∙ reading-enough book tree at_rest)
       by (inr l) = inr l
 
   pub means-some : (seen : List Seen) → IsSeen told known tree seen → MeansSomething (meaning_in tree seen)
-  means-some seen is = by (meant-or-listing seen is)
+  means-some seen is = by (meant-or-rows seen is)
     where
-      by : (meaning_in tree seen ≡ meant book tree) ⊎ Lists (meaning_in tree seen) → MeansSomething (meaning_in tree seen)
+      some : (o : Option Meaning) → ComesOfRows o → MeansSomething o
+      some None h = absurd h
+      some (Some m) h = tt
+
+      by : (meaning_in tree seen ≡ meant book tree) ⊎ ComesOfRows (meaning_in tree seen) → MeansSomething (meaning_in tree seen)
       by (inl e) = subst MeansSomething (sym e) (built-means (seen_tables tables) tree built)
-      by (inr l) = subst MeansSomething (sym l.2) tt
+      by (inr l) = some (meaning_in tree seen) l
+
+  -- whatever rows were seen, a change is of one of the book's tables
+  pub change-seen : (seen : List Seen) (info : TableInfo) (effect : Effect) → IsSeen told known tree seen → meaning_in tree seen ≡ Some (Change info effect)
+      → CanChangeTable tables info effect
+  change-seen seen info effect is e =
+      change-of-seen tables at_rest.sound.tables.live at_rest.sound.tables.in_order tree seen info effect
+      (infos-seen (state_of book) tree told tables (names_in tree) seen (known-seen seen is) ∙ read-infos tree tables at_rest.sound.tables.live) e
 
   -- the rows of a table whose files stand
   module _ (s : Store) (tells : told ≡ Some s) (stands : Stands (state_of book) s.tree) (small : (state_of book).entries < write_end) where

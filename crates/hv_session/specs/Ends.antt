@@ -94,10 +94,10 @@ EndsAs told before now txn (Refused why) text refused = Refuses told before now 
 EndsAs told before now txn RowLimit text refused = Refuses told before now txn cause.RowLimit text refused
 EndsAs told before now txn _ text refused = Commits told before now txn [] × IsDone ok_line text refused
 
--- what a change of these rows can rest on: its table is known, and the rows fit its files
+-- what a change of these rows can rest on: its table is known, and the inserted rows fit a file
 abbrev pub CanChange : {D : Type 0} → House D → TableInfo → Effect → Type 0
 CanChange house info effect =
-    (known : Known) × KnownOf house info known × ((deletes : Bool) → CanWrite deletes 0 (records_of deletes (next_written known effect)))
+    (known : Known) × KnownOf house info known × CanWrite false 0 (records_of false (next_written known effect))
 
 abbrev pub CanEnd : {D : Type 0} → House D → Meaning → Type 0
 CanEnd house (Change info effect) = CanChange house info effect

@@ -104,7 +104,7 @@ all-behind place wrote (t ∷ ts) last past running_ =
     ap (λ (b : Bool). b || list_any (λ (other : Transaction). commits_against (place + 1) wrote other.ending) (ts ++ last ∷ [])) (behind-none place wrote t.ending past.0)
     ∙ all-behind place wrote ts last past.1 running_
 
-commit-fits : (s : State) (number : ℕ) (text : List ℕ) (m : Option Meaning) (info : TableInfo) (effect : Effect) (write : ℕ) → IsIdle s → 0 < changes_in effect
+pub commit-fits : (s : State) (number : ℕ) (text : List ℕ) (m : Option Meaning) (info : TableInfo) (effect : Effect) (write : ℕ) → IsIdle s → 0 < changes_in effect
     → CommitFits (with_last s (s.entries + 1 + 1 + 1) (changed (owned (next_of s)) s.tables info.table.0) (running s number text m [] ((info.table.0, write) ∷ []) None))
     (changing info effect ∷ []) (running s number text m [] ((info.table.0, write) ∷ []) None)
 commit-fits s number text m info effect write idle some = record {

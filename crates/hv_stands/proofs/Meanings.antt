@@ -4,7 +4,6 @@ use Rattle.std.specs.List.{AllByRecursion}
 use Rattle.hv_base.specs.declared.refusal.Refusal.{Refusal}
 use Rattle.hv_ast.specs.declared.statement.Stmt.{Stmt}
 use Rattle.hv_ast.specs.declared.statement.Stmt.TheVariants as stmt
-use Rattle.hv_value.specs.declared.row.Row.{Row}
 use Rattle.hv_built.specs.Built.{IsBuilt}
 use Rattle.hv_logic.specs.declared.catalog.Shape.{Shape}
 use Rattle.hv_logic.specs.declared.catalog.TableInfo.{TableInfo}
@@ -90,28 +89,48 @@ built-form other built = cc
 pub built-means : (tables : List Seen) (tree : Stmt) → IsBuilt tree → MeansSomething (meaning_of tables tree)
 built-means tables tree built = forms-mean tree tables (built-form tree built)
 
--- ---- over tables of the same descriptions, whatever their rows, it means the same, or lists some rows
+-- ---- over tables of the same descriptions, whatever their rows, it means the same, or what may come of rows
 
-abbrev pub Lists : Option Meaning → Type 0
-Lists meaning = (names : List (List ℕ)) × (rows : List Row) × (meaning ≡ Some (Listing names rows))
+abbrev pub ComesOfRows : Option Meaning → Type 0
+ComesOfRows (Some (Listing names rows)) = Unit {0}
+ComesOfRows (Some (Change info effect)) = Unit {0}
+ComesOfRows (Some RowLimit) = Unit {0}
+ComesOfRows _ = ⊥
 
 alike : (infos : List TableInfo) (rows others : Tables) (r : Result Logic Refusal)
-    → (meant infos rows r ≡ meant infos others r) ⊎ Lists (meant infos rows r)
-alike infos rows others (Ok (logic.Query query)) = inr (_, _, refl)
+    → (meant infos rows r ≡ meant infos others r) ⊎ ComesOfRows (meant infos rows r)
+alike infos rows others (Ok (logic.Query query)) = inr tt
 alike infos rows others (Ok (logic.Insert insert)) = inl refl
 alike infos rows others (Ok (logic.Make shape)) = inl refl
 alike infos rows others (Ok logic.Nothing) = inl refl
 alike infos rows others (Err why) = inl refl
 
-pub same-or-lists : (tree : Stmt) (tables others : List Seen) → map info_of tables ≡ map info_of others
-    → (meaning_in tree tables ≡ meaning_in tree others) ⊎ Lists (meaning_in tree tables)
+pub same-or-rows : (tree : Stmt) (tables others : List Seen) → map info_of tables ≡ map info_of others
+    → (meaning_in tree tables ≡ meaning_in tree others) ⊎ ComesOfRows (meaning_in tree tables)
 unfolding meaning_in
-same-or-lists tree tables others same =
+same-or-rows tree tables others same =
     by (alike (map info_of tables) (map rows_seen tables) (map rows_seen others) (analysed (map info_of tables) tree))
   where
     by : (meaning_over tree (map info_of tables) (map rows_seen tables) ≡ meaning_over tree (map info_of tables) (map rows_seen others))
-        ⊎ Lists (meaning_over tree (map info_of tables) (map rows_seen tables))
+        ⊎ ComesOfRows (meaning_over tree (map info_of tables) (map rows_seen tables))
         → (meaning_over tree (map info_of tables) (map rows_seen tables) ≡ meaning_over tree (map info_of others) (map rows_seen others))
-        ⊎ Lists (meaning_over tree (map info_of tables) (map rows_seen tables))
+        ⊎ ComesOfRows (meaning_over tree (map info_of tables) (map rows_seen tables))
     by (inl e) = inl (e ∙ ap (λ infos. meaning_over tree infos (map rows_seen others)) same)
     by (inr l) = inr l
+
+-- ---- so far no change looks at rows
+
+change-alike : (infos : List TableInfo) (rows others : Tables) (info : TableInfo) (effect : Effect) (r : Result Logic Refusal)
+    → meant infos rows r ≡ Some (Change info effect) → meant infos others r ≡ Some (Change info effect)
+change-alike infos rows others info effect (Ok (logic.Query query)) e = cc
+change-alike infos rows others info effect (Ok (logic.Insert insert)) e = e
+change-alike infos rows others info effect (Ok (logic.Make shape)) e = e
+change-alike infos rows others info effect (Ok logic.Nothing) e = e
+change-alike infos rows others info effect (Err why) e = e
+
+pub same-change : (tree : Stmt) (tables others : List Seen) (info : TableInfo) (effect : Effect) → map info_of tables ≡ map info_of others
+    → meaning_in tree tables ≡ Some (Change info effect) → meaning_in tree others ≡ Some (Change info effect)
+unfolding meaning_in
+same-change tree tables others info effect same e =
+    ap (λ infos. meaning_over tree infos (map rows_seen others)) (sym same)
+    ∙ change-alike (map info_of tables) (map rows_seen tables) (map rows_seen others) info effect (analysed (map info_of tables) tree) e

@@ -1,5 +1,5 @@
 -- The table that a statement names is one of the book's, and what a statement sees of it is what stands there.
-use Rattle.std.proofs.Common.{refl, ◌≡◌, ℕ, suc, ◌+◌, nat_eq, Bool, true, false, cond, IsTrue, Option, Some, None, List, [], ◌∷◌, map, filter, option_map, sym, ap, ◌∙◌, subst, arith}
+use Rattle.std.proofs.Common.{refl, ◌≡◌, ℕ, suc, ◌+◌, nat_eq, Bool, true, false, cond, IsTrue, Option, Some, None, List, [], ◌∷◌, map, filter, option_map, sym, ap, ◌∙◌, subst, arith, ◌≤◌, length}
 use Rattle.std.specs.Cmp.Lexicographic.{pointwise}
 use Rattle.std.specs.List.{slice_get, AllByRecursion}
 use Rattle.hv_ast.specs.declared.statement.Stmt.{Stmt}
@@ -8,13 +8,15 @@ use Rattle.hv_logic.specs.declared.effect.Effect.{Effect}
 use Rattle.hv_logic.specs.declared.seen.Seen.{Seen}
 use Rattle.hv_logic.specs.declared.meaning.Meaning.TheVariants.{Change}
 use Rattle.hv_logic.specs.Tables.{named}
-use Rattle.hv_meaning.specs.Meaning.{meaning_of}
+use Rattle.hv_meaning.specs.Meaning.{info_of, its_tables, meaning_in, meaning_of}
+use Rattle.hv_analysis.specs.Inserts.{columns_of}
+use Rattle.hv_rowfile.specs.Layout.{RowIsTaken}
 use Rattle.hv_history.specs.declared.state.Table.{Table}
 use Rattle.hv_history.specs.State.{state_of, numbered, content_of, seen_table, seen_tables}
 use Rattle.hv_stands.specs.Sound.{IsLive, NumberedFrom}
 use Rattle.hv_stands.specs.Reading.{table_of_name}
 use Rattle.hv_stands.specs.Laws.{ChangedTableStands}
-use Rattle.hv_stands.proofs.Meanings.{ArePicked, changes-seen}
+use Rattle.hv_stands.proofs.Meanings.{ArePicked, changes-seen, same-change}
 
 -- ---- all tables are seen
 
@@ -114,3 +116,19 @@ pub changed-table : ChangedTableStands
 changed-table book tree info effect idle e =
     let change = changes-table (state_of book).tables idle.sound.tables.live idle.sound.tables.in_order info effect tree e in
     (change.table, change.here, change.info_is)
+
+-- ---- whatever rows are seen of the tables that a statement names, a change is of one of the book's tables, and a row file takes
+-- each row that it inserts
+
+pub record CanChangeTable (tables : List Table) (info : TableInfo) (effect : Effect) : Type 0 where
+  pub table : Table
+  pub here : numbered tables info.table.0 ≡ Some table
+  pub taken : length (columns_of info.shape) ≤ 65535 → AllByRecursion RowIsTaken effect.inserts
+
+pub change-of-seen : (tables : List Table) → AllByRecursion IsLive tables → NumberedFrom 1 tables → (tree : Stmt) (seen : List Seen) (info : TableInfo) (effect : Effect)
+    → map info_of seen ≡ map info_of (its_tables tree (seen_tables tables)) → meaning_in tree seen ≡ Some (Change info effect) → CanChangeTable tables info effect
+change-of-seen tables live order tree seen info effect same e =
+    let means = same-change tree seen (its_tables tree (seen_tables tables)) info effect same e in
+    let change = changes-table tables live order info effect tree means in
+    let rows = changes-seen tree (seen_tables tables) info effect means in
+    record { table = change.table; here = change.here; taken = rows.taken }
