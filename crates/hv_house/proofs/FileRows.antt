@@ -1,6 +1,6 @@
 -- The records of the files that stand, and the rows that they come to.
 use Rattle.std.proofs.Common.{◌≡◌, ℕ, suc, ◌+◌, ◌-◌, ◌<◌, ◌≤◌, ◌==◌, Bool, true, false, cond, Option, Some, None, Result, Ok, Err, List, [], ◌∷◌, ◌++◌, length, is_some, refl, sym, ap, ◌∙◌, subst, append_assoc, append-nil, arith}
-use Rattle.std.specs.Prelude.{OnOk}
+use Rattle.std.specs.Prelude.{IfOk, OnOk}
 use Rattle.std.specs.FinMap as files
 use Rattle.std.specs.Ordering.{eq_by_cmp}
 use Rattle.std.specs.Cmp.{eq_by_cmp_equiv, first_so}
@@ -155,6 +155,10 @@ pub own-read : (o : Option Store) (deletes : Bool) (places : List Place) (place 
     → Tells o (λ s. (kind : Bool) → AddsRecords kind place before now s) → Tells o (λ s. places ≡ places_of table s.tree → AddsRecords deletes own before now s)
 own-read None deletes places place own table before now at adds = tt
 own-read (Some s) deletes places place own table before now at adds = λ are. subst (λ (p : Place). AddsRecords deletes p before now s) at (adds deletes)
+
+pub if-ok : {T E : Type 0} (r : Result T E) (P Q : T → Type 0) → ((x : T) → P x → Q x) → IfOk r P → IfOk r Q
+if-ok (Ok x) P Q f p = f x p
+if-ok (Err e) P Q f p = tt
 
 pub on-ok : {T E : Type 0} (r : Result T E) (P Q : Type 0) → (P → Q) → OnOk r P → OnOk r Q
 on-ok (Ok x) P Q f p = f p

@@ -15,3 +15,4 @@ pub mod Owning
 pub mod Keeping
 pub mod Statements
 pub mod MadeFiles
+pub mod Worked

@@ -11,7 +11,7 @@ use Rattle.hv_logic.specs.declared.effect.Effect.{Effect}
 use Rattle.hv_logic.specs.declared.effect.Found.{Found}
 use Rattle.hv_logic.specs.declared.seen.Seen.{Seen}
 use Rattle.hv_logic.specs.declared.meaning.Meaning.{Meaning}
-use Rattle.hv_logic.specs.declared.meaning.Meaning.TheVariants.{Listing, Change, Make}
+use Rattle.hv_logic.specs.declared.meaning.Meaning.TheVariants.{Listing, Change, Make, RowLimit}
 use Rattle.hv_logic.specs.Tables.{named}
 use Rattle.hv_query.specs.Rows.{Tables}
 use Rattle.hv_analysis.specs.declared.logic.Logic.{Logic}

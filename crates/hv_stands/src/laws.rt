@@ -1,3 +1,7 @@
+ghost use Rattle.std.specs.Prelude.{◌≡◌, [], ◌∷◌, true, None};
+ghost use Rattle.hv_stands.specs.Files.{commit_file};
+ghost use Rattle.hv_stands.specs.Reading.{rows_read};
+ghost use Rattle.hv_stands.specs.Worked.{row_by_hand, first_by_hand, writes_by_hand};
 ghost use Rattle.hv_stands.specs.Laws.{QueriesEnd, PlainsEnd, RefusalsEnd, TablesAreMade, RowsAreChanged, NothingIsChanged, ChangesCanBeWritten, ChangedTableStands, ReadRowsAreContent, ReadingIsEnough, SoundnessGoesOn, StandingGoesOn, PutsAreLoose, FilesAreOfTables, NewIdsHaveNoFile, CommitsHaveFiles, QuietStatementsStand, ChangedFilesStand};
 
 /// A query commits without rows, and its answer is its listing; what asks for nothing commits too.
@@ -73,4 +77,12 @@ pub fn commits_have_files()
 pub fn statements_stand()
     ensures quiet { QuietStatementsStand }
     ensures changed { ChangedFilesStand }
+{}
+
+/// Two commits worked out by hand. A row that the second one deleted isn't read, but where the second one
+/// is lost; the first one makes no delete file.
+pub fn worked_by_hand()
+    ensures read { rows_read [] writes_by_hand 2 ≡ row_by_hand 1 1 ∷ row_by_hand 2 0 ∷ [] }
+    ensures lost { rows_read (2 ∷ []) writes_by_hand 2 ≡ row_by_hand 1 0 ∷ row_by_hand 1 1 ∷ [] }
+    ensures file { commit_file true first_by_hand ≡ None }
 {}

@@ -29,7 +29,7 @@ returns-clause-records g c =
 
 pub returns-in_err-read_next-clause-damage : goal.returns-in_err-read_next-clause-damage
 returns-in_err-read_next-clause-damage g c =
-    let p = err_from_is_err_and c.from_residual-in_err-read_next.result c.from_residual-in_err-read_next.ensures.1 in
+    let p = err_from_is_err_and c.from_residual.result c.from_residual.ensures.1 in
     rw (p.1, p.2) (λ damage.
     lacks_one g.D.Shelf.told g.D.Shelf.faults c.args.self.now c.loop-before.self c.args.places.now c.args.deletes c.args.table c.args.given c.args.lost.now
     c.loop-before.before c.loop-before.recs.items
