@@ -1,7 +1,6 @@
 -- What is known of tables behind a statement of one thread.
-use Rattle.std.proofs.Common.{refl, ◌≡◌, ℕ, zero, suc, ◌+◌, ◌<◌, ◌≤◌, ◌==◌, ◌||◌, Bool, true, false, Option, Some, None, List, [], ◌∷◌, ◌++◌, length, map, sym, ap, ◌∙◌, subst, arith, eq-eqb, eqb-true, length-append}
-use Rattle.std.specs.Prelude.{IsSome}
-use Rattle.std.specs.List.{slice_get, list_any, AllByRecursion}
+use Rattle.std.proofs.Common.{refl, ◌≡◌, ℕ, zero, suc, ◌+◌, ◌==◌, ◌||◌, Bool, true, false, Option, Some, None, List, [], ◌∷◌, ◌++◌, length, map, sym, ap, ◌∙◌, subst, arith, eq-eqb, eqb-true, length-append}
+use Rattle.std.specs.List.{slice_get, list_any}
 use Rattle.std.specs.Option.{option_map}
 use Rattle.hv_history.specs.declared.state.Written.{Written}
 use Rattle.hv_history.specs.declared.state.Table.{Table}
@@ -12,7 +11,7 @@ use Rattle.hv_stands.specs.Sound.{given_of, owners_of, given_among, owner_among,
 use Rattle.hv_stands.specs.Laws.{made_table}
 use Rattle.hv_stands.proofs.Numbers.{one_value, numbered-map, map-more, numbered-more}
 use Rattle.hv_known.specs.declared.known.Known.{Known}
-use Rattle.hv_known.specs.Known.{is_undone, is_marked, number_next, lost_from, lost_ids, known_of, all_known}
+use Rattle.hv_known.specs.Known.{is_undone, is_marked, number_next, lost_from, known_of, all_known}
 
 -- ---- lost ids stay where the owners' marks do
 

@@ -98,9 +98,16 @@ change-leaves book number text tree info effect table at_rest space is some at =
     (commit-fits s number text m info effect write at_rest some) in
     record {
       leaves = record {
-        fit = (begun.fit.0, (begun.fit.1.0,
-            (subst (λ (n : State). Fits profile n give) (sym two) gives,
-            (subst (λ (n : State). Fits profile n (committing book wrote)) (sym three) commits, tt))));
+        fit = (
+          begun.fit.0,
+          (
+            begun.fit.1.0,
+            (
+              subst (λ (n : State). Fits profile n give) (sym two) gives,
+              (subst (λ (n : State). Fits profile n (committing book wrote)) (sym three) commits, tt),
+            ),
+          ),
+        );
         tables_are = ap (λ (n : State). n.tables) all;
         count = ap (λ (n : State). length n.transactions) all ∙ length-append s.transactions (t ∷ []);
         ended = λ h. subst (λ (n : State). AllByRecursion HasEnded n.transactions) (sym all) (all-last HasEnded s.transactions t h refl);
