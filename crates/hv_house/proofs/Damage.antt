@@ -8,11 +8,9 @@ use Rattle.hv_base.specs.Told.{Tells}
 use Rattle.hv_shelf.specs.declared.place.Place.{Place}
 use Rattle.hv_shelf.specs.Places.{place_eq}
 use Rattle.hv_shelf.specs.Disk.{Store, places_of}
-use Rattle.hv_logic.specs.declared.effect.Found.{Found}
 use Rattle.hv_rowfile.specs.declared.record.Rec.{Rec}
 use Rattle.hv_rowfile.specs.declared.fault.FileFault.TheVariants as file
 use Rattle.hv_rowfile.specs.Layout.{file_spelling, IsFile}
-use Rattle.hv_history.specs.declared.state.Written.{Written}
 use Rattle.hv_stands.specs.Files.{file_of, HasRecords, own_place}
 use Rattle.hv_stands.specs.Reading.{written_with, records_in, is_among}
 use Rattle.hv_stands.proofs.Numbers.{one_value}

@@ -1,5 +1,5 @@
 -- Rows that can be deleted by one file.
-use Rattle.std.proofs.Common.{◌≡◌, ℕ, ◌+◌, ◌<◌, ◌≤◌, ◌==◌, ◌&&◌, nat_lt, Bool, true, false, cond, Option, Some, None, List, [], ◌∷◌, map, refl, sym, ap, ◌∙◌, arith, eqb-true}
+use Rattle.std.proofs.Common.{◌≡◌, ℕ, ◌<◌, ◌≤◌, ◌==◌, ◌&&◌, nat_lt, Bool, true, false, cond, Option, Some, None, List, [], ◌∷◌, map, refl, arith, eqb-true}
 use Rattle.std.specs.declared.cmp.Ordering.{Ordering}
 use Rattle.std.specs.declared.cmp.Ordering.TheVariants.{Less, Equal, Greater}
 use Rattle.std.specs.Ordering.{is_lt}
@@ -8,7 +8,7 @@ use Rattle.std.proofs.lemmas.Bool.{ltb-true}
 use Rattle.hv_base.specs.declared.ids.RowId.{RowId}
 use Rattle.hv_base.specs.Identifiers.{row_id_cmp}
 use Rattle.hv_logic.specs.declared.effect.Found.{Found}
-use Rattle.hv_rowfile.specs.Layout.{RecIsTaken, KeyIsTaken, Follows, RisesFrom, CanWrite}
+use Rattle.hv_rowfile.specs.Layout.{RecIsTaken, Follows, RisesFrom, CanWrite}
 use Rattle.hv_stands.specs.Files.{delete_record}
 use Rattle.hv_house.specs.Rows.{is_behind, may_follow, may_be_deleted_from}
 

@@ -40,12 +40,7 @@ fn own_dir(alloc: Global, deletes: bool, write: u64) -> Result<Text, NoMemory>
 }
 
 /// Where the records of a kind stand that were written under a write id.
-fn own_place(
-    alloc: Global,
-    deletes: bool,
-    table: TableId,
-    write: u64,
-) -> Result<Place, NoMemory>
+fn own_place(alloc: Global, deletes: bool, table: TableId, write: u64) -> Result<Place, NoMemory>
     requires first { 1 ≤ write }
     requires last { write < write_end }
     ensures { IfOk result (λ place. place ≡ own_place deletes table.0 write) }
@@ -210,12 +205,7 @@ fn is_gone(gone: &[RowId], id: RowId) -> bool
 }
 
 /// Appends the row of an inserting record, unless it is one of those that are gone.
-fn put_left(
-    alloc: Global,
-    rec: Rec,
-    gone: &[RowId],
-    rows: &mut Vec<Found>,
-) -> Result<(), NoMemory>
+fn put_left(alloc: Global, rec: Rec, gone: &[RowId], rows: &mut Vec<Found>) -> Result<(), NoMemory>
     requires { IsSorted row_id_cmp gone.now }
     ensures { OnOk result (rows.new.items ≡ rows.old.items ++ kept_of gone.now rec) }
 {
@@ -232,11 +222,7 @@ fn put_left(
     }
 }
 
-fn put_all_left(
-    alloc: Global,
-    recs: Vec<Rec>,
-    gone: &[RowId],
-) -> Result<Vec<Found>, NoMemory>
+fn put_all_left(alloc: Global, recs: Vec<Rec>, gone: &[RowId]) -> Result<Vec<Found>, NoMemory>
     requires { IsSorted row_id_cmp gone.now }
     ensures { IfOk result (λ rows. rows.items ≡ flat_map (kept_of gone.now) recs.items) }
 {

@@ -1,4 +1,4 @@
-use Rattle.std.proofs.Common.{◌+◌, arith}
+use Rattle.std.proofs.Common.{arith}
 use Rattle.std.proofs.lemmas.Result.{err_from_is_err_and}
 use Rattle.hv_house.proofs.FileRows.{reads-next, reads-all}
 use Rattle.hv_house.proofs.Damage.{lacks_one}
