@@ -7,3 +7,5 @@ pub mod Damage
 pub mod Openings
 pub mod Boots
 pub mod Faithful
+pub mod Gone
+pub mod Deletable

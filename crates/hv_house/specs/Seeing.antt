@@ -5,15 +5,15 @@ use Rattle.hv_shelf.specs.Disk.{Store}
 use Rattle.hv_logic.specs.declared.effect.Found.{Found}
 use Rattle.hv_logic.specs.declared.seen.Seen.{Seen}
 use Rattle.hv_history.specs.declared.state.Written.{Written}
-use Rattle.hv_stands.specs.Reading.{rows_from}
+use Rattle.hv_stands.specs.Reading.{rows_read}
 use Rattle.hv_known.specs.declared.known.Known.{Known}
 use Rattle.hv_house.specs.House.{known_of_name}
-use Rattle.hv_house.specs.Rows.{HasCommits, LacksCommits}
+use Rattle.hv_house.specs.Rows.{HasAllCommits, LacksCommits}
 
 -- where its rows are read they are those of all its commits
 abbrev pub AreRead : Bool → ℕ → ℕ → List ℕ → List Found → Store → Type 0
 AreRead reads table given lost rows store =
-    (writes : List Written) → reads ≡ true → HasCommits table given lost writes store → rows ≡ rows_from lost writes 0 given
+    (writes : List Written) → reads ≡ true → HasAllCommits table given lost writes store → rows ≡ rows_read lost writes given
 
 -- the rows of a table where they are read, and none where they aren't
 pub record SeesRows (told : Option Store) (reads : Bool) (known : Known) (rows : List Found) : Type 0 where

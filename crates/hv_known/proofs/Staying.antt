@@ -1,19 +1,17 @@
 -- What is known of tables behind a statement of one thread.
-use Rattle.std.proofs.Common.{refl, ◌≡◌, ℕ, zero, suc, ◌+◌, ◌<◌, ◌≤◌, ◌==◌, ◌||◌, Bool, true, false, Option, Some, None, List, [], ◌∷◌, ◌++◌, length, map, sym, ap, ◌∙◌, subst, arith, eq-eqb, eqb-true, length-append}
-use Rattle.std.specs.Prelude.{IsSome}
-use Rattle.std.specs.List.{slice_get, list_any, AllByRecursion}
+use Rattle.std.proofs.Common.{refl, ◌≡◌, ℕ, zero, suc, ◌+◌, ◌==◌, ◌||◌, Bool, true, false, Option, Some, None, List, [], ◌∷◌, ◌++◌, length, map, sym, ap, ◌∙◌, subst, arith, eq-eqb, eqb-true, length-append}
+use Rattle.std.specs.List.{slice_get, list_any}
 use Rattle.std.specs.Option.{option_map}
 use Rattle.hv_history.specs.declared.state.Written.{Written}
 use Rattle.hv_history.specs.declared.state.Table.{Table}
 use Rattle.hv_history.specs.declared.state.Transaction.{Transaction}
-use Rattle.hv_history.specs.State.{State, numbered, changed, changed_at, owned, written_to}
+use Rattle.hv_history.specs.State.{State, numbered, changed, changed_at, owned, written_to, tables_behind}
 use Rattle.hv_logic.specs.declared.catalog.Shape.{Shape}
 use Rattle.hv_stands.specs.Sound.{given_of, owners_of, given_among, owner_among, IsSound}
-use Rattle.hv_stands.specs.Laws.{made_table, tables_inserted}
+use Rattle.hv_stands.specs.Laws.{made_table}
 use Rattle.hv_stands.proofs.Numbers.{one_value, numbered-map, map-more, numbered-more}
-use Rattle.hv_stands.proofs.Soundness.{inserted_to, tables_inserted-once}
 use Rattle.hv_known.specs.declared.known.Known.{Known}
-use Rattle.hv_known.specs.Known.{is_undone, is_marked, number_next, lost_from, lost_ids, known_of, all_known}
+use Rattle.hv_known.specs.Known.{is_undone, is_marked, number_next, lost_from, known_of, all_known}
 
 -- ---- lost ids stay where the owners' marks do
 
@@ -68,9 +66,11 @@ known-made s now t number shape sound are tables =
     ap (map (known_of now)) tables ∙ map-more (known_of now) s.tables (made_table number shape)
     ∙ ap (λ ks. ks ++ record { info = record { table = record { 0 = number }; shape = shape }; given = 0; lost = [] } ∷ []) (all-known-same s now t sound are)
 
-inserted-known : (now : State) (n : ℕ) (written : Written) → is_marked (numbered (map is_undone now.transactions) n) ≡ false → (table : Table)
-    → known_of now (inserted_to n written table) ≡ record (known_of now table) { given = length table.owners + 1 }
-inserted-known now n written done table =
+-- ---- a write id was given, and its transaction has committed: what it wrote makes no difference
+
+written-known : (now : State) (n : ℕ) → is_marked (numbered (map is_undone now.transactions) n) ≡ false → (table : Table)
+    → known_of now (owned n table) ≡ record (known_of now table) { given = length table.owners + 1 }
+written-known now n done table =
     λ i. record {
       info = table.info;
       given = owned-count i;
@@ -80,23 +80,38 @@ inserted-known now n written done table =
     owned-count : length (table.owners ++ n ∷ []) ≡ length table.owners + 1
     owned-count = omega (arith, length-append table.owners (n ∷ []))
 
-changed-known : (now : State) (n : ℕ) (written : Written) → is_marked (numbered (map is_undone now.transactions) n) ≡ false → (tables : List Table) (k : ℕ)
-    → map (known_of now) (changed (inserted_to n written) tables k) ≡ changed (λ (known : Known). record known { given = known.given + 1 }) (map (known_of now) tables) k
-changed-known now n written done tables zero = refl
-changed-known now n written done tables (suc k) = at tables k
+owned-known : (now : State) (n : ℕ) → is_marked (numbered (map is_undone now.transactions) n) ≡ false → (tables : List Table) (k : ℕ)
+    → map (known_of now) (changed (owned n) tables k) ≡ changed (λ (known : Known). record known { given = known.given + 1 }) (map (known_of now) tables) k
+owned-known now n done tables zero = refl
+owned-known now n done tables (suc k) = at tables k
   where
     at : (tables : List Table) (k : ℕ)
-        → map (known_of now) (changed_at (inserted_to n written) tables k) ≡ changed_at (λ (known : Known). record known { given = known.given + 1 }) (map (known_of now) tables) k
+        → map (known_of now) (changed_at (owned n) tables k) ≡ changed_at (λ (known : Known). record known { given = known.given + 1 }) (map (known_of now) tables) k
     at [] k = refl
-    at (t ∷ tables) zero = ap (λ y. y ∷ map (known_of now) tables) (inserted-known now n written done t)
+    at (t ∷ tables) zero = ap (λ y. y ∷ map (known_of now) tables) (written-known now n done t)
     at (t ∷ tables) (suc k) = ap (λ ys. known_of now t ∷ ys) (at tables k)
 
-pub known-inserted : (s now : State) (t : Transaction) (n number : ℕ) (written : Written) → IsSound s → now.transactions ≡ s.transactions ++ t ∷ []
-    → now.tables ≡ tables_inserted s.tables n number written → is_marked (numbered (map is_undone now.transactions) n) ≡ false
+unwritten-known : (now : State) (written : Written) (tables : List Table) (k : ℕ) → map (known_of now) (changed (written_to written) tables k) ≡ map (known_of now) tables
+unwritten-known now written tables zero = refl
+unwritten-known now written tables (suc k) = at tables k
+  where
+    at : (tables : List Table) (k : ℕ) → map (known_of now) (changed_at (written_to written) tables k) ≡ map (known_of now) tables
+    at [] k = refl
+    at (t ∷ tables) zero = refl
+    at (t ∷ tables) (suc k) = ap (λ ys. known_of now t ∷ ys) (at tables k)
+
+behind-known : (now : State) (writes : List (ℕ × Written)) (tables : List Table) → map (known_of now) (tables_behind writes tables) ≡ map (known_of now) tables
+behind-known now [] tables = refl
+behind-known now (first ∷ writes) tables =
+    behind-known now writes (changed (written_to first.1) tables first.0) ∙ unwritten-known now first.1 tables first.0
+
+pub known-changed : (s now : State) (t : Transaction) (n number : ℕ) (writes : List (ℕ × Written)) → IsSound s → now.transactions ≡ s.transactions ++ t ∷ []
+    → now.tables ≡ tables_behind writes (changed (owned n) s.tables number) → is_marked (numbered (map is_undone now.transactions) n) ≡ false
     → all_known now ≡ changed (λ (known : Known). record known { given = known.given + 1 }) (all_known s) number
-known-inserted s now t n number written sound are tables done =
-    ap (map (known_of now)) (tables ∙ tables_inserted-once s.tables n number written)
-    ∙ changed-known now n written done s.tables number
+known-changed s now t n number writes sound are tables done =
+    ap (map (known_of now)) tables
+    ∙ behind-known now writes (changed (owned n) s.tables number)
+    ∙ owned-known now n done s.tables number
     ∙ ap (λ ks. changed (λ (known : Known). record known { given = known.given + 1 }) ks number) (all-known-same s now t sound are)
 
 -- ---- the write ids that are lost

@@ -5,7 +5,7 @@ use Rattle.std.proofs.Common.{◌≡◌, ◌++◌, ℕ, zero, suc, Bool, true, f
 use Rattle.std.specs.Prelude.{is_some, nat_lt, position, nat_le, filter, drop}
 use Rattle.std.specs.List.{position_or_len, flat_map}
 use Rattle.std.specs.List.{AllByRecursion, list_all}
-use Rattle.std.specs.Option.{option_to_list}
+use Rattle.std.specs.Option.{option_map, option_to_list}
 use Rattle.std.specs.Cmp.Lexicographic.{pointwise}
 use Rattle.hv_base.specs.declared.refusal.Refusal.{Refusal}
 use Rattle.hv_base.specs.declared.refusal.Refusal.TheVariants as refusal
@@ -52,7 +52,7 @@ use Rattle.hv_analysis.specs.Creates.{created, created_beside, place_of, is_tabl
 use Rattle.hv_analysis.specs.Changes.{changing, change_of}
 use Rattle.hv_analysis.specs.Sources.{selected}
 use Rattle.hv_meaning.specs.Meaning.{its_tables, named_by, info_of, found_in, tables_of, is_matched, matched, frames_from, first_value, stored_values, stored_row, is_received, deleted, change_effect, or_none, changed_in, refused_for, meant, meaning_in, meaning_of}
-use Rattle.hv_meaning.specs.Laws.{MakesNew, TablesAreNew, AreOf, IsRowOf, AreOfRows, change_name, ChangesNamed, ChangesAreNamed, only_inserts, InsertsDeleteNothing}
+use Rattle.hv_meaning.specs.Laws.{MakesNew, TablesAreNew, AreOf, IsRowOf, AreOfRows, change_name, ChangesNamed, ChangesAreNamed, ChangesSeen, ChangesAreSeen, only_inserts, InsertsDeleteNothing}
 use Rattle.hv_meaning.proofs.Outcomes.{OnOk, on_ok, then-ok, IsChangeOf, inserts-are, changes-are, creates-are, makes}
 use Rattle.hv_meaning.proofs.Stored.{both, rows-taken}
 
@@ -315,6 +315,55 @@ named-all tree tables = form-is (Named tree tables) tt (λ why. tt) tree (map in
 
 pub changes-named : ChangesAreNamed
 changes-named tree tables info effect e = subst (Named tree tables) e (named-all tree tables)
+
+-- ---- changes, over whatever tables are seen
+
+abbrev SeenOf : List Seen → Option Meaning → Type 0
+SeenOf tables (Some (Change info effect)) = ChangesSeen tables info effect
+SeenOf tables _ = Unit {0}
+
+within-seen : (tables : List Seen) (fits : Bool) (info : TableInfo) (effect : Effect) → (fits ≡ true → ChangesSeen tables info effect)
+    → SeenOf tables (Some (cond fits (Change info effect) RowLimit))
+within-seen tables true info effect h = h refl
+within-seen tables false info effect h = tt
+
+get-mapped : {A B : Type 0} (f : A → B) (xs : List A) (n : ℕ) → slice_get (map f xs) n ≡ option_map f (slice_get xs n)
+get-mapped f [] n = refl
+get-mapped f (x ∷ xs) zero = refl
+get-mapped f (x ∷ xs) (suc n) = get-mapped f xs n
+
+effect-seen : (tables : List Seen) (place : ℕ) (all_rows : Tables) (change : TypedChange) (o : Option Seen) → slice_get tables place ≡ o
+    → SeenOf tables (changed_in (option_map info_of o) (option_map found_in o) all_rows change)
+effect-seen tables place all_rows change None at = tt
+effect-seen tables place all_rows change (Some seen) at =
+    let columns = columns_of seen.info.shape in
+    let effect = change_effect seen.info.shape change seen.rows all_rows in
+    let all = rows-of columns change.values (frames_from change.origin (matched change.deletes seen.rows) all_rows) in
+    within-seen tables (list_all row_fits effect.inserts) seen.info effect (λ fit. record {
+      place = place;
+      seen = seen;
+      here = at;
+      info_is = refl;
+      stand = deleted-stand (length seen.info.shape.columns) change.deletes effect.inserts seen.rows;
+      taken = λ few. rows-taken columns effect.inserts few all fit;
+    })
+
+any-seen : (tables : List Seen) (r : Result Logic Refusal) → SeenOf tables (meant (map info_of tables) (map found_in tables) r)
+any-seen tables (Ok (logic.Query query)) = tt
+any-seen tables (Ok (logic.Change change)) =
+    let all_rows = tables_of (map found_in tables) in
+    subst (λ (o : Option TableInfo). SeenOf tables (changed_in o (slice_get (map found_in tables) change.table) all_rows change))
+    (sym (get-mapped info_of tables change.table))
+    (subst (λ (o : Option (List Found)). SeenOf tables (changed_in (option_map info_of (slice_get tables change.table)) o all_rows change))
+    (sym (get-mapped found_in tables change.table))
+    (effect-seen tables change.table all_rows change (slice_get tables change.table) refl))
+any-seen tables (Ok (logic.Make shape)) = tt
+any-seen tables (Ok logic.Nothing) = tt
+any-seen tables (Err why) = refused-is (SeenOf tables) tt (λ other. tt) why
+
+pub changes-seen : ChangesAreSeen
+unfolding meaning_in
+changes-seen tree tables info effect e = subst (SeenOf tables) e (any-seen tables (analysed (map info_of tables) tree))
 
 -- ---- INSERT INTO deletes nothing
 

@@ -1,5 +1,5 @@
 -- What is proved of meanings.
-use Rattle.std.specs.Prelude.{◌≡◌, ℕ, ◌≤◌, ◌||◌, not, Bool, true, false, IsTrue, Option, Some, None, List, [], ◌∷◌, length, map, filter}
+use Rattle.std.specs.Prelude.{◌≡◌, ℕ, ◌≤◌, ◌||◌, not, Bool, true, false, IsTrue, Option, Some, None, List, [], ◌∷◌, length, map, filter, slice_get}
 use Rattle.std.specs.List.{AllByRecursion}
 use Rattle.hv_ast.specs.declared.change.Rows.{Rows}
 use Rattle.hv_ast.specs.declared.change.Rows.TheVariants as rows
@@ -103,6 +103,21 @@ abbrev pub InsertsDeleteNothing : Type 0
 InsertsDeleteNothing =
     (tree : Stmt) (tables : List Seen) (info : TableInfo) (effect : Effect) → only_inserts tree ≡ true
     → meaning_of tables tree ≡ Some (Change info effect) → effect.deletes ≡ []
+
+-- ---- over whatever tables are seen, a change is of one of them, and deletes rows that are seen of it
+
+pub record ChangesSeen (tables : List Seen) (info : TableInfo) (effect : Effect) : Type 0 where
+  pub place : ℕ
+  pub seen : Seen
+  pub here : slice_get tables place ≡ Some seen
+  pub info_is : info ≡ seen.info
+  pub stand : AreOfRows seen.rows effect.deletes
+  pub taken : length (columns_of info.shape) ≤ 65535 → AllByRecursion RowIsTaken effect.inserts
+
+abbrev pub ChangesAreSeen : Type 0
+ChangesAreSeen =
+    (tree : Stmt) (tables : List Seen) (info : TableInfo) (effect : Effect) → meaning_in tree tables ≡ Some (Change info effect)
+    → ChangesSeen tables info effect
 
 -- ---- a value of a type is one that a row file takes, and is counted by what it takes there
 

@@ -1,4 +1,4 @@
-ghost use Rattle.hv_meaning.specs.Laws.{FormsMean, OtherFormsMeanNothing, TablesAreNew, ChangesAreNamed, InsertsDeleteNothing, TypedValuesAreStored, RowsAreUnseen, RowsAreUnseenIn};
+ghost use Rattle.hv_meaning.specs.Laws.{FormsMean, OtherFormsMeanNothing, TablesAreNew, ChangesAreNamed, ChangesAreSeen, InsertsDeleteNothing, TypedValuesAreStored, RowsAreUnseen, RowsAreUnseenIn};
 
 /// The statements of the forms that are analysed mean something, whatever the tables.
 pub fn forms_mean()
@@ -15,6 +15,12 @@ pub fn made_tables_are_new()
 /// their order; each new row has a value of its type for each column, and a row file takes it.
 pub fn changes_are_named()
     ensures law { ChangesAreNamed }
+{}
+
+/// Over whatever tables are seen, a change is of one of them: it deletes rows that are seen of it, each once and
+/// in their order, and a row file takes each new row.
+pub fn changes_are_seen()
+    ensures law { ChangesAreSeen }
 {}
 
 /// INSERT INTO deletes nothing.

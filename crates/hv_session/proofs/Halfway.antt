@@ -1,5 +1,5 @@
 -- What was noted of a statement where the run stopped in it, and what the journal holds then.
-use Rattle.std.proofs.Common.{◌≡◌, ℕ, ◌+◌, ◌<◌, ◌≤◌, Option, Some, None, Result, Ok, Err, List, [], ◌∷◌, ◌++◌, length, refl, sym, ap, ◌∙◌, subst, append_assoc, ◌⊎◌, inl, inr}
+use Rattle.std.proofs.Common.{◌≡◌, ℕ, ◌+◌, ◌<◌, ◌≤◌, Option, Some, None, Result, Ok, Err, List, [], ◌∷◌, ◌++◌, length, refl, sym, ap, ◌∙◌, subst, append_assoc, arith, ◌⊎◌, inl, inr}
 use Rattle.std.specs.Prelude.{IfErr}
 use Rattle.std.proofs.lemmas.List.{append-nil}
 use Rattle.std.specs.Option.{option_map}
@@ -23,7 +23,7 @@ use Rattle.hv_stands.specs.Sound.{IsIdle}
 use Rattle.hv_stands.specs.Endings.{HasSpace, main_session, next_number, opening, statement_entries}
 use Rattle.hv_stands.specs.Laws.{meant}
 use Rattle.hv_stands.proofs.Endings.{running, behind_opened, behind_start, of-last, legal-last, legal-none, opens-legal, begins-legal}
-use Rattle.hv_stands.proofs.Inserts.{given-fits}
+use Rattle.hv_stands.proofs.Changes.{given-fits}
 use Rattle.hv_house.specs.declared.fault.HouseFault.{HouseFault}
 use Rattle.hv_house.specs.declared.fault.HouseFault.TheVariants as fault
 use Rattle.hv_house.specs.declared.house.House.{House}
@@ -167,6 +167,13 @@ number-fits tables n write known all named next =
     let number : Some (known.given + 1) ≡ Some write = sym (ap (option_map next_write) named) ∙ next in
     let is : known.given + 1 ≡ write = cc in
     subst (λ w. w < write_end) is fits
+
+pub number-counts : (tables : List Known) (n write : ℕ) (known : Known) → numbered tables n ≡ Some known
+    → option_map next_write (numbered tables n) ≡ Some write → 1 ≤ write
+number-counts tables n write known named next =
+    let number : Some (known.given + 1) ≡ Some write = sym (ap (option_map next_write) named) ∙ next in
+    let is : known.given + 1 ≡ write = cc in
+    omega (arith, is)
 
 -- ---- what was noted of it is legal
 

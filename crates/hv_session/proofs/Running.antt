@@ -1,6 +1,5 @@
 -- A statement from its Start to its end: what the house is then, and that the reply is its answer.
 use Rattle.std.proofs.Common.{◌≡◌, ℕ, ◌+◌, ◌<◌, ◌≤◌, Bool, true, false, is_none, Option, Some, None, List, [], ◌∷◌, ◌++◌, length, map, refl, sym, ap, ◌∙◌, subst, arith, append_assoc, ◌⊎◌, inl, inr}
-use Rattle.std.specs.FinMap as files
 use Rattle.std.specs.List.{AllByRecursion}
 use Rattle.std.specs.Option.{option_map}
 use Rattle.std.proofs.lemmas.List.{length-append}
@@ -14,7 +13,6 @@ use Rattle.hv_ast.specs.declared.statement.Stmt.{Stmt}
 use Rattle.hv_built.specs.Running.{Runs}
 use Rattle.hv_journal.specs.Appending.{KeepsTree}
 use Rattle.hv_value.specs.declared.row.Row.{Row}
-use Rattle.hv_rowfile.specs.Layout.{IsFile}
 use Rattle.hv_logic.specs.declared.catalog.Shape.{Shape}
 use Rattle.hv_logic.specs.declared.catalog.TableInfo.{TableInfo}
 use Rattle.hv_logic.specs.declared.effect.Effect.{Effect}
@@ -33,39 +31,38 @@ use Rattle.hv_history.specs.declared.entry.FilePlace.{FilePlace}
 use Rattle.hv_history.specs.declared.state.Ending.{Ending}
 use Rattle.hv_history.specs.declared.state.Ending.TheVariants.{Committed, Aborted, Made, Dropped}
 use Rattle.hv_history.specs.declared.state.Transaction.{Transaction}
-use Rattle.hv_history.specs.State.{nothing_yet, after, state_of, numbered, changed}
+use Rattle.hv_history.specs.State.{nothing_yet, after, state_of, numbered, changed, writes_of, meaning_in as meaning_in_state}
 use Rattle.hv_history.specs.Legal.{profile}
 use Rattle.hv_history.specs.Answers.{listing, counts_line, ok_line, cause_text}
 use Rattle.hv_dirs.specs.Names.{write_end}
-use Rattle.hv_stands.specs.Files.{Stands, own_place, file_of, records_of}
+use Rattle.hv_stands.specs.Files.{Stands, IsEncoded, with_files}
 use Rattle.hv_stands.specs.Sound.{HasEnded, IsSound, IsIdle}
 use Rattle.hv_stands.specs.Endings.{next_number, statement_entries, HasSpace, is_abort, Goes}
-use Rattle.hv_stands.specs.Laws.{meant, committing, IsCauseOf, IsQuiet, made_table, next_table, inserting, tables_inserted}
+use Rattle.hv_stands.specs.Laws.{meant, committing, IsCauseOf, IsQuiet, made_table, next_table, changing, changes_in, tables_changed}
 use Rattle.hv_stands.proofs.Written.{inserts-written}
 use Rattle.hv_stands.proofs.Queries.{queries-end, plains-end}
 use Rattle.hv_stands.proofs.Refusals.{refusals-end}
 use Rattle.hv_stands.proofs.Creates.{tables-made}
-use Rattle.hv_stands.proofs.Inserts.{nothing-inserted, rows-inserted}
-use Rattle.hv_stands.proofs.Tables.{changed-table}
+use Rattle.hv_stands.proofs.Changes.{nothing-changed, rows-changed}
 use Rattle.hv_stands.proofs.Numbers.{numbered-map, numbered-last}
 use Rattle.hv_stands.proofs.Keeping.{sound-all}
-use Rattle.hv_stands.proofs.Endings.{fold-append}
-use Rattle.hv_stands.proofs.Statements.{quiet-statements-stand, inserted-files-stand}
+use Rattle.hv_stands.proofs.Endings.{behind_opened, fold-append}
+use Rattle.hv_stands.proofs.Statements.{quiet-statements-stand, changed-files-stand}
 use Rattle.hv_house.specs.declared.house.House.{House}
 use Rattle.hv_known.specs.declared.known.Known.{Known}
 use Rattle.hv_known.specs.Known.{is_unfinished, is_undone, is_marked, known_of, all_known}
-use Rattle.hv_known.proofs.Staying.{known-quiet, known-made, known-inserted}
+use Rattle.hv_known.proofs.Staying.{known-quiet, known-made, known-changed}
 use Rattle.hv_house.specs.House.{entries_of, with_next, HasNumbers, book_limit, IsKept, Knows, IsReady, IsFaithful, IsNoted, IsAsked}
 use Rattle.hv_house.specs.Seeing.{IsSpoiled}
 use Rattle.hv_session.specs.Seeing.{IsSeen, IsNarrow}
 use Rattle.hv_session.specs.Started.{IsStarted}
-use Rattle.hv_session.specs.Ends.{IsDone, Commits, Refuses, PutsFile, Inserts, KnownOf, next_written, ChangesRows, next_id, Makes, EndsAs, CanEnd}
+use Rattle.hv_session.specs.Ends.{IsDone, Commits, Refuses, PutsCommit, Writes, KnownOf, next_written, ChangesRows, next_id, Makes, EndsAs, CanEnd}
 use Rattle.hv_session.specs.Halting.{IsEnding, next_txn}
 use Rattle.hv_session.specs.Answered.{WentThrough, AddsAtMost, HasRun}
 use Rattle.hv_session.proofs.Books.{entries-counted, space-left, legal-goes-on, length-map, numbers-known}
-use Rattle.hv_session.proofs.SeenTables.{meant-or-listing, means-some, meant-told, unspoiled}
-use Rattle.hv_stands.proofs.Meanings.{Lists}
-use Rattle.hv_session.proofs.Idle.{Leaves, idle-leaves}
+use Rattle.hv_session.proofs.SeenTables.{meant-or-rows, means-some, change-seen, meant-told, unspoiled}
+use Rattle.hv_stands.proofs.Meanings.{ComesOfRows}
+use Rattle.hv_session.proofs.Idle.{Leaves, idle-leaves, LeavesDone, tables_left, change-leaves, limit-leaves}
 use Rattle.hv_session.proofs.Stores.{became, untold, tells-none, tells-some, told-some, still-stands, keeps-keeps, keeps-puts, Any, any-of}
 
 leaves : (book added : List Entry) (number : ℕ) (text reply : List ℕ) (refused : Bool) (tables : List Table)
@@ -267,8 +264,8 @@ module _ {D : Type 0} (told : D → Option Store) (h0 h3 h4 h5 : House D) (numbe
         let stands = still-stands (state_of book) s.tree then.now.tree then.made faithful.stands in
         meant-told (told h3.shelf) h3.tables.items book tree given.ready.idle given.is.built known-then then.now then.tells stands (omega (arith, small)) seen sees
 
-    means : (seen : List Seen) → Sees seen → (meaning_in tree seen ≡ meant book tree) ⊎ Lists (meaning_in tree seen)
-    means seen sees = meant-or-listing (told h3.shelf) h3.tables.items book tree given.ready.idle given.is.built known-then seen sees
+    means : (seen : List Seen) → Sees seen → (meaning_in tree seen ≡ meant book tree) ⊎ ComesOfRows (meaning_in tree seen)
+    means seen sees = meant-or-rows (told h3.shelf) h3.tables.items book tree given.ready.idle given.is.built known-then seen sees
 
     -- whatever was seen, it means something
     pub comes-to : (seen : List Seen) → Sees seen → MeansSomething (meaning_in tree seen)
@@ -292,19 +289,29 @@ module _ {D : Type 0} (told : D → Option Store) (h0 h3 h4 h5 : House D) (numbe
         (subst (λ (r : List ℕ). Ran (committing book [] ∷ []) r false) (sym done.text_is) ran)
 
     -- it is aborted
-    refuses : (why : Cause) (text_now : List ℕ) (refused : Bool) → Refuses told h4 h5 txn why text_now refused → IsCauseOf (meant book tree) why
-        → ((s : Store) → told h0.shelf ≡ Some s → IsFaithful book s → IsEnding (next_txn book) (entry.Abort (next_txn book) why ∷ []))
+    refuses : (why : Cause) (text_now : List ℕ) (refused : Bool) → Refuses told h4 h5 txn why text_now refused
+        → Leaves book (statement_entries book number text (entry.Abort (record { 0 = next_number book }) why ∷ [])) (state_of book).tables
+        → ((s : Store) → told h0.shelf ≡ Some s → IsFaithful book s → IsCauseOf (meant book tree) why × IsEnding (next_txn book) (entry.Abort (next_txn book) why ∷ []))
         → Ran (entry.Abort (record { 0 = next_number book }) why ∷ []) text_now refused
-    refuses why text_now refused refuse true_cause ending =
+    refuses why text_now refused refuse left truly =
         let event = entry.Abort (record { 0 = next_number book }) why in
         let noted : IsNoted told event h4 h5 = subst (λ (t : TxnId). IsNoted told (entry.Abort t why) h4 h5) txn-is refuse.noted.noted in
-        let goes = refusals-end book number text tree why given.ready.idle space given.is true_cause in
-        let left = leaves book (statement_entries book number text (event ∷ [])) number text (cause_text None why) true (state_of book).tables goes in
         let ran : Ran (event ∷ []) (cause_text None why) true =
-        noted-ran event (cause_text None why) true (state_of book).tables noted refuse.noted.opened (known-before (event ∷ []) left refuse.noted.tables) left ending
-        (λ s e faithful. quiet event (cause_text None why) true (state_of book).tables s faithful (inr (inl (why, refl))) goes) in
+        noted-ran event (cause_text None why) true (state_of book).tables noted refuse.noted.opened (known-before (event ∷ []) left refuse.noted.tables) left
+        (λ s e faithful. let both = truly s e faithful in both.1)
+        (λ s e faithful.
+        let both = truly s e faithful in
+        quiet event (cause_text None why) true (state_of book).tables s faithful (inr (inl (why, refl)))
+        (refusals-end book number text tree why given.ready.idle space given.is both.0)) in
         subst (λ (b : Bool). Ran (event ∷ []) text_now b) (sym refuse.refusal)
         (subst (λ (r : List ℕ). Ran (event ∷ []) r true) (sym refuse.text_is) ran)
+
+    -- by what it means, whatever was seen
+    refusal-leaves : (why : Cause) → IsCauseOf (meant book tree) why
+        → Leaves book (statement_entries book number text (entry.Abort (record { 0 = next_number book }) why ∷ [])) (state_of book).tables
+    refusal-leaves why true_cause =
+        leaves book (statement_entries book number text (entry.Abort (record { 0 = next_number book }) why ∷ [])) number text (cause_text None why) true (state_of book).tables
+        (refusals-end book number text tree why given.ready.idle space given.is true_cause)
 
     -- it makes a table
     next-id-is : next_id h4 ≡ record { 0 = next_table book }
@@ -333,7 +340,7 @@ module _ {D : Type 0} (told : D → Option Store) (h0 h3 h4 h5 : House D) (numbe
         subst (λ (b : Bool). Ran (event ∷ []) text_now b) (sym done.accepted)
         (subst (λ (r : List ℕ). Ran (event ∷ []) r false) (sym done.text_is) ran)
 
-    -- it inserts rows
+    -- it changes rows
     known-of : (info : TableInfo) (known : Known) (table : Table) → KnownOf h4 info known → numbered (state_of book).tables info.table.0 ≡ Some table
         → known ≡ known_of (state_of book) table
     known-of info known table found at =
@@ -342,8 +349,7 @@ module _ {D : Type 0} (told : D → Option Store) (h0 h3 h4 h5 : House D) (numbe
         ∙ numbered-map (known_of (state_of book)) (state_of book).tables info.table.0 ∙ ap (option_map (known_of (state_of book))) at in
         cc
 
-    module _ (info : TableInfo) (effect : Effect) (table : Table) (is : meant book tree ≡ Some (Change info effect))
-        (at : numbered (state_of book).tables info.table.0 ≡ Some table) where
+    module _ (info : TableInfo) (effect : Effect) (table : Table) (at : numbered (state_of book).tables info.table.0 ≡ Some table) where
       write : ℕ
       write = length table.owners + 1
 
@@ -351,83 +357,92 @@ module _ {D : Type 0} (told : D → Option Store) (h0 h3 h4 h5 : House D) (numbe
       written = next_written (known_of (state_of book) table) effect
 
       wrote : List Touch
-      wrote = inserting info effect ∷ []
+      wrote = changing info effect ∷ []
 
-      insert_ends : List Entry
-      insert_ends = entry.Given (record { 0 = next_number book }) info.table (record { 0 = length table.owners + 1 }) ∷ committing book (inserting info effect ∷ []) ∷ []
+      change_ends : List Entry
+      change_ends = entry.Given (record { 0 = next_number book }) info.table (record { 0 = length table.owners + 1 }) ∷ committing book (changing info effect ∷ []) ∷ []
 
       tables_then : List Table
-      tables_then = tables_inserted (state_of book).tables (next_number book) info.table.0 (next_written (known_of (state_of book) table) effect)
+      tables_then = tables_changed (state_of book).tables (next_number book) info.table.0 (next_written (known_of (state_of book) table) effect)
 
-      insert-stands : (s now : Store) → IsFaithful book s → IsFile false 0 (records_of (next_written (known_of (state_of book) table) effect).inserts)
-          → now.tree ≡ files.insert s.tree (own_place info.table.0 (length table.owners + 1)) (file_of (next_written (known_of (state_of book) table) effect))
-          → Goes book (statement_entries book number text insert_ends) number text (counts_line (inserting info effect ∷ [])) false tables_then
-          → Stands (state_of (book ++ statement_entries book number text insert_ends)) now.tree
-      unfolding insert_ends tables_then
-      insert-stands s now faithful file put goes =
-          subst (Stands (state_of (book ++ statement_entries book number text insert_ends))) (sym put)
-          (inserted-files-stand book number text tree info effect table s.tree given.ready.idle small given.is is at goes.legal file faithful.stands)
+      change-stands : (s now : Store) → meant book tree ≡ Some (Change info effect) → IsFaithful book s → IsEncoded (next_written (known_of (state_of book) table) effect)
+          → now.tree ≡ with_files s.tree info.table.0 (next_written (known_of (state_of book) table) effect)
+          → Goes book (statement_entries book number text change_ends) number text (counts_line (changing info effect ∷ [])) false tables_then
+          → Stands (state_of (book ++ statement_entries book number text change_ends)) now.tree
+      unfolding change_ends tables_then
+      change-stands s now is faithful file put goes =
+          subst (Stands (state_of (book ++ statement_entries book number text change_ends))) (sym put)
+          (changed-files-stand book number text tree info effect table s.tree given.ready.idle small given.is is at goes.legal file faithful.stands)
 
-      inserted : 0 < length effect.inserts → Inserts told h4 h5 txn info (next_written (known_of (state_of book) table) effect) (inserting info effect ∷ [])
-          → Ran insert_ends (counts_line (inserting info effect ∷ [])) false
-      unfolding insert_ends tables_then
-      inserted some ins =
-          let goes = rows-inserted book number text tree info effect table given.ready.idle space given.is is some at in
-          let noted : entries_of h5 ≡ entries_of h4 ++ insert_ends =
-          ins.entries
-          ∙ ap (λ (t : TxnId). entries_of h4 ++ entry.Given t info.table (record { 0 = length table.owners + 1 }) ∷ entry.Commit t (inserting info effect ∷ []) ∷ []) txn-is in
-          let left = leaves book (statement_entries book number text insert_ends) number text (counts_line (inserting info effect ∷ [])) false tables_then goes in
-          let known : h5.tables.items ≡ all_known (state_of (book ++ statement_entries book number text insert_ends)) =
-          ins.tables ∙ ap (λ (ks : List Known). changed with_next ks info.table.0) tables-known
-          ∙ sym (known-inserted (state_of book) (state_of (book ++ statement_entries book number text insert_ends)) goes.last (next_number book) info.table.0
-          (next_written (known_of (state_of book) table) effect) given.ready.idle.sound goes.transactions goes.tables_are
-          (done-marked (state_of book).transactions goes.last (state_of (book ++ statement_entries book number text insert_ends)).transactions goes.transactions goes.last_ended goes.last_refused)) in
-          let place = own_place info.table.0 (length table.owners + 1) in
-          let bytes = file_of (next_written (known_of (state_of book) table) effect) in
-          let through : Moves (PutsFile place bytes) (told h0.shelf) (told h5.shelf) =
-          keeps-puts place bytes (told h0.shelf) (told h4.shelf) (told h5.shelf)
-          (subst (λ (o : Option Store). Moves KeepsTree (told h0.shelf) o) (sym given.asked.store) given.started.tree) ins.put in
+      changed-rows : ((s : Store) → told h0.shelf ≡ Some s → IsFaithful book s → meant book tree ≡ Some (Change info effect)) → 0 < changes_in effect
+          → Writes told h4 h5 txn info (next_written (known_of (state_of book) table) effect) (changing info effect ∷ [])
+          → Ran change_ends (counts_line (changing info effect ∷ [])) false
+      unfolding change_ends tables_then
+      changed-rows means_this some wrote_it =
+          let done = change-leaves book number text tree info effect table given.ready.idle space given.is some at in
+          let left = done.leaves in
+          let now_tables = tables_left book number text info (length table.owners + 1) in
+          let noted : entries_of h5 ≡ entries_of h4 ++ change_ends =
+          wrote_it.entries
+          ∙ ap (λ (t : TxnId). entries_of h4 ++ entry.Given t info.table (record { 0 = length table.owners + 1 }) ∷ entry.Commit t (changing info effect ∷ []) ∷ []) txn-is in
+          let known : h5.tables.items ≡ all_known (state_of (book ++ statement_entries book number text change_ends)) =
+          wrote_it.tables ∙ ap (λ (ks : List Known). changed with_next ks info.table.0) tables-known
+          ∙ sym (known-changed (state_of book) (state_of (book ++ statement_entries book number text change_ends)) left.last (next_number book) info.table.0
+          (writes_of (meaning_in_state (behind_opened (state_of book) number text) text) 0 ((info.table.0, length table.owners + 1) ∷ []))
+          given.ready.idle.sound left.transactions left.tables_are
+          (done-marked (state_of book).transactions left.last (state_of (book ++ statement_entries book number text change_ends)).transactions left.transactions done.last_ended done.last_kept)) in
+          let written_now = next_written (known_of (state_of book) table) effect in
+          let through : Moves (PutsCommit info.table.0 written_now) (told h0.shelf) (told h5.shelf) =
+          keeps-puts info.table.0 written_now (told h0.shelf) (told h4.shelf) (told h5.shelf)
+          (subst (λ (o : Option Store). Moves KeepsTree (told h0.shelf) o) (sym given.asked.store) given.started.tree) wrote_it.put in
           record {
-            ready = ready-behind insert_ends tables_then ins.kept noted left ins.opened known;
+            ready = ready-behind change_ends now_tables wrote_it.kept noted left wrote_it.opened known;
             noted = noted;
             short = omega arith;
-            through = any-of (PutsFile place bytes) (told h0.shelf) (told h5.shelf) through;
+            through = any-of (PutsCommit info.table.0 written_now) (told h0.shelf) (told h5.shelf) through;
             shows = λ s e faithful.
-                let now = became (PutsFile place bytes) (told h0.shelf) (told h5.shelf) s through e in
-                shown insert_ends (counts_line (inserting info effect ∷ [])) false tables_then s now.now now.tells noted faithful
-                (inr (inl (info.table, record { 0 = length table.owners + 1 }, inserting info effect ∷ [], refl))) goes
-                (insert-stands s now.now faithful ins.file now.made goes);
+                let is = means_this s e faithful in
+                let goes = rows-changed book number text tree info effect table given.ready.idle space given.is is some at in
+                let now = became (PutsCommit info.table.0 written_now) (told h0.shelf) (told h5.shelf) s through e in
+                shown change_ends (counts_line (changing info effect ∷ [])) false tables_then s now.now now.tells noted faithful
+                (inr (inl (info.table, record { 0 = length table.owners + 1 }, changing info effect ∷ [], refl))) goes
+                (change-stands s now.now is faithful wrote_it.file now.made goes);
           }
 
-    changes : (info : TableInfo) (effect : Effect) (text_now : List ℕ) (refused : Bool) → meant book tree ≡ Some (Change info effect) → 0 < length effect.inserts
-        → ChangesRows told h4 h5 txn info effect text_now refused → HasRun told h0 h5 number text text_now refused
-    changes info effect text_now refused is some change =
-        let there = changed-table book tree info effect given.ready.idle is in
-        let known = known-of info change.0 there.0 change.1 there.1 in
-        let ins = subst (λ (k : Known). Inserts told h4 h5 txn info (next_written k effect) (inserting info effect ∷ [])) known change.2 in
-        let ran = has-run (insert_ends info effect there.0 is there.1) (counts_line (inserting info effect ∷ [])) false (inserted info effect there.0 is there.1 some ins) in
+    changes : (seen : List Seen) → Sees seen → (info : TableInfo) (effect : Effect) (text_now : List ℕ) (refused : Bool) → Some (Change info effect) ≡ meaning_in tree seen
+        → 0 < changes_in effect → ChangesRows told h4 h5 txn info effect text_now refused → HasRun told h0 h5 number text text_now refused
+    changes seen sees info effect text_now refused is some change =
+        let there = change-seen (told h3.shelf) h3.tables.items book tree given.ready.idle given.is.built known-then seen info effect sees (sym is) in
+        let known = known-of info change.0 there.table change.1 there.here in
+        let wrote_it = subst (λ (k : Known). Writes told h4 h5 txn info (next_written k effect) (changing info effect ∷ [])) known change.2 in
+        let ran = has-run (change_ends info effect there.table there.here) (counts_line (changing info effect ∷ [])) false
+        (changed-rows info effect there.table there.here (λ s e faithful. sym (means-told seen sees s e faithful) ∙ sym is) some wrote_it) in
         subst (λ (b : Bool). HasRun told h0 h5 number text text_now b) (sym change.3.accepted)
         (subst (λ (r : List ℕ). HasRun told h0 h5 number text r false) (sym change.3.text_is) ran)
 
     -- ---- by its meaning
 
-    abbrev NoListing : Option Meaning → Type 0
-    NoListing (Some (Listing names rows)) = ⊥
-    NoListing _ = Unit {0}
+    abbrev NoRows : Option Meaning → Type 0
+    NoRows (Some (Listing names rows)) = ⊥
+    NoRows (Some (Change info effect)) = ⊥
+    NoRows (Some RowLimit) = ⊥
+    NoRows _ = Unit {0}
 
-    meant-of : (seen : List Seen) → Sees seen → (m : Meaning) → Some m ≡ meaning_in tree seen → NoListing (Some m) → meant book tree ≡ Some m
-    meant-of seen sees m is unlisted = by (means seen sees)
+    not-both : (o : Option Meaning) → ComesOfRows o → NoRows o → ⊥
+    not-both None h n = h
+    not-both (Some (Refused why)) h n = h
+    not-both (Some (Listing names rows)) h n = n
+    not-both (Some (Change info effect)) h n = n
+    not-both (Some (Make shape)) h n = h
+    not-both (Some Plain) h n = h
+    not-both (Some RowLimit) h n = n
+
+    meant-of : (seen : List Seen) → Sees seen → (m : Meaning) → Some m ≡ meaning_in tree seen → NoRows (Some m) → meant book tree ≡ Some m
+    meant-of seen sees m is unlooked = by (means seen sees)
       where
-        by : (meaning_in tree seen ≡ meant book tree) ⊎ Lists (meaning_in tree seen) → meant book tree ≡ Some m
+        by : (meaning_in tree seen ≡ meant book tree) ⊎ ComesOfRows (meaning_in tree seen) → meant book tree ≡ Some m
         by (inl e) = sym e ∙ sym is
-        by (inr l) = absurd (subst NoListing (is ∙ l.2) unlisted)
-
-    no-rows : (effect : Effect) → length effect.inserts ≡ 0 → effect.inserts ≡ []
-    no-rows effect e = by effect.inserts e
-      where
-        by : (rows : List Row) → length rows ≡ 0 → rows ≡ []
-        by [] e = refl
-        by (row ∷ rows) e = absurd (omega (arith, e))
+        by (inr l) = absurd (not-both (meaning_in tree seen) l (subst NoRows is unlooked))
 
     idle-run : (reply text_now : List ℕ) (refused : Bool) → Commits told h4 h5 txn [] → IsDone reply text_now refused
         → ((s : Store) → told h0.shelf ≡ Some s → IsFaithful book s
@@ -435,11 +450,12 @@ module _ {D : Type 0} (told : D → Option Store) (h0 h3 h4 h5 : House D) (numbe
         → HasRun told h0 h5 number text text_now refused
     idle-run reply text_now refused commits done goes = has-run (committing book [] ∷ []) text_now refused (idle reply text_now refused commits done goes)
 
-    refuse-run : (why : Cause) (text_now : List ℕ) (refused : Bool) → Refuses told h4 h5 txn why text_now refused → IsCauseOf (meant book tree) why
-        → ((s : Store) → told h0.shelf ≡ Some s → IsFaithful book s → IsEnding (next_txn book) (entry.Abort (next_txn book) why ∷ []))
+    refuse-run : (why : Cause) (text_now : List ℕ) (refused : Bool) → Refuses told h4 h5 txn why text_now refused
+        → Leaves book (statement_entries book number text (entry.Abort (record { 0 = next_number book }) why ∷ [])) (state_of book).tables
+        → ((s : Store) → told h0.shelf ≡ Some s → IsFaithful book s → IsCauseOf (meant book tree) why × IsEnding (next_txn book) (entry.Abort (next_txn book) why ∷ []))
         → HasRun told h0 h5 number text text_now refused
-    refuse-run why text_now refused refuse true_cause ending =
-        has-run (entry.Abort (record { 0 = next_number book }) why ∷ []) text_now refused (refuses why text_now refused refuse true_cause ending)
+    refuse-run why text_now refused refuse left truly =
+        has-run (entry.Abort (record { 0 = next_number book }) why ∷ []) text_now refused (refuses why text_now refused refuse left truly)
 
     pub ended : (seen : List Seen) → Sees seen → (m : Meaning) → Some m ≡ meaning_in tree seen → (text_now : List ℕ) (refused : Bool)
         → EndsAs told h4 h5 txn m text_now refused → HasRun told h0 h5 number text text_now refused
@@ -448,18 +464,19 @@ module _ {D : Type 0} (told : D → Option Store) (h0 h3 h4 h5 : House D) (numbe
         (λ s e faithful. queries-end book number text tree names rows given.ready.idle space given.is (sym (means-told seen sees s e faithful) ∙ sym is))
     ended seen sees (Change info effect) is text_now refused (inl none) =
         idle-run (counts_line []) text_now refused none.1 none.2
-        (λ s e faithful. nothing-inserted book number text tree info effect given.ready.idle space given.is (meant-of seen sees (Change info effect) is tt) (no-rows effect none.0))
-    ended seen sees (Change info effect) is text_now refused (inr some) =
-        changes info effect text_now refused (meant-of seen sees (Change info effect) is tt) some.0 some.1
+        (λ s e faithful. nothing-changed book number text tree info effect given.ready.idle space given.is (sym (means-told seen sees s e faithful) ∙ sym is) none.0)
+    ended seen sees (Change info effect) is text_now refused (inr some) = changes seen sees info effect text_now refused is some.0 some.1
     ended seen sees (Make shape) is text_now refused ends =
         has-run (entry.Create (record { 0 = next_number book }) (record { 0 = next_table book }) ∷ []) text_now refused
         (makes shape text_now refused ends.0 ends.1 (meant-of seen sees (Make shape) is tt))
     ended seen sees (Refused why) is text_now refused ends =
-        refuse-run (cause.Refused (refusals.number why)) text_now refused ends
-        (subst (λ (o : Option Meaning). IsCauseOf o (cause.Refused (refusals.number why))) (sym (meant-of seen sees (Refused why) is tt)) refl)
-        (λ s e faithful. inr (inr (inr (inl (refusals.number why, refl)))))
+        let cause_is : IsCauseOf (meant book tree) (cause.Refused (refusals.number why)) =
+        subst (λ (o : Option Meaning). IsCauseOf o (cause.Refused (refusals.number why))) (sym (meant-of seen sees (Refused why) is tt)) refl in
+        refuse-run (cause.Refused (refusals.number why)) text_now refused ends (refusal-leaves (cause.Refused (refusals.number why)) cause_is)
+        (λ s e faithful. (cause_is, inr (inr (inr (inl (refusals.number why, refl))))))
     ended seen sees RowLimit is text_now refused ends =
-        refuse-run cause.RowLimit text_now refused ends (meant-of seen sees RowLimit is tt) (λ s e faithful. inr (inr (inr (inr refl))))
+        refuse-run cause.RowLimit text_now refused ends (limit-leaves book number text tree given.ready.idle space given.is)
+        (λ s e faithful. (sym (means-told seen sees s e faithful) ∙ sym is, inr (inr (inr (inr refl)))))
     ended seen sees Plain is text_now refused ends =
         idle-run ok_line text_now refused ends.0 ends.1
         (λ s e faithful. plains-end book number text tree given.ready.idle space given.is (meant-of seen sees Plain is tt))
@@ -474,18 +491,16 @@ module _ {D : Type 0} (told : D → Option Store) (h0 h3 h4 h5 : House D) (numbe
     pub damaged : IsSpoiled (told h3.shelf) h3.tables.items → (place : FilePlace) (text_now : List ℕ) (refused : Bool) → Refuses told h4 h5 txn (cause.Damaged place) text_now refused
         → HasRun told h0 h5 number text text_now refused
     damaged spoiled place text_now refused refuse =
-        refuse-run (cause.Damaged place) text_now refused refuse tt (λ s e faithful. absurd (no-damage spoiled s e faithful))
+        refuse-run (cause.Damaged place) text_now refused refuse (refusal-leaves (cause.Damaged place) tt) (λ s e faithful. absurd (no-damage spoiled s e faithful))
 
     -- what a change rests on is there
     pub can-end : (seen : List Seen) → Sees seen → (m : Meaning) → Some m ≡ meaning_in tree seen → IsNarrow m → CanEnd h4 m
     can-end seen sees (Change info effect) is few =
-        let means_this = meant-of seen sees (Change info effect) is tt in
-        let there = changed-table book tree info effect given.ready.idle means_this in
-        let found : KnownOf h4 info (known_of (state_of book) there.0) =
+        let there = change-seen (told h3.shelf) h3.tables.items book tree given.ready.idle given.is.built known-then seen info effect sees (sym is) in
+        let found : KnownOf h4 info (known_of (state_of book) there.table) =
         ap (λ (ks : List Known). numbered ks info.table.0) tables-known
-        ∙ numbered-map (known_of (state_of book)) (state_of book).tables info.table.0 ∙ ap (option_map (known_of (state_of book))) there.1 in
-        let can = inserts-written book tree info effect (length there.0.owners + 1) given.ready.idle given.is.built means_this (omega arith) few in
-        (known_of (state_of book) there.0, found, can.0)
+        ∙ numbered-map (known_of (state_of book)) (state_of book).tables info.table.0 ∙ ap (option_map (known_of (state_of book))) there.here in
+        (known_of (state_of book) there.table, found, inserts-written (length there.table.owners + 1) effect (omega arith) (there.taken few))
     can-end seen sees (Listing names rows) is few = tt
     can-end seen sees (Make shape) is few = tt
     can-end seen sees (Refused why) is few = tt

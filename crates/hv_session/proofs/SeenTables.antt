@@ -14,7 +14,11 @@ use Rattle.hv_shelf.specs.Disk.{Store, Tree}
 use Rattle.hv_shelf.specs.declared.place.Place.{Place}
 use Rattle.hv_ast.specs.declared.statement.Stmt.{Stmt}
 use Rattle.hv_built.specs.Built.{IsBuilt}
+use Rattle.hv_logic.specs.declared.catalog.TableInfo.{TableInfo}
+use Rattle.hv_logic.specs.declared.effect.Effect.{Effect}
 use Rattle.hv_logic.specs.declared.effect.Found.{Found}
+use Rattle.hv_logic.specs.declared.meaning.Meaning.{Meaning}
+use Rattle.hv_logic.specs.declared.meaning.Meaning.TheVariants.{Change}
 use Rattle.hv_logic.specs.declared.seen.Seen.{Seen}
 use Rattle.hv_logic.specs.Names.{names_in}
 use Rattle.hv_meaning.specs.Meaning.{info_of, meaning_in}
@@ -26,25 +30,26 @@ use Rattle.hv_history.specs.declared.state.Ending.{Ending}
 use Rattle.hv_history.specs.declared.state.Ending.TheVariants.{Committed, Aborted, Made, Dropped}
 use Rattle.hv_history.specs.declared.state.Transaction.{Transaction}
 use Rattle.hv_history.specs.State.{State, state_of, numbered, content_of, seen_tables}
-use Rattle.hv_dirs.specs.Names.{own_name, write_end}
-use Rattle.hv_dirs.proofs.OwnNames.{own_name-same}
-use Rattle.hv_stands.specs.Files.{Stands, own_place, file_in, made_at, ending_of, IsUndone}
+use Rattle.hv_dirs.specs.Names.{write_end}
+use Rattle.hv_stands.specs.Files.{Stands, records_of, HasRecords, own_dir, own_place, file_in, made_at, ending_of, IsUndone}
 use Rattle.hv_stands.specs.Sound.{IsSound, IsIdle, HasFewOwners, HasSoundWrites, HasOther, IsDone, IsOfCommitted, AreOfCommitted}
-use Rattle.hv_stands.specs.Reading.{written_with, is_among, IsRead, table_of_name, named_in, rows_read, seen_of, seen_read}
+use Rattle.hv_stands.specs.Reading.{written_with, records_in, is_among, IsRead, table_of_name, named_in, rows_seen, seen_of, seen_read}
 use Rattle.hv_stands.specs.Laws.{meant}
-use Rattle.hv_stands.proofs.Meanings.{Lists, same-or-lists, built-means}
+use Rattle.hv_stands.proofs.Meanings.{ComesOfRows, same-or-rows, built-means}
 use Rattle.hv_stands.proofs.ReadRows.{read-content}
-use Rattle.hv_stands.proofs.SeenTables.{reading-enough}
+use Rattle.hv_stands.proofs.SeenTables.{reading-enough, read-infos, CanChangeTable, change-of-seen}
 use Rattle.hv_stands.proofs.Numbers.{one_value, numbered-map, numbered-within}
 use Rattle.hv_stands.proofs.Tables.{named-numbered}
 use Rattle.hv_stands.proofs.Soundness.{all-numbered, all-mapped}
-use Rattle.hv_stands.proofs.StandingFiles.{commits-have-files, made-of-table, made-file, file-write}
+use Rattle.hv_stands.proofs.StandingFiles.{commits-have-files, made-of-table, made-file}
+use Rattle.hv_stands.proofs.MadeFiles.{own_dir-same, file-write}
 use Rattle.hv_known.specs.Known.{is_unfinished, is_undone, is_marked, lost_from, lost_ids, known_of, all_known}
 use Rattle.hv_known.specs.declared.known.Known.{Known}
 use Rattle.hv_known.proofs.Staying.{undone-lost, lost-owner}
 use Rattle.hv_house.specs.declared.house.House.{House}
 use Rattle.hv_house.specs.House.{known_of_name, IsAsked}
-use Rattle.hv_house.specs.Rows.{HasCommits, LacksCommits, IsCommitFile}
+use Rattle.hv_house.specs.Rows.{HasAllCommits, LacksCommits}
+use Rattle.hv_house.proofs.FileRows.{nothing-file}
 use Rattle.hv_house.specs.Seeing.{AreRead, SeesRows, IsSeenOf, IsSpoiled}
 use Rattle.hv_session.specs.Seeing.{AddsSeen, AreSeen, IsSeen, SeesUpTo}
 
@@ -175,13 +180,13 @@ committed-kept ts owners written is =
     }
 
 -- where no write has the write id, and it isn't lost, no file stands
-nothing-there : (st : State) (tree : Tree) (table : Table) (write : ℕ) → IsSound st → st.entries < write_end → Stands st tree
+nothing-there : (st : State) (tree : Tree) (table : Table) (deletes : Bool) (write : ℕ) → IsSound st → st.entries < write_end → Stands st tree
     → numbered st.tables table.info.table.0 ≡ Some table → write ≤ st.entries → written_with write table.writes ≡ None → is_among (lost_ids st table) write ≡ false
-    → files.get tree (own_place table.info.table.0 write) ≡ None
-nothing-there st tree table write sound small stands at low none kept = by (files.get tree place) refl
+    → files.get tree (own_place deletes table.info.table.0 write) ≡ None
+nothing-there st tree table deletes write sound small stands at low none kept = by (files.get tree place) refl
   where
     place : Place
-    place = own_place table.info.table.0 write
+    place = own_place deletes table.info.table.0 write
 
     few_ids : (other n : ℕ) → numbered table.owners other ≡ Some n → other < write_end
     few_ids other n owner =
@@ -189,8 +194,8 @@ nothing-there st tree table write sound small stands at low none kept = by (file
         let few = all-numbered (HasFewOwners st.entries) st.tables table.info.table.0 table at sound.tables.few in
         omega (arith, within.1, few, small)
 
-    same_id : (other statement : ℕ) → other < write_end → own_name other statement ≡ own_name write 0 → other ≡ write
-    same_id other statement few is = own_name-same other write statement 0 few (omega (arith, low, small)) is
+    same_id : (kind : Bool) (other statement : ℕ) → other < write_end → own_dir kind other statement ≡ own_dir deletes write 0 → other ≡ write
+    same_id kind other statement few is = let same = own_dir-same kind deletes other statement write 0 few (omega (arith, low, small)) is in same.1
 
     by : (o : Option (List ℕ)) → files.get tree place ≡ o → files.get tree place ≡ None
     by None is = is
@@ -201,7 +206,7 @@ nothing-there st tree table write sound small stands at low none kept = by (file
             let loose = stands.other place bytes is unmade in
             let same : loose.own.table ≡ table = one_value loose.own.table table (sym loose.own.is ∙ at) in
             let owner : numbered table.owners loose.own.write ≡ Some loose.txn = subst (λ (t : Table). numbered t.owners loose.own.write ≡ Some loose.txn) same loose.own.owner in
-            let number : loose.own.write ≡ write = same_id loose.own.write loose.own.statement (few_ids loose.own.write loose.txn owner) (sym loose.own.dir) in
+            let number : loose.own.write ≡ write = same_id loose.own.deletes loose.own.write loose.own.statement (few_ids loose.own.write loose.txn owner) (sym loose.own.dir) in
             let lost : is_among (lost_ids st table) write ≡ true =
             undone-lost (map is_undone st.transactions) table.owners write loose.txn (ap (numbered table.owners) (sym number) ∙ owner) (undone-marked st.transactions loose.txn loose.undone) in
             absurd (true≢false (sym lost ∙ kept))
@@ -212,7 +217,7 @@ nothing-there st tree table write sound small stands at low none kept = by (file
             (all-numbered (AreOfCommitted (map ending_of st.transactions)) st.tables table.info.table.0 table at sound.committed) in
             let write_of = file-write (λ (w : Written). HasOther write w × IsOfCommitted (map ending_of st.transactions) table.owners w) table.writes place.dir made
             (subst (λ (t : Table). file_in t.writes place.dir ≡ Some made) same (made-file here.0 place made here.2)) each in
-            absurd (write_of.2.0 (same_id write_of.0.write 0 (few_ids write_of.0.write write_of.2.1.0 write_of.2.1.1) write_of.1))
+            absurd (write_of.2.0 (same_id write_of.1.deletes write_of.0.write 0 (few_ids write_of.0.write write_of.2.1.0 write_of.2.1.1) (sym write_of.1.dir_is)))
           where
             all-both : (writes : List Written) → AllByRecursion (HasOther write) writes → AllByRecursion (IsOfCommitted (map ending_of st.transactions) table.owners) writes
                 → AllByRecursion (λ (w : Written). HasOther write w × IsOfCommitted (map ending_of st.transactions) table.owners w) writes
@@ -252,22 +257,33 @@ module _ (told : Option Store) (known : List Known) (book : List Entry) (tree : 
   known-seen : (seen : List Seen) → IsSeen told known tree seen → AreSeen told (map (known_of (state_of book)) tables) (reads_rows tree) (names_in tree) seen
   known-seen seen is = subst (λ (ks : List Known). AreSeen told ks (reads_rows tree) (names_in tree) seen) knows is
 
-  -- whatever rows were seen, it means the same, or lists some rows
-  pub meant-or-listing : (seen : List Seen) → IsSeen told known tree seen → (meaning_in tree seen ≡ meant book tree) ⊎ Lists (meaning_in tree seen)
-  meant-or-listing seen is =
-      by (same-or-lists tree seen (seen_read tree tables) built (infos-seen (state_of book) tree told tables (names_in tree) seen (known-seen seen is)))
+  -- whatever rows were seen, it means the same, or what may come of rows
+  pub meant-or-rows : (seen : List Seen) → IsSeen told known tree seen → (meaning_in tree seen ≡ meant book tree) ⊎ ComesOfRows (meaning_in tree seen)
+  meant-or-rows seen is =
+      by (same-or-rows tree seen (seen_read tree tables) (infos-seen (state_of book) tree told tables (names_in tree) seen (known-seen seen is)))
     where
-      by : (meaning_in tree seen ≡ meaning_in tree (seen_read tree tables)) ⊎ Lists (meaning_in tree seen)
-          → (meaning_in tree seen ≡ meant book tree) ⊎ Lists (meaning_in tree seen)
+      by : (meaning_in tree seen ≡ meaning_in tree (seen_read tree tables)) ⊎ ComesOfRows (meaning_in tree seen)
+          → (meaning_in tree seen ≡ meant book tree) ⊎ ComesOfRows (meaning_in tree seen)
       by (inl e) = inl (e ∙ reading-enough book tree at_rest)
       by (inr l) = inr l
 
   pub means-some : (seen : List Seen) → IsSeen told known tree seen → MeansSomething (meaning_in tree seen)
-  means-some seen is = by (meant-or-listing seen is)
+  means-some seen is = by (meant-or-rows seen is)
     where
-      by : (meaning_in tree seen ≡ meant book tree) ⊎ Lists (meaning_in tree seen) → MeansSomething (meaning_in tree seen)
+      some : (o : Option Meaning) → ComesOfRows o → MeansSomething o
+      some None h = absurd h
+      some (Some m) h = tt
+
+      by : (meaning_in tree seen ≡ meant book tree) ⊎ ComesOfRows (meaning_in tree seen) → MeansSomething (meaning_in tree seen)
       by (inl e) = subst MeansSomething (sym e) (built-means (seen_tables tables) tree built)
-      by (inr l) = subst MeansSomething (sym l.2) tt
+      by (inr l) = some (meaning_in tree seen) l
+
+  -- whatever rows were seen, a change is of one of the book's tables
+  pub change-seen : (seen : List Seen) (info : TableInfo) (effect : Effect) → IsSeen told known tree seen → meaning_in tree seen ≡ Some (Change info effect)
+      → CanChangeTable tables info effect
+  change-seen seen info effect is e =
+      change-of-seen tables at_rest.sound.tables.live at_rest.sound.tables.in_order tree seen info effect
+      (infos-seen (state_of book) tree told tables (names_in tree) seen (known-seen seen is) ∙ read-infos tree tables at_rest.sound.tables.live) e
 
   -- the rows of a table whose files stand
   module _ (s : Store) (tells : told ≡ Some s) (stands : Stands (state_of book) s.tree) (small : (state_of book).entries < write_end) where
@@ -276,15 +292,18 @@ module _ (told : Option Store) (known : List Known) (book : List Entry) (tree : 
 
     -- each commit's file stands, and no other of the write ids that aren't lost
     commits : (table : Table) → numbered tables table.info.table.0 ≡ Some table
-        → HasCommits table.info.table.0 (length table.owners) (lost_ids (state_of book) table) table.writes s
-    commits table at write low kept = by (written_with write table.writes) refl
+        → HasAllCommits table.info.table.0 (length table.owners) (lost_ids (state_of book) table) table.writes s
+    commits table at deletes write low kept = by (written_with write table.writes) refl
       where
-        by : (o : Option Written) → written_with write table.writes ≡ o → IsCommitFile o (files.get s.tree (own_place table.info.table.0 write))
+        by : (o : Option Written) → written_with write table.writes ≡ o
+            → HasRecords deletes (records_in deletes o) (files.get s.tree (own_place deletes table.info.table.0 write))
         by (Some written) is =
             let has = found-with _ write table.writes written is (commits-have-files (state_of book) s.tree table.info.table.0 table at_rest.sound small stands at) in
-            (has.1.0, ap (λ w. files.get s.tree (own_place table.info.table.0 w)) (sym has.0) ∙ has.1.1)
-        by None is =
-            nothing-there (state_of book) s.tree table write at_rest.sound small stands at (omega (arith, low, few table at)) is kept
+            subst (λ w. HasRecords deletes (records_of deletes written) (files.get s.tree (own_place deletes table.info.table.0 w))) has.0 (has.1 deletes)
+        by None is = record {
+          encoded = nothing-file deletes;
+          file_is = nothing-there (state_of book) s.tree table deletes write at_rest.sound small stands at (omega (arith, low, few table at)) is kept;
+        }
 
     committed-read : (table : Table) → numbered tables table.info.table.0 ≡ Some table
         → AllByRecursion (IsRead (lost_ids (state_of book) table) (length table.owners)) table.writes
@@ -295,7 +314,7 @@ module _ (told : Option Store) (known : List Known) (book : List Entry) (tree : 
 
     -- they are those that stand in it
     read-rows : (table : Table) (rows : List Found) → numbered tables table.info.table.0 ≡ Some table
-        → SeesRows told (reads_rows tree) (known_of (state_of book) table) rows → rows ≡ rows_read tree table
+        → SeesRows told (reads_rows tree) (known_of (state_of book) table) rows → rows ≡ rows_seen tree table
     read-rows table rows at sees =
         let sound = all-numbered HasSoundWrites tables table.info.table.0 table at at_rest.sound.tables.written in
         let are : AreRead (reads_rows tree) table.info.table.0 (length table.owners) (lost_ids (state_of book) table) rows s =

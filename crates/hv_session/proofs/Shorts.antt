@@ -21,21 +21,21 @@ short_refused txn number = grind (arith, length-append, length-eight, length-fou
 pub short_limit : (txn : TxnId) → length (entry_spelling (entry.Abort txn cause.RowLimit)) ≤ 65536
 short_limit txn = grind (arith, length-append, length-eight)
 
-pub short_insert : (txn : TxnId) (table : TableId) (inserted deleted : ℕ)
+pub short_change : (txn : TxnId) (table : TableId) (inserted deleted : ℕ)
     → length (entry_spelling (entry.Commit txn (record { table = table; partition = []; inserted = inserted; deleted = deleted } ∷ []))) ≤ 65536
 unfolding touch_spelling
-short_insert txn table inserted deleted = grind (arith, length-append, length-eight, length-text, length-touches)
+short_change txn table inserted deleted = grind (arith, length-append, length-eight, length-text, length-touches)
 
 pub short_damage : (txn : TxnId) (place : FilePlace) → length place.partition + length place.dir ≤ 1000
     → length (entry_spelling (entry.Abort txn (cause.Damaged place))) ≤ 65536
 unfolding place_spelling
 short_damage txn place short = grind (arith, length-append, length-eight, length-four, length-text)
 
-pub short_touch : (txn : TxnId) (wrote : List Touch) (table : TableId) (inserted : ℕ)
-    → wrote ≡ record { table = table; partition = []; inserted = inserted; deleted = 0 } ∷ []
+pub short_touch : (txn : TxnId) (wrote : List Touch) (table : TableId) (inserted deleted : ℕ)
+    → wrote ≡ record { table = table; partition = []; inserted = inserted; deleted = deleted } ∷ []
     → length (entry_spelling (entry.Commit txn wrote)) ≤ 65536
-short_touch txn wrote table inserted e =
-    subst (λ (ts : List Touch). length (entry_spelling (entry.Commit txn ts)) ≤ 65536) (sym e) (short_insert txn table inserted 0)
+short_touch txn wrote table inserted deleted e =
+    subst (λ (ts : List Touch). length (entry_spelling (entry.Commit txn ts)) ≤ 65536) (sym e) (short_change txn table inserted deleted)
 
 pub short_main : (session : List ℕ) → session ≡ main_session → length session ≤ 32
 unfolding main_session

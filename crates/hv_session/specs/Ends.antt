@@ -1,19 +1,17 @@
 -- How a started statement ends: what is noted for it, and what is printed, by what it means.
 use Rattle.std.specs.Prelude.{◌≡◌, ◌⊎◌, ℕ, ◌+◌, ◌<◌, Bool, true, false, Option, Some, None, List, [], ◌∷◌, ◌++◌, length}
-use Rattle.std.specs.FinMap as tree
 use Rattle.hv_base.specs.declared.ids.TxnId.{TxnId}
 use Rattle.hv_base.specs.declared.ids.TableId.{TableId}
 use Rattle.hv_base.specs.declared.ids.Touch.{Touch}
 use Rattle.hv_base.specs.Refusals as refusals
 use Rattle.hv_base.specs.Told.{Moves}
-use Rattle.hv_shelf.specs.declared.place.Place.{Place}
 use Rattle.hv_shelf.specs.Disk.{Store}
 use Rattle.hv_logic.specs.declared.catalog.Shape.{Shape}
 use Rattle.hv_logic.specs.declared.catalog.TableInfo.{TableInfo}
 use Rattle.hv_logic.specs.declared.effect.Effect.{Effect}
 use Rattle.hv_logic.specs.declared.meaning.Meaning.{Meaning}
 use Rattle.hv_logic.specs.declared.meaning.Meaning.TheVariants.{Refused, Listing, Change, Make, RowLimit}
-use Rattle.hv_rowfile.specs.Layout.{CanWrite, IsFile}
+use Rattle.hv_rowfile.specs.Layout.{CanWrite}
 use Rattle.hv_history.specs.declared.entry.Entry.{Entry}
 use Rattle.hv_history.specs.declared.entry.Entry.TheVariants as entry
 use Rattle.hv_history.specs.declared.entry.Cause.{Cause}
@@ -21,8 +19,8 @@ use Rattle.hv_history.specs.declared.entry.Cause.TheVariants as cause
 use Rattle.hv_history.specs.declared.state.Written.{Written}
 use Rattle.hv_history.specs.State.{numbered, changed, written_by}
 use Rattle.hv_history.specs.Answers.{listing, counts_line, ok_line, cause_text}
-use Rattle.hv_stands.specs.Files.{records_of, file_of, own_place}
-use Rattle.hv_stands.specs.Laws.{inserting}
+use Rattle.hv_stands.specs.Files.{records_of, IsEncoded, with_files}
+use Rattle.hv_stands.specs.Laws.{changing, changes_in}
 use Rattle.hv_house.specs.declared.house.House.{House}
 use Rattle.hv_known.specs.declared.known.Known.{Known}
 use Rattle.hv_house.specs.House.{entries_of, with_next, IsKept, IsNoted}
@@ -47,18 +45,18 @@ pub record Refuses {D : Type 0} (told : D → Option Store) (before now : House 
   pub text_is : text ≡ cause_text None cause
   pub refusal : refused ≡ true
 
--- a file was put, and the journal changed
-abbrev pub PutsFile : Place → List ℕ → Store → Store → Type 0
-PutsFile place bytes before now = now.tree ≡ tree.insert before.tree place bytes
+-- the files of a commit were put, and the journal changed
+abbrev pub PutsCommit : ℕ → Written → Store → Store → Type 0
+PutsCommit table written before now = now.tree ≡ with_files before.tree table written
 
--- the next write id is given, its file put, and the rows committed
-pub record Inserts {D : Type 0} (told : D → Option Store) (before now : House D) (txn : TxnId) (info : TableInfo) (written : Written) (wrote : List Touch) : Type 0 where
+-- the next write id is given, its files put, and the change committed
+pub record Writes {D : Type 0} (told : D → Option Store) (before now : House D) (txn : TxnId) (info : TableInfo) (written : Written) (wrote : List Touch) : Type 0 where
   pub kept : IsKept told now
   pub entries : entries_of now ≡ entries_of before ++ entry.Given txn info.table (record { 0 = written.write }) ∷ entry.Commit txn wrote ∷ []
   pub opened : now.opened ≡ before.opened
   pub tables : now.tables.items ≡ changed with_next before.tables.items info.table.0
-  pub file : IsFile false 0 (records_of written.inserts)
-  pub put : Moves (PutsFile (own_place info.table.0 written.write) (file_of written)) (told before.shelf) (told now.shelf)
+  pub file : IsEncoded written
+  pub put : Moves (PutsCommit info.table.0 written) (told before.shelf) (told now.shelf)
 
 -- the table of a change, as it is known
 abbrev pub KnownOf : {D : Type 0} → House D → TableInfo → Known → Type 0
@@ -70,10 +68,10 @@ next_written known effect = written_by (known.given + 1) 0 effect
 abbrev pub ChangesRows : {D : Type 0} → (D → Option Store) → House D → House D → TxnId → TableInfo → Effect → List ℕ → Bool → Type 0
 ChangesRows told before now txn info effect text refused =
     (known : Known) × KnownOf before info known
-    × Inserts told before now txn info (next_written known effect) (inserting info effect ∷ [])
-    × IsDone (counts_line (inserting info effect ∷ [])) text refused
+    × Writes told before now txn info (next_written known effect) (changing info effect ∷ [])
+    × IsDone (counts_line (changing info effect ∷ [])) text refused
 
--- the entries and the reply by the rows to insert: none, or some
+-- the entries and the reply by the rows to insert and to delete: none, or some
 abbrev pub ChangesBy : {D : Type 0} → (D → Option Store) → House D → House D → TxnId → TableInfo → Effect → ℕ → List ℕ → Bool → Type 0
 ChangesBy told before now txn info effect count text refused =
     ((count ≡ 0) × Commits told before now txn [] × IsDone (counts_line []) text refused)
@@ -90,16 +88,16 @@ pub record Makes {D : Type 0} (told : D → Option Store) (before now : House D)
 -- a statement of this meaning ends so
 abbrev pub EndsAs : {D : Type 0} → (D → Option Store) → House D → House D → TxnId → Meaning → List ℕ → Bool → Type 0
 EndsAs told before now txn (Listing names rows) text refused = Commits told before now txn [] × IsDone (listing names rows) text refused
-EndsAs told before now txn (Change info effect) text refused = ChangesBy told before now txn info effect (length effect.inserts) text refused
+EndsAs told before now txn (Change info effect) text refused = ChangesBy told before now txn info effect (changes_in effect) text refused
 EndsAs told before now txn (Make shape) text refused = Makes told before now txn shape × IsDone ok_line text refused
 EndsAs told before now txn (Refused why) text refused = Refuses told before now txn (cause.Refused (refusals.number why)) text refused
 EndsAs told before now txn RowLimit text refused = Refuses told before now txn cause.RowLimit text refused
 EndsAs told before now txn _ text refused = Commits told before now txn [] × IsDone ok_line text refused
 
--- what a change of these rows can rest on: its table is known, and the rows fit a file
+-- what a change of these rows can rest on: its table is known, and the inserted rows fit a file
 abbrev pub CanChange : {D : Type 0} → House D → TableInfo → Effect → Type 0
 CanChange house info effect =
-    (known : Known) × KnownOf house info known × CanWrite false 0 (records_of (next_written known effect).inserts)
+    (known : Known) × KnownOf house info known × CanWrite false 0 (records_of false (next_written known effect))
 
 abbrev pub CanEnd : {D : Type 0} → House D → Meaning → Type 0
 CanEnd house (Change info effect) = CanChange house info effect

@@ -7,7 +7,7 @@ ghost use Rattle.hv_history.specs.Answers.{listing, counts_line, ok_line, cause_
 ghost use Rattle.hv_house.specs.declared.fault.HouseFault.TheVariants.{Store};
 ghost use Rattle.hv_house.specs.Faults.{StoreCause};
 ghost use Rattle.hv_house.specs.House.{entries_of, book_limit, entry_limit, HasNumbers, IsKept, IsHalted};
-ghost use Rattle.hv_stands.specs.Laws.{inserting};
+ghost use Rattle.hv_stands.specs.Laws.{changing, changes_in};
 ghost use Rattle.hv_session.specs.Ends.{IsDone, Commits, Refuses, Makes, ChangesBy, ChangesRows, CanChange, CanEnd, EndsAs, next_id};
 ghost use Rattle.hv_session.specs.Halting.{IsUnended};
 
@@ -102,22 +102,35 @@ fn make<D: Shelf>(
     Ok(done(text))
 }
 
-/// The touch of an insert.
-fn touches(alloc: Global, table: TableId, inserted: u64) -> Result<List<Touch>, NoMemory>
+/// The touch of a change of a table.
+fn touches(
+    alloc: Global,
+    table: TableId,
+    inserted: u64,
+    deleted: u64,
+) -> Result<List<Touch>, NoMemory>
     ensures { IfOk result (λ touches. touches ≡ record {
       table = table;
       partition = [];
       inserted = inserted;
-      deleted = 0;
+      deleted = deleted;
     } ∷ []) }
 {
     let touch = Touch {
         table,
         partition: Text::of(alloc, "")?,
         inserted,
-        deleted: 0,
+        deleted,
     };
     Ok(List::from_vec(vec![in alloc; touch]?))
+}
+
+/// Whether a change inserts or deletes a row.
+fn changes_rows(effect: &Effect) -> bool
+    ensures some { result ≡ true → 0 < changes_in effect.now }
+    ensures none { result ≡ false → changes_in effect.now ≡ 0 }
+{
+    effect.inserts.len() > 0 || effect.deletes.len() > 0
 }
 
 fn change<D: Shelf>(
@@ -138,7 +151,9 @@ fn change<D: Shelf>(
     ensures cause { StoreCause (D.faults house.old.shelf) (D.faults house.new.shelf)
         (IsErrOf result Store) }
 {
-    let wrote = touches(alloc, info.table, effect.inserts.len() as u64)?;
+    let inserted = effect.inserts.len() as u64;
+    let deleted = effect.deletes.len() as u64;
+    let wrote = touches(alloc, info.table, inserted, deleted)?;
     let text = counts_line(alloc, wrote.as_slice())?;
     let write = house.give(txn, info.table)?;
     let written = written_by(alloc, write.0, 0, effect)?;
@@ -159,17 +174,17 @@ fn change_by<D: Shelf>(
     requires numbers { AllByRecursion HasNumbers house.old.tables.items }
     requires can { CanChange house.old info effect }
     ensures changed { IfOk result (λ reply. ChangesBy D.told house.old house.new txn info effect
-        (length effect.inserts) reply.text reply.refused) }
+        (changes_in effect) reply.text reply.refused) }
     ensures tells { StaysTold (D.told house.old.shelf) (D.told house.new.shelf) }
     ensures unended { IfErr result (λ fault. IsUnended D.told fault house.old house.new txn) }
     ensures cause { StoreCause (D.faults house.old.shelf) (D.faults house.new.shelf)
         (IsErrOf result Store) }
 {
-    if effect.inserts.is_empty() {
+    if changes_rows(&effect) {
+        change(alloc, house, txn, info, effect)
+    } else {
         let text = counts_line(alloc, &[])?;
         idle(alloc, house, txn, text)
-    } else {
-        change(alloc, house, txn, info, effect)
     }
 }
 

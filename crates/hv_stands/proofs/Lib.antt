@@ -4,7 +4,7 @@ pub mod Meanings
 pub mod Queries
 pub mod Refusals
 pub mod Creates
-pub mod Inserts
+pub mod Changes
 pub mod Soundness
 pub mod Tables
 pub mod StandingFiles
@@ -14,3 +14,5 @@ pub mod Numbers
 pub mod Owning
 pub mod Keeping
 pub mod Statements
+pub mod MadeFiles
+pub mod Worked

@@ -1,15 +1,11 @@
 -- What a statement's meaning says, by the laws of meanings.
-use Rattle.std.proofs.Common.{◌≡◌, ◌⊎◌, ◌&&◌, ◌||◌, not, Bool, true, false, cond, inl, inr, ℕ, IsTrue, IsNone, Option, Some, None, Result, Ok, Err, List, [], map, refl, sym, ap, ◌∙◌, subst}
+use Rattle.std.proofs.Common.{◌≡◌, ◌⊎◌, ◌&&◌, not, true, cond, None, slice_get, inl, inr, ℕ, ◌≤◌, Bool, false, IsTrue, IsNone, Option, Some, Result, Ok, Err, List, [], ◌∷◌, length, map, filter, refl, sym, ap, ◌∙◌, subst}
+use Rattle.std.specs.List.{AllByRecursion, list_all}
 use Rattle.hv_base.specs.declared.refusal.Refusal.{Refusal}
-use Rattle.hv_base.specs.declared.refusal.Refusal.TheVariants as refusal
-use Rattle.hv_ast.specs.declared.change.Insert.{Insert}
 use Rattle.hv_ast.specs.declared.change.Rows.{Rows}
 use Rattle.hv_ast.specs.declared.change.Rows.TheVariants as source_rows
-use Rattle.hv_ast.specs.declared.query.Query.{Query}
-use Rattle.hv_ast.specs.declared.query.Source.{Source}
 use Rattle.hv_ast.specs.declared.statement.Stmt.{Stmt}
 use Rattle.hv_ast.specs.declared.statement.Stmt.TheVariants as stmt
-use Rattle.hv_value.specs.declared.row.Row.{Row}
 use Rattle.hv_built.specs.Built.{are_values, IsBuilt}
 use Rattle.hv_logic.specs.declared.catalog.Shape.{Shape}
 use Rattle.hv_logic.specs.declared.catalog.TableInfo.{TableInfo}
@@ -17,22 +13,21 @@ use Rattle.hv_logic.specs.declared.effect.Effect.{Effect}
 use Rattle.hv_logic.specs.declared.effect.Found.{Found}
 use Rattle.hv_logic.specs.declared.seen.Seen.{Seen}
 use Rattle.hv_logic.specs.declared.meaning.Meaning.{Meaning}
-use Rattle.hv_logic.specs.declared.meaning.Meaning.TheVariants.{Refused, Listing, Change, Make, Plain, RowLimit}
+use Rattle.hv_logic.specs.declared.meaning.Meaning.TheVariants.{Listing, Change, Make, RowLimit}
 use Rattle.hv_logic.specs.Tables.{named}
-use Rattle.hv_query.specs.declared.tree.TypedQuery.{TypedQuery}
-use Rattle.hv_query.specs.declared.tree.TypedSource.{TypedSource}
-use Rattle.hv_types.specs.Faults.{and_then}
-use Rattle.hv_changes.specs.Inserts.{is_empty}
+use Rattle.hv_query.specs.Rows.{Tables}
 use Rattle.hv_analysis.specs.declared.logic.Logic.{Logic}
 use Rattle.hv_analysis.specs.declared.logic.Logic.TheVariants as logic
-use Rattle.hv_analysis.specs.Analysis.{are_windowless, is_form, form_analysed, analysed}
-use Rattle.hv_analysis.specs.Sources.{selected}
-use Rattle.hv_meaning.specs.Meaning.{info_of, found_in, meant, meaning_over, meaning_in, meaning_of}
-use Rattle.hv_meaning.specs.Laws.{has_meaning, MeansSomething, change_name, only_inserts, are_values as some_values, reads_rows}
+use Rattle.hv_analysis.specs.Analysis.{are_windowless, is_form, analysed}
+use Rattle.hv_changes.specs.Columns.{columns_of}
+use Rattle.hv_rowfile.specs.Layout.{RowIsTaken}
+use Rattle.hv_changes.specs.declared.change.TypedChange.{TypedChange}
+use Rattle.hv_changes.specs.Inserts.{is_empty}
+use Rattle.hv_logic.specs.Sizes.{row_fits}
+use Rattle.hv_meaning.specs.Meaning.{info_of, found_in, tables_of, or_none, change_effect, changed_in, meant, meaning_over, meaning_in, meaning_of}
+use Rattle.hv_meaning.specs.Laws.{has_meaning, MeansSomething}
 use Rattle.hv_meaning.proofs.Forms.{forms-mean}
-use Rattle.hv_meaning.proofs.Meanings.{tables-new, changes-named, inserts-keep}
-use Rattle.hv_meaning.proofs.Unseen.{unseen-in}
-use Rattle.hv_stands.specs.Sound.{DeletesNone}
+use Rattle.hv_meaning.proofs.Meanings.{tables-new, changes-named}
 use Rattle.hv_history.specs.State.{created_shape}
 use Rattle.hv_history.specs.Legal.{is_create, made_name}
 
@@ -54,36 +49,32 @@ makes-new tree tables shape e =
       shape_is = ap (λ (t : Stmt). created_shape (Some t)) new.tree_is ∙ sym new.shape_is;
     }
 
--- ---- a change deletes nothing
+-- ---- a change is of a table that is seen, and deletes rows that stand in it
 
--- what runs and changes a table only inserts
-built-inserts : (tree : Stmt) (name : List ℕ) → IsBuilt tree → change_name tree ≡ Some name → only_inserts tree ≡ true
-built-inserts (stmt.Insert insert) name built e = by (not insert.overwrite) _ built
-  where
-    by : (a b : Bool) → (a && b) ≡ true → a ≡ true
-    by true b h = refl
-    by false b h = cc
-built-inserts (stmt.Query query) name built e = cc
-built-inserts (stmt.CreateTable create) name built e = cc
-built-inserts other name built e = cc
+-- of these rows those that a test is true of, in their order
+abbrev pub ArePicked : List Found → List Found → Type 0
+ArePicked rows picked = (test : Found → Bool) × (picked ≡ filter test rows)
 
-pub deletes-nothing : (tree : Stmt) (tables : List Seen) (info : TableInfo) (effect : Effect) → IsBuilt tree → meaning_of tables tree ≡ Some (Change info effect)
-    → effect.deletes ≡ []
-deletes-nothing tree tables info effect built e =
+pub record ChangesLive (tables : List Seen) (info : TableInfo) (effect : Effect) : Type 0 where
+  pub name : List ℕ
+  pub seen : Seen
+  pub here : named name tables ≡ Some seen
+  pub info_is : info ≡ seen.info
+  pub deletes : ArePicked seen.rows effect.deletes
+  pub taken : length (columns_of info.shape) ≤ 65535 → AllByRecursion RowIsTaken effect.inserts
+
+pub changes-seen : (tree : Stmt) (tables : List Seen) (info : TableInfo) (effect : Effect) → meaning_of tables tree ≡ Some (Change info effect)
+    → ChangesLive tables info effect
+changes-seen tree tables info effect e =
     let change = changes-named tree tables info effect e in
-    inserts-keep tree tables info effect (built-inserts tree change.name built change.name_is) e
-
-pub deletes-none : (tree : Stmt) (tables : List Seen) → IsBuilt tree → DeletesNone (meaning_of tables tree)
-deletes-none tree tables built = by (meaning_of tables tree) refl
-  where
-    by : (o : Option Meaning) → meaning_of tables tree ≡ o → DeletesNone o
-    by None is = tt
-    by (Some (Refused why)) is = tt
-    by (Some (Listing names rows)) is = tt
-    by (Some (Change info effect)) is = deletes-nothing tree tables info effect built is
-    by (Some (Make shape)) is = tt
-    by (Some Plain) is = tt
-    by (Some RowLimit) is = tt
+    record {
+      name = change.name;
+      seen = change.seen;
+      here = change.here;
+      info_is = change.info_is;
+      deletes = (change.stand.test, change.stand.deletes_are);
+      taken = change.taken;
+    }
 
 -- ---- a statement of a form that is built means something
 
@@ -103,56 +94,43 @@ built-form other built = cc
 pub built-means : (tables : List Seen) (tree : Stmt) → IsBuilt tree → MeansSomething (meaning_of tables tree)
 built-means tables tree built = forms-mean tree tables (built-form tree built)
 
--- ---- over tables of the same descriptions, whatever their rows, it means the same, or lists some rows
+-- ---- over tables of the same descriptions, whatever their rows, it means the same, or what may come of rows
 
-abbrev pub Lists : Option Meaning → Type 0
-Lists meaning = (names : List (List ℕ)) × (rows : List Row) × (meaning ≡ Some (Listing names rows))
+abbrev pub ComesOfRows : Option Meaning → Type 0
+ComesOfRows (Some (Listing names rows)) = Unit {0}
+ComesOfRows (Some (Change info effect)) = Unit {0}
+ComesOfRows (Some RowLimit) = Unit {0}
+ComesOfRows _ = ⊥
 
-abbrev NoChange : Result Logic Refusal → Type 0
-NoChange (Ok (logic.Change change)) = ⊥
-NoChange _ = Unit {0}
+within-limit : (fits : Bool) (info : TableInfo) (effect : Effect) → ComesOfRows (Some (cond fits (Change info effect) RowLimit))
+within-limit true info effect = tt
+within-limit false info effect = tt
 
-alike : (infos : List TableInfo) (found others : List (List Found)) (r : Result Logic Refusal) → NoChange r
-    → (meant infos found r ≡ meant infos others r) ⊎ Lists (meant infos found r)
-alike infos found others (Ok (logic.Query query)) none = inr (_, _, refl)
-alike infos found others (Ok (logic.Change change)) none = absurd none
-alike infos found others (Ok (logic.Make shape)) none = inl refl
-alike infos found others (Ok logic.Nothing) none = inl refl
-alike infos found others (Err why) none = inl refl
+changed-alike : (info : Option TableInfo) (one : Option (List Found)) (other : Option (List Found)) (rows others : Tables) (change : TypedChange)
+    → (changed_in info one rows change ≡ changed_in info other others change) ⊎ ComesOfRows (changed_in info one rows change)
+changed-alike None one other rows others change = inl refl
+changed-alike (Some info) one other rows others change =
+    let effect = change_effect info.shape change (or_none one) rows in
+    inr (within-limit (list_all row_fits effect.inserts) info effect)
 
-query-changes : (infos : List TableInfo) (query : Query Source) → NoChange (analysed infos (stmt.Query query))
-unfolding analysed form_analysed
-query-changes infos query = by (is_form (stmt.Query query)) (selected infos query)
-  where
-    by : (b : Bool) (r : Result (TypedQuery TypedSource) Refusal) → NoChange (cond b (and_then r (λ typed. Ok (logic.Query typed))) (Err refusal.Syntax))
-    by true (Ok typed) = tt
-    by true (Err why) = tt
-    by false r = tt
+alike : (infos : List TableInfo) (found others : List (List Found)) (r : Result Logic Refusal)
+    → (meant infos found r ≡ meant infos others r) ⊎ ComesOfRows (meant infos found r)
+alike infos found others (Ok (logic.Query query)) = inr tt
+alike infos found others (Ok (logic.Change change)) =
+    changed-alike (slice_get infos change.table) (slice_get found change.table) (slice_get others change.table) (tables_of found) (tables_of others) change
+alike infos found others (Ok (logic.Make shape)) = inl refl
+alike infos found others (Ok logic.Nothing) = inl refl
+alike infos found others (Err why) = inl refl
 
-query-alike : (query : Query Source) (infos others : List TableInfo) (found more : List (List Found)) → infos ≡ others
-    → (meaning_over (stmt.Query query) infos found ≡ meaning_over (stmt.Query query) others more) ⊎ Lists (meaning_over (stmt.Query query) infos found)
-query-alike query infos others found more same = by (alike infos found more (analysed infos (stmt.Query query)) (query-changes infos query))
-  where
-    by : (meaning_over (stmt.Query query) infos found ≡ meaning_over (stmt.Query query) infos more) ⊎ Lists (meaning_over (stmt.Query query) infos found)
-        → (meaning_over (stmt.Query query) infos found ≡ meaning_over (stmt.Query query) others more) ⊎ Lists (meaning_over (stmt.Query query) infos found)
-    by (inl e) = inl (e ∙ ap (λ infos. meaning_over (stmt.Query query) infos more) same)
-    by (inr l) = inr l
-
--- what runs and is no query reads no rows
-built-reads : (insert : Insert) → IsBuilt (stmt.Insert insert) → reads_rows (stmt.Insert insert) ≡ false
-built-reads insert built = by insert.overwrite (is_empty insert.partition) insert.rows built
-  where
-    by : (over plain : Bool) (r : Rows) → (not over && (plain && are_values r)) ≡ true → (over || not (some_values r)) ≡ false
-    by true plain r h = cc
-    by false true (source_rows.Values values) h = refl
-    by false true (source_rows.Query query) h = cc
-    by false false r h = cc
-
-pub same-or-lists : (tree : Stmt) (tables others : List Seen) → IsBuilt tree → map info_of tables ≡ map info_of others
-    → (meaning_in tree tables ≡ meaning_in tree others) ⊎ Lists (meaning_in tree tables)
+pub same-or-rows : (tree : Stmt) (tables others : List Seen) → map info_of tables ≡ map info_of others
+    → (meaning_in tree tables ≡ meaning_in tree others) ⊎ ComesOfRows (meaning_in tree tables)
 unfolding meaning_in
-same-or-lists (stmt.Query query) tables others built same =
-    query-alike query (map info_of tables) (map info_of others) (map found_in tables) (map found_in others) same
-same-or-lists (stmt.Insert insert) tables others built same = inl (unseen-in (stmt.Insert insert) tables others (built-reads insert built) same)
-same-or-lists (stmt.CreateTable create) tables others built same = inl (unseen-in (stmt.CreateTable create) tables others refl same)
-same-or-lists other tables others built same = cc
+same-or-rows tree tables others same =
+    by (alike (map info_of tables) (map found_in tables) (map found_in others) (analysed (map info_of tables) tree))
+  where
+    by : (meaning_over tree (map info_of tables) (map found_in tables) ≡ meaning_over tree (map info_of tables) (map found_in others))
+        ⊎ ComesOfRows (meaning_over tree (map info_of tables) (map found_in tables))
+        → (meaning_over tree (map info_of tables) (map found_in tables) ≡ meaning_over tree (map info_of others) (map found_in others))
+        ⊎ ComesOfRows (meaning_over tree (map info_of tables) (map found_in tables))
+    by (inl e) = inl (e ∙ ap (λ infos. meaning_over tree infos (map found_in others)) same)
+    by (inr l) = inr l

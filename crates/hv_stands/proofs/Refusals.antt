@@ -40,11 +40,11 @@ cause-told m cause.RowLimit snapshot h = refl
 cause-told m (cause.Damaged place) snapshot h = refl
 cause-told m why snapshot h = absurd h
 
-aborted-behind : (s : State) (number : ℕ) (text : List ℕ) (m : Option Meaning) (why : Cause) → IsCauseOf m why
+pub aborted-behind : (s : State) (number : ℕ) (text : List ℕ) (m : Option Meaning) (why : Cause) → aborting why (not_lost s.openings) ≡ not_lost s.openings
     → after (behind_start s number text m) (entry.Abort (record { 0 = next_of s }) why)
     ≡ with_last s (s.entries + 1 + 1 + 1) s.tables (running s number text m [] [] (Some (Aborted (s.entries + 1 + 1) why)))
 unfolding acted
-aborted-behind s number text m why h =
+aborted-behind s number text m why keeps =
     ap (λ (ts : List Transaction). record {
       entries = s.entries + 1 + 1 + 1;
       openings = aborting why (not_lost s.openings);
@@ -59,7 +59,7 @@ aborted-behind s number text m why h =
       transactions = s.transactions ++ running s number text m [] [] (Some (Aborted (s.entries + 1 + 1) why)) ∷ [];
       tables = s.tables;
       jobs = s.jobs;
-    }) (cause-keeps m why s h)
+    }) keeps
 
 aborted-legal : (s : State) (number : ℕ) (text : List ℕ) (m : Option Meaning) (why : Cause) → IsCauseOf m why
     → IsLegalFrom profile (behind_start s number text m) (entry.Abort (record { 0 = next_of s }) why ∷ [])
@@ -76,5 +76,5 @@ refusals-end book number text tree why idle space is h =
     let s : State = state_of book in
     let m : Option Meaning = meant book tree in
     goes book number text tree m (entry.Abort (record { 0 = next_of s }) why ∷ []) (s.entries + 1 + 1 + 1) s.tables [] [] (Aborted (s.entries + 1 + 1) why)
-    (cause_text None why) true idle space is refl (aborted-behind s number text m why h) (aborted-legal s number text m why h)
+    (cause_text None why) true idle space is refl (aborted-behind s number text m why (cause-keeps m why s h)) (aborted-legal s number text m why h)
     (cause-told m why (Some (record { place = s.entries + 1; tables = s.tables })) h) refl

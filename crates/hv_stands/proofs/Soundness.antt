@@ -6,7 +6,7 @@ use Rattle.hv_history.specs.declared.state.Table.{Table}
 use Rattle.hv_history.specs.State.{numbered, changed, changed_at, written_to, owned}
 use Rattle.hv_logic.specs.declared.catalog.TableInfo.{TableInfo}
 use Rattle.hv_stands.specs.Sound.{IsLive, NumberedFrom, HasSoundWrites, HasFewOwners, KeepsAll, AreSound}
-use Rattle.hv_stands.specs.Laws.{tables_inserted}
+use Rattle.hv_stands.specs.Laws.{tables_changed}
 
 -- ---- what holds of all
 
@@ -113,10 +113,10 @@ changed-sound most next tables k f table at info alive keeps later few written s
   written = all-changed HasSoundWrites HasSoundWrites f tables k table at (λ t h. h) written sound.written;
 }
 
--- the table behind an insert
-abbrev pub inserted_to : ℕ → Written → Table → Table
-inserted_to txn written table = written_to written (owned txn table)
+-- the table behind a change
+abbrev pub changed_by : ℕ → Written → Table → Table
+changed_by txn written table = written_to written (owned txn table)
 
-pub tables_inserted-once : (tables : List Table) (txn number : ℕ) (written : Written)
-    → tables_inserted tables txn number written ≡ changed (inserted_to txn written) tables number
-tables_inserted-once tables txn number written = changed-twice (written_to written) (owned txn) tables number
+pub tables_changed-once : (tables : List Table) (txn number : ℕ) (written : Written)
+    → tables_changed tables txn number written ≡ changed (changed_by txn written) tables number
+tables_changed-once tables txn number written = changed-twice (written_to written) (owned txn) tables number

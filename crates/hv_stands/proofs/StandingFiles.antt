@@ -1,9 +1,8 @@
 -- Which files may stand, over any state: each entry that fits, and each file that is put, keeps it.
-use Rattle.std.proofs.Common.{refl, ◌≡◌, ℕ, zero, suc, ◌+◌, ◌<◌, ◌≤◌, ◌==◌, ◌&&◌, ◌⊎◌, inl, inr, nat_eq, Bool, true, false, cond, IsFalse, Option, Some, None, List, [], ◌∷◌, ◌++◌, length, map, option_map, sym, ap, ◌∙◌, subst, arith, eqb-true}
+use Rattle.std.proofs.Common.{refl, ◌≡◌, ℕ, zero, suc, ◌+◌, ◌<◌, ◌≤◌, ◌==◌, ◌&&◌, ◌⊎◌, inl, inr, Bool, true, false, cond, IsFalse, Option, Some, None, List, [], ◌∷◌, ◌++◌, length, map, option_map, sym, ap, ◌∙◌, subst, arith, eqb-true}
 use Rattle.std.specs.declared.cmp.Ordering.{Ordering}
 use Rattle.std.specs.declared.cmp.Ordering.TheVariants.{Less, Equal, Greater}
 use Rattle.std.specs.Cmp.{eq_by_cmp_equiv}
-use Rattle.std.specs.Cmp.Lexicographic.{pointwise, bytes_decides}
 use Rattle.std.specs.Ordering.{eq_by_cmp, is_eq}
 use Rattle.std.specs.List.{slice_get, list_any, AllByRecursion}
 use Rattle.std.specs.FinMap as tree
@@ -17,17 +16,17 @@ use Rattle.hv_history.specs.declared.entry.Cause.{Cause}
 use Rattle.hv_history.specs.declared.state.Written.{Written}
 use Rattle.hv_history.specs.declared.state.Table.{Table}
 use Rattle.hv_history.specs.declared.state.Ending.{Ending}
-use Rattle.hv_history.specs.declared.state.Ending.TheVariants.{Aborted, Made}
+use Rattle.hv_history.specs.declared.state.Ending.TheVariants.{Committed, Aborted, Made, Dropped}
 use Rattle.hv_history.specs.declared.state.Transaction.{Transaction}
-use Rattle.hv_history.specs.State.{State, numbered, changed, changed_at, unless_ended, while_open, opened, started, given_id, owned, written_to, committed, ended, commits, tables_behind, made_by, acted, after}
+use Rattle.hv_history.specs.State.{State, first_known, numbered, changed, changed_at, unless_ended, while_open, opened, started, given_id, owned, written_to, committed, ended, commits, tables_behind, made_by, acted, after}
 use Rattle.hv_history.specs.Legal.{Fits, CommitFits, CreateFits}
-use Rattle.hv_dirs.specs.Names.{own_name, write_end}
-use Rattle.hv_dirs.proofs.OwnNames.{own_name-same}
-use Rattle.hv_stands.specs.Files.{file_of, own_place, file_in, made_in, made_at, ending_of, IsOwn, IsUndone, IsLoose, IsEncoded, AreEncoded, Stands, IsFiled}
-use Rattle.hv_stands.specs.Sound.{IsPlainWrite, HasOther, AreApart, HasSoundWrites, HasFewOwners, KeepsAll, given_of, owners_of, given_among, IsDone, IsSingle, IsOfCommitted, AreOfCommitted, IsSound}
-use Rattle.hv_stands.specs.Laws.{SoundnessGoesOn, StandingGoesOn, PutsAreLoose, FilesAreOfTables, NewIdsHaveNoFile, HasItsFile, CommitsHaveFiles}
+use Rattle.hv_dirs.specs.Names.{write_end}
+use Rattle.hv_stands.specs.Files.{commit_file, own_dir, own_place, file_at, file_in, made_in, made_at, ending_of, IsOwn, IsUndone, IsLoose, IsEncoded, AreEncoded, Stands, IsFiled}
+use Rattle.hv_stands.specs.Sound.{HasOther, AreApart, HasSoundWrites, HasFewOwners, KeepsAll, given_of, owners_of, given_among, IsDone, IsSingle, IsOfCommitted, AreOfCommitted, IsSound}
+use Rattle.hv_stands.specs.Laws.{SoundnessGoesOn, StandingGoesOn, PutsAreLoose, FilesAreOfTables, NewIdsHaveNoFile, HasItsFiles, CommitsHaveFiles}
 use Rattle.hv_stands.proofs.Numbers.{one_value, same_one, none_is, found, either, numbered-changed, numbered-map, map-changed, map-more, numbered-more, numbered-within}
 use Rattle.hv_stands.proofs.Soundness.{all-numbered}
+use Rattle.hv_stands.proofs.MadeFiles.{own_dir-same, IsMadeBy, made-by, made-own, made-not, file-or-last, file-none, file-write}
 use Rattle.hv_stands.proofs.Keeping.{map-open, IsOneWrite, one-write, owner-table, sound-after}
 
 -- ---- places
@@ -49,34 +48,6 @@ other-place place other e same =
     cc
 
 -- ---- what is made
-
-pub file-or-last : (writes : List Written) (written : Written) (dir bytes : List ℕ) → file_in (writes ++ written ∷ []) dir ≡ Some bytes
-    → (file_in writes dir ≡ Some bytes) ⊎ ((pointwise nat_eq (own_name written.write 0) dir ≡ true) × (bytes ≡ file_of written))
-file-or-last [] written dir bytes e = by (either (pointwise nat_eq (own_name written.write 0) dir)) e
-  where
-    by : (pointwise nat_eq (own_name written.write 0) dir ≡ true) ⊎ (pointwise nat_eq (own_name written.write 0) dir ≡ false)
-        → cond (pointwise nat_eq (own_name written.write 0) dir) (Some (file_of written)) None ≡ Some bytes
-        → (file_in [] dir ≡ Some bytes) ⊎ ((pointwise nat_eq (own_name written.write 0) dir ≡ true) × (bytes ≡ file_of written))
-    by (inl is) e = inr (is, one_value bytes (file_of written) (sym e ∙ ap (λ b. cond b (Some (file_of written)) None) is))
-    by (inr is) e = absurd (none_is (cond (pointwise nat_eq (own_name written.write 0) dir) (Some (file_of written)) None) bytes
-        (ap (λ b. cond b (Some (file_of written)) None) is) e)
-file-or-last (first ∷ writes) written dir bytes e = by (pointwise nat_eq (own_name first.write 0) dir) (file-or-last writes written dir bytes) e
-  where
-    by : (b : Bool)
-        → (file_in (writes ++ written ∷ []) dir ≡ Some bytes
-        → (file_in writes dir ≡ Some bytes) ⊎ ((pointwise nat_eq (own_name written.write 0) dir ≡ true) × (bytes ≡ file_of written)))
-        → cond b (Some (file_of first)) (file_in (writes ++ written ∷ []) dir) ≡ Some bytes
-        → (cond b (Some (file_of first)) (file_in writes dir) ≡ Some bytes) ⊎ ((pointwise nat_eq (own_name written.write 0) dir ≡ true) × (bytes ≡ file_of written))
-    by true rest e = inl e
-    by false rest e = rest e
-
-file-none : (writes : List Written) (written : Written) (dir : List ℕ) → file_in (writes ++ written ∷ []) dir ≡ None → file_in writes dir ≡ None
-file-none [] written dir e = refl
-file-none (first ∷ writes) written dir e = by (pointwise nat_eq (own_name first.write 0) dir) (file-none writes written dir) e
-  where
-    by : (b : Bool) → (file_in (writes ++ written ∷ []) dir ≡ None → file_in writes dir ≡ None) → cond b (Some (file_of first)) (file_in (writes ++ written ∷ []) dir) ≡ None → cond b (Some (file_of first)) (file_in writes dir) ≡ None
-    by true rest e = cc
-    by false rest e = rest e
 
 -- a table whose writes stay makes the same
 same-made-slice : (f : Table → Table) → ((t : Table) → (f t).writes ≡ t.writes) → (place : Place) (tables : List Table) (k n : ℕ)
@@ -146,6 +117,7 @@ own-changed f owners forgotten tables k txn place own =
     by now at (inl same) = record {
       table = now;
       is = at;
+      deletes = own.deletes;
       write = own.write;
       statement = own.statement;
       dir = own.dir;
@@ -155,6 +127,7 @@ own-changed f owners forgotten tables k txn place own =
     by now at (inr same) = record {
       table = now;
       is = at;
+      deletes = own.deletes;
       write = own.write;
       statement = own.statement;
       dir = own.dir;
@@ -167,6 +140,7 @@ own-more : (tables : List Table) (table : Table) (txn : ℕ) (place : Place) →
 own-more tables table txn place own = record {
   table = own.table;
   is = numbered-more tables table place.table.0 own.table own.is;
+  deletes = own.deletes;
   write = own.write;
   statement = own.statement;
   dir = own.dir;
@@ -265,18 +239,18 @@ stands-ended s now files n stands later stays owns others whole encoded = record
 
 -- the table behind a commit
 made-in-written : (table : Table) (written : Written) (place : Place) (bytes : List ℕ) → made_in (Some (written_to written table)) place ≡ Some bytes
-    → (made_in (Some table) place ≡ Some bytes) ⊎ (pointwise nat_eq (own_name written.write 0) place.dir ≡ true)
+    → (made_in (Some table) place ≡ Some bytes) ⊎ IsMadeBy written place.dir bytes
 made-in-written table written place bytes e = by ((length place.partition == 0) && (place.bucket == 0)) e
   where
     by : (b : Bool) → cond b (file_in (table.writes ++ written ∷ []) place.dir) None ≡ Some bytes
-        → (cond b (file_in table.writes place.dir) None ≡ Some bytes) ⊎ (pointwise nat_eq (own_name written.write 0) place.dir ≡ true)
+        → (cond b (file_in table.writes place.dir) None ≡ Some bytes) ⊎ IsMadeBy written place.dir bytes
     by false e = inl e
     by true e = or (file-or-last table.writes written place.dir bytes e)
       where
-        or : (file_in table.writes place.dir ≡ Some bytes) ⊎ ((pointwise nat_eq (own_name written.write 0) place.dir ≡ true) × (bytes ≡ file_of written))
-            → (file_in table.writes place.dir ≡ Some bytes) ⊎ (pointwise nat_eq (own_name written.write 0) place.dir ≡ true)
+        or : (file_in table.writes place.dir ≡ Some bytes) ⊎ (file_at written place.dir ≡ Some bytes)
+            → (file_in table.writes place.dir ≡ Some bytes) ⊎ IsMadeBy written place.dir bytes
         or (inl h) = inl h
-        or (inr h) = inr h.0
+        or (inr h) = inr (made-by written place.dir bytes h)
 
 made-in-none : (table : Table) (written : Written) (place : Place) → made_in (Some (written_to written table)) place ≡ None → made_in (Some table) place ≡ None
 made-in-none table written place e = by ((length place.partition == 0) && (place.bucket == 0)) e
@@ -306,15 +280,16 @@ module _ (tables : List Table) (k n : ℕ) (written : Written) (table : Table) (
           or here (made-in-written table written place bytes
           (ap (λ b. made_in (cond b (Some (written_to written table)) (numbered tables place.table.0)) place) (sym same) ∙ now))
         where
-          or : numbered tables place.table.0 ≡ Some table → (made_in (Some table) place ≡ Some bytes) ⊎ (pointwise nat_eq (own_name written.write 0) place.dir ≡ true)
+          or : numbered tables place.table.0 ≡ Some table → (made_in (Some table) place ≡ Some bytes) ⊎ IsMadeBy written place.dir bytes
               → (made_in (numbered tables place.table.0) place ≡ Some bytes) ⊎ IsOwn tables n place
           or here (inl h) = inl (ap (λ o. made_in o place) here ∙ h)
           or here (inr h) = inr (record {
             table = table;
             is = here;
+            deletes = h.deletes;
             write = written.write;
             statement = 0;
-            dir = sym ((bytes_decides (own_name written.write 0) place.dir).0 h);
+            dir = h.dir_is;
             owner = owner;
             kept = kept-none table.forgotten written.write keeping;
           })
@@ -414,6 +389,15 @@ soundness-goes-on limits s event fits sound = sound-after limits s event fits so
 
 -- ---- what is at a place
 
+-- no transaction has committed and hasn't
+pub done-undone : (o : Option (Option Ending)) → IsDone o → IsUndone o → ⊥
+done-undone None done undone = done
+done-undone (Some None) done undone = done
+done-undone (Some (Some (Committed place wrote))) done undone = undone
+done-undone (Some (Some (Aborted place why))) done undone = done
+done-undone (Some (Some (Made place table))) done undone = done
+done-undone (Some (Some (Dropped place table))) done undone = done
+
 made-slice : (tables : List Table) (n : ℕ) (place : Place) (bytes : List ℕ) → made_in (slice_get tables n) place ≡ Some bytes → (table : Table) × (slice_get tables n ≡ Some table)
 made-slice [] n place bytes e = cc
 made-slice (t ∷ tables) zero place bytes e = (t, refl)
@@ -435,20 +419,6 @@ made-file table place bytes e = by ((length place.partition == 0) && (place.buck
     by : (b : Bool) → cond b (file_in table.writes place.dir) None ≡ Some bytes → file_in table.writes place.dir ≡ Some bytes
     by true e = e
     by false e = cc
-
--- the write whose file it is
-pub file-write : (P : Written → Type 0) (writes : List Written) (dir bytes : List ℕ) → file_in writes dir ≡ Some bytes → AllByRecursion P writes
-    → (written : Written) × (own_name written.write 0 ≡ dir) × P written
-file-write P [] dir bytes e each = cc
-file-write P (first ∷ writes) dir bytes e each =
-    by (either (pointwise nat_eq (own_name first.write 0) dir)) (λ h. file-write P writes dir bytes h each.1) e
-  where
-    by : (pointwise nat_eq (own_name first.write 0) dir ≡ true) ⊎ (pointwise nat_eq (own_name first.write 0) dir ≡ false)
-        → (file_in writes dir ≡ Some bytes → (written : Written) × (own_name written.write 0 ≡ dir) × P written)
-        → cond (pointwise nat_eq (own_name first.write 0) dir) (Some (file_of first)) (file_in writes dir) ≡ Some bytes
-        → (written : Written) × (own_name written.write 0 ≡ dir) × P written
-    by (inl is) rest e = (first, (bytes_decides (own_name first.write 0) dir).0 is, each.0)
-    by (inr is) rest e = rest (sym (ap (λ b. cond b (Some (file_of first)) (file_in writes dir)) is) ∙ e)
 
 pub files-of-tables : FilesAreOfTables
 files-of-tables s files place bytes stands is = by (made_at s.tables place) refl
@@ -475,7 +445,9 @@ being-written-unmade s place sound room txn own undone bytes made =
     let owner : numbered here.0.owners own.write ≡ Some txn = subst (λ (t : Table). numbered t.owners own.write ≡ Some txn) same own.owner in
     let first = few-ids s sound place.table.0 write.0.write write.2.0 here.0 here.1 write.2.1 in
     let second = few-ids s sound place.table.0 own.write txn here.0 here.1 owner in
-    let number : write.0.write ≡ own.write = own_name-same write.0.write own.write 0 own.statement (omega (arith, first, room)) (omega (arith, second, room)) (write.1 ∙ own.dir) in
+    let same_name = own_dir-same write.1.deletes own.deletes write.0.write 0 own.write own.statement (omega (arith, first, room)) (omega (arith, second, room))
+    (sym write.1.dir_is ∙ own.dir) in
+    let number : write.0.write ≡ own.write = same_name.1 in
     let by_same : write.2.0 ≡ txn = same_one (numbered here.0.owners own.write) write.2.0 txn (ap (numbered here.0.owners) (sym number) ∙ write.2.1) owner in
     undone (subst (λ n. IsDone (numbered (map ending_of s.transactions) n)) by_same write.2.2)
 
@@ -501,17 +473,14 @@ puts-loose s before now place sound room writing others stands = record {
 -- ---- a write id that wasn't given
 
 pub new-ids-bare : NewIdsHaveNoFile
-new-ids-bare s files place table statement sound room stands at dir = by (tree.get files place) refl
+new-ids-bare s files place table deletes statement sound room stands at dir = by (tree.get files place) refl
   where
-    next : ℕ
-    next = length table.owners + 1
-
-    not_given : (write txn : ℕ) → numbered table.owners write ≡ Some txn → (number : ℕ) → place.dir ≡ own_name write number → ⊥
-    not_given write txn owner number is =
+    not_given : (write txn : ℕ) → numbered table.owners write ≡ Some txn → (kind : Bool) (number : ℕ) → place.dir ≡ own_dir kind write number → ⊥
+    not_given write txn owner kind number is =
         let few = all-numbered (HasFewOwners s.entries) s.tables place.table.0 table at sound.tables.few in
         let within = numbered-within table.owners write txn owner in
-        let same : write ≡ length table.owners + 1 =
-        own_name-same write (length table.owners + 1) number statement (omega (arith, within.1, few, room)) (omega (arith, few, room)) (sym is ∙ dir) in
+        let same_name = own_dir-same kind deletes write number (length table.owners + 1) statement (omega (arith, within.1, few, room)) (omega (arith, few, room)) (sym is ∙ dir) in
+        let same : write ≡ length table.owners + 1 = same_name.1 in
         omega (arith, same, within.1)
 
     by : (o : Option (List ℕ)) → tree.get files place ≡ o → tree.get files place ≡ None
@@ -523,52 +492,65 @@ new-ids-bare s files place table statement sound room stands at dir = by (tree.g
             let loose = stands.other place bytes is none in
             let same : loose.own.table ≡ table = same_one (numbered s.tables place.table.0) loose.own.table table loose.own.is at in
             absurd (not_given loose.own.write loose.txn (subst (λ (t : Table). numbered t.owners loose.own.write ≡ Some loose.txn) same loose.own.owner)
-            loose.own.statement loose.own.dir)
+            loose.own.deletes loose.own.statement loose.own.dir)
         or (Some made) some =
             let here = made-of-table s.tables place made some in
             let same : here.0 ≡ table = same_one (numbered s.tables place.table.0) here.0 table here.1 at in
             let each = all-numbered (AreOfCommitted (map ending_of s.transactions)) s.tables place.table.0 table at sound.committed in
             let write = file-write (IsOfCommitted (map ending_of s.transactions) table.owners) table.writes place.dir made
             (subst (λ (t : Table). file_in t.writes place.dir ≡ Some made) same (made-file here.0 place made here.2)) each in
-            absurd (not_given write.0.write write.2.0 write.2.1 0 (sym write.1))
+            absurd (not_given write.0.write write.2.0 write.2.1 write.1.deletes 0 write.1.dir_is)
 
 -- ---- the files of what was committed
 
+abbrev FilesIn : List Written → Written → Type 0
+FilesIn writes written = (deletes : Bool) → file_in writes (own_dir deletes written.write 0) ≡ commit_file deletes written
+
 -- the first of that name
-file-in-own : (endings : List (Option Ending)) (owners : List ℕ) (most : ℕ) → length owners ≤ most → most < write_end
-    → (writes : List Written) → AreApart writes → AllByRecursion (IsOfCommitted endings owners) writes
-    → AllByRecursion (λ (written : Written). file_in writes (own_name written.write 0) ≡ Some (file_of written)) writes
-file-in-own endings owners most few room [] apart each = tt
-file-in-own endings owners most few room (first ∷ writes) apart each = (
-  ap (λ b. cond b (Some (file_of first)) (file_in writes (own_name first.write 0))) ((bytes_decides (own_name first.write 0) (own_name first.write 0)).1 refl),
-  behind writes apart.0 each.1 (file-in-own endings owners most few room writes apart.1 each.1),
-)
+files-in-own : (endings : List (Option Ending)) (owners : List ℕ) (most : ℕ) → length owners ≤ most → most < write_end
+    → (writes : List Written) → AreApart writes → AllByRecursion (IsOfCommitted endings owners) writes → AllByRecursion (FilesIn writes) writes
+files-in-own endings owners most few room [] apart each = tt
+files-in-own endings owners most few room (first ∷ writes) apart each =
+    (here, behind writes apart.0 each.1 (files-in-own endings owners most few room writes apart.1 each.1))
   where
     small : (written : Written) → IsOfCommitted endings owners written → written.write < write_end
     small written is = let within = numbered-within owners written.write is.0 is.1 in omega (arith, within.1, few, room)
 
-    skips : (written : Written) → IsOfCommitted endings owners written → HasOther first.write written → file_in writes (own_name written.write 0) ≡ Some (file_of written)
-        → file_in (first ∷ writes) (own_name written.write 0) ≡ Some (file_of written)
-    skips written is other h = by (either (pointwise nat_eq (own_name first.write 0) (own_name written.write 0)))
-      where
-        by : (pointwise nat_eq (own_name first.write 0) (own_name written.write 0) ≡ true) ⊎ (pointwise nat_eq (own_name first.write 0) (own_name written.write 0) ≡ false)
-            → file_in (first ∷ writes) (own_name written.write 0) ≡ Some (file_of written)
-        by (inl same) =
-            absurd (other (sym (own_name-same first.write written.write 0 0 (small first each.0) (small written is)
-            ((bytes_decides (own_name first.write 0) (own_name written.write 0)).0 same))))
-        by (inr differs) = ap (λ b. cond b (Some (file_of first)) (file_in writes (own_name written.write 0))) differs ∙ h
+    none_behind : (dir : List ℕ) (later : List Written) → AllByRecursion (λ (written : Written). file_at written dir ≡ None) later → file_in later dir ≡ None
+    none_behind dir [] h = refl
+    none_behind dir (written ∷ later) h = (λ i. first_known (h.0 i) (none_behind dir later h.1 i))
+
+    others : (deletes : Bool) (later : List Written) → AllByRecursion (HasOther first.write) later → AllByRecursion (IsOfCommitted endings owners) later
+        → AllByRecursion (λ (written : Written). file_at written (own_dir deletes first.write 0) ≡ None) later
+    others deletes [] other is = tt
+    others deletes (written ∷ later) other is =
+        (made-not written deletes first.write 0 (small written is.0) (small first each.0) other.0, others deletes later other.1 is.1)
+
+    first_or : (o file : Option (List ℕ)) → o ≡ file → first_known o None ≡ file
+    first_or None file e = e
+    first_or (Some x) file e = e
+
+    here : FilesIn (first ∷ writes) first
+    here deletes =
+        ap (first_known (file_at first (own_dir deletes first.write 0))) (none_behind (own_dir deletes first.write 0) writes (others deletes writes apart.0 each.1))
+        ∙ first_or (file_at first (own_dir deletes first.write 0)) (commit_file deletes first) (made-own first deletes (small first each.0))
+
+    skips : (written : Written) → IsOfCommitted endings owners written → HasOther first.write written → FilesIn writes written → FilesIn (first ∷ writes) written
+    skips written is other h deletes =
+        ap (λ o. first_known o (file_in writes (own_dir deletes written.write 0)))
+        (made-not first deletes written.write 0 (small first each.0) (small written is) (λ same. other (sym same)))
+        ∙ h deletes
 
     behind : (later : List Written) → AllByRecursion (HasOther first.write) later → AllByRecursion (IsOfCommitted endings owners) later
-        → AllByRecursion (λ (written : Written). file_in writes (own_name written.write 0) ≡ Some (file_of written)) later
-        → AllByRecursion (λ (written : Written). file_in (first ∷ writes) (own_name written.write 0) ≡ Some (file_of written)) later
+        → AllByRecursion (FilesIn writes) later → AllByRecursion (FilesIn (first ∷ writes)) later
     behind [] other is h = tt
     behind (written ∷ later) other is h = (skips written is.0 other.0 h.0, behind later other.1 is.1 h.1)
 
 pub commits-have-files : CommitsHaveFiles
-unfolding made_at
+unfolding made_at commit_file
 commits-have-files s files k table sound room stands at =
-    all-joined table.writes each.each (all-numbered AreEncoded s.tables k table at stands.encoded)
-    (file-in-own (map ending_of s.transactions) table.owners s.entries few room table.writes each.apart committed)
+    all-filed table.writes committed (all-numbered AreEncoded s.tables k table at stands.encoded)
+    (files-in-own (map ending_of s.transactions) table.owners s.entries few room table.writes each.apart committed)
   where
     each : HasSoundWrites table
     each = all-numbered HasSoundWrites s.tables k table at sound.tables.written
@@ -579,14 +561,31 @@ commits-have-files s files k table sound room stands at =
     committed : AreOfCommitted (map ending_of s.transactions) table
     committed = all-numbered (AreOfCommitted (map ending_of s.transactions)) s.tables k table at sound.committed
 
-    all-joined : (writes : List Written) → AllByRecursion IsPlainWrite writes → AllByRecursion IsEncoded writes
-        → AllByRecursion (λ (written : Written). file_in table.writes (own_name written.write 0) ≡ Some (file_of written)) writes
-        → AllByRecursion (HasItsFile files k) writes
-    all-joined [] plain encoded found = tt
-    all-joined (written ∷ writes) plain encoded found = (
-      (
-        record { deletes = plain.0.deletes; whole = plain.0.whole; file = encoded.0 },
-        stands.made (own_place k written.write) (file_of written) (ap (λ o. made_in o (own_place k written.write)) at ∙ found.0),
-      ),
-      all-joined writes plain.1 encoded.1 found.1,
+    -- what stands in an own directory of a committed write id
+    there : (written : Written) (txn : ℕ) → numbered table.owners written.write ≡ Some txn → IsDone (numbered (map ending_of s.transactions) txn) → (deletes : Bool)
+        → (o : Option (List ℕ)) → made_at s.tables (own_place deletes k written.write) ≡ o → tree.get files (own_place deletes k written.write) ≡ o
+    there written txn owner done deletes (Some bytes) made = stands.made (own_place deletes k written.write) bytes made
+    there written txn owner done deletes None unmade = by (tree.get files (own_place deletes k written.write)) refl
+      where
+        by : (o : Option (List ℕ)) → tree.get files (own_place deletes k written.write) ≡ o → tree.get files (own_place deletes k written.write) ≡ None
+        by None is = is
+        by (Some bytes) is =
+            let loose = stands.other (own_place deletes k written.write) bytes is unmade in
+            let same : loose.own.table ≡ table = same_one (numbered s.tables k) loose.own.table table loose.own.is at in
+            let owned_ : numbered table.owners loose.own.write ≡ Some loose.txn = subst (λ (t : Table). numbered t.owners loose.own.write ≡ Some loose.txn) same loose.own.owner in
+            let first = few-ids s sound k written.write txn table at owner in
+            let second = few-ids s sound k loose.own.write loose.txn table at owned_ in
+            let same_name = own_dir-same deletes loose.own.deletes written.write 0 loose.own.write loose.own.statement (omega (arith, first, room)) (omega (arith, second, room)) loose.own.dir in
+            let by_same : txn ≡ loose.txn = same_one (numbered table.owners loose.own.write) txn loose.txn (ap (numbered table.owners) (sym same_name.1) ∙ owner) owned_ in
+            absurd (done-undone (numbered (map ending_of s.transactions) loose.txn) (subst (λ n. IsDone (numbered (map ending_of s.transactions) n)) by_same done) loose.undone)
+
+    all-filed : (writes : List Written) → AllByRecursion (IsOfCommitted (map ending_of s.transactions) table.owners) writes → AllByRecursion IsEncoded writes
+        → AllByRecursion (FilesIn table.writes) writes → AllByRecursion (HasItsFiles files k) writes
+    all-filed [] is encoded found = tt
+    all-filed (written ∷ writes) is encoded found = (
+      λ deletes. record {
+        encoded = encoded.0 deletes;
+        file_is = there written is.0.0 is.0.1 is.0.2 deletes (commit_file deletes written) (ap (λ o. made_in o (own_place deletes k written.write)) at ∙ found.0 deletes);
+      },
+      all-filed writes is.1 encoded.1 found.1,
     )

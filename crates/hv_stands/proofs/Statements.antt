@@ -1,6 +1,5 @@
 -- The files that stand behind a whole statement.
-use Rattle.std.proofs.Common.{refl, ◌≡◌, ℕ, ◌+◌, ◌<◌, ◌==◌, ◌&&◌, ◌⊎◌, inl, inr, nat_eq, Bool, true, false, cond, Option, Some, None, List, [], ◌∷◌, ◌++◌, length, map, fold, option_map, sym, ap, ◌∙◌, subst, arith, eqb-true}
-use Rattle.std.specs.Cmp.Lexicographic.{pointwise, bytes_decides}
+use Rattle.std.proofs.Common.{refl, ◌≡◌, ℕ, ◌+◌, ◌<◌, ◌==◌, ◌&&◌, ◌⊎◌, inl, inr, Bool, true, false, cond, Option, Some, None, List, [], ◌∷◌, ◌++◌, length, map, fold, option_map, sym, ap, ◌∙◌, subst, arith, eqb-true}
 use Rattle.std.specs.Ordering.{eq_by_cmp}
 use Rattle.std.specs.List.{AllByRecursion}
 use Rattle.std.specs.FinMap as tree
@@ -13,7 +12,6 @@ use Rattle.hv_logic.specs.declared.catalog.TableInfo.{TableInfo}
 use Rattle.hv_logic.specs.declared.effect.Effect.{Effect}
 use Rattle.hv_logic.specs.declared.meaning.Meaning.{Meaning}
 use Rattle.hv_logic.specs.declared.meaning.Meaning.TheVariants.{Change}
-use Rattle.hv_rowfile.specs.Layout.{IsFile}
 use Rattle.hv_history.specs.declared.entry.Entry.{Entry}
 use Rattle.hv_history.specs.declared.entry.Entry.TheVariants as entry
 use Rattle.hv_history.specs.declared.state.Written.{Written}
@@ -22,18 +20,19 @@ use Rattle.hv_history.specs.declared.state.Ending.TheVariants.{Committed}
 use Rattle.hv_history.specs.declared.state.Transaction.{Transaction}
 use Rattle.hv_history.specs.State.{State, writes_of, nothing_yet, numbered, changed, given_in, written_by, owned, made_by, meaning_in, acted, after, state_of}
 use Rattle.hv_history.specs.Legal.{Fits, IsLegalFrom, profile}
-use Rattle.hv_dirs.specs.Names.{own_name, write_end}
-use Rattle.hv_stands.specs.Files.{records_of, file_of, own_place, file_in, made_in, made_at, ending_of, IsOwn, IsEncoded, AreEncoded, Stands, IsFiled}
-use Rattle.hv_stands.specs.Sound.{given_of, owners_of, given_among, owner_among, IsSound, IsIdle}
+use Rattle.hv_dirs.specs.Names.{write_end}
+use Rattle.hv_stands.specs.Files.{commit_file, own_dir, own_place, file_at, file_in, made_in, made_at, ending_of, IsOwn, IsEncoded, AreEncoded, Stands, IsFiled, with_file}
+use Rattle.hv_stands.specs.Sound.{HasFewOwners, given_of, owners_of, given_among, owner_among, IsSound, IsIdle}
 use Rattle.hv_stands.specs.Endings.{next_number, opening, starting, statement_entries}
-use Rattle.hv_stands.specs.Laws.{meant, committing, inserting, tables_inserted, IsQuiet, QuietStatementsStand, inserting_ends, InsertedFilesStand}
+use Rattle.hv_stands.specs.Laws.{meant, committing, changing, tables_changed, IsQuiet, QuietStatementsStand, changing_ends, ChangedFilesStand}
 use Rattle.hv_stands.proofs.Numbers.{one_value, none_is, either, changed-here, numbered-map, numbered-last}
-use Rattle.hv_stands.proofs.Soundness.{all-numbered, all-more, all-changed, inserted_to, tables_inserted-once}
+use Rattle.hv_stands.proofs.Soundness.{all-numbered, all-more, all-changed, changed_by, tables_changed-once}
 use Rattle.hv_stands.proofs.Keeping.{sound-after}
-use Rattle.hv_stands.proofs.StandingFiles.{stands-after, puts-loose, new-ids-bare, kept-none, same-place, other-place, file-or-last, made-file}
+use Rattle.hv_stands.proofs.StandingFiles.{stands-after, puts-loose, new-ids-bare, kept-none, same-place, place-tied, other-place, made-file}
+use Rattle.hv_stands.proofs.MadeFiles.{own_dir-same, made-by, made-own, file-or-last, file-last}
 use Rattle.hv_stands.proofs.Endings.{with_last, next_of, running, behind_opened, behind_start, fold-append, opened-behind, started-behind, meaning-started}
 use Rattle.hv_stands.proofs.Queries.{idle-behind}
-use Rattle.hv_stands.proofs.Inserts.{given-behind, inserted-behind}
+use Rattle.hv_stands.proofs.Changes.{given-behind, changed-behind}
 
 -- ---- a transaction without a write id has no directory
 
@@ -115,18 +114,7 @@ module _ (book : List Entry) (number : ℕ) (text : List ℕ) where
 pub quiet-statements-stand : QuietStatementsStand
 quiet-statements-stand book number text event files idle quiet legal stands = quiet-stands book number text event files idle quiet legal stands
 
--- ---- an insert
-
--- the file of a write behind others with other names
-file-last : (writes : List Written) (written : Written) (dir : List ℕ) → pointwise nat_eq (own_name written.write 0) dir ≡ true
-    → ((bytes : List ℕ) → file_in writes dir ≡ Some bytes → ⊥) → file_in (writes ++ written ∷ []) dir ≡ Some (file_of written)
-file-last [] written dir is none = ap (λ b. cond b (Some (file_of written)) None) is
-file-last (first ∷ writes) written dir is none = by (pointwise nat_eq (own_name first.write 0) dir) (file-last writes written dir is) none
-  where
-    by : (b : Bool) → (((bytes : List ℕ) → file_in writes dir ≡ Some bytes → ⊥) → file_in (writes ++ written ∷ []) dir ≡ Some (file_of written)) → ((bytes : List ℕ) → cond b (Some (file_of first)) (file_in writes dir) ≡ Some bytes → ⊥)
-        → cond b (Some (file_of first)) (file_in (writes ++ written ∷ []) dir) ≡ Some (file_of written)
-    by true rest none = absurd (none (file_of first) refl)
-    by false rest none = rest none
+-- ---- a change
 
 zero-length : (xs : List ℕ) → (length xs == 0) ≡ true → xs ≡ []
 zero-length [] e = refl
@@ -159,11 +147,21 @@ put-others old place bytes other apart =
     by (inl same) = absurd (apart (same-place other place same))
     by (inr apart) = ap (λ b. cond b (Some bytes) (tree.get old other)) apart
 
+-- the file at a place, where there is one
+with-others : (old : Tree) (place : Place) (file : Option (List ℕ)) (other : Place) → (other ≡ place → ⊥) → tree.get (with_file old place file) other ≡ tree.get old other
+with-others old place None other apart = refl
+with-others old place (Some bytes) other apart = put-others old place bytes other apart
+
+with-here : (old : Tree) (place : Place) (file : Option (List ℕ)) → tree.get old place ≡ None → tree.get (with_file old place file) place ≡ file
+with-here old place None bare = bare
+with-here old place (Some bytes) bare =
+    tree.get-insert place_total old place bytes place ∙ ap (λ b. cond b (Some bytes) (tree.get old place)) (place-tied place)
+
 module _ (book : List Entry) (number : ℕ) (text : List ℕ) (said : Stmt) (info : TableInfo) (effect : Effect) (table : Table) (old : Tree)
     (idle : IsIdle (state_of book)) (room : (state_of book).entries + 4 < write_end) (runs : Runs text said) (means : meant book said ≡ Some (Change info effect))
     (at : numbered (state_of book).tables info.table.0 ≡ Some table)
-    (legal : IsLegalFrom profile (state_of book) (statement_entries book number text (inserting_ends book info effect (length table.owners + 1))))
-    (encoded : IsFile false 0 (records_of (written_by (length table.owners + 1) 0 effect).inserts)) (stands : Stands (state_of book) old) where
+    (legal : IsLegalFrom profile (state_of book) (statement_entries book number text (changing_ends book info effect (length table.owners + 1))))
+    (encoded : IsEncoded (written_by (length table.owners + 1) 0 effect)) (stands : Stands (state_of book) old) where
   abbrev st : State
   st = state_of book
 
@@ -179,11 +177,22 @@ module _ (book : List Entry) (number : ℕ) (text : List ℕ) (said : Stmt) (inf
   abbrev written : Written
   written = written_by w 0 effect
 
-  abbrev place_w : Place
-  place_w = own_place k w
+  abbrev place_w : Bool → Place
+  place_w deletes = own_place deletes k w
+
+  abbrev first : Tree
+  first = with_file old (place_w false) (commit_file false written)
 
   abbrev new : Tree
-  new = tree.insert old place_w (file_of written)
+  new = with_file first (place_w true) (commit_file true written)
+
+  small : w < write_end
+  small = let few = all-numbered (HasFewOwners st.entries) st.tables k table at idle.sound.tables.few in omega (arith, few, room)
+
+  kinds-apart : place_w false ≡ place_w true → ⊥
+  kinds-apart same =
+      let kinds = own_dir-same false true w 0 w 0 small small (ap (λ (p : Place). p.dir) same) in
+      let never : false ≡ true = kinds.0 in cc
 
   abbrev meaning_now : Option Meaning
   meaning_now = Some (Change info effect)
@@ -199,7 +208,7 @@ module _ (book : List Entry) (number : ℕ) (text : List ℕ) (said : Stmt) (inf
   given = with_last st (st.entries + 1 + 1 + 1) tables_given t
 
   event : Entry
-  event = committing book (inserting info effect ∷ [])
+  event = committing book (changing info effect ∷ [])
 
   started : after (after st (opening book number text)) (starting book) ≡ behind_start st number text meaning_now
   started =
@@ -230,10 +239,11 @@ module _ (book : List Entry) (number : ℕ) (text : List ℕ) (said : Stmt) (inf
   here = changed-here (owned n) st.tables k table at
 
   -- its own directories
-  own : IsOwn tables_given n place_w
-  own = record {
+  own : (deletes : Bool) → IsOwn tables_given n (place_w deletes)
+  own deletes = record {
     table = owned n table;
     is = here;
+    deletes = deletes;
     write = w;
     statement = 0;
     dir = refl;
@@ -246,8 +256,10 @@ module _ (book : List Entry) (number : ℕ) (text : List ℕ) (said : Stmt) (inf
 
   stands-put : IsGiven → Stands given new
   stands-put is =
-      puts-loose given old new place_w is.sound (omega (arith, room)) (record { txn = n; own = own; unended = unended })
-      (λ other apart. put-others old place_w (file_of written) other apart) is.stands_old
+      puts-loose given first new (place_w true) is.sound (omega (arith, room)) (record { txn = n; own = own true; unended = unended })
+      (λ other apart. with-others first (place_w true) (commit_file true written) other apart)
+      (puts-loose given old first (place_w false) is.sound (omega (arith, room)) (record { txn = n; own = own false; unended = unended })
+      (λ other apart. with-others old (place_w false) (commit_file false written) other apart) is.stands_old)
 
   -- no other place is in them
   given-only : (table_number write : ℕ) → given_in table_number ((k, w) ∷ []) ≡ Some write → (table_number ≡ k) × (write ≡ w)
@@ -264,100 +276,117 @@ module _ (book : List Entry) (number : ℕ) (text : List ℕ) (said : Stmt) (inf
       ∙ is.sound.given.is_given n place.table.0 o.write
       (ap (λ x. owner_among x o.write) (numbered-map owners_of tables_given place.table.0 ∙ ap (option_map owners_of) o.is) ∙ o.owner))
 
-  bare : (place : Place) (statement : ℕ) → place.table.0 ≡ k → place.dir ≡ own_name w statement → tree.get old place ≡ None
-  bare place statement of dir =
-      new-ids-bare st old place table statement idle.sound (omega (arith, room)) stands (ap (numbered st.tables) of ∙ at) dir
+  bare : (place : Place) (deletes : Bool) (statement : ℕ) → place.table.0 ≡ k → place.dir ≡ own_dir deletes w statement → tree.get old place ≡ None
+  bare place deletes statement of dir =
+      new-ids-bare st old place table deletes statement idle.sound (omega (arith, room)) stands (ap (numbered st.tables) of ∙ at) dir
 
   abbrev tables_now : List Table
-  tables_now = tables_inserted st.tables n k written
+  tables_now = tables_changed st.tables n k written
 
-  then : after given (committing book (inserting info effect ∷ []))
+  then : after given (committing book (changing info effect ∷ []))
       ≡ with_last st (st.entries + 1 + 1 + 1 + 1) tables_now
-      (running st number text meaning_now (writes_of meaning_now 0 ((k, w) ∷ [])) ((k, w) ∷ []) (Some (Committed (st.entries + 1 + 1 + 1) (inserting info effect ∷ []))))
-  then = ap (λ x. after x (committing book (inserting info effect ∷ []))) (sym (given-behind st number text meaning_now info w)) ∙ inserted-behind st number text info effect w
+      (running st number text meaning_now (writes_of meaning_now 0 ((k, w) ∷ [])) ((k, w) ∷ []) (Some (Committed (st.entries + 1 + 1 + 1) (changing info effect ∷ []))))
+  then = ap (λ x. after x (committing book (changing info effect ∷ []))) (sym (given-behind st number text meaning_now info w)) ∙ changed-behind st number text info effect w
 
-  now-at : (place : Place) → place.table.0 ≡ k → made_at tables_now place ≡ made_in (Some (inserted_to n written table)) place
+  now-at : (place : Place) → place.table.0 ≡ k → made_at tables_now place ≡ made_in (Some (changed_by n written table)) place
   unfolding made_at
   now-at place of =
-      ap (λ ts. made_in (numbered ts place.table.0) place) (tables_inserted-once st.tables n k written)
-      ∙ ap (λ o. made_in o place) (ap (numbered (changed (inserted_to n written) st.tables k)) of ∙ changed-here (inserted_to n written) st.tables k table at)
+      ap (λ ts. made_in (numbered ts place.table.0) place) (tables_changed-once st.tables n k written)
+      ∙ ap (λ o. made_in o place) (ap (numbered (changed (changed_by n written) st.tables k)) of ∙ changed-here (changed_by n written) st.tables k table at)
 
   -- no earlier write has the name
-  no-earlier : (place : Place) (statement : ℕ) → place.table.0 ≡ k → place.dir ≡ own_name w statement → place.partition ≡ [] → place.bucket ≡ 0
+  no-earlier : (place : Place) (deletes : Bool) (statement : ℕ) → place.table.0 ≡ k → place.dir ≡ own_dir deletes w statement → place.partition ≡ [] → place.bucket ≡ 0
       → (bytes : List ℕ) → file_in table.writes place.dir ≡ Some bytes → ⊥
   unfolding made_at
-  no-earlier place statement of dir whole first bytes e =
+  no-earlier place deletes statement of dir whole first_one bytes e =
       let test : (length place.partition == 0) && (place.bucket == 0) ≡ true =
-      (λ i. (length (whole i) == 0) && (first i == 0)) in
+      (λ i. (length (whole i) == 0) && (first_one i == 0)) in
       let made : made_at st.tables place ≡ Some bytes =
       ap (λ o. made_in o place) (ap (numbered st.tables) of ∙ at)
       ∙ ap (λ b. cond b (file_in table.writes place.dir) None) test ∙ e in
-      none_is (tree.get old place) bytes (bare place statement of dir) (stands.made place bytes made)
+      none_is (tree.get old place) bytes (bare place deletes statement of dir) (stands.made place bytes made)
 
-  made-here : made_at tables_now place_w ≡ Some (file_of written)
-  made-here =
-      now-at place_w refl
-      ∙ file-last table.writes written (own_name w 0) ((bytes_decides (own_name w 0) (own_name w 0)).1 refl)
-      (λ bytes e. no-earlier place_w 0 refl refl refl refl bytes e)
+  made-here : (deletes : Bool) → made_at tables_now (place_w deletes) ≡ commit_file deletes written
+  made-here deletes =
+      now-at (place_w deletes) refl
+      ∙ file-last table.writes written (own_dir deletes w 0)
+      (λ bytes e. no-earlier (place_w deletes) deletes 0 refl refl refl refl bytes e)
+      ∙ made-own written deletes small
+
+  put-here : (deletes : Bool) → tree.get new (place_w deletes) ≡ commit_file deletes written
+  put-here false =
+      with-others first (place_w true) (commit_file true written) (place_w false) kinds-apart
+      ∙ with-here old (place_w false) (commit_file false written) (bare (place_w false) false 0 refl refl)
+  put-here true =
+      with-here first (place_w true) (commit_file true written)
+      (with-others old (place_w false) (commit_file false written) (place_w true) (λ same. kinds-apart (sym same)) ∙ bare (place_w true) true 0 refl refl)
 
   whole-at : IsGiven → (place : Place) → IsOwn tables_given n place → tree.get new place ≡ made_at tables_now place
-  whole-at is place o = by (either (eq_by_cmp place_cmp place place_w))
+  whole-at is place o = by (either (eq_by_cmp place_cmp place (place_w false))) (either (eq_by_cmp place_cmp place (place_w true)))
     where
       both : (place.table.0 ≡ k) × (o.write ≡ w)
       both = own-is is place o
 
-      dir : place.dir ≡ own_name w o.statement
-      dir = o.dir ∙ ap (λ x. own_name x o.statement) both.1
+      dir : place.dir ≡ own_dir o.deletes w o.statement
+      dir = o.dir ∙ ap (λ x. own_dir o.deletes x o.statement) both.1
 
-      by : (eq_by_cmp place_cmp place place_w ≡ true) ⊎ (eq_by_cmp place_cmp place place_w ≡ false) → tree.get new place ≡ made_at tables_now place
-      by (inl same) =
-          tree.get-insert place_total old place_w (file_of written) place
-          ∙ ap (λ b. cond b (Some (file_of written)) (tree.get old place)) same
-          ∙ sym (ap (made_at tables_now) (same-place place place_w same) ∙ made-here)
-      by (inr apart) =
-          put-others old place_w (file_of written) place (other-place place place_w apart)
-          ∙ bare place o.statement both.0 dir ∙ sym (unmade (made_at tables_now place) refl)
+      at-own : (deletes : Bool) → place ≡ place_w deletes → tree.get new place ≡ made_at tables_now place
+      at-own deletes same = ap (tree.get new) same ∙ put-here deletes ∙ sym (ap (made_at tables_now) same ∙ made-here deletes)
+
+      by : (eq_by_cmp place_cmp place (place_w false) ≡ true) ⊎ (eq_by_cmp place_cmp place (place_w false) ≡ false)
+          → (eq_by_cmp place_cmp place (place_w true) ≡ true) ⊎ (eq_by_cmp place_cmp place (place_w true) ≡ false)
+          → tree.get new place ≡ made_at tables_now place
+      by (inl same) second = at-own false (same-place place (place_w false) same)
+      by (inr apart) (inl same) = at-own true (same-place place (place_w true) same)
+      by (inr apart) (inr apart_too) =
+          with-others first (place_w true) (commit_file true written) place (other true)
+          ∙ with-others old (place_w false) (commit_file false written) place (other false)
+          ∙ bare place o.deletes o.statement both.0 dir ∙ sym (unmade (made_at tables_now place) refl)
         where
+          other : (deletes : Bool) → place ≡ place_w deletes → ⊥
+          other false same = other-place place (place_w false) apart same
+          other true same = other-place place (place_w true) apart_too same
+
           unmade : (x : Option (List ℕ)) → made_at tables_now place ≡ x → made_at tables_now place ≡ None
           unmade None e = e
           unmade (Some bytes) e =
-              let made : made_in (Some (inserted_to n written table)) place ≡ Some bytes = sym (now-at place both.0) ∙ e in
+              let made : made_in (Some (changed_by n written table)) place ≡ Some bytes = sym (now-at place both.0) ∙ e in
               let plain = made-plain (file_in (table.writes ++ written ∷ []) place.dir) place bytes made in
-              or plain (file-or-last table.writes written place.dir bytes (made-file (inserted_to n written table) place bytes made))
+              or plain (file-or-last table.writes written place.dir bytes (made-file (changed_by n written table) place bytes made))
             where
-              or : (place.partition ≡ []) × (place.bucket ≡ 0)
-                  → (file_in table.writes place.dir ≡ Some bytes) ⊎ ((pointwise nat_eq (own_name w 0) place.dir ≡ true) × (bytes ≡ file_of written))
+              or : (place.partition ≡ []) × (place.bucket ≡ 0) → (file_in table.writes place.dir ≡ Some bytes) ⊎ (file_at written place.dir ≡ Some bytes)
                   → made_at tables_now place ≡ None
-              or plain (inl earlier) = absurd (no-earlier place o.statement both.0 dir plain.0 plain.1 bytes earlier)
+              or plain (inl earlier) = absurd (no-earlier place o.deletes o.statement both.0 dir plain.0 plain.1 bytes earlier)
               or plain (inr last) =
-                  let same : place ≡ place_w =
+                  let is_made = made-by written place.dir bytes last in
+                  let same : place ≡ place_w is_made.deletes =
                   λ i. record {
                     table = record { 0 = both.0 i };
                     partition = plain.0 i;
-                    dir = sym ((bytes_decides (own_name w 0) place.dir).0 last.0) i;
+                    dir = is_made.dir_is i;
                     bucket = plain.1 i;
                   } in
-                  absurd (other-place place place_w apart same)
+                  absurd (other is_made.deletes same)
 
   all-encoded : AllByRecursion AreEncoded tables_now
   all-encoded =
-      subst (AllByRecursion AreEncoded) (sym (tables_inserted-once st.tables n k written))
-      (all-changed AreEncoded AreEncoded (inserted_to n written) st.tables k table at (λ t h. h)
+      subst (AllByRecursion AreEncoded) (sym (tables_changed-once st.tables n k written))
+      (all-changed AreEncoded AreEncoded (changed_by n written) st.tables k table at (λ t h. h)
       (λ h. all-more IsEncoded table.writes written h encoded) stands.encoded)
 
-  inserted-stand : Stands (state_of (book ++ statement_entries book number text (inserting_ends book info effect w))) new
-  inserted-stand =
+  changed-stand : Stands (state_of (book ++ statement_entries book number text (changing_ends book info effect w))) new
+  changed-stand =
       let is = is-given in
-      let fits : Fits profile given (committing book (inserting info effect ∷ [])) = subst (λ x. Fits profile x (committing book (inserting info effect ∷ []))) gave legal.fit.1.1.1.0 in
-      let filed : IsFiled (committing book (inserting info effect ∷ [])) given new = record {
+      let fits : Fits profile given (committing book (changing info effect ∷ [])) = subst (λ x. Fits profile x (committing book (changing info effect ∷ []))) gave legal.fit.1.1.1.0 in
+      let filed : IsFiled (committing book (changing info effect ∷ [])) given new = record {
         whole = λ place o. whole-at is place o ∙ ap (λ (x : State). made_at x.tables place) (sym then);
         encoded = subst (λ (x : State). AllByRecursion AreEncoded x.tables) (sym then) all-encoded;
       } in
       subst (λ x. Stands x new)
-      (sym (fold-append after nothing_yet book (statement_entries book number text (inserting_ends book info effect w))
-      ∙ ap (λ x. after x (committing book (inserting info effect ∷ []))) gave))
-      (stands-after profile given (committing book (inserting info effect ∷ [])) new fits is.sound filed (stands-put is))
+      (sym (fold-append after nothing_yet book (statement_entries book number text (changing_ends book info effect w))
+      ∙ ap (λ x. after x (committing book (changing info effect ∷ []))) gave))
+      (stands-after profile given (committing book (changing info effect ∷ [])) new fits is.sound filed (stands-put is))
 
-pub inserted-files-stand : InsertedFilesStand
-inserted-files-stand book number text said info effect table old idle room runs means at legal encoded stands =
-    inserted-stand book number text said info effect table old idle room runs means at legal encoded stands
+pub changed-files-stand : ChangedFilesStand
+changed-files-stand book number text said info effect table old idle room runs means at legal encoded stands =
+    changed-stand book number text said info effect table old idle room runs means at legal encoded stands

@@ -1,5 +1,5 @@
 -- The table that a statement names is one of the book's, and what a statement sees of it is what stands there.
-use Rattle.std.proofs.Common.{refl, ◌≡◌, ℕ, suc, ◌+◌, nat_eq, Bool, true, false, cond, IsTrue, Option, Some, None, List, [], ◌∷◌, map, filter, option_map, sym, ap, ◌∙◌, subst, arith}
+use Rattle.std.proofs.Common.{refl, ◌≡◌, ℕ, suc, ◌+◌, nat_eq, Bool, true, false, cond, IsTrue, Option, Some, None, List, [], ◌∷◌, map, filter, option_map, sym, ap, ◌∙◌, subst, arith, ◌≤◌, length}
 use Rattle.std.specs.Cmp.Lexicographic.{pointwise}
 use Rattle.std.specs.List.{slice_get, AllByRecursion}
 use Rattle.hv_ast.specs.declared.statement.Stmt.{Stmt}
@@ -9,12 +9,12 @@ use Rattle.hv_logic.specs.declared.seen.Seen.{Seen}
 use Rattle.hv_logic.specs.declared.meaning.Meaning.TheVariants.{Change}
 use Rattle.hv_logic.specs.Tables.{named}
 use Rattle.hv_meaning.specs.Meaning.{meaning_of}
-use Rattle.hv_meaning.proofs.Meanings.{changes-named}
 use Rattle.hv_history.specs.declared.state.Table.{Table}
-use Rattle.hv_history.specs.State.{state_of, numbered, seen_table, seen_tables}
+use Rattle.hv_history.specs.State.{state_of, numbered, content_of, seen_table, seen_tables}
 use Rattle.hv_stands.specs.Sound.{IsLive, NumberedFrom}
 use Rattle.hv_stands.specs.Reading.{table_of_name}
 use Rattle.hv_stands.specs.Laws.{ChangedTableStands}
+use Rattle.hv_stands.proofs.Meanings.{ArePicked, changes-seen}
 
 -- ---- all tables are seen
 
@@ -78,30 +78,39 @@ named-numbered name tables table order e =
     let number : table.info.table.0 ≡ suc at.place = omega (arith, at.number) in
     ap (numbered tables) number ∙ at.here
 
--- ---- a change is of the table of the insert's name
+-- ---- a change is of one of the book's tables, and deletes rows that stand in it
 
 -- the table of that description
 abbrev pub HasTable : TableInfo → List Table → Type 0
 HasTable info tables = (table : Table) × (numbered tables info.table.0 ≡ Some table) × (table.info ≡ info)
 
-module _ (tables : List Table) (live : AllByRecursion IsLive tables) (order : NumberedFrom 1 tables) where
+pub record ChangesTable (tables : List Table) (info : TableInfo) (effect : Effect) : Type 0 where
+  pub table : Table
+  pub here : numbered tables info.table.0 ≡ Some table
+  pub info_is : table.info ≡ info
+  pub deletes : ArePicked (content_of table.writes) effect.deletes
+
+module _ (tables : List Table) (live : AllByRecursion IsLive tables) (order : NumberedFrom 1 tables) (info : TableInfo) (effect : Effect) where
   found-table : (name : List ℕ) (o : Option Table) (seen : Seen) → table_of_name name tables ≡ o → option_map seen_table o ≡ Some seen
-      → HasTable seen.info tables
-  found-table name None seen found e = cc
-  found-table name (Some table) seen found e =
+      → info ≡ seen.info → ArePicked seen.rows effect.deletes → ChangesTable tables info effect
+  found-table name None seen found e same part = cc
+  found-table name (Some table) seen found e same part =
       let is : seen_table table ≡ seen = cc in
-      let info : table.info ≡ seen.info = ap (λ (s : Seen). s.info) is in
-      (table, ap (λ (i : TableInfo). numbered tables i.table.0) (sym info) ∙ named-numbered name tables table order found, info)
+      let own : table.info ≡ info = ap (λ (s : Seen). s.info) is ∙ sym same in
+      record {
+        table = table;
+        here = ap (λ (i : TableInfo). numbered tables i.table.0) (sym own) ∙ named-numbered name tables table order found;
+        info_is = own;
+        deletes = subst (λ (s : Seen). ArePicked s.rows effect.deletes) (sym is) part;
+      }
 
-  named-table : (name : List ℕ) (seen : Seen) → named name (seen_tables tables) ≡ Some seen → HasTable seen.info tables
-  named-table name seen e = found-table name (table_of_name name tables) seen refl (sym (named-seen name tables live) ∙ e)
-
-  pub changed-named : (tree : Stmt) (info : TableInfo) (effect : Effect) → meaning_of (seen_tables tables) tree ≡ Some (Change info effect)
-      → HasTable info tables
-  changed-named tree info effect e =
-      let change = changes-named tree (seen_tables tables) info effect e in
-      subst (λ (i : TableInfo). HasTable i tables) (sym change.info_is) (named-table change.name change.seen change.here)
+  pub changes-table : (tree : Stmt) → meaning_of (seen_tables tables) tree ≡ Some (Change info effect) → ChangesTable tables info effect
+  changes-table tree e =
+      let change = changes-seen tree (seen_tables tables) info effect e in
+      found-table change.name (table_of_name change.name tables) change.seen refl
+      (sym (named-seen change.name tables live) ∙ change.here) change.info_is change.deletes
 
 pub changed-table : ChangedTableStands
 changed-table book tree info effect idle e =
-    changed-named (state_of book).tables idle.sound.tables.live idle.sound.tables.in_order tree info effect e
+    let change = changes-table (state_of book).tables idle.sound.tables.live idle.sound.tables.in_order info effect tree e in
+    (change.table, change.here, change.info_is)

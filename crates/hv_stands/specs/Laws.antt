@@ -1,5 +1,5 @@
 -- What is proved of statements, one after another, and of the files that they leave.
-use Rattle.std.specs.Prelude.{◌≡◌, ◌⊎◌, ℕ, ◌+◌, ◌<◌, ◌≤◌, false, true, Option, Some, None, List, [], ◌∷◌, ◌++◌, length, map}
+use Rattle.std.specs.Prelude.{◌≡◌, ◌⊎◌, ℕ, ◌+◌, ◌<◌, ◌≤◌, Bool, false, true, Option, Some, None, List, [], ◌∷◌, ◌++◌, length, map}
 use Rattle.std.specs.List.{AllByRecursion}
 use Rattle.hv_base.specs.declared.ids.Touch.{Touch}
 use Rattle.std.specs.FinMap as tree
@@ -17,7 +17,7 @@ use Rattle.hv_logic.specs.declared.meaning.Meaning.{Meaning}
 use Rattle.hv_logic.specs.declared.meaning.Meaning.TheVariants.{Listing, Change, Make, Plain, RowLimit}
 use Rattle.hv_changes.specs.Columns.{columns_of}
 use Rattle.hv_meaning.specs.Meaning.{meaning_in, meaning_of}
-use Rattle.hv_rowfile.specs.Layout.{CanWrite, IsFile}
+use Rattle.hv_rowfile.specs.Layout.{CanWrite}
 use Rattle.hv_history.specs.declared.entry.Entry.{Entry}
 use Rattle.hv_history.specs.declared.entry.Entry.TheVariants as entry
 use Rattle.hv_history.specs.declared.entry.Cause.{Cause}
@@ -27,11 +27,11 @@ use Rattle.hv_history.specs.declared.state.Table.{Table}
 use Rattle.hv_history.specs.State.{State, after, state_of, numbered, changed, seen_tables, content_of, written_by, written_to, owned, new_table}
 use Rattle.hv_history.specs.Legal.{IsRefusedAs, Fits, IsLegalFrom, profile}
 use Rattle.hv_history.specs.Answers.{listing, counts_line, ok_line, cause_text}
-use Rattle.hv_dirs.specs.Names.{own_name, write_end}
-use Rattle.hv_stands.specs.Files.{records_of, file_of, own_place, ending_of, IsOwn, IsFiled, Stands}
-use Rattle.hv_stands.specs.Sound.{IsSound, IsIdle, IsWhole, HasSoundWrites, AreInserts}
+use Rattle.hv_dirs.specs.Names.{write_end}
+use Rattle.hv_stands.specs.Files.{records_of, HasRecords, own_dir, own_place, ending_of, IsOwn, IsEncoded, IsFiled, Stands, with_files}
+use Rattle.hv_stands.specs.Sound.{IsSound, IsIdle, HasSoundWrites}
 use Rattle.hv_stands.specs.Endings.{next_number, statement_entries, HasSpace, Goes}
-use Rattle.hv_stands.specs.Reading.{rows_from, IsRead, seen_read}
+use Rattle.hv_stands.specs.Reading.{rows_read, IsRead, seen_read}
 
 -- what a statement of this tree comes to behind a book
 abbrev pub meant : List Entry → Stmt → Option Meaning
@@ -85,43 +85,47 @@ TablesAreMade =
     (statement_entries book number text (entry.Create (record { 0 = next_number book }) (record { 0 = next_table book }) ∷ []))
     number text ok_line false ((state_of book).tables ++ made_table (next_table book) shape ∷ [])
 
--- the tables behind an insert under the next write id
-abbrev pub tables_inserted : List Table → ℕ → ℕ → Written → List Table
-tables_inserted tables txn number written = changed (written_to written) (changed (owned txn) tables number) number
+-- the tables behind a change under the next write id
+abbrev pub tables_changed : List Table → ℕ → ℕ → Written → List Table
+tables_changed tables txn number written = changed (written_to written) (changed (owned txn) tables number) number
 
-abbrev pub inserting : TableInfo → Effect → Touch
-inserting info effect = record { table = info.table; partition = []; inserted = length effect.inserts; deleted = 0 }
+abbrev pub changing : TableInfo → Effect → Touch
+changing info effect =
+    record { table = info.table; partition = []; inserted = length effect.inserts; deleted = length effect.deletes }
 
-abbrev pub RowsAreInserted : Type 0
-RowsAreInserted =
+-- how many rows it inserts and deletes
+abbrev pub changes_in : Effect → ℕ
+changes_in effect = length effect.inserts + length effect.deletes
+
+abbrev pub RowsAreChanged : Type 0
+RowsAreChanged =
     (book : List Entry) (number : ℕ) (text : List ℕ) (tree : Stmt) (info : TableInfo) (effect : Effect) (table : Table)
-    → IsIdle (state_of book) → HasSpace book → Runs text tree → meant book tree ≡ Some (Change info effect) → 0 < length effect.inserts
+    → IsIdle (state_of book) → HasSpace book → Runs text tree → meant book tree ≡ Some (Change info effect) → 0 < changes_in effect
     → numbered (state_of book).tables info.table.0 ≡ Some table
     → Goes book
     (statement_entries book number text
     (entry.Given (record { 0 = next_number book }) info.table (record { 0 = length table.owners + 1 })
-    ∷ committing book (inserting info effect ∷ []) ∷ []))
-    number text (counts_line (inserting info effect ∷ [])) false
-    (tables_inserted (state_of book).tables (next_number book) info.table.0 (written_by (length table.owners + 1) 0 effect))
+    ∷ committing book (changing info effect ∷ []) ∷ []))
+    number text (counts_line (changing info effect ∷ [])) false
+    (tables_changed (state_of book).tables (next_number book) info.table.0 (written_by (length table.owners + 1) 0 effect))
 
--- where there is nothing to insert no write id is given
-abbrev pub NothingIsInserted : Type 0
-NothingIsInserted =
+-- where no row is inserted or deleted no write id is given
+abbrev pub NothingIsChanged : Type 0
+NothingIsChanged =
     (book : List Entry) (number : ℕ) (text : List ℕ) (tree : Stmt) (info : TableInfo) (effect : Effect)
-    → IsIdle (state_of book) → HasSpace book → Runs text tree → meant book tree ≡ Some (Change info effect) → effect.inserts ≡ []
+    → IsIdle (state_of book) → HasSpace book → Runs text tree → meant book tree ≡ Some (Change info effect) → changes_in effect ≡ 0
     → Goes book (statement_entries book number text (committing book [] ∷ []))
     number text (counts_line []) false (state_of book).tables
 
 -- ---- rows and files
 
--- what a statement inserts can be written as a file
-abbrev pub InsertsCanBeWritten : Type 0
-InsertsCanBeWritten =
-    (book : List Entry) (tree : Stmt) (info : TableInfo) (effect : Effect) (write : ℕ)
-    → IsIdle (state_of book) → IsBuilt tree → meant book tree ≡ Some (Change info effect) → 1 ≤ write
+-- what a statement inserts and what it deletes can be written as files
+abbrev pub ChangesCanBeWritten : Type 0
+ChangesCanBeWritten =
+    (book : List Entry) (tree : Stmt) (info : TableInfo) (effect : Effect) (write : ℕ) (deletes : Bool)
+    → IsIdle (state_of book) → meant book tree ≡ Some (Change info effect) → 1 ≤ write
     → length (columns_of info.shape) ≤ 65535
-    → CanWrite false 0 (records_of (written_by write 0 effect).inserts)
-    × AllByRecursion IsWhole (written_by write 0 effect).inserts × (effect.deletes ≡ [])
+    → CanWrite deletes 0 (records_of deletes (written_by write 0 effect))
 
 -- the table of a change is one of the book's
 abbrev pub ChangedTableStands : Type 0
@@ -130,11 +134,12 @@ ChangedTableStands =
     → IsIdle (state_of book) → meant book tree ≡ Some (Change info effect)
     → (table : Table) × (numbered (state_of book).tables info.table.0 ≡ Some table) × (table.info ≡ info)
 
--- the rows of a table's write ids, one after another, are those that stand in it, in their order
+-- the rows of a table's write ids, one after another, without those that were deleted under them, are those that stand in
+-- it, in their order
 abbrev pub ReadRowsAreContent : Type 0
 ReadRowsAreContent =
     (lost : List ℕ) (given : ℕ) (table : Table) → HasSoundWrites table → AllByRecursion (IsRead lost given) table.writes
-    → rows_from lost table.writes 0 given ≡ content_of table.writes
+    → rows_read lost table.writes given ≡ content_of table.writes
 
 -- a statement means the same over the tables that it names, with their rows where it reads rows
 abbrev pub ReadingIsEnough : Type 0
@@ -176,21 +181,22 @@ FilesAreOfTables =
 -- the write id that is given next has no file yet
 abbrev pub NewIdsHaveNoFile : Type 0
 NewIdsHaveNoFile =
-    (state : State) (files : Tree) (place : Place) (table : Table) (statement : ℕ)
+    (state : State) (files : Tree) (place : Place) (table : Table) (deletes : Bool) (statement : ℕ)
     → IsSound state → state.entries + 1 < write_end → Stands state files → numbered state.tables place.table.0 ≡ Some table
-    → place.dir ≡ own_name (length table.owners + 1) statement → tree.get files place ≡ None
+    → place.dir ≡ own_dir deletes (length table.owners + 1) statement → tree.get files place ≡ None
 
-abbrev pub HasItsFile : Tree → ℕ → Written → Type 0
-HasItsFile files table written = AreInserts written × (tree.get files (own_place table written.write) ≡ Some (file_of written))
+abbrev pub HasItsFiles : Tree → ℕ → Written → Type 0
+HasItsFiles files table written =
+    (deletes : Bool) → HasRecords deletes (records_of deletes written) (tree.get files (own_place deletes table written.write))
 
 -- what the write ids of committed transactions show is what was committed
 abbrev pub CommitsHaveFiles : Type 0
 CommitsHaveFiles =
     (state : State) (files : Tree) (number : ℕ) (table : Table)
     → IsSound state → state.entries < write_end → Stands state files → numbered state.tables number ≡ Some table
-    → AllByRecursion (HasItsFile files number) table.writes
+    → AllByRecursion (HasItsFiles files number) table.writes
 
--- ---- of a statement: the files that stood stand, with the file of what it inserts
+-- ---- of a statement: the files that stood stand, with those of what it inserts and deletes
 
 -- what ends a statement that writes no file
 abbrev pub IsQuiet : List Entry → Entry → Type 0
@@ -205,18 +211,18 @@ QuietStatementsStand =
     → IsIdle (state_of book) → IsQuiet book event → IsLegalFrom profile (state_of book) (statement_entries book number text (event ∷ []))
     → Stands (state_of book) files → Stands (state_of (book ++ statement_entries book number text (event ∷ []))) files
 
--- the entries that end an insert of these rows
-abbrev pub inserting_ends : List Entry → TableInfo → Effect → ℕ → List Entry
-inserting_ends book info effect write =
-    entry.Given (record { 0 = next_number book }) info.table (record { 0 = write }) ∷ committing book (inserting info effect ∷ []) ∷ []
+-- the entries that end this change
+abbrev pub changing_ends : List Entry → TableInfo → Effect → ℕ → List Entry
+changing_ends book info effect write =
+    entry.Given (record { 0 = next_number book }) info.table (record { 0 = write }) ∷ committing book (changing info effect ∷ []) ∷ []
 
-abbrev pub InsertedFilesStand : Type 0
-InsertedFilesStand =
+abbrev pub ChangedFilesStand : Type 0
+ChangedFilesStand =
     (book : List Entry) (number : ℕ) (text : List ℕ) (said : Stmt) (info : TableInfo) (effect : Effect) (table : Table) (old : Tree)
     → IsIdle (state_of book) → (state_of book).entries + 4 < write_end → Runs text said → meant book said ≡ Some (Change info effect)
     → numbered (state_of book).tables info.table.0 ≡ Some table
-    → IsLegalFrom profile (state_of book) (statement_entries book number text (inserting_ends book info effect (length table.owners + 1)))
-    → IsFile false 0 (records_of (written_by (length table.owners + 1) 0 effect).inserts)
+    → IsLegalFrom profile (state_of book) (statement_entries book number text (changing_ends book info effect (length table.owners + 1)))
+    → IsEncoded (written_by (length table.owners + 1) 0 effect)
     → Stands (state_of book) old
-    → Stands (state_of (book ++ statement_entries book number text (inserting_ends book info effect (length table.owners + 1))))
-    (tree.insert old (own_place info.table.0 (length table.owners + 1)) (file_of (written_by (length table.owners + 1) 0 effect)))
+    → Stands (state_of (book ++ statement_entries book number text (changing_ends book info effect (length table.owners + 1))))
+    (with_files old info.table.0 (written_by (length table.owners + 1) 0 effect))

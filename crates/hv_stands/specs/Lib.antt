@@ -3,3 +3,4 @@ pub mod Sound
 pub mod Endings
 pub mod Reading
 pub mod Laws
+pub mod Worked

@@ -1,13 +1,12 @@
 -- What holds of every state whose entries fit, whatever transactions are open: the tables are those that were made, by
 -- their numbers; each write id has the transaction that it was given to, and each write is one of a transaction that has
 -- committed. Between two statements of one thread no transaction is open beside.
-use Rattle.std.specs.Prelude.{◌≡◌, ◌≢◌, ℕ, ◌+◌, ◌≤◌, false, IsTrue, IsFalse, Option, Some, None, List, [], ◌∷◌, length, map}
+use Rattle.std.specs.Prelude.{◌≡◌, ◌≢◌, ℕ, ◌+◌, ◌<◌, ◌≤◌, IsTrue, IsFalse, Option, Some, None, List, [], ◌∷◌, length, map}
 use Rattle.std.specs.List.{AllByRecursion}
 use Rattle.hv_value.specs.declared.row.Row.{Row}
 use Rattle.hv_logic.specs.declared.effect.Found.{Found}
 use Rattle.hv_logic.specs.declared.meaning.Meaning.{Meaning}
 use Rattle.hv_logic.specs.declared.meaning.Meaning.TheVariants.{Change}
-use Rattle.hv_rowfile.specs.Layout.{IsFile}
 use Rattle.hv_history.specs.declared.state.Written.{Written}
 use Rattle.hv_history.specs.declared.state.Statement.{Statement}
 use Rattle.hv_history.specs.declared.state.Table.{Table}
@@ -16,7 +15,7 @@ use Rattle.hv_history.specs.declared.state.Ending.TheVariants.{Committed}
 use Rattle.hv_history.specs.declared.state.Transaction.{Transaction}
 use Rattle.hv_history.specs.State.{State, numbered, given_in, numbered_from}
 use Rattle.hv_history.specs.Legal.{is_open, IsStatement}
-use Rattle.hv_stands.specs.Files.{records_of, ending_of}
+use Rattle.hv_stands.specs.Files.{ending_of}
 
 abbrev pub HasEnded : Transaction → Type 0
 HasEnded transaction = IsFalse (is_open transaction)
@@ -34,18 +33,11 @@ IsWhole found = found.partition ≡ []
 
 -- ---- writes
 
--- inserts of an unpartitioned, unbucketed table: rows numbered from 0 under its write id
+-- a change of an unpartitioned, unbucketed table: inserted rows are numbered from 0 under its write id
 pub record IsPlainWrite (written : Written) : Type 0 where
-  pub deletes : written.deletes ≡ []
+  pub deletes : AllByRecursion IsWhole written.deletes
   pub rows : List Row
   pub numbered : written.inserts ≡ numbered_from written.write written.statement 0 rows
-  pub whole : AllByRecursion IsWhole written.inserts
-
--- the same, as a file has them
-pub record AreInserts (written : Written) : Type 0 where
-  pub deletes : written.deletes ≡ []
-  pub whole : AllByRecursion IsWhole written.inserts
-  pub file : IsFile false 0 (records_of written.inserts)
 
 abbrev pub HasOther : ℕ → Written → Type 0
 HasOther write other = other.write ≢ write
@@ -77,17 +69,25 @@ pub record AreSound (most : ℕ) (tables : List Table) : Type 0 where
 
 -- ---- transactions
 
--- what a statement means deletes nothing
-abbrev pub DeletesNone : Option Meaning → Type 0
-DeletesNone (Some (Change info effect)) = effect.deletes ≡ []
-DeletesNone _ = Unit {0}
+-- what a statement means deletes rows of unpartitioned tables
+abbrev pub DeletesWhole : Option Meaning → Type 0
+DeletesWhole (Some (Change info effect)) = AllByRecursion IsWhole effect.deletes
+DeletesWhole _ = Unit {0}
 
 -- it has one statement
 pub record IsSingle (transaction : Transaction) : Type 0 where
   pub statement : Statement
   pub one : transaction.statements ≡ statement ∷ []
   pub text : IsStatement statement.text
-  pub deletes : DeletesNone statement.meaning
+  pub deletes : DeletesWhole statement.meaning
+
+-- a commit stands before this place of the book
+abbrev pub IsBefore : ℕ → Option Ending → Type 0
+IsBefore place (Some (Committed at wrote)) = at < place
+IsBefore place _ = Unit {0}
+
+abbrev pub EndsBefore : ℕ → Transaction → Type 0
+EndsBefore place transaction = IsBefore place transaction.ending
 
 abbrev pub given_of : Transaction → List (ℕ × ℕ)
 given_of transaction = transaction.given
@@ -129,6 +129,7 @@ pub record IsSound (state : State) : Type 0 where
   pub single : AllByRecursion IsSingle state.transactions
   pub given : AreGiven (map given_of state.transactions) (map owners_of state.tables)
   pub committed : AllByRecursion (AreOfCommitted (map ending_of state.transactions)) state.tables
+  pub past : AllByRecursion (EndsBefore state.entries) state.transactions
 
 -- no transaction is open beside
 pub record IsIdle (state : State) : Type 0 where

@@ -1,38 +1,38 @@
-use Rattle.std.proofs.Common.{◌≡◌, ℕ, [], ◌∷◌, List, ◌<◌, ap, sym, subst, ◌∙◌}
+use Rattle.std.proofs.Common.{◌≡◌, ℕ, [], ◌∷◌, List, ◌<◌, ◌≤◌, ap, sym, subst, ◌∙◌}
 use Rattle.std.proofs.lemmas.Result.{err_from_is_err_and}
 use Rattle.hv_base.specs.declared.ids.Touch.{Touch}
 use Rattle.hv_history.specs.declared.entry.Entry.TheVariants as entry
 use Rattle.hv_history.specs.declared.state.Written.{Written}
 use Rattle.hv_history.specs.Answers.{counts_line}
-use Rattle.hv_stands.specs.Laws.{inserting}
-use Rattle.hv_session.specs.Ends.{IsDone, Inserts, next_written}
+use Rattle.hv_stands.specs.Laws.{changing}
+use Rattle.hv_session.specs.Ends.{IsDone, Writes, next_written}
 use Rattle.hv_session.proofs.Shorts.{short_touch}
 use Rattle.hv_dirs.specs.Names.{write_end}
 use Rattle.hv_stands.proofs.Numbers.{numbered-within}
-use Rattle.hv_session.proofs.Halfway.{put-ends, commit-ends, kept-ends, given-ends, number-fits}
-use Rattle.hv_session.proofs.Finishing.{inserted}
+use Rattle.hv_session.proofs.Halfway.{put-ends, commit-ends, kept-ends, given-ends, number-fits, number-counts}
+use Rattle.hv_session.proofs.Finishing.{written-through}
 use Rattle.hv_session.proofs.ending.change.Goals as goal
 
 pub commit-requires-clause-short : goal.commit-requires-clause-short
-commit-requires-clause-short g c = short_touch c.args.txn c.in_ok-wrote.wrote c.args.info.table c.len.result c.in_ok-wrote.ensures
+commit-requires-clause-short g c = short_touch c.args.txn c.in_ok-wrote.wrote c.args.info.table c.len.result c.len-2.result c.in_ok-wrote.ensures
 
 pub returns-clause-changed : goal.returns-clause-changed
 returns-clause-changed g c =
     let known = c.requires.can.0 in
-    let wrote : c.in_ok-wrote.wrote ≡ inserting c.args.info c.args.effect ∷ [] =
+    let wrote : c.in_ok-wrote.wrote ≡ changing c.args.info c.args.effect ∷ [] =
     c.in_ok-wrote.ensures
-    ∙ ap (λ (n : ℕ). record { table = c.args.info.table; partition = []; inserted = n; deleted = 0 } ∷ []) c.len.ensures in
+    ∙ (λ i. record { table = c.args.info.table; partition = []; inserted = c.len.ensures i; deleted = c.len-2.ensures i } ∷ []) in
     let whole =
-    inserted g.D.Shelf.told c.args.house.now c.give.new.self c.put_written.new.self c.commit.new.self c.args.txn c.args.info c.args.effect known
+    written-through g.D.Shelf.told c.args.house.now c.give.new.self c.put_written.new.self c.commit.new.self c.args.txn c.args.info c.args.effect known
     c.in_ok-write.write c.in_ok-written.written c.in_ok-wrote.wrote c.requires.can.1
     c.in_ok-write.ensures.next c.in_ok-write.ensures.noted c.in_ok-write.ensures.opened c.in_ok-write.ensures.tables
     c.in_ok-written.ensures c.in_ok-put_written.ensures.beside c.in_ok-put_written.ensures.file c.in_ok-put_written.ensures.put
     c.in_ok-commit.ensures.noted c.in_ok-commit.ensures.opened c.in_ok-commit.ensures.tables in
-    let text : c.in_ok-text.text.items ≡ counts_line (inserting c.args.info c.args.effect ∷ []) =
+    let text : c.in_ok-text.text.items ≡ counts_line (changing c.args.info c.args.effect ∷ []) =
     c.in_ok-text.ensures ∙ ap counts_line (c.as_slice.ensures ∙ wrote) in (
       known,
       c.requires.can.1,
-      subst (λ (ts : List Touch). Inserts g.D.Shelf.told c.args.house.now c.commit.new.self c.args.txn c.args.info (next_written known c.args.effect) ts) wrote whole,
+      subst (λ (ts : List Touch). Writes g.D.Shelf.told c.args.house.now c.commit.new.self c.args.txn c.args.info (next_written known c.args.effect) ts) wrote whole,
       subst (λ (t : List ℕ). IsDone t c.done.result.text c.done.result.refused) text c.done.ensures,
     )
 
@@ -65,7 +65,12 @@ returns-in_err-written-clause-unended g c =
     given-ends g.D.Shelf.told c.args.house.now c.give.new.self c.args.txn c.args.info.table c.requires.can.0 c.in_ok-write.write
     c.requires.can.1 c.in_ok-write.ensures.next c.in_ok-write.ensures.noted c.from_residual-in_err-written.result
 
-pub put_written-requires-clause-number : goal.put_written-requires-clause-number
-put_written-requires-clause-number g c =
+pub put_written-requires-clause-last : goal.put_written-requires-clause-last
+put_written-requires-clause-last g c =
     subst (λ (w : Written). w.write < write_end) (sym c.in_ok-written.ensures)
     (number-fits c.args.house.now.tables.items c.args.info.table.0 c.in_ok-write.write.0 c.requires.can.0 c.requires.numbers c.requires.can.1 c.in_ok-write.ensures.next)
+
+pub put_written-requires-clause-first : goal.put_written-requires-clause-first
+put_written-requires-clause-first g c =
+    subst (λ (w : Written). 1 ≤ w.write) (sym c.in_ok-written.ensures)
+    (number-counts c.args.house.now.tables.items c.args.info.table.0 c.in_ok-write.write.0 c.requires.can.0 c.requires.can.1 c.in_ok-write.ensures.next)
