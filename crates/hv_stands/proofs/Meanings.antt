@@ -2,11 +2,8 @@
 use Rattle.std.proofs.Common.{◌≡◌, ◌⊎◌, ◌&&◌, not, true, cond, None, slice_get, inl, inr, ℕ, ◌≤◌, Bool, false, IsTrue, IsNone, Option, Some, Result, Ok, Err, List, [], ◌∷◌, length, map, filter, refl, sym, ap, ◌∙◌, subst}
 use Rattle.std.specs.List.{AllByRecursion, list_all}
 use Rattle.hv_base.specs.declared.refusal.Refusal.{Refusal}
-use Rattle.hv_ast.specs.declared.change.Rows.{Rows}
-use Rattle.hv_ast.specs.declared.change.Rows.TheVariants as source_rows
 use Rattle.hv_ast.specs.declared.statement.Stmt.{Stmt}
-use Rattle.hv_ast.specs.declared.statement.Stmt.TheVariants as stmt
-use Rattle.hv_built.specs.Built.{are_values, IsBuilt}
+use Rattle.hv_built.specs.Built.{makes_built_table, IsBuilt}
 use Rattle.hv_logic.specs.declared.catalog.Shape.{Shape}
 use Rattle.hv_logic.specs.declared.catalog.TableInfo.{TableInfo}
 use Rattle.hv_logic.specs.declared.effect.Effect.{Effect}
@@ -18,11 +15,10 @@ use Rattle.hv_logic.specs.Tables.{named}
 use Rattle.hv_query.specs.Rows.{Tables}
 use Rattle.hv_analysis.specs.declared.logic.Logic.{Logic}
 use Rattle.hv_analysis.specs.declared.logic.Logic.TheVariants as logic
-use Rattle.hv_analysis.specs.Analysis.{are_windowless, is_form, analysed}
+use Rattle.hv_analysis.specs.Analysis.{is_form, analysed}
 use Rattle.hv_changes.specs.Columns.{columns_of}
 use Rattle.hv_rowfile.specs.Layout.{RowIsTaken}
 use Rattle.hv_changes.specs.declared.change.TypedChange.{TypedChange}
-use Rattle.hv_changes.specs.Inserts.{is_empty}
 use Rattle.hv_logic.specs.Sizes.{row_fits}
 use Rattle.hv_meaning.specs.Meaning.{info_of, found_in, tables_of, or_none, change_effect, changed_in, meant, meaning_over, meaning_in, meaning_of}
 use Rattle.hv_meaning.specs.Laws.{has_meaning, MeansSomething}
@@ -79,17 +75,11 @@ changes-seen tree tables info effect e =
 -- ---- a statement of a form that is built means something
 
 built-form : (tree : Stmt) → IsBuilt tree → IsTrue (has_meaning tree)
-unfolding is_form
-built-form (stmt.Query query) built = built
-built-form (stmt.Insert insert) built = by (not insert.overwrite) (is_empty insert.partition) insert.rows built
+built-form tree built = by (is_form tree) (makes_built_table tree) built
   where
-    by : (into plain : Bool) (r : Rows) → (into && (plain && are_values r)) ≡ true → (plain && are_windowless r) ≡ true
-    by true true (source_rows.Values values) h = refl
-    by true true (source_rows.Query query) h = cc
-    by true false r h = cc
-    by false plain r h = cc
-built-form (stmt.CreateTable create) built = refl
-built-form other built = cc
+    by : (form plain : Bool) → IsTrue (form && plain) → IsTrue form
+    by true plain h = refl
+    by false plain h = cc
 
 pub built-means : (tables : List Seen) (tree : Stmt) → IsBuilt tree → MeansSomething (meaning_of tables tree)
 built-means tables tree built = forms-mean tree tables (built-form tree built)
