@@ -46,7 +46,7 @@ mapped k (TypedExpr-F.Case kind (Some operand) branches (Some otherwise)) = ap (
 mapped k TypedExpr-F.CountRows = refl
 mapped k (TypedExpr-F.Aggregate function distinct kind argument) = refl
 
-looks_at-roll : (k : ℕ) (x : TypedExpr-F TypedExpr) → looks_at k (roll-TypedExpr x) ≡ layer_looks k (looks_at k) x
+pub looks_at-roll : (k : ℕ) (x : TypedExpr-F TypedExpr) → looks_at k (roll-TypedExpr x) ≡ layer_looks k (looks_at k) x
 unfolding looks_at
 looks_at-roll k x =
     fold_out-TypedExpr Bool (layer_looks k (λ part. part)) (roll-TypedExpr x)

@@ -1,12 +1,12 @@
 //! Laws of the value of a typed expression.
 #![tactic(auto)]
 
-ghost use Rattle.std.specs.Prelude.{◌≡◌, ◌≢◌, ℕ, false, slice_get};
+ghost use Rattle.std.specs.Prelude.{◌≡◌, ◌≢◌, ℕ, Bool, true, false, slice_get};
 ghost use Rattle.std.specs.List.Sorted.{IsPermutation};
 ghost use Rattle.hv_typed.specs.declared.function.Many.TheVariants as many;
 ghost use Rattle.hv_typed.specs.Functions.{many_value};
 ghost use Rattle.hv_typed.specs.Evaluation.{value_of, values_of};
-ghost use Rattle.hv_typed_laws.specs.Places.{looks_at};
+ghost use Rattle.hv_typed_laws.specs.Places.{looks_at, looks_only, AgreeAt};
 
 use hv_typed::TypedExpr;
 use hv_value::Value;
@@ -24,6 +24,12 @@ pub fn other_columns_are_free(expr: &TypedExpr, place: usize, one: &[Value], oth
     requires away { looks_at place expr.now ≡ false }
     requires same { (k : ℕ) → k ≢ place → slice_get one.now k ≡ slice_get other.now k }
     ensures { value_of expr.now one.now ≡ value_of expr.now other.now }
+{}
+
+/// What looks at such places alone is the same on rows that are the same there.
+#[tactic(auto, using(crate::proofs::OnlyLaws::deciding))]
+pub fn its_places_decide(expr: &TypedExpr, one: &[Value], other: &[Value])
+    ensures { (such : ℕ → Bool) → looks_only such expr.now ≡ true → AgreeAt such one.now other.now → value_of expr.now one.now ≡ value_of expr.now other.now }
 {}
 
 /// AND doesn't depend on the order of its operands.
