@@ -25,8 +25,8 @@ use Rattle.hv_rowfile.specs.declared.record.Rec.TheVariants as rec
 use Rattle.hv_rowfile.specs.Layout as layout
 use Rattle.hv_merge.specs.declared.shown.Shown.{Shown}
 use Rattle.hv_merge.specs.Merging.{id_of, rows_in, deletes_in, merged}
-use Rattle.hv_merge.specs.Steps.{valid_rows, valid_deletes, last_at, least_of, gone_from, begins_with, is_below, kept_front}
-use Rattle.hv_merge.proofs.Fronts.{cmp, AllRise, all_rows, Over, turned, tied_id, not_tied, left_of, Step, step, least, no_rows, put-below, last-id, last-is}
+use Rattle.hv_merge.specs.Steps.{valid_rows, valid_deletes, gone_from, begins_with, is_below, kept_front}
+use Rattle.hv_merge.proofs.Fronts.{cmp, AllRise, all_rows, Over, NotBelow, lt-is, turned, tied_id, not_tied, left_of, last_of, Step, step, put-below, last-id}
 
 abbrev pub is_in : RowId → List RowId → Bool
 is_in id gone = list_any (λ (other : RowId). is_row other id) gone
@@ -42,11 +42,6 @@ coming gone files = kept gone (rising_by cmp (all_rows files))
 
 abbrev pub IdsRise : List RowId → Type 0
 IdsRise gone = sorting.Rises row_id_cmp gone
-
-lt-is : (o : Ordering) → is_lt o ≡ true → o ≡ Less
-lt-is Less e = refl
-lt-is Equal e = absurd (true≢false (sym e))
-lt-is Greater e = absurd (true≢false (sym e))
 
 gone-more : (id other : RowId) (gone : List RowId) (b : Bool) → is_below id other ≡ b
     → gone_from id (other ∷ gone) ≡ cond b (gone_from id gone) (other ∷ gone)
@@ -115,66 +110,66 @@ starts id (first ∷ gone) up =
 over-not : (id m : RowId) → row_id_cmp id m ≡ Greater → row_id_cmp id m ≡ Less → ⊥
 over-not id m e less = let z : Greater ≡ Less = sym e ∙ less in cc
 
-kept-later : (m : RowId) (gone : List RowId) (rows : List Shown) → Over m rows → kept gone rows ≡ kept (gone_from m gone) rows
+pub kept-later : (m : RowId) (gone : List RowId) (rows : List Shown) → Over m rows → kept gone rows ≡ kept (gone_from m gone) rows
 kept-later m gone [] over = refl
 kept-later m gone (x ∷ rows) over =
     ap (λ b. cond (not b) (x ∷ kept gone rows) (kept gone rows)) (still-gone m x.id gone (over-not x.id m over.0))
     ∙ ap (λ (z : List Shown). cond (not (is_in x.id (gone_from m gone))) (x ∷ z) z) (kept-later m gone rows over.1)
 
-came : (m : RowId) (gone : List RowId) (files : List (List Shown)) (l : Option Shown) → Step m files → last_at m files ≡ l
+came : (m : RowId) (gone : List RowId) (files : List (List Shown)) (l : Option Shown) → Step m files → last_of m files ≡ l
     → coming gone files ≡ kept gone (option_to_list l) ++ coming (gone_from m gone) (left_of m files)
 came m gone files l h e =
     let rest = rising_by cmp (all_rows (left_of m files)) in
-    ap (kept gone) (h.first ∙ ap (λ (f : Option Shown). option_to_list f ++ rest) (sym (last-is m files) ∙ e))
+    ap (kept gone) (h.first ∙ ap (λ (f : Option Shown). option_to_list f ++ rest) (e))
     ∙ filter-append (λ (shown : Shown). not (is_in shown.id gone)) (option_to_list l) rest
     ∙ ap (λ (z : List Shown). kept gone (option_to_list l) ++ z) (kept-later m gone rest h.over)
 
-its-id : (m : RowId) (files : List (List Shown)) (s : Shown) → last_at m files ≡ Some s → s.id ≡ m
-its-id m files s e = last-id m files s (sym (last-is m files) ∙ e)
+its-id : (m : RowId) (files : List (List Shown)) (s : Shown) → last_of m files ≡ Some s → s.id ≡ m
+its-id m files s e = last-id m files s e
 
 -- the row is one more, where it isn't deleted
-pub one-more : (m : RowId) (gone : List RowId) (files : List (List Shown)) (s : Shown) → IdsRise gone → Step m files → Some s ≡ last_at m files
+pub one-more : (m : RowId) (gone : List RowId) (files : List (List Shown)) (s : Shown) → IdsRise gone → Step m files → Some s ≡ last_of m files
     → begins_with m (gone_from m gone) ≡ false → coming gone files ≡ s ∷ coming (gone_from m gone) (left_of m files)
 one-more m gone files s up h e is =
     let away : is_in s.id gone ≡ false = ap (λ a. is_in a gone) (its-id m files s (sym e)) ∙ sym (starts m gone up) ∙ is in
     came m gone files (Some s) h (sym e)
     ∙ ap (λ b. cond (not b) (s ∷ []) [] ++ coming (gone_from m gone) (left_of m files)) away
 
-pub one-gone : (m : RowId) (gone : List RowId) (files : List (List Shown)) (s : Shown) → IdsRise gone → Step m files → Some s ≡ last_at m files
+pub one-gone : (m : RowId) (gone : List RowId) (files : List (List Shown)) (s : Shown) → IdsRise gone → Step m files → Some s ≡ last_of m files
     → begins_with m (gone_from m gone) ≡ true → coming gone files ≡ coming (gone_from m gone) (left_of m files)
 one-gone m gone files s up h e is =
     let away : is_in s.id gone ≡ true = ap (λ a. is_in a gone) (its-id m files s (sym e)) ∙ sym (starts m gone up) ∙ is in
     came m gone files (Some s) h (sym e)
     ∙ ap (λ b. cond (not b) (s ∷ []) [] ++ coming (gone_from m gone) (left_of m files)) away
 
-pub none-more : (m : RowId) (gone : List RowId) (files : List (List Shown)) → Step m files → None ≡ last_at m files
+pub none-more : (m : RowId) (gone : List RowId) (files : List (List Shown)) → Step m files → None ≡ last_of m files
     → coming gone files ≡ coming (gone_from m gone) (left_of m files)
 none-more m gone files h e = came m gone files None h (sym e)
 
-next-by : (b : Bool) (m : RowId) (gone : List RowId) (files : List (List Shown)) (s : Shown) → IdsRise gone → Step m files → Some s ≡ last_at m files
+next-by : (b : Bool) (m : RowId) (gone : List RowId) (files : List (List Shown)) (s : Shown) → IdsRise gone → Step m files → Some s ≡ last_of m files
     → begins_with m (gone_from m gone) ≡ b
     → coming gone files ≡ cond b [] (s ∷ []) ++ coming (gone_from m gone) (left_of m files)
 next-by true m gone files s up h e is = one-gone m gone files s up h e is
 next-by false m gone files s up h e is = one-more m gone files s up h e is
 
-next-of : (m : RowId) (gone : List RowId) (files : List (List Shown)) (found : Option Shown) → IdsRise gone → Step m files → found ≡ last_at m files
+next-of : (m : RowId) (gone : List RowId) (files : List (List Shown)) (found : Option Shown) → IdsRise gone → Step m files → found ≡ last_of m files
     → coming gone files ≡ kept_front (gone_from m gone) m found ++ coming (gone_from m gone) (left_of m files)
 next-of m gone files None up h e = none-more m gone files h e
 next-of m gone files (Some s) up h e = next-by (begins_with m (gone_from m gone)) m gone files s up h e refl
 
 pub one-step : (m : RowId) (gone still : List RowId) (files rest : List (List Shown)) (rows grown whole : List Shown) (found : Option Shown)
-    → IdsRise gone → AllRise files → least_of files ≡ Some m
-    → still ≡ gone_from m gone → rest ≡ left_of m files → found ≡ last_at m files → grown ≡ rows ++ kept_front still m found
+    → IdsRise gone → AllRise files → AllByRecursion (NotBelow m) files
+    → still ≡ gone_from m gone → rest ≡ left_of m files → found ≡ last_of m files → grown ≡ rows ++ kept_front still m found
     → rows ++ coming gone files ≡ whole → grown ++ coming still rest ≡ whole
 one-step m gone still files rest rows grown whole found up rise e es er ef eg before =
     ap (λ (z : List Shown). z ++ coming still rest) eg
     ∙ append_assoc rows (kept_front still m found) (coming still rest)
-    ∙ ap (λ (z : List Shown). rows ++ z) ((λ i. kept_front (es i) m found ++ coming (es i) (er i)) ∙ sym (next-of m gone files found up (step m files rise (least files m e)) ef))
+    ∙ ap (λ (z : List Shown). rows ++ z) ((λ i. kept_front (es i) m found ++ coming (es i) (er i)) ∙ sym (next-of m gone files found up (step m files rise e) ef))
     ∙ before
 
-pub finished : (gone : List RowId) (files : List (List Shown)) (rows whole : List Shown) → least_of files ≡ None → rows ++ coming gone files ≡ whole → rows ≡ whole
+pub finished : (gone : List RowId) (files : List (List Shown)) (rows whole : List Shown) → all_rows files ≡ [] → rows ++ coming gone files ≡ whole → rows ≡ whole
 finished gone files rows whole e before =
-    sym (append-nil rows) ∙ ap (λ (z : List Shown). rows ++ kept gone (rising_by cmp z)) (sym (no_rows files e)) ∙ before
+    sym (append-nil rows) ∙ ap (λ (z : List Shown). rows ++ kept gone (rising_by cmp z)) (sym e) ∙ before
 
 -- ---- a filter by identifiers goes through
 
@@ -308,22 +303,19 @@ begun list files deletes ids permuted =
 
 -- ---- the rows of a file rise
 
+abbrev pub AllAbove : RowId → List Shown → Type 0
+AllAbove id rows = AllByRecursion (λ (x : Shown). row_id_cmp id x.id ≡ Less) rows
+
+above-far : (a b : RowId) (rows : List Shown) → row_id_cmp a b ≡ Less → AllAbove b rows → AllAbove a rows
+above-far a b [] e h = tt
+above-far a b (x ∷ rows) e h = (row_id_total.trans a b x.id e h.0, above-far a b rows e h.1)
+
 module _ (list : WriteIds) where
-  AllAbove : RowId → List Shown → Type 0
-  AllAbove id rows = AllByRecursion (λ (x : Shown). row_id_cmp id x.id ≡ Less) rows
-
-  above-far : (a b : RowId) (rows : List Shown) → row_id_cmp a b ≡ Less → AllAbove b rows → AllAbove a rows
-  unfolding AllAbove
-  above-far a b [] e h = tt
-  above-far a b (x ∷ rows) e h = (row_id_total.trans a b x.id e h.0, above-far a b rows e h.1)
-
   above-option : (b : Bool) (a : RowId) (x : Shown) (rows : List Shown) → row_id_cmp a x.id ≡ Less → AllAbove a rows → AllAbove a (cons_option (cond b (Some x) None) rows)
-  unfolding AllAbove
   above-option true a x rows e h = (e, h)
   above-option false a x rows e h = h
 
-  above : (a : RowId) (recs : List Rec) → layout.RisesFrom (Some a) recs → AllAbove a (valid_rows list recs)
-  unfolding AllAbove
+  pub above : (a : RowId) (recs : List Rec) → layout.RisesFrom (Some a) recs → AllAbove a (valid_rows list recs)
   above a [] up = tt
   above a (rec.Insert id row ∷ recs) up =
       above-option (is_valid list id.write.0) a (record { id = id; row = row }) (valid_rows list recs) up.0
@@ -331,11 +323,10 @@ module _ (list : WriteIds) where
   above a (rec.Delete id by ∷ recs) up = above-far a id (valid_rows list recs) up.0 (above id recs up.1)
 
   rises-option : (b : Bool) (x : Shown) (rows : List Shown) → AllAbove x.id rows → Rises cmp rows → Rises cmp (cons_option (cond b (Some x) None) rows)
-  unfolding AllAbove
   rises-option true x rows e h = (e, h)
   rises-option false x rows e h = h
 
-  rises-file : (before : Option RowId) (recs : List Rec) → layout.RisesFrom before recs → Rises cmp (valid_rows list recs)
+  pub rises-file : (before : Option RowId) (recs : List Rec) → layout.RisesFrom before recs → Rises cmp (valid_rows list recs)
   rises-file before [] up = tt
   rises-file before (rec.Insert id row ∷ recs) up =
       rises-option (is_valid list id.write.0) (record { id = id; row = row }) (valid_rows list recs) (above id recs up.1) (rises-file (Some id) recs up.1)

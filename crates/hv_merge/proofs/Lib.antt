@@ -1,4 +1,7 @@
 pub mod Fronts
 pub mod Kept
+pub mod Looks
+pub mod Parts
 pub mod Places
 pub mod RisingLemmas
+pub mod Runs

@@ -1,5 +1,5 @@
 -- How the merge goes, step by step. The contract of the public call doesn't cite these words.
-use Rattle.std.specs.Prelude.{Bool, true, false, if◌then◌else◌, Option, Some, None, List, [], ◌∷◌, drop, fold}
+use Rattle.std.specs.Prelude.{ℕ, ◌+◌, ◌-◌, min, ◌^◌, Bool, true, false, if◌then◌else◌, Option, Some, None, List, [], ◌∷◌, ◌++◌, drop, fold, length}
 use Rattle.std.specs.List.{filter_map, prefix_len}
 use Rattle.std.specs.Ordering.{is_lt}
 use Rattle.hv_base.specs.declared.ids.RowId.{RowId}
@@ -9,6 +9,7 @@ use Rattle.hv_rowfile.specs.declared.record.Rec.{Rec}
 use Rattle.hv_rowfile.specs.declared.record.Rec.TheVariants as rec
 use Rattle.hv_rowfile.specs.Layout.{id_of as record_id}
 use Rattle.hv_merge.specs.declared.shown.Shown.{Shown}
+use Rattle.hv_merge.specs.declared.turns.Turn.{Turn}
 
 -- ---- what of the files matters under a list
 
@@ -26,47 +27,96 @@ valid_rows list recs = filter_map (valid_row list) recs
 abbrev pub valid_deletes : WriteIds → List Rec → List RowId
 valid_deletes list recs = filter_map (valid_delete list) recs
 
--- ---- the least identifier among the first rows
+-- ---- how many records there are, as far as a machine's word counts
 
-abbrev pub lesser : Option RowId → RowId → RowId
-lesser None id = id
-lesser (Some other) id = if is_lt (row_id_cmp other id) then other else id
+abbrev pub count_with : ℕ → List Rec → ℕ
+count_with count file = min (count + length file) (2 ^ 64 - 1)
 
-abbrev pub least_with : Option RowId → List Shown → Option RowId
-least_with found [] = found
-least_with found (shown ∷ rest) = Some (lesser found shown.id)
+-- ---- the file with the least first record, and the least of the others
 
-abbrev pub least_of : List (List Shown) → Option RowId
-least_of files = fold least_with None files
+abbrev pub is_below : RowId → RowId → Bool
+is_below id other = is_lt (row_id_cmp other id)
 
--- ---- the first rows that have it are taken, and the last of them stands
+-- whether an identifier comes before the other one, if there is one
+abbrev pub is_before : RowId → Option RowId → Bool
+is_before id None = true
+is_before id (Some other) = is_below other id
 
-abbrev pub front_at : RowId → List Shown → Option Shown
-front_at id [] = None
-front_at id (shown ∷ rest) = if row_id_eq shown.id id then Some shown else None
+abbrev pub better_than : Turn → ℕ → RowId → Turn
+better_than turn place id =
+    if is_before id turn.others
+    then (if is_below id turn.least
+    then record { place = turn.place; least = turn.least; others = Some id }
+    else record { place = place; least = id; others = Some turn.least })
+    else turn
 
-abbrev pub behind_at : RowId → List Shown → List Shown
+abbrev pub better : Option Turn → ℕ → RowId → Turn
+better None place id = record { place = place; least = id; others = None }
+better (Some turn) place id = better_than turn place id
+
+abbrev pub seen_at : Option Turn → ℕ → List Rec → Option Turn
+seen_at found place [] = found
+seen_at found place (r ∷ recs) = Some (better found place (record_id r))
+
+-- the files from this place on
+abbrev pub turn_from : ℕ → Option Turn → List (List Rec) → Option Turn
+turn_from place found [] = found
+turn_from place found (file ∷ files) = turn_from (place + 1) (seen_at found place file) files
+
+abbrev pub turn_of : List (List Rec) → Option Turn
+turn_of files = turn_from 0 None files
+
+-- whether another file begins with the same identifier
+abbrev pub is_least : RowId → Option RowId → Bool
+is_least least None = false
+is_least least (Some other) = row_id_eq other least
+
+abbrev pub is_tied : Turn → Bool
+is_tied turn = is_least turn.least turn.others
+
+-- ---- the records of a file that come before the others' first ones
+
+abbrev pub taken_before : Option RowId → List Rec → Option Rec
+taken_before others [] = None
+taken_before others (r ∷ recs) = if is_before (record_id r) others then Some r else None
+
+abbrev pub left_before : Option RowId → List Rec → List Rec
+left_before others [] = []
+left_before others (r ∷ recs) = if is_before (record_id r) others then recs else r ∷ recs
+
+abbrev pub run_of : Option RowId → List Rec → List Rec
+run_of others [] = []
+run_of others (r ∷ recs) = if is_before (record_id r) others then r ∷ run_of others recs else []
+
+abbrev pub rest_of : Option RowId → List Rec → List Rec
+rest_of others [] = []
+rest_of others (r ∷ recs) = if is_before (record_id r) others then rest_of others recs else r ∷ recs
+
+-- ---- the first records that have an identifier are taken, and the last row of them stands
+
+abbrev pub front_at : WriteIds → RowId → List Rec → Option Shown
+front_at list id [] = None
+front_at list id (r ∷ recs) = if row_id_eq (record_id r) id then valid_row list r else None
+
+abbrev pub behind_at : RowId → List Rec → List Rec
 behind_at id [] = []
-behind_at id (shown ∷ rest) = if row_id_eq shown.id id then rest else shown ∷ rest
+behind_at id (r ∷ recs) = if row_id_eq (record_id r) id then recs else r ∷ recs
 
-abbrev pub begins_at : RowId → List Shown → Bool
+abbrev pub begins_at : RowId → List Rec → Bool
 begins_at id [] = false
-begins_at id (shown ∷ rest) = row_id_eq shown.id id
+begins_at id (r ∷ recs) = row_id_eq (record_id r) id
 
 abbrev pub later : Option Shown → Option Shown → Option Shown
 later found None = found
 later found (Some shown) = Some shown
 
-abbrev pub later_at : RowId → Option Shown → List Shown → Option Shown
-later_at id found file = later found (front_at id file)
+abbrev pub later_at : WriteIds → RowId → Option Shown → List Rec → Option Shown
+later_at list id found file = later found (front_at list id file)
 
-abbrev pub last_at : RowId → List (List Shown) → Option Shown
-last_at id files = fold (later_at id) None files
+abbrev pub last_at : WriteIds → RowId → List (List Rec) → Option Shown
+last_at list id files = fold (later_at list id) None files
 
 -- ---- the deleted identifiers from one on
-
-abbrev pub is_below : RowId → RowId → Bool
-is_below id other = is_lt (row_id_cmp other id)
 
 abbrev pub gone_from : RowId → List RowId → List RowId
 gone_from id gone = drop (prefix_len (is_below id) gone) gone
@@ -79,6 +129,16 @@ begins_with id (first ∷ rest) = row_id_eq first id
 abbrev pub kept_front : List RowId → RowId → Option Shown → List Shown
 kept_front gone id None = []
 kept_front gone id (Some shown) = if begins_with id gone then [] else shown ∷ []
+
+-- the rows that aren't deleted, and the deleted identifiers that are left
+abbrev pub kept_run : List RowId → List Shown → List Shown
+kept_run gone [] = []
+kept_run gone (shown ∷ rows) =
+    kept_front (gone_from shown.id gone) shown.id (Some shown) ++ kept_run (gone_from shown.id gone) rows
+
+abbrev pub gone_after : List RowId → List Shown → List RowId
+gone_after gone [] = gone
+gone_after gone (shown ∷ rows) = gone_after (gone_from shown.id gone) rows
 
 -- ---- whether records rise
 

@@ -3,6 +3,7 @@ ghost use Rattle.std.specs.List.{flat_map, prefix_len};
 ghost use Rattle.hv_base.specs.Identifiers.{row_id_cmp};
 ghost use Rattle.hv_merge.specs.Steps.{valid_delete, valid_deletes, is_below, gone_from, begins_with};
 
+use crate::order::comes_before;
 use hv_base::{NoMemory, RowId};
 use hv_rowfile::Rec;
 use hv_wids::WriteIdList;
@@ -58,7 +59,9 @@ pub fn deleted_ids(
 fn count_below(gone: &[RowId], id: RowId) -> usize
     ensures { result ≡ prefix_len (is_below id) gone.now }
 {
-    gone.iter().take_while(|other| **other < id).count()
+    gone.iter()
+        .take_while(|other| comes_before(**other, id))
+        .count()
 }
 
 /// The deleted identifiers without those at the front that are below this one.

@@ -1,6 +1,7 @@
-ghost use Rattle.std.specs.Prelude.{◌≡◌, ◌++◌, IfOk, IsTrue, map};
-ghost use Rattle.hv_merge.specs.Steps.{valid_row, valid_rows, lesser, least_of, begins_at, front_at, behind_at, last_at};
+ghost use Rattle.std.specs.Prelude.{◌≡◌, IfOk, IsTrue, fold, map};
+ghost use Rattle.hv_merge.specs.Steps.{valid_row, count_with, begins_at, front_at, behind_at, later, last_at, taken_before, left_before};
 
+use crate::order::is_before;
 use crate::shown::Shown;
 use hv_base::{NoMemory, RowId};
 use hv_rowfile::Rec;
@@ -8,7 +9,8 @@ use hv_wids::WriteIdList;
 use std::alloc::Global;
 use std::collections::VecDeque;
 
-fn valid_row(rec: Rec, list: &WriteIdList) -> Option<Shown>
+/// The row of a record, where it is a row and its write is seen.
+pub fn valid_row(rec: Rec, list: &WriteIdList) -> Option<Shown>
     ensures { result ≡ valid_row list.now rec }
 {
     match rec {
@@ -17,82 +19,63 @@ fn valid_row(rec: Rec, list: &WriteIdList) -> Option<Shown>
     }
 }
 
-// The rows of a file whose write is seen.
-fn valid_rows(
-    alloc: Global,
-    file: Vec<Rec>,
-    list: &WriteIdList,
-) -> Result<VecDeque<Shown>, NoMemory>
-    ensures { IfOk result (λ rows. rows.items ≡ valid_rows list.now file.items) }
+/// The files, to be taken from the front.
+pub fn queues(alloc: Global, files: Vec<Vec<Rec>>) -> Result<Vec<VecDeque<Rec>>, NoMemory>
+    ensures { IfOk result (λ heads. map (λ head. head.items) heads.items ≡ map (λ file. file.items) files.items) }
 {
-    let mut rows = Vec::with_capacity(alloc, file.len())?;
-    for rec in file {
-        if let Some(shown) = valid_row(rec, list) {
-            rows.push(shown)?;
-        }
-    }
-    Ok(VecDeque::from_vec(rows))
-}
-
-/// The rows of each file whose write is seen.
-pub fn all_valid_rows(
-    alloc: Global,
-    files: Vec<Vec<Rec>>,
-    list: &WriteIdList,
-) -> Result<Vec<VecDeque<Shown>>, NoMemory>
-    ensures { IfOk result (λ heads. map (λ head. head.items) heads.items
-        ≡ map (valid_rows list.now) (map (λ file. file.items) files.items)) }
-{
-    let mut heads = Vec::new(alloc);
+    let mut heads = Vec::with_capacity(alloc, files.len())?;
     for file in files {
-        heads.push(valid_rows(alloc, file, list)?)?;
+        heads.push(VecDeque::from_vec(file))?;
     }
     Ok(heads)
 }
 
-fn lesser(least: Option<RowId>, id: RowId) -> RowId
-    ensures { result ≡ lesser least id }
+/// How many records the files have.
+pub fn count_of(heads: &[VecDeque<Rec>]) -> usize
+    ensures { result ≡ fold count_with 0 (map (λ head. head.items) heads.now) }
 {
-    match least {
-        Some(other) if other < id => other,
-        _ => id,
-    }
-}
-
-/// The least identifier among the first rows.
-pub fn least_of(heads: &[VecDeque<Shown>]) -> Option<RowId>
-    ensures { result ≡ least_of (map (λ head. head.items) heads.now) }
-{
-    let mut least = None;
+    let mut count = 0usize;
     for head in heads {
-        if let Some(shown) = head.front() {
-            least = Some(lesser(least, shown.id));
-        }
+        count = count.saturating_add(head.len());
     }
-    least
+    count
 }
 
-fn begins_at(head: &VecDeque<Shown>, id: RowId) -> bool
+/// Takes the first record, where it comes before the other files' first ones.
+pub fn take_before(head: &mut VecDeque<Rec>, others: Option<RowId>) -> Option<Rec>
+    ensures taken { result ≡ taken_before others head.old.items }
+    ensures left { head.new.items ≡ left_before others head.old.items }
+{
+    match head.front() {
+        Some(rec) if is_before(rec.id(), others) => head.pop_front(),
+        _ => None,
+    }
+}
+
+fn begins_at(head: &VecDeque<Rec>, id: RowId) -> bool
     ensures { result ≡ begins_at id head.now.items }
 {
     match head.front() {
-        Some(shown) => shown.id == id,
+        Some(rec) => rec.id() == id,
         None => false,
     }
 }
 
-// Takes the first row, which has this identifier.
-fn take_front(head: &mut VecDeque<Shown>, id: RowId) -> Option<Shown>
+// Takes the first record, which has this identifier.
+fn take_front(head: &mut VecDeque<Rec>, list: &WriteIdList, id: RowId) -> Option<Shown>
     requires { IsTrue (begins_at id head.old.items) }
-    ensures front { result ≡ front_at id head.old.items }
+    ensures front { result ≡ front_at list.now id head.old.items }
     ensures behind { head.new.items ≡ behind_at id head.old.items }
 {
-    head.pop_front()
+    match head.pop_front() {
+        Some(rec) => valid_row(rec, list),
+        None => None,
+    }
 }
 
-/// Takes each first row that has this identifier, and gives the last of them.
-pub fn take_last(heads: &mut Vec<VecDeque<Shown>>, id: RowId) -> Option<Shown>
-    ensures last { result ≡ last_at id (map (λ head. head.items) heads.old.items) }
+/// Takes each first record that has this identifier, and gives the last row of them.
+pub fn take_last(heads: &mut Vec<VecDeque<Rec>>, list: &WriteIdList, id: RowId) -> Option<Shown>
+    ensures last { result ≡ last_at list.now id (map (λ head. head.items) heads.old.items) }
     ensures behind { map (λ head. head.items) heads.new.items
         ≡ map (behind_at id) (map (λ head. head.items) heads.old.items) }
 {
@@ -101,7 +84,17 @@ pub fn take_last(heads: &mut Vec<VecDeque<Shown>>, id: RowId) -> Option<Shown>
         if !begins_at(&heads[place], id) {
             continue;
         }
-        last = take_front(&mut heads[place], id);
+        let front = take_front(&mut heads[place], list, id);
+        last = later(last, front);
     }
     last
+}
+
+fn later(found: Option<Shown>, front: Option<Shown>) -> Option<Shown>
+    ensures { result ≡ later found front }
+{
+    match front {
+        Some(shown) => Some(shown),
+        None => found,
+    }
 }

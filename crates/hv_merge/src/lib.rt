@@ -4,10 +4,12 @@
 mod deletes;
 mod heads;
 mod merging;
+mod order;
 mod rising;
 mod shown;
 #[cfg(test)]
 mod tests;
+mod turns;
 
 pub use merging::merge;
 pub use rising::rises;
