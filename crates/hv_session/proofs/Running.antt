@@ -12,7 +12,6 @@ use Rattle.hv_shelf.specs.Disk.{Store}
 use Rattle.hv_ast.specs.declared.statement.Stmt.{Stmt}
 use Rattle.hv_built.specs.Running.{Runs}
 use Rattle.hv_journal.specs.Appending.{KeepsTree}
-use Rattle.hv_value.specs.declared.row.Row.{Row}
 use Rattle.hv_logic.specs.declared.catalog.Shape.{Shape}
 use Rattle.hv_logic.specs.declared.catalog.TableInfo.{TableInfo}
 use Rattle.hv_logic.specs.declared.effect.Effect.{Effect}
@@ -62,7 +61,7 @@ use Rattle.hv_session.specs.Answered.{WentThrough, AddsAtMost, HasRun}
 use Rattle.hv_session.proofs.Books.{entries-counted, space-left, legal-goes-on, length-map, numbers-known}
 use Rattle.hv_session.proofs.SeenTables.{meant-or-rows, means-some, change-seen, meant-told, unspoiled}
 use Rattle.hv_stands.proofs.Meanings.{ComesOfRows}
-use Rattle.hv_session.proofs.Idle.{Leaves, idle-leaves, LeavesDone, tables_left, change-leaves, limit-leaves}
+use Rattle.hv_session.proofs.Idle.{Leaves, idle-leaves, tables_left, change-leaves, limit-leaves}
 use Rattle.hv_session.proofs.Stores.{became, untold, tells-none, tells-some, told-some, still-stands, keeps-keeps, keeps-puts, Any, any-of}
 
 leaves : (book added : List Entry) (number : ℕ) (text reply : List ℕ) (refused : Bool) (tables : List Table)

@@ -1,5 +1,5 @@
 -- Stores that tell, and what a step leaves of their files.
-use Rattle.std.proofs.Common.{◌≡◌, ℕ, Option, Some, None, List, refl, sym, ap, ◌∙◌, subst}
+use Rattle.std.proofs.Common.{◌≡◌, ℕ, Option, Some, None, refl, sym, ap, ◌∙◌, subst}
 use Rattle.hv_base.specs.Told.{Tells, Moves}
 use Rattle.hv_shelf.specs.Disk.{Store, Tree}
 use Rattle.hv_journal.specs.Appending.{KeepsTree}

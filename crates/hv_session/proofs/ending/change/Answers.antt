@@ -14,14 +14,14 @@ use Rattle.hv_session.proofs.Finishing.{written-through}
 use Rattle.hv_session.proofs.ending.change.Goals as goal
 
 pub commit-requires-clause-short : goal.commit-requires-clause-short
-commit-requires-clause-short g c = short_touch c.args.txn c.in_ok-wrote.wrote c.args.info.table c.len.result c.len-2.result c.in_ok-wrote.ensures
+commit-requires-clause-short g c = short_touch c.args.txn c.in_ok-wrote.wrote c.args.info.table c.len-inserted.result c.len-deleted.result c.in_ok-wrote.ensures
 
 pub returns-clause-changed : goal.returns-clause-changed
 returns-clause-changed g c =
     let known = c.requires.can.0 in
     let wrote : c.in_ok-wrote.wrote ≡ changing c.args.info c.args.effect ∷ [] =
     c.in_ok-wrote.ensures
-    ∙ (λ i. record { table = c.args.info.table; partition = []; inserted = c.len.ensures i; deleted = c.len-2.ensures i } ∷ []) in
+    ∙ (λ i. record { table = c.args.info.table; partition = []; inserted = c.len-inserted.ensures i; deleted = c.len-deleted.ensures i } ∷ []) in
     let whole =
     written-through g.D.Shelf.told c.args.house.now c.give.new.self c.put_written.new.self c.commit.new.self c.args.txn c.args.info c.args.effect known
     c.in_ok-write.write c.in_ok-written.written c.in_ok-wrote.wrote c.requires.can.1
