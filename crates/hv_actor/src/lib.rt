@@ -8,6 +8,3 @@ mod laws;
 pub use actor::{Act, Actor, Housed};
 pub use crowd::{Crowd, Others};
 pub use laws::{alone_adds_its_own, own_places_have_own_items, steps_go_together};
-
-#[cfg(test)]
-mod tests;
