@@ -180,7 +180,7 @@ fn refusals(rt: HostRuntime) -> Result<(), Fail> {
         ),
         (
             "CREATE TABLE t (a INT); DROP TABLE t; UPDATE t SET a = 1; SELECT * FROM t;",
-            "OK\nFAILED 4 Syntax\nFAILED 4 Syntax\na\n",
+            "OK\nFAILED 4 Syntax\nOK inserted 0 deleted 0\na\n",
         ),
         ("SELECT * FROM t", "FAILED 10 NoTable\n"),
         ("INSERT INTO t VALUES (1)", "FAILED 10 NoTable\n"),
@@ -234,8 +234,8 @@ fn what_of_the_language_runs(rt: HostRuntime) -> Result<(), Fail> {
         ),
         (
             "CREATE TABLE t (a INT); INSERT OVERWRITE TABLE t VALUES (1); INSERT INTO t (a) VALUES (1); INSERT INTO t SELECT * FROM t;\nINSERT INTO t VALUES (NULL); SELECT * FROM t;",
-            1,
-            "OK\nFAILED 4 Syntax\nFAILED 4 Syntax\nFAILED 4 Syntax\nOK inserted 1 deleted 0\na\nNULL\n",
+            0,
+            "OK\nOK inserted 1 deleted 0\nOK inserted 1 deleted 0\nOK inserted 2 deleted 0\nOK inserted 1 deleted 0\na\nNULL\n1\n1\n1\n1\n",
         ),
         (
             "SELECT * FROM t u; SELECT * FROM t LIMIT 1; SELECT DISTINCT * FROM t; SHOW TABLES; EXPLAIN FORMATTED SELECT * FROM t;",

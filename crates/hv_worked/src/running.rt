@@ -6,7 +6,7 @@ use hv_reading::{TextFault, read_statement, read_text};
 use std::alloc::Global;
 use std::test::Fail;
 
-const RUNNING: [&str; 42] = [
+const RUNNING: [&str; 48] = [
     "CREATE TABLE t (a INT)",
     "CREATE TABLE t (a INTEGER)",
     "CREATE TABLE t (a INT, b STRING)",
@@ -31,6 +31,12 @@ const RUNNING: [&str; 42] = [
     "INSERT INTO t VALUES (1, a)",
     "INSERT INTO t VALUES (1), (NULL)",
     "INSERT INTO t (a) VALUES (1)",
+    "INSERT OVERWRITE TABLE t VALUES (1)",
+    "INSERT INTO t SELECT * FROM u",
+    "UPDATE t SET a = 1",
+    "DELETE FROM t",
+    "DELETE FROM t WHERE a",
+    "TRUNCATE TABLE t",
     "SELECT * FROM t",
     "SELECT * FROM default.t",
     "SELECT DISTINCT * FROM t",
@@ -51,18 +57,15 @@ const RUNNING: [&str; 42] = [
     "SELECT * FROM t ORDER BY a",
 ];
 
-const OTHERS: [&str; 16] = [
+const OTHERS: [&str; 13] = [
     "CREATE TABLE t (a INT) PARTITIONED BY (p INT)",
     "CREATE TABLE t (a INT) CLUSTERED BY (a) INTO 4 BUCKETS",
-    "INSERT OVERWRITE TABLE t VALUES (1)",
     "INSERT INTO t PARTITION (p) VALUES (1)",
-    "INSERT INTO t SELECT * FROM u",
+    "INSERT OVERWRITE TABLE t PARTITION (p = 1) VALUES (1)",
+    "TRUNCATE TABLE t PARTITION (p = 1)",
     "EXPLAIN FORMATTED SELECT * FROM t",
-    "UPDATE t SET a = 1",
-    "DELETE FROM t",
     "MERGE INTO t USING u ON a WHEN MATCHED THEN DELETE",
     "DROP TABLE t",
-    "TRUNCATE TABLE t",
     "SHOW TABLES",
     "DESCRIBE t",
     "ALTER TABLE t COMPACT 'minor'",
