@@ -295,9 +295,12 @@ module _ {D : Type 0} (told : D → Option Store) (number : ℕ) (text : List �
           beginning = inl refl;
           legal = legal-none (state_of (entries_of before));
         };
-        leaves = (further, inl (halted.entries, refl),
-            subst (Leaves why further (told now.shelf)) (sym halted.entries)
-            (subst (λ (es : List Entry). Leaves why es (told now.shelf) (entries_of before)) begins halted.leaves));
+        leaves = (
+          further,
+          inl (halted.entries, refl),
+          subst (Leaves why further (told now.shelf)) (sym halted.entries)
+              (subst (λ (es : List Entry). Leaves why es (told now.shelf) (entries_of before)) begins halted.leaves),
+        );
       }
 
   pub begin-stopped : (before now : House D) (session : List ℕ) (result : Result TxnId HouseFault) → IsReady told before → session ≡ main_session
