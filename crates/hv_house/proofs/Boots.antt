@@ -115,7 +115,7 @@ map-append : (xs ys : List ℕ) → map lost_entry (xs ++ ys) ≡ map lost_entry
 map-append [] ys = refl
 map-append (x ∷ xs) ys = ap (λ zs. lost_entry x ∷ zs) (map-append xs ys)
 
-left-by : (why : HouseFault) (event : Entry) (told : Option Store) (book : List Entry) (more : List Entry) → Leaves why event told book
+left-by : (why : HouseFault) (event : Entry) (told : Option Store) (book : List Entry) (more : List Entry) → Leaves why (event ∷ []) told book
     → Tells told (λ s. LeavesFront (boot_fault why) book (event ∷ more) s.journal)
 left-by house.NoMemory event None book more leaves = tt
 left-by house.NoMemory event (Some s) book more leaves = reads-journal book s.journal leaves
@@ -130,10 +130,10 @@ cut-told why (Some s) book front more opening parts leaves = record { front = fr
 
 -- the opening stopped at this entry
 pub cut-at : (why : HouseFault) (event : Entry) (told : Option Store) (book front rest opening now : List Entry) → opening ≡ front ++ event ∷ rest → now ≡ book ++ front
-    → Leaves why event told now → CutsOpening why book opening told
+    → Leaves why (event ∷ []) told now → CutsOpening why book opening told
 cut-at why event told book front rest opening now parts is leaves =
     cut-told why told book front (event ∷ rest) opening parts
-    (left-by why event told (book ++ front) rest (subst (λ b. Leaves why event told b) is leaves))
+    (left-by why event told (book ++ front) rest (subst (λ b. Leaves why (event ∷ []) told b) is leaves))
 
 leave-front : (why : HouseFault) (book more : List Entry) (bytes : List ℕ) → IsJournal book bytes → LeavesFront (boot_fault why) book more bytes
 leave-front house.NoMemory book more bytes is = is
@@ -276,7 +276,7 @@ module _ {D : Type 0} (told : D → Option Store) (faults : D → ℕ) (first no
         more = drop (suc i) unended;
         parts = parts-at unended i n low at;
         entries = halted.entries ∙ losing.entries;
-        leaves = subst (Leaves why (lost_entry n) (told next.shelf)) (sym halted.entries) halted.leaves;
+        leaves = subst (Leaves why (lost_entry n ∷ []) (told next.shelf)) (sym halted.entries) halted.leaves;
       }))
 
 -- ---- the house before its first note

@@ -117,7 +117,7 @@ pub record LosesSome {D : Type 0} (told : D → Option Store) (why : HouseFault)
   pub more : List ℕ
   pub parts : open_ ≡ lost ++ next ∷ more
   pub entries : entries_of now ≡ entries_of before ++ map lost_entry lost
-  pub leaves : Leaves why (lost_entry next) (told now.shelf) (entries_of now)
+  pub leaves : Leaves why (lost_entry next ∷ []) (told now.shelf) (entries_of now)
 
 -- a book that was read has no room for its opening
 abbrev pub IsRaiseFault : List Entry → Option Store → Option Store → BootFault → Type 0

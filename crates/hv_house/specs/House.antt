@@ -12,9 +12,10 @@ use Rattle.std.specs.Option.{option_map}
 use Rattle.hv_history.specs.declared.entry.Entry.TheVariants as entry
 use Rattle.hv_history.specs.declared.state.Written.{Written}
 use Rattle.hv_history.specs.State.{State, state_of, numbered}
+use Rattle.hv_history.specs.Spelling.{entry_spelling}
 use Rattle.hv_history.specs.Journal.{place_of}
 use Rattle.hv_history.specs.Legal.{IsLegal, profile}
-use Rattle.hv_journal.specs.Appending.{Holds, HoldsOneMore, KeepsTree}
+use Rattle.hv_journal.specs.Appending.{Holds, HoldsMore, KeepsTree}
 use Rattle.hv_dirs.specs.Names.{write_end}
 use Rattle.hv_stands.specs.Files.{Stands, with_file, with_files}
 use Rattle.hv_stands.specs.Sound.{IsIdle}
@@ -31,6 +32,9 @@ entry_limit = 65536
 
 abbrev pub record_limit : ℕ
 record_limit = 65541
+
+abbrev pub IsSmall : Entry → Type 0
+IsSmall event = length (entry_spelling event) ≤ entry_limit
 
 -- the most entries of a journal
 abbrev pub book_limit : ℕ
@@ -91,11 +95,20 @@ pub record IsFaithful (book : List Entry) (store : Store) : Type 0 where
 abbrev pub Shows : {D : Type 0} → (D → Option Store) → House D → List Entry → Type 0
 Shows told house book = Tells (told house.shelf) (IsFaithful book)
 
--- an entry was noted: in the journal and behind the book
-pub record IsNoted {D : Type 0} (told : D → Option Store) (event : Entry) (before now : House D) : Type 0 where
+-- these entries were noted: in the journal and behind the book
+pub record AreNoted {D : Type 0} (told : D → Option Store) (events : List Entry) (before now : House D) : Type 0 where
   pub kept : IsKept told now
-  pub entries : entries_of now ≡ entries_of before ++ event ∷ []
+  pub entries : entries_of now ≡ entries_of before ++ events
   pub tree : Moves KeepsTree (told before.shelf) (told now.shelf)
+
+-- one entry was
+abbrev pub IsNoted : {D : Type 0} → (D → Option Store) → Entry → House D → House D → Type 0
+IsNoted told event before now = AreNoted told (event ∷ []) before now
+
+-- the entries that begin the next transaction, behind so many: its Opened and its Start
+abbrev pub beginning_of : ℕ → List ℕ → ℕ → List ℕ → List Entry
+beginning_of opened session number text =
+    entry.Opened (record { 0 = opened + 1 }) session number text ∷ entry.Start (record { 0 = opened + 1 }) 0 ∷ []
 
 -- the house was only asked
 pub record IsAsked {D : Type 0} (told : D → Option Store) (before now : House D) : Type 0 where
@@ -112,17 +125,20 @@ pub record IsBeside {D : Type 0} (before now : House D) : Type 0 where
   pub opened : now.opened ≡ before.opened
   pub tables : now.tables ≡ before.tables
 
--- What a call that was to note this entry, and was refused, leaves of the journal: it reads to the book; and where the
--- store failed, to the book or to the book and the entry.
-abbrev pub Leaves : HouseFault → Entry → Option Store → List Entry → Type 0
-Leaves fault.NoMemory event told book = Holds told book
-Leaves fault.Store event told book = HoldsOneMore told book event
+-- What a call that was to note these entries, and was refused, leaves of the journal: it reads to the book; and where
+-- the store failed, to the book or to the book and all of them.
+abbrev pub Leaves : HouseFault → List Entry → Option Store → List Entry → Type 0
+Leaves fault.NoMemory events told book = Holds told book
+Leaves fault.Store events told book = HoldsMore told book events
 
--- the entry wasn't noted: the book is as it was, and so are the files
-pub record IsHalted {D : Type 0} (told : D → Option Store) (event : Entry) (why : HouseFault) (before now : House D) : Type 0 where
+-- the entries weren't noted: the book is as it was, and so are the files
+pub record AreHalted {D : Type 0} (told : D → Option Store) (events : List Entry) (why : HouseFault) (before now : House D) : Type 0 where
   pub entries : entries_of now ≡ entries_of before
   pub tree : Moves KeepsTree (told before.shelf) (told now.shelf)
-  pub leaves : Leaves why event (told now.shelf) (entries_of before)
+  pub leaves : Leaves why events (told now.shelf) (entries_of before)
+
+abbrev pub IsHalted : {D : Type 0} → (D → Option Store) → Entry → HouseFault → House D → House D → Type 0
+IsHalted told event why before now = AreHalted told (event ∷ []) why before now
 
 -- the next write id of this table wasn't noted
 pub record IsHaltedGiving {D : Type 0} (told : D → Option Store) (why : HouseFault) (txn : TxnId) (table : TableId) (before now : House D) : Type 0 where

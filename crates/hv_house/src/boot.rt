@@ -146,7 +146,7 @@ impl<D: Shelf + Drop> House<D> {
     }
 
     /// Notes the opening of a book that was read.
-    fn begin(&mut self, runs: u64, unended: &[u64]) -> Result<(), HouseFault>
+    fn note_opening(&mut self, runs: u64, unended: &[u64]) -> Result<(), HouseFault>
         requires near { self.old.place ≤ 2 ^ 62 }
         requires place { self.old.place ≡ place_of (entries_of self.old) }
         requires opened { self.old.opened ≤ length (entries_of self.old) }
@@ -204,7 +204,7 @@ impl<D: Shelf + Drop> House<D> {
                     opened: found.opened,
                     tables: found.tables,
                 };
-                match house.begin(found.runs, &found.unended) {
+                match house.note_opening(found.runs, &found.unended) {
                     Ok(()) => Ok(house),
                     Err(fault) => Err((fault.into(), house.close())),
                 }

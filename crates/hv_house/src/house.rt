@@ -4,24 +4,25 @@ ghost use Rattle.hv_history.specs.State.{numbered, changed};
 ghost use Rattle.hv_base.specs.Told.{Moves, StaysTold};
 ghost use Rattle.hv_history.specs.declared.entry.Entry.TheVariants as entries;
 ghost use Rattle.hv_history.specs.Spelling.{entry_spelling};
-ghost use Rattle.hv_history.specs.Journal.{record_of};
+ghost use Rattle.hv_history.specs.Journal.{place_of};
 ghost use Rattle.hv_history.specs.Book.{tree_of_entry};
 ghost use Rattle.hv_grammar.specs.Texts.{tree_of};
 ghost use Rattle.hv_journal.specs.Appending.{Holds, KeepsTree};
 ghost use Rattle.hv_house.specs.declared.fault.HouseFault.TheVariants.{Store};
 ghost use Rattle.hv_house.specs.Faults.{StoreCause};
-ghost use Rattle.hv_house.specs.House.{entries_of, entry_limit, book_limit, HasNumbers, next_write, with_next, IsKept, IsNoted, IsHalted, IsHaltedGiving};
+ghost use Rattle.hv_house.specs.House.{entries_of, entry_limit, book_limit, IsSmall, HasNumbers, next_write, with_next, beginning_of, IsKept, AreNoted, IsNoted, AreHalted, IsHalted, IsHaltedGiving};
 
 use crate::fault::HouseFault;
 use hv_ast::Stmt;
 use hv_base::{List, TableId, Text, Touch, TxnId, WriteId};
 use hv_book::Book;
 use hv_history::{Cause, Entry};
-use hv_journal::{append, record_length};
+use hv_journal::{append, records_length};
 use hv_known::Known;
 use hv_logic::TableInfo;
 use hv_shelf::Shelf;
 use std::alloc::Global;
+use std::slice::from_ref;
 
 /// The warehouse over a store: the store, the place of its journal's closed gate, the journal's
 /// entries, and what is known of the tables without asking them.
@@ -45,29 +46,35 @@ const MOST_ENTRIES: usize = 131_072;
 fn discard<T: Drop>(_value: T) {}
 
 impl<D: Shelf> House<D> {
-    /// Makes room for an entry and writes it into the journal.
-    #[tactic(auto, using(crate::proofs::Journals::reached, crate::proofs::Journals::record_short))]
-    fn write(&mut self, entry: &Entry) -> Result<(), HouseFault>
+    /// Makes room for these entries and writes them into the journal, all of them or none.
+    fn write(&mut self, first: &Entry, more: &[Entry]) -> Result<(), HouseFault>
         requires kept { IsKept D.told self.old }
-        requires short { length (entry_spelling entry.now) ≤ entry_limit }
-        requires room { length (entries_of self.old) < book_limit }
+        requires small { AllByRecursion IsSmall (first.now ∷ more.now) }
+        requires room { length (entries_of self.old) + length (first.now ∷ more.now) ≤ book_limit }
         ensures journal { OnOk result
-            (Holds (D.told self.new.shelf) (entries_of self.old ++ entry.now ∷ [])) }
+            (Holds (D.told self.new.shelf) (entries_of self.old ++ first.now ∷ more.now)) }
         ensures place { OnOk result
-            (self.new.place ≡ self.old.place + length (record_of entry.now) + 1) }
+            (self.new.place ≡ self.old.place + place_of (first.now ∷ more.now)) }
         ensures entries { entries_of self.new ≡ entries_of self.old }
-        ensures spare { OnOk result (0 < self.new.book.spare) }
+        ensures spare { OnOk result (length (first.now ∷ more.now) ≤ self.new.book.spare) }
         ensures opened { self.new.opened ≡ self.old.opened }
         ensures tables { self.new.tables ≡ self.old.tables }
         ensures tree { Moves KeepsTree (D.told self.old.shelf) (D.told self.new.shelf) }
-        ensures halted { IfErr result (λ fault. IsHalted D.told entry.now fault self.old self.new) }
+        ensures halted { IfErr result (λ fault.
+            AreHalted D.told (first.now ∷ more.now) fault self.old self.new) }
         ensures cause { StoreCause (D.faults self.old.shelf) (D.faults self.new.shelf)
             (IsErrOf result Store) }
     {
         self.buffer.clear();
-        self.buffer.reserve(record_length(entry) + 1)?;
-        self.book.reserve(1)?;
-        append(&mut self.shelf, &mut self.place, entry, &mut self.buffer)?;
+        self.buffer.reserve(records_length(first, more))?;
+        self.book.reserve(1 + more.len())?;
+        append(
+            &mut self.shelf,
+            &mut self.place,
+            first,
+            more,
+            &mut self.buffer,
+        )?;
         Ok(())
     }
 
@@ -87,7 +94,7 @@ impl<D: Shelf> House<D> {
         ensures cause { StoreCause (D.faults self.old.shelf) (D.faults self.new.shelf)
             (IsErrOf result Store) }
     {
-        match self.write(&entry) {
+        match self.write(&entry, &[]) {
             Ok(()) => {
                 self.book.push(entry, tree)?;
                 Ok(())
@@ -100,6 +107,105 @@ impl<D: Shelf> House<D> {
         }
     }
 
+    /// Writes an entry and a transaction's `Start` behind it into the journal, both of them or none.
+    #[tactic(auto, using(crate::proofs::Lengths::short_start))]
+    fn write_with_start(&mut self, entry: &Entry, txn: TxnId) -> Result<(), HouseFault>
+        requires kept { IsKept D.told self.old }
+        requires short { length (entry_spelling entry.now) ≤ entry_limit }
+        requires room { length (entries_of self.old) + 2 ≤ book_limit }
+        ensures journal { OnOk result (Holds (D.told self.new.shelf)
+            (entries_of self.old ++ entry.now ∷ entries.Start txn 0 ∷ [])) }
+        ensures place { OnOk result
+            (self.new.place ≡ self.old.place + place_of (entry.now ∷ entries.Start txn 0 ∷ [])) }
+        ensures entries { entries_of self.new ≡ entries_of self.old }
+        ensures spare { OnOk result (2 ≤ self.new.book.spare) }
+        ensures opened { self.new.opened ≡ self.old.opened }
+        ensures tables { self.new.tables ≡ self.old.tables }
+        ensures tree { Moves KeepsTree (D.told self.old.shelf) (D.told self.new.shelf) }
+        ensures halted { IfErr result (λ fault.
+            AreHalted D.told (entry.now ∷ entries.Start txn 0 ∷ []) fault self.old self.new) }
+        ensures cause { StoreCause (D.faults self.old.shelf) (D.faults self.new.shelf)
+            (IsErrOf result Store) }
+    {
+        let start = Entry::Start { txn, statement: 0 };
+        self.write(entry, from_ref(&start))
+    }
+
+    /// Notes an entry and a transaction's `Start` behind it, both of them or none.
+    #[tactic(auto, using(crate::proofs::Stays::stays_of))]
+    fn note_with_start(
+        &mut self,
+        entry: Entry,
+        tree: Option<Stmt>,
+        txn: TxnId,
+    ) -> Result<(), HouseFault>
+        requires kept { IsKept D.told self.old }
+        requires tree { tree ≡ tree_of_entry entry }
+        requires short { length (entry_spelling entry) ≤ entry_limit }
+        requires room { length (entries_of self.old) + 2 ≤ book_limit }
+        ensures noted { OnOk result
+            (AreNoted D.told (entry ∷ entries.Start txn 0 ∷ []) self.old self.new) }
+        ensures opened { self.new.opened ≡ self.old.opened }
+        ensures tables { self.new.tables ≡ self.old.tables }
+        ensures tells { StaysTold (D.told self.old.shelf) (D.told self.new.shelf) }
+        ensures halted { IfErr result (λ fault.
+            AreHalted D.told (entry ∷ entries.Start txn 0 ∷ []) fault self.old self.new) }
+        ensures cause { StoreCause (D.faults self.old.shelf) (D.faults self.new.shelf)
+            (IsErrOf result Store) }
+    {
+        match self.write_with_start(&entry, txn) {
+            Ok(()) => {
+                self.book.push(entry, tree)?;
+                self.book.push(Entry::Start { txn, statement: 0 }, None)?;
+                Ok(())
+            }
+            Err(fault) => {
+                discard(entry);
+                discard(tree);
+                Err(fault)
+            }
+        }
+    }
+
+    /// Takes up a statement as the next transaction and gives it its snapshot, both at once: the journal
+    /// has both entries then or none. `tree` is that of its text. It is `open` and then `start` with half
+    /// the writes.
+    #[tactic(auto, using(crate::proofs::Lengths::short_opened))]
+    pub fn begin(
+        &mut self,
+        session: Text,
+        number: u64,
+        text: Text,
+        tree: Stmt,
+    ) -> Result<TxnId, HouseFault>
+        requires kept { IsKept D.told self.old }
+        requires tree { tree_of text ≡ Some tree }
+        requires short { length text ≤ 32768 }
+        requires named { length session ≤ 32 }
+        requires room { length (entries_of self.old) + 2 ≤ book_limit }
+        ensures number { IfOk result (λ txn. txn.0 ≡ self.old.opened + 1) }
+        ensures noted { OnOk result (AreNoted D.told
+            (beginning_of self.old.opened session number text) self.old self.new) }
+        ensures opened { OnOk result (self.new.opened ≡ self.old.opened + 1) }
+        ensures tables { self.new.tables ≡ self.old.tables }
+        ensures tells { StaysTold (D.told self.old.shelf) (D.told self.new.shelf) }
+        ensures halted { IfErr result (λ fault. AreHalted D.told
+            (beginning_of self.old.opened session number text) fault self.old self.new) }
+        ensures cause { StoreCause (D.faults self.old.shelf) (D.faults self.new.shelf)
+            (IsErrOf result Store) }
+    {
+        let txn = TxnId(self.opened + 1);
+        let entry = Entry::Opened {
+            txn,
+            session,
+            number,
+            text,
+        };
+        self.note_with_start(entry, Some(tree), txn)?;
+        self.opened += 1;
+        Ok(txn)
+    }
+
     /// Whether the journal has room for all entries of a statement.
     pub fn has_room(&self) -> bool
         ensures room { result ≡ true → length (entries_of self.now) + 4 ≤ book_limit }
@@ -108,7 +214,8 @@ impl<D: Shelf> House<D> {
         self.book.entries().len() + 4 <= MOST_ENTRIES
     }
 
-    /// Takes up a statement as the next transaction. `tree` is that of its text.
+    /// Takes up a statement as the next transaction, without its snapshot: for a statement that is held or
+    /// waits before it starts. `tree` is that of its text.
     #[tactic(auto, using(crate::proofs::Lengths::short_opened))]
     pub fn open(
         &mut self,
@@ -144,7 +251,7 @@ impl<D: Shelf> House<D> {
         Ok(txn)
     }
 
-    /// Gives a transaction its snapshot.
+    /// Gives a transaction its snapshot, where it was taken up before: a statement was held, or waited.
     #[tactic(auto, using(crate::proofs::Lengths::short_start))]
     pub fn start(&mut self, txn: TxnId) -> Result<(), HouseFault>
         requires kept { IsKept D.told self.old }

@@ -10,6 +10,7 @@ use Rattle.hv_history.specs.Journal.{record_of, HasRecord, Leads, Reads, IsJourn
 use Rattle.hv_journal.specs.declared.fault.JournalFault.{JournalFault}
 use Rattle.hv_journal.specs.declared.fault.JournalFault.TheVariants as fault
 use Rattle.hv_journal.specs.Gates.{Opens, IsFaultIn}
+use Rattle.hv_journal.specs.Writing.{gated_record, records_of}
 use Rattle.hv_journal.proofs.Forms.{one_record}
 
 -- a gate that isn't closed, and no record behind it
@@ -20,6 +21,15 @@ bad_gate (suc gate) after ne none = none
 pub leads_more : (book : List Entry) (bytes rest : List ℕ) (e : Entry) (after : List ℕ) → Leads book bytes rest → Opens rest e after → Leads (book ++ e ∷ []) bytes after
 leads_more [] bytes rest e after led opens = (opens.gate, after, opens.open_gate, opens.has, led ∙ opens.parts, refl)
 leads_more (d ∷ book) bytes rest e after led opens = (led.0, led.1, led.2, led.3, led.4, leads_more book led.1 rest e after led.5 opens)
+
+-- one book behind another
+pub leads_join : (book more : List Entry) (bytes rest after : List ℕ) → Leads book bytes rest → Leads more rest after → Leads (book ++ more) bytes after
+leads_join [] more bytes rest after led next = subst (λ (x : List ℕ). Leads more x after) (sym led) next
+leads_join (e ∷ book) more bytes rest after led next = (led.0, led.1, led.2, led.3, led.4, leads_join book more led.1 rest after led.5 next)
+
+pub place_join : (book more : List Entry) → place_of (book ++ more) ≡ place_of book + place_of more
+place_join [] more = omega arith
+place_join (e ∷ book) more = omega (arith, place_join book more)
 
 pub place_more : (book : List Entry) (e : Entry) → place_of (book ++ e ∷ []) ≡ place_of book + (1 + length (record_of e))
 place_more [] e = omega arith
@@ -126,3 +136,11 @@ leads_written (e ∷ book) rest each =
 pub journal_reads_back : (book : List Entry) → AllByRecursion HasRecord book → Reads book (journal_of book)
 unfolding journal_of
 journal_reads_back book each = ([], leads_written book (0 ∷ []) each)
+
+-- records as they are appended, behind a gate that is open
+pub leads_records : (gate : ℕ) (first : Entry) (more : List Entry) (rest : List ℕ) → gate ≢ 0 → AllByRecursion HasRecord (first ∷ more)
+    → Leads (first ∷ more) (gate ∷ (records_of first more ++ rest)) rest
+unfolding gated_record
+leads_records gate first more rest ne each =
+    let behind = flat_map (λ e. 1 ∷ record_of e) more in
+    (gate, behind ++ rest, ne, each.0, ap (λ (x : List ℕ). gate ∷ x) (append_assoc (record_of first) behind rest), leads_written more rest each.1)

@@ -1,5 +1,5 @@
 -- What a store's journal holds, where the store tells it.
-use Rattle.std.specs.Prelude.{◌≡◌, ◌⊎◌, ◌≤◌, ℕ, Option, List, [], ◌∷◌, ◌++◌, length}
+use Rattle.std.specs.Prelude.{◌≡◌, ◌⊎◌, ◌≤◌, ℕ, Option, List, ◌++◌, length}
 use Rattle.hv_base.specs.Told.{Tells}
 use Rattle.hv_shelf.specs.Disk.{Store}
 use Rattle.hv_history.specs.declared.entry.Entry.{Entry}
@@ -9,13 +9,13 @@ use Rattle.hv_history.specs.Journal.{Reads}
 abbrev pub Holds : Option Store → List Entry → Type 0
 Holds told book = Tells told (λ s. Reads book s.journal)
 
--- the bytes read to the book, or to the book and this entry behind it
-abbrev pub ReadsOneMore : List Entry → Entry → List ℕ → Type 0
-ReadsOneMore book e bytes = Reads book bytes ⊎ Reads (book ++ e ∷ []) bytes
+-- the bytes read to the book, or to the book and all of these entries behind it
+abbrev pub ReadsMore : List Entry → List Entry → List ℕ → Type 0
+ReadsMore book more bytes = Reads book bytes ⊎ Reads (book ++ more) bytes
 
--- the same of a store's journal: what a failure may leave where the entry was being appended
-abbrev pub HoldsOneMore : Option Store → List Entry → Entry → Type 0
-HoldsOneMore told book e = Tells told (λ s. ReadsOneMore book e s.journal)
+-- the same of a store's journal: what a failure may leave where these entries were being appended
+abbrev pub HoldsMore : Option Store → List Entry → List Entry → Type 0
+HoldsMore told book more = Tells told (λ s. ReadsMore book more s.journal)
 
 abbrev pub KeepsTree : Store → Store → Type 0
 KeepsTree before now = now.tree ≡ before.tree

@@ -14,5 +14,5 @@ pub use fault::JournalFault;
 pub use journal::{next_record, read_records};
 pub use laws::{one_book, one_spelling};
 pub use reading::records::decode_entry;
-pub use writing::lengths::record_length;
+pub use writing::lengths::{record_length, records_length};
 pub use writing::records::encode_entry;

@@ -1,5 +1,5 @@
 -- What serving a script's statements leaves, by its status.
-use Rattle.std.proofs.Common.{◌≡◌, ℕ, Bool, true, false, Result, Ok, Err, IfOk, IfErr, Option, Some, None, List, [], ◌∷◌, ◌++◌, refl, sym, ap, ◌∙◌, subst, arith, ◌⊎◌, ◌+◌, ◌<◌, inl, inr}
+use Rattle.std.proofs.Common.{◌≡◌, ℕ, length, Bool, true, false, Result, Ok, Err, IfOk, IfErr, Option, Some, None, List, [], ◌∷◌, ◌++◌, refl, sym, ap, ◌∙◌, subst, arith, ◌⊎◌, ◌+◌, ◌<◌, inl, inr}
 use Rattle.hv_base.specs.Told.{Tells, Moves, StaysTold}
 use Rattle.hv_shelf.specs.Disk.{Store}
 use Rattle.hv_history.specs.declared.entry.Entry.{Entry}
@@ -10,6 +10,8 @@ use Rattle.hv_base.specs.Sink.{Gains, GainsPart}
 use Rattle.hv_journal.specs.Appending.{Holds, KeepsTree}
 use Rattle.hv_stands.specs.Files.{Stands}
 use Rattle.hv_house.specs.House.{IsFaithful}
+use Rattle.hv_house.specs.declared.fault.HouseFault.{HouseFault}
+use Rattle.hv_house.specs.declared.fault.HouseFault.TheVariants as fault
 use Rattle.hv_house.specs.declared.boot.BootFault.{BootFault}
 use Rattle.hv_house.specs.declared.boot.BootFault.TheVariants as boot
 use Rattle.hv_house.specs.Booting.{opening_of, OpensTo, Opens, StopsOpening, IsCutOpening, HasNoBook, HasFullBook}
@@ -21,7 +23,7 @@ use Rattle.hv_program.specs.declared.stop.Stop.TheVariants as stop
 use Rattle.hv_program.specs.Lines.{full_line}
 use Rattle.hv_program.specs.Statements.{GoesOneByOne}
 use Rattle.hv_program.specs.Running.{Prints, CutsOff, StopsIn, Halts, HasAll}
-use Rattle.hv_program.specs.Results.{IsBookOf, HasBook, IsServed, IsCutOff, IsStopped, IsUnopened, OpensLater, StopsForMemory, StopsForStore}
+use Rattle.hv_program.specs.Results.{IsBookOf, HasBook, IsServed, IsCutOff, IsStopped, IsUnopened, OpensLater, ReadsFurther, StopsForMemory, StopsForStore}
 use Rattle.hv_program.specs.Serving.{ran_status, IsCutFull, ServedOf, Serves, IsSaid}
 
 pub tells-still : {A : Type 0} (a b : Option A) (x : A) → StaysTold a b → a ≡ Some x → (y : A) × (b ≡ Some y)
@@ -78,10 +80,10 @@ cut-off texts written now store start book has h = record {
   wrote = h.written;
 }
 
-stopped : (texts : List (List ℕ)) (written now : List ℕ) (start book : List Entry) (Keeps : List Entry → Type 0)
-    → StopsIn start book texts (Some written) (Some now) → Keeps book
+stopped : (why : HouseFault) (told : Option Store) (texts : List (List ℕ)) (written now : List ℕ) (start book : List Entry) (Keeps : List Entry → ℕ → List ℕ → List Entry → Type 0)
+    → (h : StopsIn why told start book texts (Some written) (Some now)) → Keeps h.done (length h.front + 1) h.text book
     → IsStopped start texts written now Keeps
-stopped texts written now start book Keeps h keeps = record {
+stopped why told texts written now start book Keeps h keeps = record {
   front = h.front;
   text = h.text;
   behind = h.behind;
@@ -166,9 +168,9 @@ served-by opened texts (Err stop.Source) written now before after book reads sho
 served-by opened texts (Err stop.Sink) written now before after book reads shows prints halts =
     served-four opened texts written now before after (cut-off texts written now after (opening_of opened) book halts.1 halts.0)
 served-by opened texts (Err stop.Store) written now before after book reads shows prints halts =
-    served-five opened texts written now before after (inl (stopped texts written now (opening_of opened) book _ halts.0 halts.1))
+    served-five opened texts written now before after (inl (stopped fault.Store (Some after) texts written now (opening_of opened) book (ReadsFurther after.journal) halts halts.leaves))
 served-by opened texts (Err stop.NoMemory) written now before after book reads shows prints halts =
-    served-seven opened texts written now before after (inl (stopped texts written now (opening_of opened) book _ halts.0 halts.1.1))
+    served-seven opened texts written now before after (inl (stopped fault.NoMemory (Some after) texts written now (opening_of opened) book (λ done number text b. Reads b after.journal) halts halts.leaves.2))
 
 -- ---- with what the outside tells
 

@@ -11,10 +11,10 @@ use Rattle.hv_house.specs.House.{IsFaithful}
 use Rattle.hv_house.specs.declared.house.House.{House}
 use Rattle.hv_house.specs.declared.fault.HouseFault.{HouseFault}
 use Rattle.hv_house.specs.House.{entries_of}
-use Rattle.hv_session.specs.Halting.{IsHalfway, LeavesSome, HasStopped}
+use Rattle.hv_session.specs.Halting.{IsHalfway, LeavesFurther, HasStopped}
 use Rattle.hv_house.specs.declared.fault.HouseFault.TheVariants as fault
 use Rattle.hv_history.specs.Journal.{Reads}
-use Rattle.hv_session.proofs.Halfway.{leaves-book}
+use Rattle.hv_session.proofs.Halfway.{leaves-none}
 use Rattle.hv_journal.specs.Appending.{Holds}
 use Rattle.hv_history.specs.Legal.{IsLegal, profile}
 use Rattle.hv_program.specs.declared.stop.Stop.{Stop}
@@ -140,7 +140,7 @@ Prints-cut start before now texts front behind a b c refused number text reply t
 Prints-stopped : {D : Type 0} (told : D → Option Store) (why : HouseFault) (start : List Entry) (before now : House D) (texts front behind : List (List ℕ)) (a b : Option (List ℕ)) (refused : Bool) (number : ℕ) (text : List ℕ)
     → number ≡ 1 + length front → texts ≡ front ++ text ∷ behind → IsLegal profile (entries_of before)
     → Prints start (entries_of before) front a b refused → HasStopped told why before now number text
-    → StopsIn start (entries_of now) texts a b
+    → StopsIn why (told now.shelf) start (entries_of now) texts a b
 Prints-stopped told why start before now texts front behind a b refused number text at are legal h stopped =
     let later : number ≡ length front + 1 = omega (arith, at) in
     record {
@@ -153,6 +153,7 @@ Prints-stopped told why start before now texts front behind a b refused number t
       grows = h.grows;
       legal = legal;
       halfway = subst (λ n. IsHalfway (entries_of before) (entries_of now) n text) later stopped.halfway;
+      leaves = subst (λ n. LeavesFurther why (told now.shelf) (entries_of before) (entries_of now) n text) later stopped.leaves;
       output = h.output;
       refused = refused;
       is_output = subst (λ w. IsOutput start w 1 front h.output refused) (sym stopped.halfway.book)
@@ -179,11 +180,10 @@ Halts-cut result told told' told_now start before now texts i text reply refused
     (Prints-cut start before now texts (take i texts) (drop (suc i) texts) a b c refused (i + 1) text reply this (number_at texts i below) (split_at texts i text below is) wrote p q, both)) h said)
 
 -- a statement wasn't done to its end
-halts : {D : Type 0} (told : D → Option Store) (why : HouseFault) (start : List Entry) (before now : House D) (texts : List (List ℕ)) (a b : Option (List ℕ))
-    → StopsIn start (entries_of now) texts a b → LeavesSome why (told now.shelf) (entries_of now)
-    → Halts (stop_of why) start (entries_of now) texts a b (told now.shelf)
-halts told fault.Store start before now texts a b stopped leaves = (stopped, leaves)
-halts told fault.NoMemory start before now texts a b stopped leaves = (stopped, leaves)
+halts : (why : HouseFault) (told : Option Store) (start now : List Entry) (texts : List (List ℕ)) (a b : Option (List ℕ))
+    → StopsIn why told start now texts a b → Halts (stop_of why) start now texts a b told
+halts fault.Store told start now texts a b stopped = stopped
+halts fault.NoMemory told start now texts a b stopped = stopped
 
 pub Halts-stopped : {D : Type 0} (told : D → Option Store) (why : HouseFault) (result : Result Bool Stop) (first : Option Store) (start : List Entry) (before now : House D) (texts : List (List ℕ)) (i : ℕ) (text : List ℕ) (refused : Bool) (a b : Option (List ℕ))
     → IsErrAnd result (λ e. e ≡ stop_of why)
@@ -195,9 +195,8 @@ Halts-stopped told why result first start before now texts i text refused a b er
     passed_up result (stop_of why) (λ e. Tells first (λ _. Halts e start (entries_of now) texts a b (told now.shelf))) err
     (Tells-both' first (told before.shelf) _ (IsFaithful (entries_of before)) _ stays
     (λ (p : Prints start (entries_of before) (take i texts) a b refused) s (faithful : IsFaithful (entries_of before) s).
-    halts told why start before now texts a b
-    (Prints-stopped told why start before now texts (take i texts) (drop (suc i) texts) a b refused (i + 1) text (number_at texts i below) (split_at texts i text below is) faithful.legal p stopped)
-    stopped.leaves) h shows)
+    halts why (told now.shelf) start (entries_of now) texts a b
+    (Prints-stopped told why start before now texts (take i texts) (drop (suc i) texts) a b refused (i + 1) text (number_at texts i below) (split_at texts i text below is) faithful.legal p stopped)) h shows)
 
 -- ---- no room for a statement
 
@@ -215,5 +214,5 @@ full-stopped told house number text (Err why) reads = record {
     beginning = inl refl;
     legal = record { fit = tt; truthful = tt };
   };
-  leaves = leaves-book why (told house.shelf) (entries_of house) reads;
+  leaves = leaves-none why (told house.shelf) (entries_of house) (entries_of house) number text reads;
 }

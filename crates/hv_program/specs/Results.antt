@@ -7,9 +7,9 @@ use Rattle.hv_history.specs.declared.entry.Entry.{Entry}
 use Rattle.hv_history.specs.State.{state_of}
 use Rattle.hv_history.specs.Legal.{IsLegal, profile}
 use Rattle.hv_history.specs.Journal.{Reads}
-use Rattle.hv_journal.specs.Appending.{ReadsOneMore}
+use Rattle.hv_journal.specs.Appending.{ReadsMore}
 use Rattle.hv_stands.specs.Files.{Stands}
-use Rattle.hv_session.specs.Halting.{IsHalfway}
+use Rattle.hv_session.specs.Halting.{IsHalfway, AreFurther}
 use Rattle.hv_program.specs.Output.{IsReply, IsOutput}
 use Rattle.hv_house.specs.declared.boot.BootFault.TheVariants as fault
 use Rattle.hv_house.specs.Booting.{opening_of, OpensTo, IsCutOpening}
@@ -62,8 +62,8 @@ pub record IsCutOff (start : List Entry) (texts : List (List ℕ)) (written now 
   pub wrote : GainsPart reply (written ++ output) now
 
 -- The replies of the statements in front of this one were written. It has no end in the book; those behind it were
--- not taken up. `Keeps` says how the book stands in the journal.
-pub record IsStopped (start : List Entry) (texts : List (List ℕ)) (written now : List ℕ) (Keeps : List Entry → Type 0) : Type 0 where
+-- not taken up. `Keeps` says how the book stands in the journal, by the book before the statement, its number and its text.
+pub record IsStopped (start : List Entry) (texts : List (List ℕ)) (written now : List ℕ) (Keeps : List Entry → ℕ → List ℕ → List Entry → Type 0) : Type 0 where
   pub front : List (List ℕ)
   pub text : List ℕ
   pub behind : List (List ℕ)
@@ -76,7 +76,7 @@ pub record IsStopped (start : List Entry) (texts : List (List ℕ)) (written now
   pub refused : Bool
   pub is_output : IsOutput start book 1 front output refused
   pub wrote : now ≡ written ++ output
-  pub keeps : Keeps book
+  pub keeps : Keeps done (length front + 1) text book
 
 -- No statement was taken up, nothing was written, and no file was touched.
 pub record IsUnopened (written now : List ℕ) (before after : Store) (Keeps : List ℕ → Type 0) : Type 0 where
@@ -87,11 +87,17 @@ pub record IsUnopened (written now : List ℕ) (before after : Store) (Keeps : L
 -- for want of memory: the journal reads to the book
 abbrev pub StopsForMemory : List Entry → List (List ℕ) → List ℕ → List ℕ → Store → Store → Type 0
 StopsForMemory before texts written now store store' =
-    IsStopped (opening_of before) texts written now (λ book. Reads book store'.journal)
+    IsStopped (opening_of before) texts written now (λ done number text book. Reads book store'.journal)
     ⊎ IsUnopened written now store store' (IsCutOpening fault.NoMemory before)
 
--- where the store failed: the journal reads to the book, or to the book and one further entry
+-- the journal reads to the book, or to the book and the further entries of a statement that was stopped
+abbrev pub ReadsFurther : List ℕ → List Entry → ℕ → List ℕ → List Entry → Type 0
+ReadsFurther bytes done number text book =
+    (further : List Entry) × AreFurther done book number text further × ReadsMore book further bytes
+
+-- where the store failed: the journal reads to the book; or where none of the statement was noted, to the book with its
+-- opening and its start, and else to the book with one further entry
 abbrev pub StopsForStore : List Entry → List (List ℕ) → List ℕ → List ℕ → Store → Store → Type 0
 StopsForStore before texts written now store store' =
-    IsStopped (opening_of before) texts written now (λ book. (e : Entry) × ReadsOneMore book e store'.journal)
+    IsStopped (opening_of before) texts written now (ReadsFurther store'.journal)
     ⊎ IsUnopened written now store store' (IsCutOpening fault.Store before)

@@ -7,9 +7,10 @@ use Rattle.hv_shelf.specs.Disk.{Store}
 use Rattle.hv_history.specs.declared.entry.Entry.{Entry}
 use Rattle.hv_history.specs.Legal.{IsLegal, profile}
 use Rattle.hv_history.specs.Journal.{Reads}
+use Rattle.hv_house.specs.declared.fault.HouseFault.{HouseFault}
 use Rattle.hv_house.specs.declared.fault.HouseFault.TheVariants as fault
 use Rattle.hv_house.specs.House.{IsFaithful}
-use Rattle.hv_session.specs.Halting.{IsHalfway, LeavesSome}
+use Rattle.hv_session.specs.Halting.{IsHalfway, LeavesFurther}
 use Rattle.hv_program.specs.declared.stop.Stop.{Stop}
 use Rattle.hv_program.specs.declared.stop.Stop.TheVariants as stop
 use Rattle.hv_session.specs.Answered.{IsAnswered}
@@ -62,8 +63,8 @@ pub record CutsOff (book book' : List Entry) (texts : List (List ℕ)) (before n
   pub is_reply : IsReply book book' (length front + 1) text reply this
   pub written : Moves (EndsWithin output reply) before now
 
--- the run stopped in this statement
-pub record StopsIn (book book' : List Entry) (texts : List (List ℕ)) (before now : Option (List ℕ)) : Type 0 where
+-- the run stopped in this statement, for this reason
+pub record StopsIn (why : HouseFault) (told : Option Store) (book book' : List Entry) (texts : List (List ℕ)) (before now : Option (List ℕ)) : Type 0 where
   pub front : List (List ℕ)
   pub text : List ℕ
   pub behind : List (List ℕ)
@@ -73,6 +74,7 @@ pub record StopsIn (book book' : List Entry) (texts : List (List ℕ)) (before n
   pub grows : (more : List Entry) × (done ≡ book ++ more)
   pub legal : IsLegal profile done
   pub halfway : IsHalfway done book' (length front + 1) text
+  pub leaves : LeavesFurther why told done book' (length front + 1) text
   pub output : List ℕ
   pub refused : Bool
   pub is_output : IsOutput book book' 1 front output refused
@@ -85,5 +87,5 @@ HasAll book store = Reads book store.journal × IsFaithful book store
 abbrev pub Halts : Stop → List Entry → List Entry → List (List ℕ) → Option (List ℕ) → Option (List ℕ) → Option Store → Type 0
 Halts stop.Source book book' texts before now told = ⊥
 Halts stop.Sink book book' texts before now told = CutsOff book book' texts before now × Tells told (HasAll book')
-Halts stop.Store book book' texts before now told = StopsIn book book' texts before now × LeavesSome fault.Store told book'
-Halts stop.NoMemory book book' texts before now told = StopsIn book book' texts before now × LeavesSome fault.NoMemory told book'
+Halts stop.Store book book' texts before now told = StopsIn fault.Store told book book' texts before now
+Halts stop.NoMemory book book' texts before now told = StopsIn fault.NoMemory told book book' texts before now

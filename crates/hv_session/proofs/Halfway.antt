@@ -1,6 +1,6 @@
 -- What was noted of a statement where the run stopped in it, and what the journal holds then.
 use Rattle.std.proofs.Common.{◌≡◌, ℕ, ◌+◌, ◌<◌, ◌≤◌, Option, Some, None, Result, Ok, Err, List, [], ◌∷◌, ◌++◌, length, refl, sym, ap, ◌∙◌, subst, append_assoc, arith, ◌⊎◌, inl, inr}
-use Rattle.std.specs.Prelude.{IfErr}
+use Rattle.std.specs.Prelude.{IfOk, IfErr, OnOk}
 use Rattle.std.proofs.lemmas.List.{append-nil}
 use Rattle.std.specs.Option.{option_map}
 use Rattle.hv_base.specs.declared.ids.TxnId.{TxnId}
@@ -18,11 +18,11 @@ use Rattle.hv_history.specs.State.{State, state_of, numbered}
 use Rattle.hv_history.specs.declared.state.Transaction.{Transaction}
 use Rattle.hv_history.specs.Legal.{IsLegalFrom, GivenFits, profile}
 use Rattle.hv_logic.specs.declared.meaning.Meaning.{Meaning}
-use Rattle.hv_journal.specs.Appending.{Holds, HoldsOneMore}
+use Rattle.hv_journal.specs.Appending.{Holds, HoldsMore}
 use Rattle.hv_stands.specs.Sound.{IsIdle}
-use Rattle.hv_stands.specs.Endings.{HasSpace, main_session, next_number, opening, statement_entries}
+use Rattle.hv_stands.specs.Endings.{HasSpace, main_session, statement_entries}
 use Rattle.hv_stands.specs.Laws.{meant}
-use Rattle.hv_stands.proofs.Endings.{running, behind_opened, behind_start, of-last, legal-last, legal-none, opens-legal, begins-legal}
+use Rattle.hv_stands.proofs.Endings.{running, behind_start, of-last, legal-last, legal-none, begins-legal}
 use Rattle.hv_stands.proofs.Changes.{given-fits}
 use Rattle.hv_house.specs.declared.fault.HouseFault.{HouseFault}
 use Rattle.hv_house.specs.declared.fault.HouseFault.TheVariants as fault
@@ -33,27 +33,34 @@ use Rattle.hv_stands.proofs.Numbers.{numbered-map}
 use Rattle.std.specs.List.{AllByRecursion}
 use Rattle.hv_dirs.specs.Names.{write_end}
 use Rattle.hv_stands.proofs.Soundness.{all-numbered}
-use Rattle.hv_house.specs.House.{HasNumbers, entries_of, next_write, book_limit, IsKept, IsReady, IsNoted, IsAsked, IsBeside, IsHalted, IsHaltedGiving, Leaves, KeepsJournal}
+use Rattle.hv_house.specs.House.{HasNumbers, entries_of, next_write, book_limit, beginning_of, IsKept, IsReady, AreNoted, IsNoted, IsAsked, IsBeside, AreHalted, IsHalted, IsHaltedGiving, Leaves, KeepsJournal}
 use Rattle.hv_session.specs.Started.{IsStarted}
-use Rattle.hv_session.specs.Halting.{next_txn, GivesId, LeavesSome, IsUnended, HasStopped}
+use Rattle.hv_session.specs.Halting.{next_txn, GivesId, LeavesSome, LeavesFurther, IsUnended, HasStopped}
 use Rattle.hv_session.proofs.Books.{space-left}
 
 -- ---- the journal
 
-holds-one-more : (o : Option Store) (book : List Entry) (e : Entry) → Holds o book → HoldsOneMore o book e
-holds-one-more None book e holds = tt
-holds-one-more (Some s) book e holds = inl holds
+holds-more : (o : Option Store) (book more : List Entry) → Holds o book → HoldsMore o book more
+holds-more None book more holds = tt
+holds-more (Some s) book more holds = inl holds
 
-leaves-event : (why : HouseFault) (event : Entry) (o : Option Store) (book : List Entry) → Holds o book → Leaves why event o book
-leaves-event fault.NoMemory event o book holds = holds
-leaves-event fault.Store event o book holds = holds-one-more o book event holds
+leaves-events : (why : HouseFault) (events : List Entry) (o : Option Store) (book : List Entry) → Holds o book → Leaves why events o book
+leaves-events fault.NoMemory events o book holds = holds
+leaves-events fault.Store events o book holds = holds-more o book events holds
 
-pub leaves-book : (why : HouseFault) (o : Option Store) (book : List Entry) → Holds o book → LeavesSome why o book
-leaves-book why o book holds = (entry.Boot 0, leaves-event why (entry.Boot 0) o book holds)
+leaves-book : (why : HouseFault) (o : Option Store) (book : List Entry) → Holds o book → LeavesSome why o book
+leaves-book why o book holds = (entry.Boot 0, leaves-events why (entry.Boot 0 ∷ []) o book holds)
+
+-- one further entry
+leaves-one : (why : HouseFault) (o : Option Store) (before now : List Entry) (number : ℕ) (text : List ℕ) → LeavesSome why o now → LeavesFurther why o before now number text
+leaves-one why o before now number text some = (some.0 ∷ [], inr (some.0, refl), some.1)
+
+pub leaves-none : (why : HouseFault) (o : Option Store) (before now : List Entry) (number : ℕ) (text : List ℕ) → Holds o now → LeavesFurther why o before now number text
+leaves-none why o before now number text holds = leaves-one why o before now number text (leaves-book why o now holds)
 
 leaves-halted : {D : Type 0} (told : D → Option Store) (event : Entry) (why : HouseFault) (before now : House D) → IsHalted told event why before now
     → LeavesSome why (told now.shelf) (entries_of now)
-leaves-halted told event why before now halted = (event, subst (Leaves why event (told now.shelf)) (sym halted.entries) halted.leaves)
+leaves-halted told event why before now halted = (event, subst (Leaves why (event ∷ []) (told now.shelf)) (sym halted.entries) halted.leaves)
 
 pub keeps-holds : (a b : Option Store) (book : List Entry) → Moves KeepsJournal a b → Holds a book → Holds b book
 keeps-holds None None book moves holds = tt
@@ -203,13 +210,6 @@ given-legal book number text tree table known at_rest space is here =
     (given-fits s number text m table.0 here.table at_rest space here.here)))
     tt)
 
--- ---- its opening alone was noted
-
-pub opening-legal : (book : List Entry) (number : ℕ) (text : List ℕ) (tree : Stmt) → HasSpace book → Runs text tree
-    → IsLegalFrom profile (state_of book) (opening book number text ∷ [])
-opening-legal book number text tree space is =
-    opens-legal (state_of book) number text tree [] space is (legal-none (behind_opened (state_of book) number text))
-
 -- ---- where the run stopped
 
 module _ {D : Type 0} (told : D → Option Store) (number : ℕ) (text : List ℕ) where
@@ -227,12 +227,12 @@ module _ {D : Type 0} (told : D → Option Store) (number : ℕ) (text : List �
         halfway = record {
           added = statement_entries (entries_of before) number text [];
           book = e ∙ begun.entries;
-          beginning = inr (inr (inl refl));
+          beginning = inr (inl refl);
           legal =
               begins-legal (state_of (entries_of before)) number text tree (meant (entries_of before) tree) [] ready.idle space is refl
               (legal-none (behind_start (state_of (entries_of before)) number text (meant (entries_of before) tree)));
         };
-        leaves = unended.leaves;
+        leaves = leaves-one why (told now.shelf) (entries_of before) (entries_of now) number text unended.leaves;
       }
       by (inr gives) =
           let write : WriteId = record { 0 = gives.known.given + 1 } in
@@ -252,10 +252,10 @@ module _ {D : Type 0} (told : D → Option Store) (number : ℕ) (text : List �
                   ∙ ap (λ (b : List Entry). b ++ entry.Given (next_txn (entries_of before)) gives.table write ∷ []) begun.entries
                   ∙ append_assoc (entries_of before) (statement_entries (entries_of before) number text [])
                   (entry.Given (next_txn (entries_of before)) gives.table write ∷ []);
-              beginning = inr (inr (inr (gives.table, write, refl)));
+              beginning = inr (inr (gives.table, write, refl));
               legal = given-legal (entries_of before) number text tree gives.table gives.known ready.idle space is here;
             };
-            leaves = unended.leaves;
+            leaves = leaves-one why (told now.shelf) (entries_of before) (entries_of now) number text unended.leaves;
           }
 
   pub run-stopped : {T : Type 0} (before started now : House D) (tree : Stmt) (txn : TxnId) (result : Result T HouseFault) → IsReady told before
@@ -264,55 +264,57 @@ module _ {D : Type 0} (told : D → Option Store) (number : ℕ) (text : List �
   run-stopped before started now tree txn (Ok x) ready room is begun unended = tt
   run-stopped before started now tree txn (Err why) ready room is begun unended = unended-stopped before started now tree txn why ready room is begun unended
 
-  -- ---- it was not begun, or not started
+  -- ---- it was begun, or not
 
-  noted-opening : (before now : House D) (session : List ℕ) → IsReady told before → session ≡ main_session
-      → IsNoted told (entry.Opened (record { 0 = before.opened + 1 }) session number text) before now
-      → entries_of now ≡ entries_of before ++ opening (entries_of before) number text ∷ []
-  noted-opening before now session ready named noted =
-      noted.entries
-      ∙ ap (λ (n : ℕ). entries_of before ++ entry.Opened (record { 0 = n + 1 }) session number text ∷ []) ready.knows.opened
-      ∙ ap (λ (s : List ℕ). entries_of before ++ entry.Opened (record { 0 = next_number (entries_of before) }) s number text ∷ []) named
+  begins-as : (before : House D) (session : List ℕ) → IsReady told before → session ≡ main_session
+      → beginning_of before.opened session number text ≡ statement_entries (entries_of before) number text []
+  begins-as before session ready named =
+      ap (λ (n : ℕ). beginning_of n session number text) ready.knows.opened
+      ∙ ap (λ (s : List ℕ). beginning_of (length (state_of (entries_of before)).transactions) s number text) named
 
-  stopped-opened : (before opened now : House D) (session : List ℕ) (tree : Stmt) (event : Entry) (why : HouseFault) → IsReady told before
-      → length (entries_of before) + 4 ≤ book_limit → Runs text tree → session ≡ main_session
-      → IsNoted told (entry.Opened (record { 0 = before.opened + 1 }) session number text) before opened
-      → IsHalted told event why opened now → HasStopped told why before now number text
-  stopped-opened before opened now session tree event why ready room is named noted halted = record {
-    halfway = record {
-      added = opening (entries_of before) number text ∷ [];
-      book = halted.entries ∙ noted-opening before opened session ready named noted;
-      beginning = inr (inl refl);
-      legal = opening-legal (entries_of before) number text tree (space-left (entries_of before) ready.idle room) is;
-    };
-    leaves = leaves-halted told event why opened now halted;
+  begun-started : (before now : House D) (session : List ℕ) (txn : TxnId) → IsReady told before → session ≡ main_session
+      → txn.0 ≡ before.opened + 1 → AreNoted told (beginning_of before.opened session number text) before now → now.opened ≡ before.opened + 1
+      → now.tables ≡ before.tables → IsStarted told before now number text txn
+  begun-started before now session txn ready named number_is noted opened tables = record {
+    kept = noted.kept;
+    entries = noted.entries ∙ ap (λ (es : List Entry). entries_of before ++ es) (begins-as before session ready named);
+    opened = opened;
+    tables = tables;
+    txn_is = number_is ∙ ap (λ (n : ℕ). n + 1) ready.knows.opened;
+    tree = noted.tree;
   }
 
-  stopped-unopened : (event : Entry) (before now : House D) (why : HouseFault) → IsHalted told event why before now → HasStopped told why before now number text
-  stopped-unopened event before now why halted = record {
-    halfway = record {
-      added = [];
-      book = halted.entries ∙ sym (append-nil (entries_of before));
-      beginning = inl refl;
-      legal = legal-none (state_of (entries_of before));
-    };
-    leaves = leaves-halted told event why before now halted;
-  }
+  pub begin-started : (before now : House D) (session : List ℕ) (result : Result TxnId HouseFault) → IsReady told before → session ≡ main_session
+      → IfOk result (λ txn. txn.0 ≡ before.opened + 1) → OnOk result (AreNoted told (beginning_of before.opened session number text) before now)
+      → OnOk result (now.opened ≡ before.opened + 1) → now.tables ≡ before.tables → IfOk result (IsStarted told before now number text)
+  begin-started before now session (Ok txn) ready named number_is noted opened tables = begun-started before now session txn ready named number_is noted opened tables
+  begin-started before now session (Err why) ready named number_is noted opened tables = tt
 
-  pub start-stopped : {T : Type 0} (before opened now : House D) (session : List ℕ) (tree : Stmt) (event : Entry) (why same : HouseFault) (result : Result T HouseFault)
-      → result ≡ Err same → same ≡ why → IsReady told before → length (entries_of before) + 4 ≤ book_limit → Runs text tree → session ≡ main_session
-      → IsNoted told (entry.Opened (record { 0 = before.opened + 1 }) session number text) before opened
-      → IsHalted told event why opened now → IfErr result (λ fault. HasStopped told fault before now number text)
-  start-stopped {T = T} before opened now session tree event why same result is e ready room runs named noted halted =
-      subst (λ (r : Result T HouseFault). IfErr r (λ fault. HasStopped told fault before now number text)) (sym is)
-      (subst (λ (w : HouseFault). HasStopped told w before now number text) (sym e)
-      (stopped-opened before opened now session tree event why ready room runs named noted halted))
+  stopped-unbegun : (before now : House D) (session : List ℕ) (why : HouseFault) → IsReady told before → session ≡ main_session
+      → AreHalted told (beginning_of before.opened session number text) why before now → HasStopped told why before now number text
+  stopped-unbegun before now session why ready named halted =
+      let begins = begins-as before session ready named in
+      let further = statement_entries (entries_of before) number text [] in
+      record {
+        halfway = record {
+          added = [];
+          book = halted.entries ∙ sym (append-nil (entries_of before));
+          beginning = inl refl;
+          legal = legal-none (state_of (entries_of before));
+        };
+        leaves = (
+          further,
+          inl (halted.entries, refl),
+          subst (Leaves why further (told now.shelf)) (sym halted.entries)
+              (subst (λ (es : List Entry). Leaves why es (told now.shelf) (entries_of before)) begins halted.leaves),
+        );
+      }
 
-  pub open-stopped : {T : Type 0} (event : Entry) (before now : House D) (why same : HouseFault) (result : Result T HouseFault)
-      → result ≡ Err same → same ≡ why → IsHalted told event why before now → IfErr result (λ fault. HasStopped told fault before now number text)
-  open-stopped {T = T} event before now why same result is e halted =
-      subst (λ (r : Result T HouseFault). IfErr r (λ fault. HasStopped told fault before now number text)) (sym is)
-      (subst (λ (w : HouseFault). HasStopped told w before now number text) (sym e) (stopped-unopened event before now why halted))
+  pub begin-stopped : (before now : House D) (session : List ℕ) (result : Result TxnId HouseFault) → IsReady told before → session ≡ main_session
+      → IfErr result (λ why. AreHalted told (beginning_of before.opened session number text) why before now)
+      → IfErr result (λ why. HasStopped told why before now number text)
+  begin-stopped before now session (Ok txn) ready named halted = tt
+  begin-stopped before now session (Err why) ready named halted = stopped-unbegun before now session why ready named halted
 
   -- nothing was noted of it
   pub stopped-before : (before : House D) (why : HouseFault) → IsReady told before → HasStopped told why before before number text
@@ -323,7 +325,7 @@ module _ {D : Type 0} (told : D → Option Store) (number : ℕ) (text : List �
       beginning = inl refl;
       legal = legal-none (state_of (entries_of before));
     };
-    leaves = leaves-book why (told before.shelf) (entries_of before) ready.kept.reads;
+    leaves = leaves-none why (told before.shelf) (entries_of before) (entries_of before) number text ready.kept.reads;
   }
 
   pub nothing-stopped : {T : Type 0} (before : House D) (why : HouseFault) (result : Result T HouseFault) → result ≡ Err why → IsReady told before

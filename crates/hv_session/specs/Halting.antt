@@ -10,7 +10,7 @@ use Rattle.hv_history.specs.declared.entry.Entry.TheVariants as entry
 use Rattle.hv_history.specs.declared.entry.Cause.TheVariants as cause
 use Rattle.hv_history.specs.State.{state_of, numbered}
 use Rattle.hv_history.specs.Legal.{IsLegalFrom, profile}
-use Rattle.hv_stands.specs.Endings.{next_number, opening, statement_entries}
+use Rattle.hv_stands.specs.Endings.{next_number, statement_entries}
 use Rattle.hv_house.specs.declared.fault.HouseFault.{HouseFault}
 use Rattle.hv_house.specs.declared.house.House.{House}
 use Rattle.hv_known.specs.declared.known.Known.{Known}
@@ -30,11 +30,10 @@ IsEnding txn ends =
 abbrev pub next_txn : List Entry → TxnId
 next_txn book = record { 0 = next_number book }
 
--- what may be noted of a statement that isn't ended: nothing, its opening, its start, and the write id of its rows
+-- what may be noted of a statement that isn't ended: nothing, its opening and its start, and the write id of its rows
 abbrev pub IsBeginning : List Entry → ℕ → List ℕ → List Entry → Type 0
 IsBeginning book number text added =
     (added ≡ [])
-    ⊎ (added ≡ opening book number text ∷ [])
     ⊎ (added ≡ statement_entries book number text [])
     ⊎ ((table : TableId) × (write : WriteId)
     × (added ≡ statement_entries book number text (entry.Given (next_txn book) table write ∷ [])))
@@ -55,7 +54,18 @@ pub record GivesId {D : Type 0} (before now : House D) (txn : TxnId) : Type 0 wh
 
 -- The journal reads to the book, and where the store failed, to the book or to the book and one further entry.
 abbrev pub LeavesSome : HouseFault → Option Store → List Entry → Type 0
-LeavesSome why told book = (event : Entry) × Leaves why event told book
+LeavesSome why told book = (event : Entry) × Leaves why (event ∷ []) told book
+
+-- the further entries of a stopped statement: where none of it was noted, its opening and its start; or one
+abbrev pub AreFurther : List Entry → List Entry → ℕ → List ℕ → List Entry → Type 0
+AreFurther before now number text further =
+    ((now ≡ before) × (further ≡ statement_entries before number text []))
+    ⊎ ((event : Entry) × (further ≡ event ∷ []))
+
+-- The journal reads to the book, and where the store failed, to the book or to the book and such further entries.
+abbrev pub LeavesFurther : HouseFault → Option Store → List Entry → List Entry → ℕ → List ℕ → Type 0
+LeavesFurther why told before now number text =
+    (further : List Entry) × AreFurther before now number text further × Leaves why further told now
 
 -- a started statement wasn't ended: nothing was noted, or the write id that its rows were to have
 pub record IsUnended {D : Type 0} (told : D → Option Store) (why : HouseFault) (before now : House D) (txn : TxnId) : Type 0 where
@@ -65,4 +75,4 @@ pub record IsUnended {D : Type 0} (told : D → Option Store) (why : HouseFault)
 -- the statement wasn't done to its end
 pub record HasStopped {D : Type 0} (told : D → Option Store) (why : HouseFault) (before now : House D) (number : ℕ) (text : List ℕ) : Type 0 where
   pub halfway : IsHalfway (entries_of before) (entries_of now) number text
-  pub leaves : LeavesSome why (told now.shelf) (entries_of now)
+  pub leaves : LeavesFurther why (told now.shelf) (entries_of before) (entries_of now) number text

@@ -57,9 +57,7 @@ fn begin<D: Shelf>(
     ensures cause { StoreCause (D.faults house.old.shelf) (D.faults house.new.shelf)
         (IsErrOf result Store) }
 {
-    let txn = house.open(session, number, text, tree)?;
-    house.start(txn)?;
-    Ok(txn)
+    house.begin(session, number, text, tree)
 }
 
 /// Ends a started statement by what it comes to over what was seen.

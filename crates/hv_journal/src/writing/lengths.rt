@@ -1,6 +1,8 @@
-ghost use Rattle.std.specs.Prelude.{◌≡◌, ◌<◌, ◌^◌, length};
+ghost use Rattle.std.specs.Prelude.{◌≡◌, ◌<◌, ◌^◌, ◌∷◌, length};
+ghost use Rattle.std.specs.List.{flat_map, AllByRecursion};
 ghost use Rattle.hv_history.specs.Spelling.{touch_spelling, touches_spelling, place_spelling, cause_spelling, job_cause_spelling, entry_spelling};
-ghost use Rattle.hv_history.specs.Journal.{record_of};
+ghost use Rattle.hv_history.specs.Journal.{record_of, place_of};
+ghost use Rattle.hv_journal.specs.Writing.{CanPutEntry, gated_record};
 
 use crate::lists::Touches;
 use hv_base::{List, Touch};
@@ -99,4 +101,35 @@ pub fn record_length(entry: &Entry) -> usize
     ensures { result ≡ length (record_of entry.now) }
 {
     4 + body_length(entry)
+}
+
+/// How many bytes an open gate and the entry's record have.
+#[tactic(auto, using(crate::proofs::Room::records), unfolding(crate::specs::Writing::gated_record))]
+fn gated_length(entry: &Entry) -> usize
+    requires { CanPutEntry entry.now }
+    ensures { result ≡ length (gated_record entry.now) }
+{
+    1 + record_length(entry)
+}
+
+fn all_gated_length(entries: &[Entry]) -> usize
+    requires short { length (flat_map gated_record entries.now) < 2 ^ 63 }
+    requires can { AllByRecursion CanPutEntry entries.now }
+    ensures { result ≡ length (flat_map gated_record entries.now) }
+{
+    let mut total = 0;
+    for entry in entries {
+        total += gated_length(entry);
+    }
+    total
+}
+
+/// How many bytes the records of these entries have, each with a gate.
+#[tactic(auto, using(crate::proofs::Room::places))]
+pub fn records_length(first: &Entry, more: &[Entry]) -> usize
+    requires short { place_of (first.now ∷ more.now) < 2 ^ 63 }
+    requires can { AllByRecursion CanPutEntry (first.now ∷ more.now) }
+    ensures { result ≡ place_of (first.now ∷ more.now) }
+{
+    1 + record_length(first) + all_gated_length(more)
 }

@@ -14,20 +14,20 @@ returns-then-entries-len-clause-full g c =
 pub returns-then-entries-len-clause-stopped : goal.returns-then-entries-len-clause-stopped
 returns-then-entries-len-clause-stopped g c = stopped-full _ (g.D.Shelf.told c.args.shelf) c.args.book.entries c.requires.journal
 
-pub returns-in-Ok-begin-clause-ready : goal.returns-in-Ok-begin-clause-ready
-returns-in-Ok-begin-clause-ready g c =
+pub returns-in-Ok-note_opening-clause-ready : goal.returns-in-Ok-note_opening-clause-ready
+returns-in-Ok-note_opening-clause-ready g c =
     let room : length c.args.book.entries + length c.in-Ok.found.unended.items + 1 ≤ 131072 =
     omega (arith, c.if-entries-len.false, c.len.ensures, ap length c.entries.ensures.entries) in
-    (raised-ready g.D.Shelf.told c.args.book.entries c.in-Ok.found c.begin.new.self c.requires.fit c.in-Ok.ensures.learned room c.in-Ok-begin.ensures.kept
-    (c.in-Ok-begin.ensures.entries ∙ ap (λ xs. c.args.book.entries ++ Boot c.in-Ok.found.runs ∷ map lost_entry xs) c.deref.ensures.value)
-    c.in-Ok-begin.ensures.opened (ap (λ v. v.items) c.in-Ok-begin.ensures.tables)).1
+    (raised-ready g.D.Shelf.told c.args.book.entries c.in-Ok.found c.note_opening.new.self c.requires.fit c.in-Ok.ensures.learned room c.in-Ok-note_opening.ensures.kept
+    (c.in-Ok-note_opening.ensures.entries ∙ ap (λ xs. c.args.book.entries ++ Boot c.in-Ok.found.runs ∷ map lost_entry xs) c.deref.ensures.value)
+    c.in-Ok-note_opening.ensures.opened (ap (λ v. v.items) c.in-Ok-note_opening.ensures.tables)).1
 
-pub returns-in-Ok-begin-clause-opened : goal.returns-in-Ok-begin-clause-opened
-returns-in-Ok-begin-clause-opened g c =
+pub returns-in-Ok-note_opening-clause-opened : goal.returns-in-Ok-note_opening-clause-opened
+returns-in-Ok-note_opening-clause-opened g c =
     let room : length c.args.book.entries + length c.in-Ok.found.unended.items + 1 ≤ 131072 =
     omega (arith, c.if-entries-len.false, c.len.ensures, ap length c.entries.ensures.entries) in (
-      (raised-ready g.D.Shelf.told c.args.book.entries c.in-Ok.found c.begin.new.self c.requires.fit c.in-Ok.ensures.learned room c.in-Ok-begin.ensures.kept
-          (c.in-Ok-begin.ensures.entries ∙ ap (λ xs. c.args.book.entries ++ Boot c.in-Ok.found.runs ∷ map lost_entry xs) c.deref.ensures.value)
-          c.in-Ok-begin.ensures.opened (ap (λ v. v.items) c.in-Ok-begin.ensures.tables)).0,
+      (raised-ready g.D.Shelf.told c.args.book.entries c.in-Ok.found c.note_opening.new.self c.requires.fit c.in-Ok.ensures.learned room c.in-Ok-note_opening.ensures.kept
+          (c.in-Ok-note_opening.ensures.entries ∙ ap (λ xs. c.args.book.entries ++ Boot c.in-Ok.found.runs ∷ map lost_entry xs) c.deref.ensures.value)
+          c.in-Ok-note_opening.ensures.opened (ap (λ v. v.items) c.in-Ok-note_opening.ensures.tables)).0,
       load-small c.args.book.entries c.requires.fit c.in-Ok.found.unended.items c.in-Ok.ensures.learned.open_are room,
     )

@@ -1,0 +1,31 @@
+use Rattle.std.proofs.lemmas.Result.{err_from_is_err_and}
+use Rattle.std.proofs.Common.{◌≡◌, [], ◌∷◌, ◌++◌, map, ap, ◌∙◌}
+use Rattle.hv_history.specs.declared.entry.Entry.TheVariants.{Boot}
+use Rattle.hv_house.specs.House.{entries_of}
+use Rattle.hv_house.specs.Booting.{lost_entry}
+use Rattle.hv_house.proofs.Lengths.{short_boot}
+use Rattle.hv_house.proofs.Boots.{stops-unmade, stops-boot, stops-lost}
+use Rattle.hv_house.proofs.house.House.note_opening.Goals as goal
+
+pub returns-in_err-make_journal-clause-halted : goal.returns-in_err-make_journal-clause-halted
+returns-in_err-make_journal-clause-halted g c =
+    let left = err_from_is_err_and c.from_residual.result c.from_residual.ensures.1 in
+    let same : left.0 ≡ c.in_err-make_journal.field-0.0 = cc (left.2) in
+    stops-unmade c.in_err-make_journal.field-0.0 left.0 c.from_residual.result left.1 same (g.D.Shelf.told c.make_journal.new.self.shelf) (entries_of c.args.self.now) _
+    c.in_err-make_journal.ensures.journal
+
+pub note-requires-clause-short : goal.note-requires-clause-short
+note-requires-clause-short g c = short_boot c.args.runs
+
+pub returns-in_err-note-clause-halted : goal.returns-in_err-note-clause-halted
+returns-in_err-note-clause-halted g c =
+    let left = err_from_is_err_and c.from_residual-in_err-note.result c.from_residual-in_err-note.ensures.1 in
+    let same : left.0 ≡ c.in_err-note.field-0.0 = cc (left.2) in
+    stops-boot c.in_err-note.field-0.0 left.0 c.from_residual-in_err-note.result left.1 same g.D.Shelf.told c.make_journal.new.self c.note.new.self
+    (entries_of c.args.self.now) c.args.runs (map lost_entry c.args.unended.now) (ap (λ b. b.entries) c.in_ok-make_journal.ensures.beside.book) c.in_err-note.ensures.halted
+
+pub returns-clause-halted : goal.returns-clause-halted
+returns-clause-halted g c =
+    stops-lost g.D.Shelf.told c.lose.result (entries_of c.args.self.now) c.args.runs c.args.unended.now c.note.new.self c.lose.new.self
+    (c.in_ok-note.ensures.noted.entries ∙ ap (λ b. b.entries ++ Boot c.args.runs ∷ []) c.in_ok-make_journal.ensures.beside.book)
+    c.lose.ensures.halted
