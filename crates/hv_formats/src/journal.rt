@@ -1,5 +1,4 @@
 use hv_bytes::FieldFault;
-use hv_history::Entry;
 use hv_journal::{
     JournalFault, append, decode_entry, encode_entry, open_empty, read_records, record_length,
 };
@@ -246,57 +245,61 @@ fn journals(rt: HostRuntime) -> Result<(), Fail> {
     Ok(())
 }
 
-/// Appends a Boot and these entries to an empty journal that fails at one call of `op` if there are so many.
+/// Appends a Boot, or two at once, to an empty journal that fails at one call of `op` if there are so many.
 /// Answers whether it was acknowledged, and where the closed gate is said to stand.
 fn append_boot(
     rt: &impl Abort,
     alloc: Global,
     op: Op,
     nth: u64,
-    more: &[Entry],
+    two: bool,
 ) -> Result<(MemoryShelf, bool, u64), Fail> {
     let mut shelf = MemoryShelf::new(alloc, vec![in alloc; Planned { op, nth }]?)?;
     open_empty(&mut shelf)?;
     assert!(rt; shelf.journal().len() == 1);
     let boot = decode_entry(alloc, b"\x01\0\0\0\0\0\0\0\0")?;
+    let next = decode_entry(alloc, b"\x01\0\0\0\0\0\0\0\x07")?;
     let mut buffer = Vec::with_capacity(alloc, 64)?;
-    assert!(rt; record_length(&boot) == 13);
+    assert!(rt; record_length(&boot) == 13 && record_length(&next) == 13);
     let mut place = 0;
-    let done = append(&mut shelf, &mut place, &boot, more, &mut buffer).is_ok();
-    Ok((shelf, done, place))
+    let done = if two {
+        append(&mut shelf, &mut place, &boot, &[next], &mut buffer)
+    } else {
+        append(&mut shelf, &mut place, &boot, &[], &mut buffer)
+    };
+    Ok((shelf, done.is_ok(), place))
 }
 
 #[test]
 fn appends_behind_the_closed_gate(rt: HostRuntime) -> Result<(), Fail> {
     let alloc = rt.alloc();
-    let (shelf, done, place) = append_boot(&rt, alloc, Op::JournalSync, 9, &[])?;
+    let (shelf, done, place) = append_boot(&rt, alloc, Op::JournalSync, 9, false)?;
     assert!(rt; done);
     assert_eq!(rt;
         shelf.journal(),
         b"\x01\0\0\0\x09\x01\0\0\0\0\0\0\0\0\0".as_slice()
     );
     assert_eq!(rt; place, 14);
-    stops_whole(&rt, alloc, &[], 15)
+    stops_whole(&rt, alloc, false, 15)
 }
 
 /// Two entries are appended by as many calls as one.
 #[test]
 fn appends_two_at_once(rt: HostRuntime) -> Result<(), Fail> {
     let alloc = rt.alloc();
-    let more = vec![in alloc; decode_entry(alloc, b"\x01\0\0\0\0\0\0\0\x07")?]?;
-    let (shelf, done, place) = append_boot(&rt, alloc, Op::JournalSync, 3, more.as_slice())?;
+    let (shelf, done, place) = append_boot(&rt, alloc, Op::JournalSync, 3, true)?;
     assert!(rt; done);
     assert_eq!(rt;
         shelf.journal(),
         b"\x01\0\0\0\x09\x01\0\0\0\0\0\0\0\0\x01\0\0\0\x09\x01\0\0\0\0\0\0\0\x07\0".as_slice()
     );
     assert_eq!(rt; place, 28);
-    stops_whole(&rt, alloc, more.as_slice(), 29)
+    stops_whole(&rt, alloc, true, 29)
 }
 
 /// The records and their gates come first, and the gate before them is opened last: so many bytes are in
 /// the journal where the second write or a sync failed.
-fn stops_whole(rt: &impl Abort, alloc: Global, more: &[Entry], long: usize) -> Result<(), Fail> {
+fn stops_whole(rt: &impl Abort, alloc: Global, two: bool, long: usize) -> Result<(), Fail> {
     let calls = [
         (Op::JournalWrite, 1, 1, 0),
         (Op::JournalSync, 1, long, 0),
@@ -304,7 +307,7 @@ fn stops_whole(rt: &impl Abort, alloc: Global, more: &[Entry], long: usize) -> R
         (Op::JournalSync, 2, long, 1),
     ];
     for (op, nth, len, gate) in calls {
-        let (shelf, done, place) = append_boot(rt, alloc, op, nth, more)?;
+        let (shelf, done, place) = append_boot(rt, alloc, op, nth, two)?;
         assert!(rt; !done);
         assert_eq!(rt; place, 0);
         assert_eq!(rt; shelf.journal().len(), len);
