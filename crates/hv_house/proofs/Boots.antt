@@ -160,6 +160,17 @@ stopped-full entries (Some s) book journal = record {
   leaves = subst (λ b. IsJournal b s.journal) (sym (append-nil book)) journal;
 }
 
+-- or before its first entry
+pub stopped-early : (told : Option Store) (book : List Entry) → Tells told (λ s. IsJournal book s.journal)
+    → Tells told (λ s. IsCutOpening fault.NoMemory book s.journal)
+stopped-early None book journal = tt
+stopped-early (Some s) book journal = record {
+  front = [];
+  more = opening_entries (state_of book);
+  parts = refl;
+  leaves = subst (λ b. IsJournal b s.journal) (sym (append-nil book)) journal;
+}
+
 module _ {D : Type 0} (told : D → Option Store) where
   -- at one of those that are aborted
   pub cut-lost : (why : HouseFault) (book : List Entry) (run : ℕ) (open_ : List ℕ) (before now : House D) → entries_of before ≡ book ++ Boot run ∷ []

@@ -1,7 +1,7 @@
 use Rattle.std.proofs.Common.{◌≤◌, ◌<◌, ◌+◌, ◌++◌, ◌∷◌, length, map, arith, refl, ap, ◌∙◌}
 use Rattle.hv_history.specs.declared.entry.Entry.TheVariants.{Boot}
 use Rattle.hv_house.specs.Booting.{lost_entry}
-use Rattle.hv_house.proofs.Boots.{load-full, load-small, raised-ready, stopped-full}
+use Rattle.hv_house.proofs.Boots.{load-full, load-small, raised-ready, stopped-early, stopped-full}
 use Rattle.hv_house.proofs.house.House.raise.Goals as goal
 
 pub returns-then-entries-len-clause-full : goal.returns-then-entries-len-clause-full
@@ -13,6 +13,9 @@ returns-then-entries-len-clause-full g c =
 
 pub returns-then-entries-len-clause-stopped : goal.returns-then-entries-len-clause-stopped
 returns-then-entries-len-clause-stopped g c = stopped-full _ (g.D.Shelf.told c.args.shelf) c.args.book.entries c.requires.journal
+
+pub returns-then-place-gt-MOST_BYTES-clause-stopped : goal.returns-then-place-gt-MOST_BYTES-clause-stopped
+returns-then-place-gt-MOST_BYTES-clause-stopped g c = stopped-early (g.D.Shelf.told c.args.shelf) c.args.book.entries c.requires.journal
 
 pub returns-in-Ok-note_opening-clause-ready : goal.returns-in-Ok-note_opening-clause-ready
 returns-in-Ok-note_opening-clause-ready g c =
