@@ -21,7 +21,7 @@ use Rattle.hv_grammar.specs.Texts.{tree_of}
 use Rattle.hv_logic.specs.declared.catalog.TableInfo.{TableInfo}
 use Rattle.hv_logic.specs.declared.effect.Effect.{Effect}
 use Rattle.hv_logic.specs.declared.meaning.Meaning.{Meaning}
-use Rattle.hv_logic.specs.declared.meaning.Meaning.TheVariants.{Refused, Listing, Change, Make, Plain, RowLimit}
+use Rattle.hv_logic.specs.declared.meaning.Meaning.TheVariants.{Refused, Listing, Change, Make, Plain, RowLimit, PartitionLimit}
 use Rattle.hv_logic.specs.Names.{names_in}
 use Rattle.hv_history.specs.declared.entry.Entry.{Entry}
 use Rattle.hv_history.specs.declared.entry.Entry.TheVariants as entry
@@ -328,7 +328,7 @@ CauseIsTrue state (cause.Conflict by table partition) transaction = ConflictIsTr
 CauseIsTrue state cause.Full transaction = IsFalse (is_started transaction) ⊎ NeedsId transaction.given (meaning transaction)
 CauseIsTrue state (cause.Twice partition row) transaction = ⊥
 CauseIsTrue state cause.RowLimit transaction = meaning transaction ≡ Some RowLimit
-CauseIsTrue state cause.PartitionLimit transaction = ⊥
+CauseIsTrue state cause.PartitionLimit transaction = meaning transaction ≡ Some PartitionLimit
 CauseIsTrue state _ transaction = Unit {0}
 
 abbrev pub IsTruthful : State → Entry → Type 0

@@ -18,4 +18,6 @@ pub enum Meaning {
     Plain,
     /// An inserted row is too large.
     RowLimit,
+    /// A partition's text is too long, or the change touches too many partitions.
+    PartitionLimit,
 }

@@ -8,14 +8,15 @@ use Rattle.hv_logic.specs.declared.effect.Effect.{Effect}
 use Rattle.hv_logic.specs.declared.meaning.Meaning.{Meaning}
 use Rattle.hv_history.specs.declared.entry.Entry.{Entry}
 use Rattle.hv_history.specs.declared.entry.Entry.TheVariants as entry
-use Rattle.hv_history.specs.declared.entry.Cause.TheVariants.{RowLimit}
+use Rattle.hv_history.specs.declared.entry.Cause.{Cause}
+use Rattle.hv_history.specs.declared.entry.Cause.TheVariants.{RowLimit, PartitionLimit}
 use Rattle.hv_history.specs.declared.state.Table.{Table}
 use Rattle.hv_history.specs.declared.state.Transaction.{Transaction}
 use Rattle.hv_history.specs.declared.state.Ending.TheVariants.{Committed, Aborted}
-use Rattle.hv_history.specs.State.{State, nothing_yet, after, state_of, numbered, changed, owned, tables_behind, meaning_in, writes_of}
+use Rattle.hv_history.specs.State.{State, Openings, nothing_yet, after, state_of, numbered, changed, owned, tables_behind, meaning_in, writes_of, not_lost, aborting}
 use Rattle.hv_ast.specs.declared.statement.Stmt.{Stmt}
 use Rattle.hv_built.specs.Running.{Runs}
-use Rattle.hv_history.specs.Legal.{Fits, AllFit, GivenFits, CommitFits, CauseFits, profile}
+use Rattle.hv_history.specs.Legal.{Fits, AllFit, GivenFits, CommitFits, CauseFits, IsRunning, profile}
 use Rattle.hv_stands.specs.Sound.{HasEnded, IsIdle}
 use Rattle.hv_stands.specs.Endings.{next_number, opening, starting, statement_entries, HasSpace, is_abort}
 use Rattle.hv_stands.specs.Laws.{meant, committing, changing, changes_in, changing_ends}
@@ -118,24 +119,26 @@ change-leaves book number text tree info effect table at_rest space is some at =
       last_kept = refl;
     }
 
--- an abort for a row that is too large, whatever the statement means
-pub limit-leaves : (book : List Entry) (number : ℕ) (text : List ℕ) (tree : Stmt) → IsIdle (state_of book) → HasSpace book → Runs text tree
-    → Leaves book (statement_entries book number text (entry.Abort (record { 0 = next_number book }) RowLimit ∷ [])) (state_of book).tables
-limit-leaves book number text tree at_rest space is =
+-- an abort of a statement that runs, whatever it means, for a cause that keeps no count of faults
+stopped-leaves : (why : Cause) → ((o : Openings) → aborting why (not_lost o) ≡ not_lost o)
+    → ((s : State) (n : ℕ) (t : Transaction) → IsRunning t → CauseFits profile s n why t)
+    → (book : List Entry) (number : ℕ) (text : List ℕ) (tree : Stmt) → IsIdle (state_of book) → HasSpace book → Runs text tree
+    → Leaves book (statement_entries book number text (entry.Abort (record { 0 = next_number book }) why ∷ [])) (state_of book).tables
+stopped-leaves why keeps fitting book number text tree at_rest space is =
     let s : State = state_of book in
     let m : Option Meaning = meaning_in (behind_opened s number text) text in
-    let event : Entry = entry.Abort (record { 0 = next_number book }) RowLimit in
-    let t : Transaction = running s number text m [] [] (Some (Aborted (s.entries + 1 + 1) RowLimit)) in
+    let event : Entry = entry.Abort (record { 0 = next_number book }) why in
+    let t : Transaction = running s number text m [] [] (Some (Aborted (s.entries + 1 + 1) why)) in
     let two : after (after s (opening book number text)) (starting book) ≡ behind_start s number text m =
     ap (λ (n : State). after n (starting book)) (opened-behind s number text) ∙ started-behind s number text m refl in
     let all : state_of (book ++ statement_entries book number text (event ∷ [])) ≡ with_last s (s.entries + 1 + 1 + 1) s.tables t =
     fold-append after nothing_yet book (statement_entries book number text (event ∷ []))
     ∙ ap (λ (n : State). fold after n (event ∷ [])) two
-    ∙ aborted-behind s number text m RowLimit refl in
+    ∙ aborted-behind s number text m why (keeps s.openings) in
     let begun = begins-legal s number text tree (meant book tree) [] at_rest space is refl (legal-none (behind_start s number text (meant book tree))) in
     let fits : Fits profile (behind_start s number text m) event =
-    of-last s (s.entries + 1 + 1) s.tables (running s number text m [] [] None) (CauseFits profile (behind_start s number text m) (next_number book) RowLimit)
-    (record { unended = refl; started = refl }) in
+    of-last s (s.entries + 1 + 1) s.tables (running s number text m [] [] None) (CauseFits profile (behind_start s number text m) (next_number book) why)
+    (fitting (behind_start s number text m) (next_number book) (running s number text m [] [] None) (record { unended = refl; started = refl })) in
     record {
       fit = (begun.fit.0, (begun.fit.1.0, (subst (λ (n : State). Fits profile n event) (sym two) fits, tt)));
       tables_are = ap (λ (n : State). n.tables) all;
@@ -144,3 +147,13 @@ limit-leaves book number text tree at_rest space is =
       last = t;
       transactions = ap (λ (n : State). n.transactions) all;
     }
+
+-- for a row that is too large
+pub limit-leaves : (book : List Entry) (number : ℕ) (text : List ℕ) (tree : Stmt) → IsIdle (state_of book) → HasSpace book → Runs text tree
+    → Leaves book (statement_entries book number text (entry.Abort (record { 0 = next_number book }) RowLimit ∷ [])) (state_of book).tables
+limit-leaves = stopped-leaves RowLimit (λ o. refl) (λ s n t runs. runs)
+
+-- for partitions that are too many, or whose text is too long
+pub many-leaves : (book : List Entry) (number : ℕ) (text : List ℕ) (tree : Stmt) → IsIdle (state_of book) → HasSpace book → Runs text tree
+    → Leaves book (statement_entries book number text (entry.Abort (record { 0 = next_number book }) PartitionLimit ∷ [])) (state_of book).tables
+many-leaves = stopped-leaves PartitionLimit (λ o. refl) (λ s n t runs. runs)

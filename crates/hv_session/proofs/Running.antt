@@ -17,7 +17,7 @@ use Rattle.hv_logic.specs.declared.catalog.TableInfo.{TableInfo}
 use Rattle.hv_logic.specs.declared.effect.Effect.{Effect}
 use Rattle.hv_logic.specs.declared.seen.Seen.{Seen}
 use Rattle.hv_logic.specs.declared.meaning.Meaning.{Meaning}
-use Rattle.hv_logic.specs.declared.meaning.Meaning.TheVariants.{Refused, Listing, Change, Make, Plain, RowLimit}
+use Rattle.hv_logic.specs.declared.meaning.Meaning.TheVariants.{Refused, Listing, Change, Make, Plain, RowLimit, PartitionLimit}
 use Rattle.hv_meaning.specs.Meaning.{meaning_in}
 use Rattle.hv_meaning.specs.Laws.{MeansSomething}
 use Rattle.hv_history.specs.declared.entry.Entry.{Entry}
@@ -61,7 +61,7 @@ use Rattle.hv_session.specs.Answered.{WentThrough, AddsAtMost, HasRun}
 use Rattle.hv_session.proofs.Books.{entries-counted, space-left, legal-goes-on, length-map, numbers-known}
 use Rattle.hv_session.proofs.SeenTables.{meant-or-rows, means-some, change-seen, meant-told, unspoiled}
 use Rattle.hv_stands.proofs.Meanings.{ComesOfRows}
-use Rattle.hv_session.proofs.Idle.{Leaves, idle-leaves, tables_left, change-leaves, limit-leaves}
+use Rattle.hv_session.proofs.Idle.{Leaves, idle-leaves, tables_left, change-leaves, limit-leaves, many-leaves}
 use Rattle.hv_session.proofs.Stores.{became, untold, tells-none, tells-some, told-some, still-stands, keeps-keeps, keeps-puts, Any, any-of}
 
 leaves : (book added : List Entry) (number : ℕ) (text reply : List ℕ) (refused : Bool) (tables : List Table)
@@ -425,6 +425,7 @@ module _ {D : Type 0} (told : D → Option Store) (h0 h3 h4 h5 : House D) (numbe
     NoRows (Some (Listing names rows)) = ⊥
     NoRows (Some (Change info effect)) = ⊥
     NoRows (Some RowLimit) = ⊥
+    NoRows (Some PartitionLimit) = ⊥
     NoRows _ = Unit {0}
 
     not-both : (o : Option Meaning) → ComesOfRows o → NoRows o → ⊥
@@ -435,6 +436,7 @@ module _ {D : Type 0} (told : D → Option Store) (h0 h3 h4 h5 : House D) (numbe
     not-both (Some (Make shape)) h n = h
     not-both (Some Plain) h n = h
     not-both (Some RowLimit) h n = n
+    not-both (Some PartitionLimit) h n = n
 
     meant-of : (seen : List Seen) → Sees seen → (m : Meaning) → Some m ≡ meaning_in tree seen → NoRows (Some m) → meant book tree ≡ Some m
     meant-of seen sees m is unlooked = by (means seen sees)
@@ -475,7 +477,10 @@ module _ {D : Type 0} (told : D → Option Store) (h0 h3 h4 h5 : House D) (numbe
         (λ s e faithful. (cause_is, inr (inr (inr (inl (refusals.number why, refl))))))
     ended seen sees RowLimit is text_now refused ends =
         refuse-run cause.RowLimit text_now refused ends (limit-leaves book number text tree given.ready.idle space given.is)
-        (λ s e faithful. (sym (means-told seen sees s e faithful) ∙ sym is, inr (inr (inr (inr refl)))))
+        (λ s e faithful. (sym (means-told seen sees s e faithful) ∙ sym is, inr (inr (inr (inr (inl refl))))))
+    ended seen sees PartitionLimit is text_now refused ends =
+        refuse-run cause.PartitionLimit text_now refused ends (many-leaves book number text tree given.ready.idle space given.is)
+        (λ s e faithful. (sym (means-told seen sees s e faithful) ∙ sym is, inr (inr (inr (inr (inr refl))))))
     ended seen sees Plain is text_now refused ends =
         idle-run ok_line text_now refused ends.0 ends.1
         (λ s e faithful. plains-end book number text tree given.ready.idle space given.is (meant-of seen sees Plain is tt))
@@ -504,4 +509,5 @@ module _ {D : Type 0} (told : D → Option Store) (h0 h3 h4 h5 : House D) (numbe
     can-end seen sees (Make shape) is few = tt
     can-end seen sees (Refused why) is few = tt
     can-end seen sees RowLimit is few = tt
+    can-end seen sees PartitionLimit is few = tt
     can-end seen sees Plain is few = tt

@@ -21,6 +21,9 @@ short_refused txn number = grind (arith, length-append, length-eight, length-fou
 pub short_limit : (txn : TxnId) → length (entry_spelling (entry.Abort txn cause.RowLimit)) ≤ 65536
 short_limit txn = grind (arith, length-append, length-eight)
 
+pub short_many : (txn : TxnId) → length (entry_spelling (entry.Abort txn cause.PartitionLimit)) ≤ 65536
+short_many txn = grind (arith, length-append, length-eight)
+
 pub short_change : (txn : TxnId) (table : TableId) (inserted deleted : ℕ)
     → length (entry_spelling (entry.Commit txn (record { table = table; partition = []; inserted = inserted; deleted = deleted } ∷ []))) ≤ 65536
 unfolding touch_spelling

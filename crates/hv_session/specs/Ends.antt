@@ -10,7 +10,7 @@ use Rattle.hv_logic.specs.declared.catalog.Shape.{Shape}
 use Rattle.hv_logic.specs.declared.catalog.TableInfo.{TableInfo}
 use Rattle.hv_logic.specs.declared.effect.Effect.{Effect}
 use Rattle.hv_logic.specs.declared.meaning.Meaning.{Meaning}
-use Rattle.hv_logic.specs.declared.meaning.Meaning.TheVariants.{Refused, Listing, Change, Make, RowLimit}
+use Rattle.hv_logic.specs.declared.meaning.Meaning.TheVariants.{Refused, Listing, Change, Make, RowLimit, PartitionLimit}
 use Rattle.hv_rowfile.specs.Layout.{CanWrite}
 use Rattle.hv_history.specs.declared.entry.Entry.{Entry}
 use Rattle.hv_history.specs.declared.entry.Entry.TheVariants as entry
@@ -92,6 +92,7 @@ EndsAs told before now txn (Change info effect) text refused = ChangesBy told be
 EndsAs told before now txn (Make shape) text refused = Makes told before now txn shape × IsDone ok_line text refused
 EndsAs told before now txn (Refused why) text refused = Refuses told before now txn (cause.Refused (refusals.number why)) text refused
 EndsAs told before now txn RowLimit text refused = Refuses told before now txn cause.RowLimit text refused
+EndsAs told before now txn PartitionLimit text refused = Refuses told before now txn cause.PartitionLimit text refused
 EndsAs told before now txn _ text refused = Commits told before now txn [] × IsDone ok_line text refused
 
 -- what a change of these rows can rest on: its table is known, and the inserted rows fit a file

@@ -26,6 +26,7 @@ IsEnding txn ends =
     ⊎ ((table : TableId) × (ends ≡ entry.Create txn table ∷ []))
     ⊎ ((number : ℕ) × (ends ≡ entry.Abort txn (cause.Refused number) ∷ []))
     ⊎ (ends ≡ entry.Abort txn cause.RowLimit ∷ [])
+    ⊎ (ends ≡ entry.Abort txn cause.PartitionLimit ∷ [])
 
 abbrev pub next_txn : List Entry → TxnId
 next_txn book = record { 0 = next_number book }

@@ -189,7 +189,7 @@ fn change_by<D: Shelf>(
 }
 
 /// Ends the started statement that means this.
-#[tactic(auto, using(crate::proofs::Shorts::short_refused, crate::proofs::Shorts::short_limit))]
+#[tactic(auto, using(crate::proofs::Shorts::short_refused, crate::proofs::Shorts::short_limit, crate::proofs::Shorts::short_many))]
 pub fn end<D: Shelf>(
     alloc: Global,
     house: &mut House<D>,
@@ -219,6 +219,7 @@ pub fn end<D: Shelf>(
             refuse(alloc, house, txn, Cause::Refused { number })
         }
         Meaning::RowLimit => refuse(alloc, house, txn, Cause::RowLimit),
+        Meaning::PartitionLimit => refuse(alloc, house, txn, Cause::PartitionLimit),
         Meaning::Plain => {
             let text = ok_line(alloc)?;
             idle(alloc, house, txn, text)

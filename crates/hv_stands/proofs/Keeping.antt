@@ -11,7 +11,7 @@ use Rattle.hv_grammar.specs.Texts.{tree_of}
 use Rattle.hv_logic.specs.declared.catalog.TableInfo.{TableInfo}
 use Rattle.hv_logic.specs.declared.effect.Effect.{Effect}
 use Rattle.hv_logic.specs.declared.meaning.Meaning.{Meaning}
-use Rattle.hv_logic.specs.declared.meaning.Meaning.TheVariants.{Refused, Listing, Change, Make, Plain, RowLimit}
+use Rattle.hv_logic.specs.declared.meaning.Meaning.TheVariants.{Refused, Listing, Change, Make, Plain, RowLimit, PartitionLimit}
 use Rattle.hv_logic.specs.Rows.{sorted}
 use Rattle.hv_history.specs.declared.entry.Entry.{Entry}
 use Rattle.hv_history.specs.declared.entry.Entry.TheVariants as entry
@@ -153,6 +153,7 @@ writes-one (Some (Change info effect)) number t whole = change-writes info effec
 writes-one (Some (Make shape)) number t whole = inl refl
 writes-one (Some Plain) number t whole = inl refl
 writes-one (Some RowLimit) number t whole = inl refl
+writes-one (Some PartitionLimit) number t whole = inl refl
 
 pub one-write : (t : Transaction) → IsSingle t → IsOneWrite t (commits (Some t))
 one-write t single =

@@ -10,7 +10,7 @@ use Rattle.hv_logic.specs.declared.effect.Effect.{Effect}
 use Rattle.hv_logic.specs.declared.effect.Found.{Found}
 use Rattle.hv_logic.specs.declared.seen.Seen.{Seen}
 use Rattle.hv_logic.specs.declared.meaning.Meaning.{Meaning}
-use Rattle.hv_logic.specs.declared.meaning.Meaning.TheVariants.{Listing, Change, Make, RowLimit}
+use Rattle.hv_logic.specs.declared.meaning.Meaning.TheVariants.{Listing, Change, Make, RowLimit, PartitionLimit}
 use Rattle.hv_logic.specs.Tables.{named}
 use Rattle.hv_query.specs.Rows.{Tables}
 use Rattle.hv_analysis.specs.declared.logic.Logic.{Logic}
@@ -90,6 +90,7 @@ abbrev pub ComesOfRows : Option Meaning → Type 0
 ComesOfRows (Some (Listing names rows)) = Unit {0}
 ComesOfRows (Some (Change info effect)) = Unit {0}
 ComesOfRows (Some RowLimit) = Unit {0}
+ComesOfRows (Some PartitionLimit) = Unit {0}
 ComesOfRows _ = ⊥
 
 within-limit : (fits : Bool) (info : TableInfo) (effect : Effect) → ComesOfRows (Some (cond fits (Change info effect) RowLimit))

@@ -6,7 +6,7 @@ use Rattle.hv_base.specs.declared.ids.Touch.{Touch}
 use Rattle.hv_ast.specs.declared.statement.Stmt.{Stmt}
 use Rattle.hv_built.specs.Running.{Runs}
 use Rattle.hv_logic.specs.declared.meaning.Meaning.{Meaning}
-use Rattle.hv_logic.specs.declared.meaning.Meaning.TheVariants.{Refused, Listing, Change, Make, Plain, RowLimit}
+use Rattle.hv_logic.specs.declared.meaning.Meaning.TheVariants.{Refused, Listing, Change, Make, Plain, RowLimit, PartitionLimit}
 use Rattle.hv_history.specs.declared.entry.Entry.{Entry}
 use Rattle.hv_history.specs.declared.entry.Entry.TheVariants as entry
 use Rattle.hv_history.specs.declared.state.Table.{Table}
@@ -53,6 +53,7 @@ writes-none (Some (Change info effect)) = refl
 writes-none (Some (Make shape)) = refl
 writes-none (Some Plain) = refl
 writes-none (Some RowLimit) = refl
+writes-none (Some PartitionLimit) = refl
 
 pub idle-behind : (s : State) (number : ℕ) (text : List ℕ) (m : Option Meaning)
     → after (behind_start s number text m) (entry.Commit (record { 0 = next_of s }) [])

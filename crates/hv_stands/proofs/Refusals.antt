@@ -18,18 +18,21 @@ use Rattle.hv_stands.proofs.Endings.{with_last, next_of, running, behind_start, 
 cause-keeps : (m : Option Meaning) (why : Cause) (s : State) → IsCauseOf m why → aborting why (not_lost s.openings) ≡ not_lost s.openings
 cause-keeps m (cause.Refused number) s h = refl
 cause-keeps m cause.RowLimit s h = refl
+cause-keeps m cause.PartitionLimit s h = refl
 cause-keeps m (cause.Damaged place) s h = refl
 cause-keeps m why s h = absurd h
 
 cause-fits : (m : Option Meaning) (why : Cause) (s : State) (txn : ℕ) (t : Transaction) → IsCauseOf m why → IsRunning t → CauseFits profile s txn why t
 cause-fits m (cause.Refused number) s txn t h runs = runs
 cause-fits m cause.RowLimit s txn t h runs = runs
+cause-fits m cause.PartitionLimit s txn t h runs = runs
 cause-fits m (cause.Damaged place) s txn t h runs = runs
 cause-fits m why s txn t h runs = absurd h
 
 cause-true : (m : Option Meaning) (why : Cause) (s : State) (t : Transaction) → IsCauseOf m why → meaning t ≡ m → CauseIsTrue s why t
 cause-true m (cause.Refused number) s t h is = subst (λ (o : Option Meaning). IsCauseOf o (cause.Refused number)) (sym is) h
 cause-true m cause.RowLimit s t h is = is ∙ h
+cause-true m cause.PartitionLimit s t h is = is ∙ h
 cause-true m (cause.Damaged place) s t h is = tt
 cause-true m why s t h is = absurd h
 
@@ -37,6 +40,7 @@ cause-told : (m : Option Meaning) (why : Cause) (snapshot : Option Snapshot) →
 unfolding cause_text
 cause-told m (cause.Refused number) snapshot h = refl
 cause-told m cause.RowLimit snapshot h = refl
+cause-told m cause.PartitionLimit snapshot h = refl
 cause-told m (cause.Damaged place) snapshot h = refl
 cause-told m why snapshot h = absurd h
 

@@ -10,7 +10,7 @@ use Rattle.hv_value.specs.Order.{row_cmp}
 use Rattle.hv_logic.specs.declared.effect.Effect.{Effect}
 use Rattle.hv_logic.specs.declared.effect.Found.{Found}
 use Rattle.hv_logic.specs.declared.meaning.Meaning.{Meaning}
-use Rattle.hv_logic.specs.declared.meaning.Meaning.TheVariants.{Refused, Listing, Change, Make, Plain, RowLimit}
+use Rattle.hv_logic.specs.declared.meaning.Meaning.TheVariants.{Refused, Listing, Change, Make, Plain, RowLimit, PartitionLimit}
 use Rattle.hv_logic.specs.Rows.{sorted, found_cmp}
 use Rattle.hv_logic.proofs.SortingLaws.{permuted-sorted_by}
 use Rattle.hv_rowfile.specs.Layout.{RowIsTaken, RecIsTaken, RisesFrom, CanWrite}
@@ -95,6 +95,7 @@ deletes-whole s tree sound = by (meaning_of (seen_tables s.tables) tree) refl
     by (Some (Make shape)) is = tt
     by (Some Plain) is = tt
     by (Some RowLimit) is = tt
+    by (Some PartitionLimit) is = tt
 
 -- ---- their records
 

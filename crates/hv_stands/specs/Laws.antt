@@ -14,7 +14,7 @@ use Rattle.hv_logic.specs.declared.catalog.Shape.{Shape}
 use Rattle.hv_logic.specs.declared.catalog.TableInfo.{TableInfo}
 use Rattle.hv_logic.specs.declared.effect.Effect.{Effect}
 use Rattle.hv_logic.specs.declared.meaning.Meaning.{Meaning}
-use Rattle.hv_logic.specs.declared.meaning.Meaning.TheVariants.{Listing, Change, Make, Plain, RowLimit}
+use Rattle.hv_logic.specs.declared.meaning.Meaning.TheVariants.{Listing, Change, Make, Plain, RowLimit, PartitionLimit}
 use Rattle.hv_changes.specs.Columns.{columns_of}
 use Rattle.hv_meaning.specs.Meaning.{meaning_in, meaning_of}
 use Rattle.hv_rowfile.specs.Layout.{CanWrite}
@@ -60,6 +60,7 @@ PlainsEnd =
 abbrev pub IsCauseOf : Option Meaning → Cause → Type 0
 IsCauseOf meaning (cause.Refused number) = IsRefusedAs number meaning
 IsCauseOf meaning cause.RowLimit = meaning ≡ Some RowLimit
+IsCauseOf meaning cause.PartitionLimit = meaning ≡ Some PartitionLimit
 IsCauseOf meaning (cause.Damaged place) = Unit {0}
 IsCauseOf meaning _ = ⊥
 
