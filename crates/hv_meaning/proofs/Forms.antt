@@ -7,6 +7,7 @@ use Rattle.hv_base.specs.declared.refusal.Refusal.TheVariants as refusal
 use Rattle.hv_ast.specs.declared.expr.Expr.{Expr}
 use Rattle.hv_ast.specs.declared.change.Assignment.{Assignment}
 use Rattle.hv_ast.specs.declared.change.Insert.{Insert}
+use Rattle.hv_ast.specs.declared.change.PartitionItem.{PartitionItem}
 use Rattle.hv_ast.specs.declared.change.Rows.{Rows}
 use Rattle.hv_ast.specs.declared.change.Rows.TheVariants as source_rows
 use Rattle.hv_ast.specs.declared.query.Query.{Query}
@@ -24,13 +25,18 @@ use Rattle.hv_logic.specs.declared.effect.Found.{Found}
 use Rattle.hv_logic.specs.Shapes.{bucket_names}
 use Rattle.hv_types.specs.declared.scope.Field.{Field}
 use Rattle.hv_types.specs.declared.scope.Over.TheVariants as over
+use Rattle.hv_types.specs.Faults.{and_then}
 use Rattle.hv_types.specs.Kinds.{kind_of}
 use Rattle.hv_types.specs.Typing.{typed}
 use Rattle.hv_select.specs.Sources.{filter_typed}
+use Rattle.hv_changes.specs.declared.change.Origin.{Origin}
+use Rattle.hv_changes.specs.declared.change.Origin.TheVariants as origin
 use Rattle.hv_changes.specs.declared.change.TypedChange.{TypedChange}
-use Rattle.hv_changes.specs.Columns.{columns_of, field_of, fields_of, is_named}
-use Rattle.hv_changes.specs.Inserts.{is_empty, is_listed, if_new, column_named, columns_listed, are_listed, targets_of, row_typed, rows_typed, value_typed, has_count, converts, kind_at, outputs_convert, values_inserted, query_inserted}
-use Rattle.hv_changes.specs.Updates.{is_fixed, is_set, if_free, place_set, value_set, kept, kinds_of, one_set, all_set, sets_of, updated, deleted}
+use Rattle.hv_changes.specs.Columns.{columns_of, field_of, fields_of, is_named, kinds_of, kind_at}
+use Rattle.hv_changes.specs.Inserts.{is_empty, row_typed, rows_typed, has_count, converts, converted_row, output_kind, outputs_convert, value_or, new_value, values_for, overwritten, insert_typed, if_convertible, values_inserted, query_inserted}
+use Rattle.hv_changes.specs.Partitions.{static_value, value_equals, item_equals, item_met, items_met, partition_met, are_given}
+use Rattle.hv_changes.specs.Targets.{value_typed, column_named, if_new, static_of, value_stands, is_item, are_items, item_stands, items_stand, partition_stands, is_listed, are_listed, is_dynamic, dynamic_parts, are_static, column_listed, columns_listed, columns_for, targets_of}
+use Rattle.hv_changes.specs.Updates.{is_fixed, is_set, if_free, place_set, value_set, kept, one_set, all_set, sets_of, updated, deleted, partitions_met, truncated}
 use Rattle.hv_analysis.specs.declared.logic.Logic.{Logic}
 use Rattle.hv_analysis.specs.declared.logic.Logic.TheVariants as logic
 use Rattle.hv_analysis.specs.Analysis.{is_windowless, are_windowless, is_form, query_analysed, change_analysed, form_analysed, analysed}
@@ -41,7 +47,6 @@ use Rattle.hv_meaning.specs.Meaning.{its_tables, info_of, found_in, tables_of, c
 use Rattle.hv_meaning.specs.Laws.{MeansSomething, FormsMean, OtherFormsMeanNothing}
 use Rattle.hv_meaning.proofs.Outcomes.{OnOk, on_ok, then-ok, IsChangeOf, changes-are, creates-are}
 use Rattle.hv_meaning.proofs.Queries.{free-filter, free-selected}
-use Rattle.hv_meaning.proofs.Stored.{both}
 use Rattle.hv_meaning.proofs.Typed.{IsOther, Free, free-then, free-if, free-front, free-each, typed-free}
 
 -- ---- analysis of these forms doesn't refuse them as Syntax
@@ -57,36 +62,121 @@ is_change _ = false
 free-queried : (tables : List TableInfo) (query : Query Source) → is_windowless query ≡ true → Free (query_analysed tables query)
 free-queried tables query e = free-then (selected tables query) _ (free-selected tables query e) (λ typed. tt)
 
-free-new : (before : List (List ℕ)) (name : List ℕ) (found : Option Column) → Free (if_new before name found)
-free-new before name None = tt
-free-new before name (Some column) = free-if (is_listed before name) _ _ tt tt
+free-new : (repeated : Bool) (found : Option Column) → Free (if_new repeated found)
+free-new repeated None = tt
+free-new repeated (Some column) = free-if repeated _ _ tt tt
 
-free-listed : (columns : List Column) (before names : List (List ℕ)) → Free (columns_listed columns before names)
+free-typed : (x : Expr) → Free (value_typed x)
+free-typed x = typed-free [] x over.Row
+
+free-static : (kind : SqlType) (x : Expr) → Free (static_value kind x)
+free-static kind x = free-then (value_typed x) _ (free-typed x) (λ y. free-if (is_convertible (kind_of y) kind) _ _ tt tt)
+
+free-stands : (value : Option Expr) → Free (value_stands value)
+free-stands None = tt
+free-stands (Some x) = free-then (value_typed x) _ (free-typed x) (λ y. tt)
+
+free-items : (parts : List Column) (before items : List PartitionItem) → Free (items_stand parts before items)
+unfolding items_stand
+free-items parts before [] = tt
+free-items parts before (item ∷ items) =
+    free-then (item_stands parts before item) _
+    (free-then (if_new (is_item before item.name) (column_named item.name parts)) _ (free-new (is_item before item.name) (column_named item.name parts)) (λ column.
+    free-stands item.value)) (λ stands.
+    free-items parts (before ++ item ∷ []) items)
+
+free-partition : (parts : List Column) (items : List PartitionItem) → Free (partition_stands parts items)
+unfolding partition_stands
+free-partition parts [] = tt
+free-partition parts (item ∷ items) =
+    free-then (items_stand parts [] (item ∷ items)) _ (free-items parts [] (item ∷ items)) (λ stand. free-if (are_items (item ∷ items) parts) _ _ tt tt)
+
+free-listed : (items : List PartitionItem) (columns : List Column) (before names : List (List ℕ)) → Free (columns_listed items columns before names)
 unfolding columns_listed
-free-listed columns before [] = tt
-free-listed columns before (name ∷ names) =
-    free-then (if_new before name (column_named name columns)) _ (free-new before name (column_named name columns)) (λ column.
-    free-front column (columns_listed columns (before ++ name ∷ []) names) (free-listed columns (before ++ name ∷ []) names))
+free-listed items columns before [] = tt
+free-listed items columns before (name ∷ names) =
+    free-then (column_listed items columns before name) _
+    (free-then (if_new (is_listed before name) (column_named name columns)) _ (free-new (is_listed before name) (column_named name columns)) (λ column.
+    free-if (is_dynamic items column) _ _ tt tt)) (λ column.
+    free-front column (columns_listed items columns (before ++ name ∷ []) names) (free-listed items columns (before ++ name ∷ []) names))
 
-free-targets : (shape : Shape) (names : List (List ℕ)) → Free (targets_of shape names)
-free-targets shape [] = tt
-free-targets shape (name ∷ names) =
-    free-then (columns_listed (columns_of shape) [] (name ∷ names)) _ (free-listed (columns_of shape) [] (name ∷ names)) (λ targets.
-    free-if (are_listed (name ∷ names) shape.parts) _ _ tt tt)
+free-columns : (shape : Shape) (items : List PartitionItem) (names : List (List ℕ)) → Free (columns_for shape items names)
+unfolding columns_for
+free-columns shape items [] = tt
+free-columns shape items (name ∷ names) =
+    free-then (columns_listed items (columns_of shape) [] (name ∷ names)) _ (free-listed items (columns_of shape) [] (name ∷ names)) (λ targets.
+    free-if (are_listed (name ∷ names) (dynamic_parts items shape.parts)) _ _ tt tt)
+
+free-targets : (shape : Shape) (items : List PartitionItem) (names : List (List ℕ)) → Free (targets_of shape items names)
+unfolding targets_of
+free-targets shape items names =
+    free-then (partition_stands shape.parts items) _ (free-partition shape.parts items) (λ stands. free-columns shape items names)
 
 free-rows : (rows : List (List Expr)) → Free (rows_typed rows)
 unfolding rows_typed row_typed
 free-rows rows = free-each row_typed rows (λ exprs. free-each value_typed exprs (λ x. typed-free [] x over.Row))
+
+-- the values of a new row, and the condition of a partition
+
+free-value-or : (targets : List Column) (kinds : List SqlType) (column : Column) (value : Option Expr) → Free (value_or targets kinds column value)
+free-value-or targets kinds column None = tt
+free-value-or targets kinds column (Some x) = free-static column.kind x
+
+free-values : (items : List PartitionItem) (targets : List Column) (kinds : List SqlType) (columns : List Column) → Free (values_for items targets kinds columns)
+unfolding values_for
+free-values items targets kinds columns =
+    free-each (new_value items targets kinds) columns (λ column. free-value-or targets kinds column (static_of items column.name))
+
+free-equals : (place : ℕ) (kind : SqlType) (value : Option Expr) → Free (value_equals place kind value)
+free-equals place kind None = tt
+free-equals place kind (Some x) = free-then (static_value kind x) _ (free-static kind x) (λ y. tt)
+
+free-item : (kinds : List SqlType) (value : Option Expr) (place : Option ℕ) → Free (item_equals kinds value place)
+free-item kinds value None = tt
+free-item kinds value (Some place) = free-equals place (kind_at kinds place) value
+
+free-met : (columns : List Column) (items : List PartitionItem) → Free (partition_met columns items)
+unfolding partition_met items_met
+free-met columns items =
+    free-then (items_met columns (kinds_of columns) items) _
+    (free-each (item_met columns (kinds_of columns)) items (λ item. free-item (kinds_of columns) item.value (position (is_named item.name) columns))) (λ conditions. tt)
+
+free-gone : (overwrite : Bool) (shape : Shape) (items : List PartitionItem) → Free (overwritten overwrite shape items)
+unfolding overwritten
+free-gone overwrite shape items =
+    free-if overwrite _ _
+    (free-if (is_empty shape.parts) _ _ tt
+    (free-if (are_static items shape.parts) _ _ (free-then (partition_met (columns_of shape) items) _ (free-met (columns_of shape) items) (λ condition. tt)) tt)) tt
+
+free-insert : (place : ℕ) (shape : Shape) (insert : Insert) (targets : List Column) (kinds : List SqlType) (o : Origin) (b : Bool)
+    → Free (and_then (insert_typed place shape insert targets kinds o) (if_convertible b))
+unfolding insert_typed
+free-insert place shape insert targets kinds o b =
+    free-then (insert_typed place shape insert targets kinds o) _
+    (free-then (values_for insert.partition targets kinds (columns_of shape)) _ (free-values insert.partition targets kinds (columns_of shape)) (λ values.
+    free-then (overwritten insert.overwrite shape insert.partition) _ (free-gone insert.overwrite shape insert.partition) (λ gone. tt))) (λ change.
+    free-if b _ _ tt tt)
 
 free-source : (tables : List TableInfo) (place : ℕ) (shape : Shape) (insert : Insert) (r : Rows) (targets : List Column)
     → are_windowless r ≡ true → Free (source_inserted tables place shape insert r targets)
 unfolding source_inserted values_inserted query_inserted
 free-source tables place shape insert (source_rows.Values rows) targets e =
     free-then (rows_typed rows) _ (free-rows rows) (λ typed.
-    free-if (list_all (has_count _) typed) _ _ (free-if (list_all (converts targets) typed) _ _ tt tt) tt)
+    free-if (list_all (has_count _) typed) _ _
+    (free-insert place shape insert targets (kinds_of targets) (origin.Values (map (converted_row targets) typed)) (list_all (converts targets) typed)) tt)
 free-source tables place shape insert (source_rows.Query query) targets e =
     free-then (selected tables query) _ (free-selected tables query e) (λ typed.
-    free-if (length typed.columns == length targets) _ _ (free-if (outputs_convert targets typed.columns) _ _ tt tt) tt)
+    free-if (length typed.columns == length targets) _ _
+    (free-insert place shape insert targets (map output_kind typed.columns) (origin.Query typed) (outputs_convert targets typed.columns)) tt)
+
+-- the list of a TRUNCATE
+
+free-partitions : (shape : Shape) (items : List PartitionItem) → Free (partitions_met shape items)
+unfolding partitions_met
+free-partitions shape [] = tt
+free-partitions shape (item ∷ items) =
+    free-if (are_given shape.parts [] (item ∷ items)) _ _
+    (free-then (partition_met (columns_of shape) (item ∷ items)) _ (free-met (columns_of shape) (item ∷ items)) (λ condition. tt)) tt
 
 free-place : (shape : Shape) (before : List Assignment) (name : List ℕ) (place : Option ℕ) → Free (if_free shape before name place)
 free-place shape before name None = tt
@@ -110,17 +200,18 @@ module _ (shape : Shape) (columns : List Column) (fields : List Field) (kinds : 
       free-then (one_set shape columns fields kinds before values a) _ (free-set before values a) (λ values. free-sets (before ++ a ∷ []) values rest)
 
 free-changing : (tables : List TableInfo) (place : ℕ) (shape : Shape) (tree : Stmt) → is_change tree ≡ true → is_form tree ≡ true → Free (changing tables place shape tree)
-unfolding changing inserted updated deleted is_form
+unfolding changing inserted updated deleted truncated is_form
 free-changing tables place shape (stmt.Insert insert) c e =
-    free-then (targets_of shape insert.columns) _ (free-targets shape insert.columns) (λ targets.
-    free-source tables place shape insert insert.rows targets (both (is_empty insert.partition) (are_windowless insert.rows) e).1)
+    free-then (targets_of shape insert.partition insert.columns) _ (free-targets shape insert.partition insert.columns) (λ targets.
+    free-source tables place shape insert insert.rows targets e)
 free-changing tables place shape (stmt.Update update) c e =
     free-then (sets_of shape (columns_of shape) update.assignments) _
     (free-sets shape (columns_of shape) (map (field_of shape.name) (columns_of shape)) (kinds_of (columns_of shape)) [] (kept 0 (kinds_of (columns_of shape))) update.assignments) (λ values.
     free-then (filter_typed (fields_of shape) update.filter) _ (free-filter (fields_of shape) update.filter) (λ filter. tt))
 free-changing tables place shape (stmt.Delete delete) c e =
     free-then (filter_typed (fields_of shape) delete.filter) _ (free-filter (fields_of shape) delete.filter) (λ filter. tt)
-free-changing tables place shape (stmt.Truncate truncate) c e = tt
+free-changing tables place shape (stmt.Truncate truncate) c e =
+    free-then (partitions_met shape truncate.partition) _ (free-partitions shape truncate.partition) (λ condition. tt)
 free-changing tables place shape other c e = cc
 
 free-change : (tables : List TableInfo) (name : List ℕ) (tree : Stmt) → is_change tree ≡ true → is_form tree ≡ true → Free (change_analysed tables name tree)

@@ -1,5 +1,6 @@
 pub mod Outcomes
 mod Stored
+mod Limits
 mod Typed
 mod Queries
 pub mod Meanings

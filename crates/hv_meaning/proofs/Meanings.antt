@@ -4,9 +4,10 @@ use Rattle.std.proofs.lemmas.Bool.{leb-true, le-ltb, lt-ltb}
 use Rattle.std.proofs.Common.{◌≡◌, ◌++◌, ℕ, zero, suc, Bool, true, false, cond, not, nat_eq, List, [], ◌∷◌, map, slice_get, length, Option, Some, None, Result, Ok, Err, refl, sym, ap, ◌∙◌, subst, arith, ◌+◌, ◌≤◌, ◌&&◌}
 use Rattle.std.specs.Prelude.{is_some, nat_lt, position, nat_le, filter, drop}
 use Rattle.std.specs.List.{position_or_len, flat_map}
-use Rattle.std.specs.List.{AllByRecursion, list_all}
+use Rattle.std.specs.List.{AllByRecursion, list_all, list_any}
 use Rattle.std.specs.Option.{option_map, option_to_list}
 use Rattle.std.specs.Cmp.Lexicographic.{pointwise}
+use Rattle.hv_base.specs.declared.ids.Touch.{Touch}
 use Rattle.hv_base.specs.declared.refusal.Refusal.{Refusal}
 use Rattle.hv_base.specs.declared.refusal.Refusal.TheVariants as refusal
 use Rattle.hv_ast.specs.declared.change.Insert.{Insert}
@@ -32,29 +33,30 @@ use Rattle.hv_logic.specs.declared.catalog.TableInfo.{TableInfo}
 use Rattle.hv_logic.specs.declared.effect.Effect.{Effect}
 use Rattle.hv_logic.specs.declared.effect.Found.{Found}
 use Rattle.hv_logic.specs.declared.meaning.Meaning.{Meaning}
-use Rattle.hv_logic.specs.declared.meaning.Meaning.TheVariants.{Refused, Listing, Change, Make, RowLimit}
+use Rattle.hv_logic.specs.declared.meaning.Meaning.TheVariants.{Refused, Listing, Change, Make}
 use Rattle.hv_logic.specs.declared.seen.Seen.{Seen}
 use Rattle.hv_logic.specs.Tables.{named}
 use Rattle.hv_logic.specs.Shapes.{column_of, shape_of, bucket_names}
 use Rattle.hv_locks.specs.declared.table.Lock.{Lock}
 use Rattle.hv_logic.specs.Names.{shared, rows_names}
-use Rattle.hv_logic.specs.Sizes.{row_fits}
+use Rattle.hv_route.specs.Back.{AreFlat}
+use Rattle.hv_route.specs.Touching.{touched}
 use Rattle.hv_query.specs.Rows.{Frame, Tables}
 use Rattle.hv_changes.specs.declared.change.Deletes.{Deletes}
 use Rattle.hv_changes.specs.declared.change.Deletes.TheVariants as deletes
 use Rattle.hv_changes.specs.declared.change.TypedChange.{TypedChange}
 use Rattle.hv_changes.specs.Columns.{columns_of}
-use Rattle.hv_changes.specs.Inserts.{overwritten}
 use Rattle.hv_analysis.specs.declared.logic.Logic.{Logic}
 use Rattle.hv_analysis.specs.declared.logic.Logic.TheVariants as logic
 use Rattle.hv_analysis.specs.Analysis.{analysed, form_analysed, is_form, query_analysed, change_analysed}
-use Rattle.hv_analysis.specs.Creates.{created, created_beside, place_of, is_table, fault_of, names_repeat, is_bucket_column, arrays_route, numbers_fit}
+use Rattle.hv_analysis.specs.Creates.{created, created_beside, place_of, is_table, fault_of, names_repeat, is_bucket_column, has_array, is_array_named, arrays_route, numbers_fit}
 use Rattle.hv_analysis.specs.Changes.{changing, change_of}
 use Rattle.hv_analysis.specs.Sources.{selected}
-use Rattle.hv_meaning.specs.Meaning.{its_tables, named_by, info_of, found_in, tables_of, is_matched, matched, frames_from, first_value, stored_values, stored_row, is_received, deleted, change_effect, or_none, changed_in, refused_for, meant, meaning_in, meaning_of}
+use Rattle.hv_meaning.specs.Meaning.{its_tables, named_by, info_of, found_in, tables_of, is_matched, matched, frames_from, first_value, stored_values, stored_row, is_received, deleted, change_effect, within_limits, or_none, changed_in, refused_for, meant, meaning_in, meaning_of}
 use Rattle.hv_meaning.specs.Laws.{MakesNew, TablesAreNew, AreOf, IsRowOf, AreOfRows, change_name, ChangesNamed, ChangesAreNamed, ChangesSeen, ChangesAreSeen, only_inserts, InsertsDeleteNothing}
-use Rattle.hv_meaning.proofs.Outcomes.{OnOk, on_ok, then-ok, IsChangeOf, inserts-are, changes-are, creates-are, makes}
-use Rattle.hv_meaning.proofs.Stored.{both, rows-taken}
+use Rattle.hv_meaning.proofs.Outcomes.{OnOk, on_ok, then-ok, IsGone, IsChangeOf, inserts-are, changes-are, creates-are, makes}
+use Rattle.hv_meaning.proofs.Stored.{both}
+use Rattle.hv_meaning.proofs.Limits.{neither, limits-come, fits-table, flat-columns}
 
 -- ---- a fact of what a statement comes to
 
@@ -242,10 +244,9 @@ module _ (tree : Stmt) (tables : List Seen) where
   Named (Some (Change info effect)) = ChangesNamed tree tables info effect
   Named _ = Unit {0}
 
-  within-named : (fits : Bool) (info : TableInfo) (effect : Effect) → (fits ≡ true → ChangesNamed tree tables info effect)
-      → Named (Some (cond fits (Change info effect) RowLimit))
-  within-named true info effect h = h refl
-  within-named false info effect h = tt
+  within-named : (info : TableInfo) (effect : Effect)
+      → ((touches : List Touch) → touched info effect ≡ Ok touches → ChangesNamed tree tables info effect) → Named (Some (within_limits info effect))
+  within-named info effect h = limits-come Named tt tt info effect h
 
 -- the rows that were found, or none
 some-found : (info : TableInfo) (found : Option (List Found)) (rows : Tables) (change : TypedChange)
@@ -260,7 +261,7 @@ effect-named tree tables name all_rows names info rows change aim =
     let columns = columns_of info.shape in
     let effect = change_effect info.shape change rows all_rows in
     let all = rows-of columns change.values (frames_from change.origin (matched change.deletes rows) all_rows) in
-    within-named tree tables (list_all row_fits effect.inserts) info effect (λ fit. record {
+    within-named tree tables info effect (λ touches is. record {
       seen = aim.seen;
       name = name;
       name_is = names;
@@ -268,8 +269,7 @@ effect-named tree tables name all_rows names info rows change aim =
       info_is = aim.info_is;
       stand = subst (λ (found : List Found). AreOfRows found effect.deletes) aim.rows_are
           (deleted-stand (length info.shape.columns) change.deletes effect.inserts rows);
-      typed = all;
-      taken = λ few. rows-taken columns effect.inserts few all fit;
+      fits = fits-table info effect touches is all;
     })
 
 -- over the target and these other tables
@@ -322,10 +322,9 @@ abbrev SeenOf : List Seen → Option Meaning → Type 0
 SeenOf tables (Some (Change info effect)) = ChangesSeen tables info effect
 SeenOf tables _ = Unit {0}
 
-within-seen : (tables : List Seen) (fits : Bool) (info : TableInfo) (effect : Effect) → (fits ≡ true → ChangesSeen tables info effect)
-    → SeenOf tables (Some (cond fits (Change info effect) RowLimit))
-within-seen tables true info effect h = h refl
-within-seen tables false info effect h = tt
+within-seen : (tables : List Seen) (info : TableInfo) (effect : Effect)
+    → ((touches : List Touch) → touched info effect ≡ Ok touches → ChangesSeen tables info effect) → SeenOf tables (Some (within_limits info effect))
+within-seen tables info effect h = limits-come (SeenOf tables) tt tt info effect h
 
 get-mapped : {A B : Type 0} (f : A → B) (xs : List A) (n : ℕ) → slice_get (map f xs) n ≡ option_map f (slice_get xs n)
 get-mapped f [] n = refl
@@ -339,13 +338,13 @@ effect-seen tables place all_rows change (Some seen) at =
     let columns = columns_of seen.info.shape in
     let effect = change_effect seen.info.shape change seen.rows all_rows in
     let all = rows-of columns change.values (frames_from change.origin (matched change.deletes seen.rows) all_rows) in
-    within-seen tables (list_all row_fits effect.inserts) seen.info effect (λ fit. record {
+    within-seen tables seen.info effect (λ touches is. record {
       place = place;
       seen = seen;
       here = at;
       info_is = refl;
       stand = deleted-stand (length seen.info.shape.columns) change.deletes effect.inserts seen.rows;
-      taken = λ few. rows-taken columns effect.inserts few all fit;
+      fits = fits-table seen.info effect touches is all;
     })
 
 any-seen : (tables : List Seen) (r : Result Logic Refusal) → SeenOf tables (meant (map info_of tables) (map found_in tables) r)
@@ -371,15 +370,14 @@ abbrev Keeps : Option Meaning → Type 0
 Keeps (Some (Change info effect)) = effect.deletes ≡ []
 Keeps _ = Unit {0}
 
-within-keeps : (fits : Bool) (info : TableInfo) (effect : Effect) → effect.deletes ≡ [] → Keeps (Some (cond fits (Change info effect) RowLimit))
-within-keeps true info effect h = h
-within-keeps false info effect h = tt
+within-keeps : (info : TableInfo) (effect : Effect) → effect.deletes ≡ [] → Keeps (Some (within_limits info effect))
+within-keeps info effect h = limits-come Keeps tt tt info effect (λ touches is. h)
 
 change-keeps : (info : Option TableInfo) (found : Option (List Found)) (tables : Tables) (change : TypedChange) → change.deletes ≡ deletes.Nothing
     → Keeps (changed_in info found tables change)
 change-keeps None found tables change none = tt
 change-keeps (Some info) found tables change none =
-    within-keeps (list_all row_fits (change_effect info.shape change (or_none found) tables).inserts) info (change_effect info.shape change (or_none found) tables)
+    within-keeps info (change_effect info.shape change (or_none found) tables)
     (ap (λ (gone : Deletes). deleted (length info.shape.columns) gone (change_effect info.shape change (or_none found) tables).inserts (or_none found)) none)
 
 abbrev GoesNothing : TypedChange → Type 0
@@ -393,7 +391,7 @@ insert-keeps : (tables : List TableInfo) (place : ℕ) (shape : Shape) (insert :
     → OnOk GoesNothing (changing tables place shape (stmt.Insert insert))
 unfolding changing
 insert-keeps tables place shape insert into =
-    inserts-are GoesNothing tables place shape insert (λ targets kinds o is. ap (λ b. overwritten b shape) (not-true insert.overwrite into))
+    inserts-are GoesNothing tables place shape insert (λ gone values o none is. subst (λ b. IsGone b gone) (not-true insert.overwrite into) none)
 
 keeps-change : (infos : List TableInfo) (found : List (List Found)) (insert : Insert) → not insert.overwrite ≡ true
     → Keeps (meant infos found (change_analysed infos insert.table (stmt.Insert insert)))
@@ -447,28 +445,33 @@ few-columns exists create e =
     let parts = length-map create.partitions column_of in
     omega (arith, most, whole, columns, parts)
 
+-- nor an ARRAY among its partition columns
+flat-parts : (exists : Bool) (create : CreateTable) → fault_of exists create ≡ None → AreFlat (shape_of create).parts
+flat-parts exists create e =
+    let named = (none-of (exists && not create.if_absent) refusal.TableExists _ e).1 in
+    let apart = (none-of (names_repeat create) refusal.Ambiguous _ named).1 in
+    let buckets = (none-of (not (list_all (is_bucket_column create.columns) (bucket_names create.clustering))) refusal.NoColumn _ apart).1 in
+    let flat = (none-of (arrays_route create) refusal.BadType _ buckets).0 in
+    flat-columns create.partitions
+    (neither (list_any has_array create.partitions) (list_any (is_array_named create.columns) (bucket_names create.clustering)) flat).0
+
 create-comes : (create : CreateTable) (tables : List Seen) (rows : List (List Found)) (found : Option Seen) → named create.table tables ≡ found
     → OnOk (Comes (MakesAt (stmt.CreateTable create) tables) tt (λ why. tt) (infos_of found) rows)
     (created_beside (is_some (place_of create.table (infos_of found))) create)
 create-comes create tables rows None is =
     makes (Comes (MakesAt (stmt.CreateTable create) tables) tt (λ why. tt) (infos_of None) rows) (fault_of false create) (logic.Make (shape_of create))
-    (λ none. record { create = create; tree_is = refl; absent = is; shape_is = refl; few = few-columns false create none })
+    (λ none. record { create = create; tree_is = refl; absent = is; shape_is = refl; few = few-columns false create none; flat = flat-parts false create none })
 create-comes create tables rows (Some seen) is =
     let Q = Comes (MakesAt (stmt.CreateTable create) tables) tt (λ why. tt) (infos_of (Some seen)) rows in
     subst (λ (b : Bool). OnOk Q (created_beside b create))
     (sym (ap is_some (place-first (is_table create.table) seen.info [] (named-same create.table tables seen is))))
     (makes Q (fault_of true create) logic.Nothing (λ none. tt))
 
-within-makes : (tree : Stmt) (tables : List Seen) (fits : Bool) (info : TableInfo) (effect : Effect)
-    → MakesAt tree tables (Some (cond fits (Change info effect) RowLimit))
-within-makes tree tables true info effect = tt
-within-makes tree tables false info effect = tt
-
 changed-makes : (tree : Stmt) (tables : List Seen) (info : Option TableInfo) (found : Option (List Found)) (rows : Tables) (change : TypedChange)
     → MakesAt tree tables (changed_in info found rows change)
 changed-makes tree tables None found rows change = tt
 changed-makes tree tables (Some info) found rows change =
-    within-makes tree tables (list_all row_fits (change_effect info.shape change (or_none found) rows).inserts) info (change_effect info.shape change (or_none found) rows)
+    limits-come (MakesAt tree tables) tt tt info (change_effect info.shape change (or_none found) rows) (λ touches is. tt)
 
 change-makes : (tree : Stmt) (tables : List Seen) (infos : List TableInfo) (found : List (List Found)) (name : List ℕ) (said : Stmt)
     → MakesAt tree tables (meant infos found (change_analysed infos name said))

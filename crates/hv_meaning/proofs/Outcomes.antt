@@ -5,8 +5,10 @@ use Rattle.hv_base.specs.declared.refusal.Refusal.{Refusal}
 use Rattle.hv_base.specs.declared.refusal.Refusal.TheVariants as refusal
 use Rattle.hv_ast.specs.declared.change.Delete.{Delete}
 use Rattle.hv_ast.specs.declared.change.Insert.{Insert}
+use Rattle.hv_ast.specs.declared.change.PartitionItem.{PartitionItem}
 use Rattle.hv_ast.specs.declared.change.Rows.{Rows}
 use Rattle.hv_ast.specs.declared.change.Rows.TheVariants as source_rows
+use Rattle.hv_ast.specs.declared.change.Truncate.{Truncate}
 use Rattle.hv_ast.specs.declared.change.Update.{Update}
 use Rattle.hv_ast.specs.declared.statement.Stmt.{Stmt}
 use Rattle.hv_ast.specs.declared.statement.Stmt.TheVariants as stmt
@@ -19,12 +21,15 @@ use Rattle.hv_logic.specs.declared.catalog.TableInfo.{TableInfo}
 use Rattle.hv_logic.specs.Shapes.{shape_of}
 use Rattle.hv_types.specs.Faults.{and_then}
 use Rattle.hv_select.specs.Sources.{filter_typed}
+use Rattle.hv_changes.specs.declared.change.Deletes.{Deletes}
+use Rattle.hv_changes.specs.declared.change.Deletes.TheVariants as deletes
 use Rattle.hv_changes.specs.declared.change.Origin.{Origin}
 use Rattle.hv_changes.specs.declared.change.Origin.TheVariants as origin
 use Rattle.hv_changes.specs.declared.change.TypedChange.{TypedChange}
-use Rattle.hv_changes.specs.Columns.{columns_of, fields_of}
-use Rattle.hv_changes.specs.Inserts.{targets_of, rows_typed, has_count, converts, converted_row, column_kind, output_kind, outputs_convert, values_inserted, query_inserted, insert_of}
-use Rattle.hv_changes.specs.Updates.{sets_of, update_of, updated, delete_of, deleted}
+use Rattle.hv_changes.specs.Columns.{columns_of, fields_of, kinds_of}
+use Rattle.hv_changes.specs.Inserts.{rows_typed, has_count, converts, converted_row, output_kind, outputs_convert, values_for, overwritten, insert_of, insert_typed, if_convertible, values_inserted, query_inserted}
+use Rattle.hv_changes.specs.Targets.{targets_of}
+use Rattle.hv_changes.specs.Updates.{sets_of, update_of, updated, delete_of, deleted, partitions_met, truncated}
 use Rattle.hv_analysis.specs.declared.logic.Logic.{Logic}
 use Rattle.hv_analysis.specs.declared.logic.Logic.TheVariants as logic
 use Rattle.hv_analysis.specs.Creates.{place_of, created, created_beside, made, unless_fault, fault_of}
@@ -51,7 +56,21 @@ pub if-ok : {A : Type 0} (P : A → Type 0) (b : Bool) (r : Result A Refusal) (w
 if-ok P true r why h = h refl
 if-ok P false r why h = tt
 
--- ---- what an INSERT, an UPDATE and a DELETE can come to
+-- ---- what an INSERT, an UPDATE, a DELETE and a TRUNCATE can come to
+
+-- INSERT INTO deletes nothing
+abbrev pub IsGone : Bool → Deletes → Type 0
+IsGone true gone = Unit {0}
+IsGone false gone = gone ≡ deletes.Nothing
+
+any-gone : (r : Result Deletes Refusal) → OnOk (IsGone true) r
+any-gone (Ok gone) = tt
+any-gone (Err why) = tt
+
+gone-is : (overwrite : Bool) (shape : Shape) (items : List PartitionItem) → OnOk (IsGone overwrite) (overwritten overwrite shape items)
+unfolding overwritten
+gone-is true shape items = any-gone _
+gone-is false shape items = refl
 
 -- the rows of VALUES are over no row
 abbrev pub IsFrom : Rows → Origin → Type 0
@@ -60,24 +79,38 @@ IsFrom (source_rows.Query query) o = Unit {0}
 
 module _ (P : TypedChange → Type 0) (tables : List TableInfo) (place : ℕ) (shape : Shape) where
   abbrev Inserts : Insert → Rows → Type 0
-  Inserts insert r = (targets : List Column) (kinds : List SqlType) (o : Origin) → IsFrom r o → P (insert_of place shape insert.overwrite targets kinds o)
+  Inserts insert r = (gone : Deletes) (values : List TypedExpr) (o : Origin) → IsGone insert.overwrite gone → IsFrom r o → P (insert_of place gone values o)
+
+  typed-is : (insert : Insert) (targets : List Column) (kinds : List SqlType) (o : Origin)
+      → ((gone : Deletes) (values : List TypedExpr) → IsGone insert.overwrite gone → P (insert_of place gone values o))
+      → OnOk P (insert_typed place shape insert targets kinds o)
+  unfolding insert_typed
+  typed-is insert targets kinds o each =
+      then-ok P (values_for insert.partition targets kinds (columns_of shape)) _ (λ values e.
+      then-ok P (overwritten insert.overwrite shape insert.partition) _ (λ gone f.
+      each gone values (on_ok (IsGone insert.overwrite) (overwritten insert.overwrite shape insert.partition) gone (gone-is insert.overwrite shape insert.partition) f)))
+
+  convertible-is : (r : Result TypedChange Refusal) (b : Bool) → OnOk P r → OnOk P (and_then r (if_convertible b))
+  convertible-is (Ok change) b h = if-ok P b (Ok change) refusal.BadType (λ e. h)
+  convertible-is (Err why) b h = tt
 
   source-is : (insert : Insert) (r : Rows) (targets : List Column) → Inserts insert r → OnOk P (source_inserted tables place shape insert r targets)
   unfolding source_inserted values_inserted query_inserted
   source-is insert (source_rows.Values values) targets each =
       then-ok P (rows_typed values) _ (λ typed e.
       if-ok P (list_all (has_count (length targets)) typed) _ refusal.BadCount (λ counts.
-      if-ok P (list_all (converts targets) typed) _ refusal.BadType (λ all.
-      each targets (map column_kind targets) (origin.Values (map (converted_row targets) typed)) (map (converted_row targets) typed, refl))))
+      let o = origin.Values (map (converted_row targets) typed) in
+      convertible-is (insert_typed place shape insert targets (kinds_of targets) o) (list_all (converts targets) typed)
+      (typed-is insert targets (kinds_of targets) o (λ gone made is. each gone made o is (map (converted_row targets) typed, refl)))))
   source-is insert (source_rows.Query query) targets each =
       then-ok P (selected tables query) _ (λ typed e.
       if-ok P (length typed.columns == length targets) _ refusal.BadCount (λ counts.
-      if-ok P (outputs_convert targets typed.columns) _ refusal.BadType (λ all.
-      each targets (map output_kind typed.columns) (origin.Query typed) tt)))
+      convertible-is (insert_typed place shape insert targets (map output_kind typed.columns) (origin.Query typed)) (outputs_convert targets typed.columns)
+      (typed-is insert targets (map output_kind typed.columns) (origin.Query typed) (λ gone made is. each gone made (origin.Query typed) is tt))))
 
   pub inserts-are : (insert : Insert) → Inserts insert insert.rows → OnOk P (inserted tables place shape insert)
   unfolding inserted
-  inserts-are insert each = then-ok P (targets_of shape insert.columns) _ (λ targets e. source-is insert insert.rows targets each)
+  inserts-are insert each = then-ok P (targets_of shape insert.partition insert.columns) _ (λ targets e. source-is insert insert.rows targets each)
 
   pub updates-are : (update : Update) → ((values : List TypedExpr) (filter : Option TypedExpr) → P (update_of place values filter)) → OnOk P (updated place shape update)
   unfolding updated
@@ -89,16 +122,20 @@ module _ (P : TypedChange → Type 0) (tables : List TableInfo) (place : ℕ) (s
   unfolding deleted
   deletes-are delete each = then-ok P (filter_typed (fields_of shape) delete.filter) _ (λ filter e. each filter)
 
+  pub truncates-are : (truncate : Truncate) → ((condition : Option TypedExpr) → P (delete_of place condition)) → OnOk P (truncated place shape truncate)
+  unfolding truncated
+  truncates-are truncate each = then-ok P (partitions_met shape truncate.partition) _ (λ condition e. each condition)
+
 -- a change is of its table
 abbrev IsAt : ℕ → TypedChange → Type 0
 IsAt place change = change.table ≡ place
 
 pub changes-at : (tables : List TableInfo) (place : ℕ) (shape : Shape) (tree : Stmt) → OnOk (λ (change : TypedChange). change.table ≡ place) (changing tables place shape tree)
 unfolding changing
-changes-at tables place shape (stmt.Insert insert) = inserts-are (IsAt place) tables place shape insert (λ targets kinds o is. refl)
+changes-at tables place shape (stmt.Insert insert) = inserts-are (IsAt place) tables place shape insert (λ gone values o none is. refl)
 changes-at tables place shape (stmt.Update update) = updates-are (IsAt place) tables place shape update (λ values filter. refl)
 changes-at tables place shape (stmt.Delete delete) = deletes-are (IsAt place) tables place shape delete (λ filter. refl)
-changes-at tables place shape (stmt.Truncate truncate) = refl
+changes-at tables place shape (stmt.Truncate truncate) = truncates-are (IsAt place) tables place shape truncate (λ condition. refl)
 changes-at tables place shape other = tt
 
 -- a change of the table of that name

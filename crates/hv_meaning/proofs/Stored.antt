@@ -1,5 +1,5 @@
 -- A value of a type is one that a row file takes, and is counted by what it takes there.
-use Rattle.std.proofs.Common.{◌≡◌, ◌&&◌, ℕ, ◌+◌, ◌≤◌, Bool, true, false, List, [], ◌∷◌, length, refl, sym, ap, ◌∙◌, subst, arith}
+use Rattle.std.proofs.Common.{◌≡◌, ◌&&◌, ℕ, zero, suc, ◌+◌, ◌≤◌, Bool, true, false, List, [], ◌∷◌, ◌++◌, length, take, drop, refl, sym, ap, ◌∙◌, subst, arith}
 use Rattle.std.specs.Prelude.{ℤ, sum_by}
 use Rattle.std.specs.List.{AllByRecursion, flat_map, list_all}
 use Rattle.std.proofs.lemmas.Bool.{leb-true}
@@ -19,11 +19,16 @@ use Rattle.hv_value.specs.declared.value.Value.TheViews.{out-Value, roll-Value, 
 use Rattle.hv_value.specs.Dates.{is_day}
 use Rattle.hv_value.specs.Conversion.{is_layer_of, is_in_range, is_item_in, is_layer_in}
 use Rattle.hv_logic.specs.declared.catalog.Column.{Column}
-use Rattle.hv_logic.specs.Sizes.{stored_size, row_fits}
+use Rattle.hv_logic.specs.declared.catalog.Shape.{Shape}
+use Rattle.hv_logic.specs.Sizes.{stored_size}
 use Rattle.hv_logic.proofs.SizeLemmas.{size-Null, size-Bool, size-Int, size-Big, size-Str, size-Day, size-Array}
-use Rattle.hv_rowfile.specs.Layout.{element_spelling, value_spelling, ElementIsTaken, ValueIsTaken, RowIsTaken}
+use Rattle.hv_rowfile.specs.Layout.{element_spelling, value_spelling, ElementIsTaken, ValueIsTaken}
 use Rattle.hv_rowfile.proofs.Values.{taken-Null, taken-Bool, taken-Int, taken-Big, taken-Str, taken-Day, taken-Array, length-Null, length-Bool, length-Int, length-Big, length-Str, length-Day, length-Array, flat_spelled, flat_taken}
-use Rattle.hv_meaning.specs.Laws.{AreOf, IsRowOf, IsStored, TypedValuesAreStored}
+use Rattle.hv_route.specs.Back.{SayValues, IsHeld, AreHeld, AreFlat}
+use Rattle.hv_route.specs.Touching.{stored_fits}
+use Rattle.hv_route.proofs.HeldLemmas.{typed-are-said}
+use Rattle.hv_changes.specs.Columns.{columns_of}
+use Rattle.hv_meaning.specs.Laws.{AreOf, IsRowOf, SaysParts, StoredIsTaken, IsStored, TypedValuesAreStored}
 
 pub both : (a b : Bool) → (a && b) ≡ true → (a ≡ true) × (b ≡ true)
 both true b e = (refl, e)
@@ -169,21 +174,64 @@ stored-length (v ∷ vs) all =
     let rest = stored-length vs all.1 in
     omega (arith, whole, one, sizes, rest)
 
-row-taken : (columns : List Column) (row : Row) → length columns ≤ 65535 → IsRowOf columns row → row_fits row ≡ true → RowIsTaken row
-row-taken columns row most typed fits =
-    let stored = values-stored columns row.values typed in
-    let few = values-few columns row.values typed in
-    let within = leb-true (sum_by stored_size row.values) 65536 fits in
-    let same = stored-length row.values stored in
+module _ {A : Type 0} (P : A → Type 0) where
+  all-take : (n : ℕ) (xs : List A) → AllByRecursion P xs → AllByRecursion P (take n xs)
+  all-take zero xs all = tt
+  all-take (suc n) [] all = tt
+  all-take (suc n) (x ∷ xs) all = (all.0, all-take n xs all.1)
+
+  all-drop : (n : ℕ) (xs : List A) → AllByRecursion P xs → AllByRecursion P (drop n xs)
+  all-drop zero xs all = all
+  all-drop (suc n) [] all = tt
+  all-drop (suc n) (x ∷ xs) all = all-drop n xs all.1
+
+take-few : {A : Type 0} (n : ℕ) (xs : List A) → length (take n xs) ≤ length xs
+take-few zero xs = omega arith
+take-few (suc n) [] = omega arith
+take-few (suc n) (x ∷ xs) = let few = take-few n xs in omega (arith, few)
+
+row-taken : (shape : Shape) (row : Row) → length (columns_of shape) ≤ 65535 → IsRowOf (columns_of shape) row → stored_fits shape row ≡ true
+    → StoredIsTaken shape row
+row-taken shape row most typed fits =
+    let kept = take (length shape.columns) row.values in
+    let all = all-take IsStored (length shape.columns) row.values (values-stored (columns_of shape) row.values typed) in
+    let few = values-few (columns_of shape) row.values typed in
+    let fewer = take-few (length shape.columns) row.values in
+    let within = leb-true (sum_by stored_size kept) 65536 fits in
+    let same = stored-length kept all in
     record {
-      count = omega (arith, few, most);
+      count = omega (arith, few, fewer, most);
       short = omega (arith, within, same);
-      values = stored-taken row.values stored;
+      values = stored-taken kept all;
     }
 
-pub rows-taken : (columns : List Column) (rows : List Row) → length columns ≤ 65535 → AllByRecursion (IsRowOf columns) rows
-    → list_all row_fits rows ≡ true → AllByRecursion RowIsTaken rows
-rows-taken columns [] most typed fit = tt
-rows-taken columns (row ∷ rows) most typed fit =
-    let parts = both (row_fits row) (list_all row_fits rows) fit in
-    (row-taken columns row most typed.0 parts.0, rows-taken columns rows most typed.1 parts.1)
+pub rows-taken : (shape : Shape) (rows : List Row) → length (columns_of shape) ≤ 65535 → AllByRecursion (IsRowOf (columns_of shape)) rows
+    → list_all (stored_fits shape) rows ≡ true → AllByRecursion (StoredIsTaken shape) rows
+rows-taken shape [] most typed fit = tt
+rows-taken shape (row ∷ rows) most typed fit =
+    let parts = both (stored_fits shape row) (list_all (stored_fits shape) rows) fit in
+    (row-taken shape row most typed.0 parts.0, rows-taken shape rows most typed.1 parts.1)
+
+-- ---- what a partition's text says
+
+parts-of : (columns parts : List Column) (vs : List Value) → AreOf (columns ++ parts) vs → AreOf parts (drop (length columns) vs)
+parts-of [] parts vs h = h
+parts-of (column ∷ columns) parts [] h = absurd h
+parts-of (column ∷ columns) parts (v ∷ vs) h = parts-of columns parts vs h.1
+
+values-said : (parts : List Column) (vs : List Value) → AreFlat parts → AreOf parts vs → AllByRecursion IsHeld vs → SayValues parts vs
+values-said [] [] flat h held = tt
+values-said [] (v ∷ vs) flat h held = absurd h
+values-said (column ∷ columns) [] flat h held = absurd h
+values-said (column ∷ columns) (v ∷ vs) flat h held =
+    (typed-are-said column.kind v flat.0 h.0 held.0, values-said columns vs flat.1 h.1 held.1)
+
+pub rows-said : (shape : Shape) (rows : List Row) → AllByRecursion (IsRowOf (columns_of shape)) rows → AreFlat shape.parts → AreHeld rows
+    → AllByRecursion (SaysParts shape) rows
+rows-said shape [] typed flat held = tt
+rows-said shape (row ∷ rows) typed flat held =
+    let width = length shape.columns in (
+      values-said shape.parts (drop width row.values) flat (parts-of shape.columns shape.parts row.values typed.0)
+          (all-drop IsHeld width row.values held.0),
+      rows-said shape rows typed.1 flat held.1,
+    )

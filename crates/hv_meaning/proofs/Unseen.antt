@@ -1,5 +1,5 @@
 -- A statement that reads no rows means the same whatever rows its tables have.
-use Rattle.std.proofs.Common.{◌≡◌, ◌++◌, ◌||◌, not, slice_get, ℕ, Bool, true, false, cond, List, [], ◌∷◌, map, Option, Some, None, Result, Ok, Err, refl, sym, ap, ◌∙◌, nat_eq}
+use Rattle.std.proofs.Common.{◌≡◌, ◌++◌, ◌||◌, not, slice_get, ℕ, Bool, true, false, cond, List, [], ◌∷◌, map, Option, Some, None, Result, Ok, Err, refl, sym, ap, ◌∙◌, subst, nat_eq}
 use Rattle.std.proofs.lemmas.List.{map-append}
 use Rattle.std.specs.List.{flat_map}
 use Rattle.std.specs.Option.{option_map, option_to_list}
@@ -12,7 +12,6 @@ use Rattle.hv_ast.specs.declared.change.Rows.{Rows}
 use Rattle.hv_ast.specs.declared.change.Rows.TheVariants as source_rows
 use Rattle.hv_ast.specs.declared.statement.Stmt.{Stmt}
 use Rattle.hv_ast.specs.declared.statement.Stmt.TheVariants as stmt
-use Rattle.hv_logic.specs.declared.catalog.Column.{Column}
 use Rattle.hv_logic.specs.declared.catalog.Shape.{Shape}
 use Rattle.hv_logic.specs.declared.catalog.TableInfo.{TableInfo}
 use Rattle.hv_logic.specs.declared.effect.Effect.{Effect}
@@ -21,7 +20,6 @@ use Rattle.hv_logic.specs.declared.seen.Seen.{Seen}
 use Rattle.hv_logic.specs.Names.{names_in}
 use Rattle.hv_logic.specs.Tables.{named}
 use Rattle.hv_query.specs.Rows.{Tables}
-use Rattle.hv_value.specs.declared.sql_type.SqlType.{SqlType}
 use Rattle.hv_typed.specs.declared.tree.TypedExpr.{TypedExpr}
 use Rattle.hv_changes.specs.declared.change.Deletes.{Deletes}
 use Rattle.hv_changes.specs.declared.change.Deletes.TheVariants as deletes
@@ -29,14 +27,14 @@ use Rattle.hv_changes.specs.declared.change.Origin.{Origin}
 use Rattle.hv_changes.specs.declared.change.Origin.TheVariants as origin
 use Rattle.hv_changes.specs.declared.change.TypedChange.{TypedChange}
 use Rattle.hv_changes.specs.Columns.{columns_of}
-use Rattle.hv_changes.specs.Inserts.{overwritten, insert_of}
+use Rattle.hv_changes.specs.Inserts.{insert_of}
 use Rattle.hv_analysis.specs.declared.logic.Logic.{Logic}
 use Rattle.hv_analysis.specs.Analysis.{analysed, form_analysed, is_form}
 use Rattle.hv_analysis.specs.Changes.{changing, change_of}
 use Rattle.hv_analysis.specs.Creates.{created}
-use Rattle.hv_meaning.specs.Meaning.{info_of, found_in, tables_of, named_by, its_tables, matched, frames_from, stored_row, effect_of, change_effect, within_limit, or_none, changed_in, meant, meaning_over, meaning_in}
+use Rattle.hv_meaning.specs.Meaning.{info_of, found_in, tables_of, named_by, its_tables, matched, frames_from, stored_row, effect_of, change_effect, within_limits, or_none, changed_in, meant, meaning_over, meaning_in}
 use Rattle.hv_meaning.specs.Laws.{are_values, reads_rows, RowsAreUnseen, RowsAreUnseenIn}
-use Rattle.hv_meaning.proofs.Outcomes.{OnOk, on_ok, then-ok, IsFrom, IsChangeOf, inserts-are, changes-are, creates-are}
+use Rattle.hv_meaning.proofs.Outcomes.{OnOk, on_ok, then-ok, IsGone, IsFrom, IsChangeOf, inserts-are, changes-are, creates-are}
 
 -- ---- over these descriptions, with one tables' rows and with others
 
@@ -73,19 +71,19 @@ module _ (infos : List TableInfo) (found others : List (List Found)) where
       → changed_in info rows (tables_of found) change ≡ changed_in info more (tables_of others) change
   same-change None rows more change alone = refl
   same-change (Some info) rows more change alone =
-      ap (λ effect. Some (within_limit info effect)) (same-effect info.shape change (or_none rows) (or_none more) alone)
+      ap (λ effect. Some (within_limits info effect)) (same-effect info.shape change (or_none rows) (or_none more) alone)
 
-  made-alone : (place : ℕ) (shape : Shape) (insert : Insert) (r : Rows) (targets : List Column) (kinds : List SqlType) (o : Origin) → IsFrom r o
-      → (insert.overwrite ≡ false) × (not (are_values r) ≡ false) → IsAlone (insert_of place shape insert.overwrite targets kinds o)
-  made-alone place shape insert (source_rows.Values values) targets kinds o is neither =
-      record { gone = ap (λ b. overwritten b shape) neither.0; rows = is.0; made = is.1 }
-  made-alone place shape insert (source_rows.Query query) targets kinds o is neither = let never = neither.1 in cc
+  made-alone : (place : ℕ) (insert : Insert) (r : Rows) (gone : Deletes) (values : List TypedExpr) (o : Origin) → IsGone insert.overwrite gone → IsFrom r o
+      → (insert.overwrite ≡ false) × (not (are_values r) ≡ false) → IsAlone (insert_of place gone values o)
+  made-alone place insert (source_rows.Values values) gone made o none is neither =
+      record { gone = subst (λ b. IsGone b gone) neither.0 none; rows = is.0; made = is.1 }
+  made-alone place insert (source_rows.Query query) gone made o none is neither = let never = neither.1 in cc
 
   insert-alone : (place : ℕ) (shape : Shape) (insert : Insert) → reads_rows (stmt.Insert insert) ≡ false → OnOk IsAlone (changing infos place shape (stmt.Insert insert))
   unfolding changing
   insert-alone place shape insert e =
-      inserts-are IsAlone infos place shape insert (λ targets kinds o is.
-      made-alone place shape insert insert.rows targets kinds o is (either insert.overwrite (not (are_values insert.rows)) e))
+      inserts-are IsAlone infos place shape insert (λ gone values o none is.
+      made-alone place insert insert.rows gone values o none is (either insert.overwrite (not (are_values insert.rows)) e))
 
   unseen-form : (tree : Stmt) → reads_rows tree ≡ false → meant infos found (form_analysed infos tree) ≡ meant infos others (form_analysed infos tree)
   unfolding form_analysed

@@ -1,6 +1,7 @@
 -- What is proved of meanings.
-use Rattle.std.specs.Prelude.{◌≡◌, ℕ, ◌≤◌, ◌||◌, not, Bool, true, false, IsTrue, Option, Some, None, List, [], ◌∷◌, length, map, filter, slice_get}
+use Rattle.std.specs.Prelude.{◌≡◌, ℕ, ◌≤◌, ◌||◌, not, Bool, true, false, IsTrue, Option, Some, None, Ok, List, [], ◌∷◌, length, map, drop, filter, slice_get}
 use Rattle.std.specs.List.{AllByRecursion}
+use Rattle.hv_base.specs.declared.ids.Touch.{Touch}
 use Rattle.hv_ast.specs.declared.change.Rows.{Rows}
 use Rattle.hv_ast.specs.declared.change.Rows.TheVariants as rows
 use Rattle.hv_ast.specs.declared.table.CreateTable.{CreateTable}
@@ -22,6 +23,9 @@ use Rattle.hv_logic.specs.Tables.{named}
 use Rattle.hv_logic.specs.Shapes.{shape_of}
 use Rattle.hv_logic.specs.Sizes.{stored_size}
 use Rattle.hv_rowfile.specs.Layout.{value_spelling, ValueIsTaken, RowIsTaken}
+use Rattle.hv_route.specs.Back.{SayValues, AreFlat, AreHeld}
+use Rattle.hv_route.specs.Routes.{stored}
+use Rattle.hv_route.specs.Touching.{touched, touches_of}
 use Rattle.hv_changes.specs.Columns.{columns_of}
 use Rattle.hv_analysis.specs.Analysis.{is_form}
 use Rattle.hv_meaning.specs.Meaning.{info_of, meaning_in, meaning_of}
@@ -41,7 +45,8 @@ FormsMean = (tree : Stmt) (tables : List Seen) → IsTrue (has_meaning tree) →
 abbrev pub OtherFormsMeanNothing : Type 0
 OtherFormsMeanNothing = (tree : Stmt) (tables : List Seen) → has_meaning tree ≡ false → meaning_of tables tree ≡ None
 
--- ---- a table is made by a CREATE TABLE of a new name, in the shape of its text, with at most 64 columns
+-- ---- a table is made by a CREATE TABLE of a new name, in the shape of its text, with at most 64 columns, and no ARRAY among its
+-- partition columns
 
 pub record MakesNew (tree : Stmt) (tables : List Seen) (shape : Shape) : Type 0 where
   pub create : CreateTable
@@ -49,6 +54,7 @@ pub record MakesNew (tree : Stmt) (tables : List Seen) (shape : Shape) : Type 0 
   pub absent : named create.table tables ≡ None
   pub shape_is : shape ≡ shape_of create
   pub few : length (columns_of shape) ≤ 64
+  pub flat : AreFlat shape.parts
 
 abbrev pub TablesAreNew : Type 0
 TablesAreNew =
@@ -77,7 +83,28 @@ AreOf _ _ = ⊥
 abbrev pub IsRowOf : List Column → Row → Type 0
 IsRowOf columns row = AreOf columns row.values
 
--- its rows are of the table's types, and a row file takes them where the table has no more columns than a file counts
+-- the text of the row's partition says the values of its partition columns
+abbrev pub SaysParts : Shape → Row → Type 0
+SaysParts shape row = SayValues shape.parts (drop (length shape.columns) row.values)
+
+abbrev pub StoredIsTaken : Shape → Row → Type 0
+StoredIsTaken shape row = RowIsTaken (stored shape row)
+
+-- at most 100, each of a partition's text of at most 240 bytes
+pub record AreFew (touches : List Touch) : Type 0 where
+  pub count : length touches ≤ 100
+  pub short : AllByRecursion (λ (touch : Touch). length touch.partition ≤ 240) touches
+
+-- The new rows are of the table's types, and a row file takes what is stored of them where the table has no more columns than
+-- a file counts. The texts of their partitions say their values, where no partition column is an ARRAY and the values are such as the
+-- code's types hold. The change is within the limits.
+pub record FitsTable (info : TableInfo) (effect : Effect) : Type 0 where
+  pub typed : AllByRecursion (IsRowOf (columns_of info.shape)) effect.inserts
+  pub taken : length (columns_of info.shape) ≤ 65535 → AllByRecursion (StoredIsTaken info.shape) effect.inserts
+  pub said : AreFlat info.shape.parts → AreHeld effect.inserts → AllByRecursion (SaysParts info.shape) effect.inserts
+  pub within : touched info effect ≡ Ok (touches_of info effect)
+  pub few : AreFew (touches_of info effect)
+
 pub record ChangesNamed (tree : Stmt) (tables : List Seen) (info : TableInfo) (effect : Effect) : Type 0 where
   pub seen : Seen
   pub name : List ℕ
@@ -85,8 +112,7 @@ pub record ChangesNamed (tree : Stmt) (tables : List Seen) (info : TableInfo) (e
   pub here : named name tables ≡ Some seen
   pub info_is : info ≡ seen.info
   pub stand : AreOfRows seen.rows effect.deletes
-  pub typed : AllByRecursion (IsRowOf (columns_of info.shape)) effect.inserts
-  pub taken : length (columns_of info.shape) ≤ 65535 → AllByRecursion RowIsTaken effect.inserts
+  pub fits : FitsTable info effect
 
 abbrev pub ChangesAreNamed : Type 0
 ChangesAreNamed =
@@ -112,7 +138,7 @@ pub record ChangesSeen (tables : List Seen) (info : TableInfo) (effect : Effect)
   pub here : slice_get tables place ≡ Some seen
   pub info_is : info ≡ seen.info
   pub stand : AreOfRows seen.rows effect.deletes
-  pub taken : length (columns_of info.shape) ≤ 65535 → AllByRecursion RowIsTaken effect.inserts
+  pub fits : FitsTable info effect
 
 abbrev pub ChangesAreSeen : Type 0
 ChangesAreSeen =

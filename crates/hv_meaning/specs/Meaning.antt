@@ -1,11 +1,12 @@
 -- What a statement comes to over the tables that it names. Source: Hive Language Manual, DDL (Create Table), DML
 -- (Inserting values into tables from SQL, Inserting data into
 -- Hive Tables from queries, Update, Delete), Select.
-use Rattle.std.specs.Prelude.{ℕ, Bool, if◌then◌else◌, Option, Some, None, List, [], ◌∷◌, length, map, filter, drop, slice_get, Result, Ok, Err}
-use Rattle.std.specs.List.{flat_map, list_all, list_any}
+use Rattle.std.specs.Prelude.{ℕ, Bool, Option, Some, None, List, [], ◌∷◌, length, map, filter, drop, slice_get, Result, Ok, Err}
+use Rattle.std.specs.List.{flat_map, list_any}
 use Rattle.std.specs.Option.{option_to_list}
 use Rattle.std.specs.Ordering.{is_eq}
 use Rattle.std.specs.Cmp.Lexicographic.{slice_cmp}
+use Rattle.hv_base.specs.declared.ids.Touch.{Touch}
 use Rattle.hv_base.specs.declared.refusal.Refusal.{Refusal}
 use Rattle.hv_base.specs.declared.refusal.Refusal.TheVariants as refusal
 use Rattle.hv_ast.specs.declared.statement.Stmt.{Stmt}
@@ -23,12 +24,14 @@ use Rattle.hv_logic.specs.declared.catalog.TableInfo.{TableInfo}
 use Rattle.hv_logic.specs.declared.effect.Effect.{Effect}
 use Rattle.hv_logic.specs.declared.effect.Found.{Found}
 use Rattle.hv_logic.specs.declared.meaning.Meaning.{Meaning}
-use Rattle.hv_logic.specs.declared.meaning.Meaning.TheVariants.{Refused, Listing, Change, Make, Plain, RowLimit}
+use Rattle.hv_logic.specs.declared.meaning.Meaning.TheVariants.{Refused, Listing, Change, Make, Plain, RowLimit, PartitionLimit}
 use Rattle.hv_logic.specs.declared.seen.Seen.{Seen}
 use Rattle.hv_logic.specs.Tables.{named}
 use Rattle.hv_logic.specs.Names.{names_in}
 use Rattle.hv_logic.specs.Rows.{rows_in}
-use Rattle.hv_logic.specs.Sizes.{row_fits}
+use Rattle.hv_route.specs.declared.fault.RouteFault.{RouteFault}
+use Rattle.hv_route.specs.declared.fault.RouteFault.TheVariants as route_fault
+use Rattle.hv_route.specs.Touching.{touched}
 use Rattle.hv_query.specs.declared.tree.OutputColumn.{OutputColumn}
 use Rattle.hv_query.specs.declared.tree.TypedQuery.{TypedQuery}
 use Rattle.hv_query.specs.declared.tree.TypedSource.{TypedSource}
@@ -122,7 +125,7 @@ abbrev pub deleted : ℕ → Deletes → List Row → List Found → List Found
 deleted width deletes.Received rows found = filter (is_received width rows) found
 deleted width gone rows found = matched gone found
 
--- ---- a change of a table where these rows stand; a row has its limit
+-- ---- a change of a table where these rows stand; rows, and the partitions that are touched, have their limits
 
 abbrev pub effect_of : Shape → Deletes → List Row → List Found → Effect
 effect_of shape gone rows found = record { inserts = rows; deletes = deleted (length shape.columns) gone rows found }
@@ -131,8 +134,13 @@ abbrev pub change_effect : Shape → TypedChange → List Found → Tables → E
 change_effect shape change found tables =
     effect_of shape change.deletes (inserts_of shape change (matched change.deletes found) tables) found
 
-abbrev pub within_limit : TableInfo → Effect → Meaning
-within_limit info effect = if list_all row_fits effect.inserts then Change info effect else RowLimit
+abbrev pub unless_limited : TableInfo → Effect → Result (List Touch) RouteFault → Meaning
+unless_limited info effect (Ok touches) = Change info effect
+unless_limited info effect (Err route_fault.RowLimit) = RowLimit
+unless_limited info effect (Err _) = PartitionLimit
+
+abbrev pub within_limits : TableInfo → Effect → Meaning
+within_limits info effect = unless_limited info effect (touched info effect)
 
 abbrev pub or_none : Option (List Found) → List Found
 or_none None = []
@@ -140,7 +148,7 @@ or_none (Some found) = found
 
 abbrev pub changed_in : Option TableInfo → Option (List Found) → Tables → TypedChange → Option Meaning
 changed_in None found tables change = None
-changed_in (Some info) found tables change = Some (within_limit info (change_effect info.shape change (or_none found) tables))
+changed_in (Some info) found tables change = Some (within_limits info (change_effect info.shape change (or_none found) tables))
 
 -- ---- a form that isn't built has no meaning
 

@@ -6,19 +6,20 @@ pub fn forms_mean()
     ensures others { OtherFormsMeanNothing }
 {}
 
-/// Only a CREATE TABLE of a new name makes a table, in the shape of its text.
+/// Only a CREATE TABLE of a new name makes a table, in the shape of its text, with no ARRAY among its partition columns.
 pub fn made_tables_are_new()
     ensures law { TablesAreNew }
 {}
 
 /// A change is of the table that the statement names, and deletes rows that stand in it, each once and in
-/// their order; each new row has a value of its type for each column, and a row file takes it.
+/// their order; each new row has a value of its type for each column, a row file takes what is stored of it, and its
+/// partition's text says the rest. It is within the limits of rows and partitions.
 pub fn changes_are_named()
     ensures law { ChangesAreNamed }
 {}
 
 /// Over whatever tables are seen, a change is of one of them: it deletes rows that are seen of it, each once and
-/// in their order, and a row file takes each new row.
+/// in their order, and its new rows fit the table as those of `changes_are_named`.
 pub fn changes_are_seen()
     ensures law { ChangesAreSeen }
 {}

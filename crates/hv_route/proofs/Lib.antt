@@ -1,7 +1,11 @@
 pub mod BackLemmas
 pub mod DayLemmas
 pub mod EscapeLemmas
+pub mod HeldLemmas
+pub mod NumberedLemmas
 pub mod PartitionLemmas
 pub mod PlacedLemmas
+pub mod ReachLemmas
 pub mod RisingLemmas
 pub mod SayLemmas
+pub mod StandingLemmas

@@ -17,7 +17,8 @@ use Rattle.hv_logic.specs.declared.effect.Effect.{Effect}
 use Rattle.hv_route.specs.declared.fault.RouteFault.TheVariants as fault
 use Rattle.hv_route.specs.Touching.{stored_fits, within_limits, touches_of, touched}
 use Rattle.hv_route.specs.Placing.{placed_cmp}
-use Rattle.hv_route.specs.Routes.{stored, row_number, inserts_from}
+use Rattle.hv_logic.specs.declared.effect.Found.{Found}
+use Rattle.hv_route.specs.Routes.{stored, row_number, inserts_from, founds_from}
 
 -- one record more
 pub inserts_more : (shape : Shape) (write statement bucket n : ℕ) (rows : List Row) (row : Row)
@@ -33,6 +34,29 @@ inserts_more shape write statement bucket n (first ∷ rows) row =
 pub inserts_count : (shape : Shape) (write statement bucket n : ℕ) (rows : List Row) → length (inserts_from shape write statement bucket n rows) ≡ length rows
 inserts_count shape write statement bucket n [] = refl
 inserts_count shape write statement bucket n (row ∷ rows) = ap suc (inserts_count shape write statement bucket (suc n) rows)
+
+-- a row that stands, by its number
+abbrev pub found_at : List ℕ → ℕ → ℕ → ℕ → ℕ → Row → Found
+found_at partition write statement bucket n row =
+    record { partition = partition; id = row_number write statement bucket n; row = row }
+
+-- one row that stands more
+pub founds_more : (partition : List ℕ) (write statement bucket n : ℕ) (rows : List Row) (row : Row)
+    → founds_from partition write statement bucket n (rows ++ row ∷ [])
+    ≡ founds_from partition write statement bucket n rows
+    ++ found_at partition write statement bucket (n + length rows) row ∷ []
+founds_more partition write statement bucket n [] row =
+    let e : n ≡ n + 0 = omega arith in
+    ap (λ k. found_at partition write statement bucket k row ∷ []) e
+founds_more partition write statement bucket n (first ∷ rows) row =
+    let e : suc n + length rows ≡ n + suc (length rows) = omega arith in
+    ap (λ (z : List Found). found_at partition write statement bucket n first ∷ z)
+    (founds_more partition write statement bucket (suc n) rows row
+    ∙ ap (λ k. founds_from partition write statement bucket (suc n) rows ++ found_at partition write statement bucket k row ∷ []) e)
+
+pub founds_count : (partition : List ℕ) (write statement bucket n : ℕ) (rows : List Row) → length (founds_from partition write statement bucket n rows) ≡ length rows
+founds_count partition write statement bucket n [] = refl
+founds_count partition write statement bucket n (row ∷ rows) = ap suc (founds_count partition write statement bucket (suc n) rows)
 
 -- ---- items that tie are one
 

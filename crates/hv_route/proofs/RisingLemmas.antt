@@ -35,29 +35,29 @@ use Rattle.hv_route.specs.Rising.{touch_cmp, TouchesRise, file_cmp}
 
 -- ---- the keys of places
 
-abbrev Key : Type 0
+abbrev pub Key : Type 0
 Key = List ℕ × ℕ
 
-abbrev key_cmp : Key → Key → Ordering
+abbrev pub key_cmp : Key → Key → Ordering
 key_cmp = then_cmp (on (λ (k : Key). k.0) (slice_cmp nat_cmp)) (on (λ (k : Key). k.1) nat_cmp)
 
 key_total : IsTotalOrder key_cmp
 key_total = then_total (on_total (λ (k : Key). k.0) nat_list_cmp_total) (on_total (λ (k : Key). k.1) nat_cmp_total)
 
-abbrev same_key : Key → Key → Bool
+abbrev pub same_key : Key → Key → Bool
 same_key x k = pointwise nat_eq x.0 k.0 && (x.1 == k.1)
 
-is_equal : (o : Ordering) → is_eq o ≡ true → o ≡ Equal
+pub is_equal : (o : Ordering) → is_eq o ≡ true → o ≡ Equal
 is_equal Less e = cc
 is_equal Equal e = refl
 is_equal Greater e = cc
 
-own_reverse : (o : Ordering) → o ≡ ordering_reverse o → is_eq o ≡ true
+pub own_reverse : (o : Ordering) → o ≡ ordering_reverse o → is_eq o ≡ true
 own_reverse Less e = cc
 own_reverse Equal e = refl
 own_reverse Greater e = cc
 
-then_both : (a b : Ordering) → ordering_then a b ≡ Equal → (a ≡ Equal) × (b ≡ Equal)
+pub then_both : (a b : Ordering) → ordering_then a b ≡ Equal → (a ≡ Equal) × (b ≡ Equal)
 then_both Less b e = cc
 then_both Equal b e = (refl, e)
 then_both Greater b e = cc
@@ -73,7 +73,7 @@ key-from-cmp x y e =
     let both = then_both _ _ (is_equal _ e) in
     λ i. (slice_cmp-IsAntisymmetric nat_cmp-IsAntisymmetric x.0 y.0 both.0 i, nat_cmp-IsAntisymmetric x.1 y.1 both.1 i)
 
-key-to-cmp : (x y : Key) → x ≡ y → eq_by_cmp key_cmp x y ≡ true
+pub key-to-cmp : (x y : Key) → x ≡ y → eq_by_cmp key_cmp x y ≡ true
 key-to-cmp x y e = ap (λ z. eq_by_cmp key_cmp x z) (sym e) ∙ own_reverse (key_cmp x x) (key_total.antisymm x x)
 
 number-is : (a b : ℕ) → (a == b) ≡ true → a ≡ b
@@ -82,12 +82,12 @@ number-is a b e = grind (arith, nat_tests)
 number-same : (a : ℕ) → (a == a) ≡ true
 number-same a = grind (arith, nat_tests)
 
-key-from-same : (x y : Key) → same_key x y ≡ true → x ≡ y
+pub key-from-same : (x y : Key) → same_key x y ≡ true → x ≡ y
 key-from-same x y e =
     let both = and_parts (pointwise nat_eq x.0 y.0) (x.1 == y.1) e in
     λ i. ((bytes_eq-Decides x.0 y.0).0 both.0 i, number-is x.1 y.1 both.1 i)
 
-key-to-same : (x y : Key) → x ≡ y → same_key x y ≡ true
+pub key-to-same : (x y : Key) → x ≡ y → same_key x y ≡ true
 key-to-same x y e =
     ap (λ z. same_key x z) (sym e) ∙ (λ i. (bytes_eq-Decides x.0 x.0).1 refl i && (x.1 == x.1)) ∙ number-same x.1
 
@@ -105,10 +105,10 @@ not-below Equal Greater c e = refl
 not-below Greater b c e = refl
 
 module _ {T : Type 0} where
-  abbrev key_of : Placed T → Key
+  abbrev pub key_of : Placed T → Key
   key_of placed = (placed.partition, placed.bucket)
 
-  abbrev run_key : Run T → Key
+  abbrev pub run_key : Run T → Key
   run_key run = (run.partition, run.bucket)
 
   keys-by : (t : Bool) (run : Run T) (first others : List (Run T)) (ks us : List Key) → map run_key first ≡ ks → map run_key others ≡ us
@@ -147,7 +147,7 @@ module _ {T : Type 0} where
         subst (λ n. is_lt (key_cmp (get_or (map key_of (x ∷ y ∷ xs)) n d) (get_or (map key_of (y ∷ xs)) k d)) ≡ false) e
         (keys-sorted (y ∷ xs) (sorted-behind x (y ∷ xs) h) k d (omega arith) (omega arith))
 
-    keys-rise : IsTotalOrder cmp → (xs : List (Placed T)) → IsStrictlySortedBy key_cmp (map run_key (runs_of (sorted_by (placed_cmp cmp) xs)))
+    pub keys-rise : IsTotalOrder cmp → (xs : List (Placed T)) → IsStrictlySortedBy key_cmp (map run_key (runs_of (sorted_by (placed_cmp cmp) xs)))
     keys-rise total xs =
         let sorted = sorted_by (placed_cmp cmp) xs in
         subst (IsStrictlySortedBy key_cmp) (sym (keys-of sorted))
@@ -173,7 +173,7 @@ anything (x ∷ xs) = (tt, anything xs)
 
 -- ---- files
 
-all-append : {A : Type 0} (P : A → Type 0) (xs ys : List A) → AllByRecursion P xs → AllByRecursion P ys → AllByRecursion P (xs ++ ys)
+pub all-append : {A : Type 0} (P : A → Type 0) (xs ys : List A) → AllByRecursion P xs → AllByRecursion P ys → AllByRecursion P (xs ++ ys)
 all-append P [] ys h g = g
 all-append P (x ∷ xs) ys h g = (h.0, all-append P xs ys h.1 g)
 
@@ -219,7 +219,7 @@ module _ {X : Type 0} (R : X → X → Ordering) (P : X → Type 0) where
   all-put x [] px h = (px, tt)
   all-put x (y ∷ ys) px h = all-placed (R x y) x y ys (put_by R x ys) px h.0 h.1 (all-put x ys px h.1)
 
-  all-sorted : (xs : List X) → AllByRecursion P xs → AllByRecursion P (sorted_by R xs)
+  pub all-sorted : (xs : List X) → AllByRecursion P xs → AllByRecursion P (sorted_by R xs)
   all-sorted [] h = tt
   all-sorted (x ∷ xs) h = all-put x (sorted_by R xs) h.0 (all-sorted xs h.1)
 
@@ -271,7 +271,7 @@ touches-have-rows : (table : ℕ) (runs : List (Run Bool)) → AllByRecursion Is
 touches-have-rows table [] h = tt
 touches-have-rows table (run ∷ runs) h = (subst (λ n. 0 < n) (sym (counts run.items)) h.0.1, touches-have-rows table runs h.1)
 
-equal-self : (n : ℕ) → nat_cmp n n ≡ Equal
+pub equal-self : (n : ℕ) → nat_cmp n n ≡ Equal
 equal-self n = is_equal (nat_cmp n n) (own_reverse (nat_cmp n n) (nat_cmp_total.antisymm n n))
 
 then-equal : (a b : Ordering) → b ≡ Equal → ordering_then a b ≡ Less → a ≡ Less

@@ -1,8 +1,11 @@
 -- The law of the way back: the text of a partition says its values.
-use Rattle.std.specs.Prelude.{◌≡◌, ◌<◌, All, FitsSigned, IsSome, List, [], ◌∷◌}
+use Rattle.std.specs.Prelude.{◌≡◌, ◌<◌, All, Bool, true, false, FitsSigned, IsSome, IsTrue, List, [], ◌∷◌}
 use Rattle.std.specs.Int.{w32, w64}
+use Rattle.std.specs.List.{AllByRecursion}
 use Rattle.std.specs.Str.{IsUtf8}
+use Rattle.hv_value.specs.Conversion.{is_of}
 use Rattle.hv_value.specs.Dates.{date_of}
+use Rattle.hv_value.specs.declared.row.Row.{Row}
 use Rattle.hv_value.specs.declared.sql_type.SqlType.{SqlType}
 use Rattle.hv_value.specs.declared.sql_type.SqlType.TheVariants as type
 use Rattle.hv_value.specs.declared.value.Value.{Value}
@@ -39,3 +42,30 @@ IsSaidLayer _ _ = ⊥
 
 abbrev pub SaysLayers : Type 0
 SaysLayers = (kind : SqlType) (v : Value) → IsSaidLayer kind (out-Value v) → SaysValue kind v
+
+-- ---- so the values of a row's partition columns are said
+
+-- what a value of the code's types holds: a number of its width, a text in UTF-8
+abbrev pub IsHeldLayer : Value-F Value → Type 0
+IsHeldLayer (Value-F.Int z) = FitsSigned w32 z
+IsHeldLayer (Value-F.Big z) = FitsSigned w64 z
+IsHeldLayer (Value-F.Str text) = IsUtf8 text
+IsHeldLayer _ = Unit {0}
+
+unfoldable pub IsHeld : Value → Type 0
+IsHeld v = IsHeldLayer (out-Value v)
+
+abbrev pub AreHeld : List Row → Type 0
+AreHeld rows = AllByRecursion (λ (row : Row). AllByRecursion IsHeld row.values) rows
+
+-- a type that a partition column may have: no ARRAY
+abbrev pub is_flat : SqlType → Bool
+is_flat (type.ArrayOf e) = false
+is_flat _ = true
+
+abbrev pub AreFlat : List Column → Type 0
+AreFlat columns = AllByRecursion (λ (column : Column). is_flat column.kind ≡ true) columns
+
+-- such a value of such a type
+abbrev pub TypedAreSaid : Type 0
+TypedAreSaid = (kind : SqlType) (v : Value) → is_flat kind ≡ true → IsTrue (is_of kind v) → IsHeld v → SaysValue kind v

@@ -4,4 +4,5 @@ pub mod Partitions
 pub mod Placing
 pub mod Rising
 pub mod Routes
+pub mod Standing
 pub mod Touching

@@ -1,5 +1,5 @@
--- Laws of what a change makes: its touches rise by table and partition and each is of some row, and its files rise, so that none
--- comes twice.
+-- Laws of what a change makes: its touches rise by table and partition and each is of some row; its files rise, so that none
+-- comes twice; and so do its rows.
 use Rattle.std.specs.Prelude.{◌≡◌, ℕ, ◌+◌, ◌<◌, List, Ok}
 use Rattle.std.specs.declared.cmp.Ordering.{Ordering}
 use Rattle.std.specs.Ordering.{bool_cmp, nat_cmp, on, then_cmp}
@@ -10,7 +10,10 @@ use Rattle.hv_base.specs.declared.ids.Touch.{Touch}
 use Rattle.hv_logic.specs.declared.catalog.Shape.{Shape}
 use Rattle.hv_logic.specs.declared.catalog.TableInfo.{TableInfo}
 use Rattle.hv_logic.specs.declared.effect.Effect.{Effect}
-use Rattle.hv_route.specs.Routes.{files_of}
+use Rattle.hv_logic.specs.Rows.{found_cmp}
+use Rattle.hv_logic.specs.declared.effect.Found.{Found}
+use Rattle.hv_value.specs.declared.row.Row.{Row}
+use Rattle.hv_route.specs.Routes.{partition_of, bucket_in, numbered_rows, files_of}
 use Rattle.hv_route.specs.Touching.{touched}
 use Rattle.hv_route.specs.declared.files.OutFile.{OutFile}
 
@@ -36,3 +39,19 @@ file_cmp =
 abbrev pub AllFilesRise : Type 0
 AllFilesRise =
     (shape : Shape) (write statement : ℕ) (effect : Effect) → IsStrictlySortedBy file_cmp (files_of shape write statement effect)
+
+-- ---- the inserted rows rise by partition and identifier, and each stands in its own partition and bucket
+
+pub record IsNumbered (shape : Shape) (write statement : ℕ) (found : Found) : Type 0 where
+  pub partition_is : found.partition ≡ partition_of shape found.row
+  pub bucket_is : found.id.bucket ≡ bucket_in shape found.row
+  pub write_is : found.id.write.0 ≡ write
+  pub statement_is : found.id.statement ≡ statement
+
+pub record AreNumbered (shape : Shape) (write statement : ℕ) (founds : List Found) : Type 0 where
+  pub rise : IsStrictlySortedBy found_cmp founds
+  pub each : AllByRecursion (IsNumbered shape write statement) founds
+
+abbrev pub RowsAreNumbered : Type 0
+RowsAreNumbered =
+    (shape : Shape) (write statement : ℕ) (rows : List Row) → AreNumbered shape write statement (numbered_rows shape write statement rows)

@@ -2,6 +2,7 @@
 -- the bucket of the deleted row. Source: Hive Transactions, base and delta directories; the order of the rows is this
 -- project's profile.
 use Rattle.std.specs.Prelude.{ℕ, suc, true, false, List, [], ◌∷◌, ◌++◌, map, take, drop, length}
+use Rattle.std.specs.List.{flat_map}
 use Rattle.hv_base.specs.declared.ids.RowId.{RowId}
 use Rattle.hv_base.specs.Identifiers.{row_id_cmp}
 use Rattle.hv_value.specs.declared.row.Row.{Row}
@@ -69,10 +70,12 @@ file_of_deletes write run = record {
   recs = map (delete_by write) run.items;
 }
 
--- the rows by partition, bucket and the row order, in files of one partition and bucket
+-- the rows by partition, bucket and the row order, in runs of one partition and bucket
+abbrev pub row_runs : Shape → List Row → List (Run Row)
+row_runs shape rows = runs_of (sorted_by (placed_cmp row_cmp) (map (place_of_row shape) rows))
+
 abbrev pub insert_files : Shape → ℕ → ℕ → List Row → List OutFile
-insert_files shape write statement rows =
-    map (file_of_rows shape write statement) (runs_of (sorted_by (placed_cmp row_cmp) (map (place_of_row shape) rows)))
+insert_files shape write statement rows = map (file_of_rows shape write statement) (row_runs shape rows)
 
 abbrev pub delete_files : ℕ → List Found → List OutFile
 delete_files write deletes =
@@ -82,3 +85,18 @@ delete_files write deletes =
 unfoldable pub files_of : Shape → ℕ → ℕ → Effect → List OutFile
 files_of shape write statement effect =
     insert_files shape write statement effect.inserts ++ delete_files write effect.deletes
+
+-- ---- the inserted rows as they stand in the table then: sorted and numbered from 0 in each partition and bucket
+
+-- the rows of one partition and bucket, numbered from n
+abbrev pub founds_from : List ℕ → ℕ → ℕ → ℕ → ℕ → List Row → List Found
+founds_from partition write statement bucket n [] = []
+founds_from partition write statement bucket n (row ∷ rows) =
+    record { partition = partition; id = row_number write statement bucket n; row = row }
+    ∷ founds_from partition write statement bucket (suc n) rows
+
+abbrev pub founds_of_run : ℕ → ℕ → Run Row → List Found
+founds_of_run write statement run = founds_from run.partition write statement run.bucket 0 run.items
+
+unfoldable pub numbered_rows : Shape → ℕ → ℕ → List Row → List Found
+numbered_rows shape write statement rows = flat_map (founds_of_run write statement) (row_runs shape rows)

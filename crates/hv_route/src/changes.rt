@@ -1,5 +1,5 @@
 //! The files and the touches of a change, worked out by hand.
-use crate::{OutFile, RouteFault, route, touches};
+use crate::{OutFile, RouteFault, number_rows, route, touches};
 use hv_base::{List, RowId, TableId, Text, Touch, WriteId};
 use hv_logic::{Column, Effect, Found, Shape, TableInfo};
 use hv_rowfile::Rec;
@@ -31,6 +31,14 @@ static FILES: [File; 5] = [
     ("p=a", false, 1, &[(0, 1)]),
     ("p=a", true, 1, &[(0, 0), (3, 0)]),
     ("p=b", true, 0, &[(2, 0)]),
+];
+
+/// Where the inserted rows stand then: partition, bucket, number and `id`.
+static FOUNDS: [(&str, u32, u64, i32); 4] = [
+    ("p=__HIVE_DEFAULT_PARTITION__", 1, 0, 3),
+    ("p=a", 0, 0, 2),
+    ("p=a", 0, 1, 4),
+    ("p=a", 1, 0, 1),
 ];
 
 static TOUCHES: [(&str, u64, u64); 3] = [
@@ -144,6 +152,28 @@ fn a_change_has_these_files(rt: HostRuntime) -> Result<(), Fail> {
     assert!(rt; files.len() == FILES.len());
     for (file, want) in files.iter().zip(&FILES) {
         assert!(rt; is_file(file, want), "{} {}", want.0, want.2);
+    }
+    Ok(())
+}
+
+fn is_found(found: &Found, want: &(&str, u32, u64, i32)) -> bool {
+    found.partition.as_str() == want.0
+        && found.id.write == WriteId(5)
+        && found.id.statement == 2
+        && found.id.bucket == want.1
+        && found.id.row == want.2
+        && matches!(found.row.values.as_slice(), [Value::Int(first), _, _] if *first == want.3)
+}
+
+#[test]
+fn inserted_rows_stand_there(rt: HostRuntime) -> Result<(), Fail> {
+    let alloc = rt.alloc();
+    let info = table(alloc)?;
+    let Effect { inserts, .. } = effect(alloc)?;
+    let founds = number_rows(alloc, &info.shape, WriteId(5), 2, inserts)?;
+    assert!(rt; founds.as_slice().len() == FOUNDS.len());
+    for (found, want) in founds.as_slice().iter().zip(&FOUNDS) {
+        assert!(rt; is_found(found, want), "{} {} {}", want.0, want.1, want.2);
     }
     Ok(())
 }

@@ -2,10 +2,12 @@ ghost use Rattle.std.specs.Prelude.{◌≡◌, ◌++◌, IfOk, OnOk, map};
 ghost use Rattle.hv_base.specs.Identifiers.{row_id_cmp};
 ghost use Rattle.hv_value.specs.Order.{row_cmp};
 ghost use Rattle.hv_logic.specs.Sorting.{sorted_by};
+ghost use Rattle.hv_route.specs.Back.{AreHeld};
 ghost use Rattle.hv_route.specs.Placing.{placed_cmp};
 ghost use Rattle.hv_route.specs.Routes.{partition_of, bucket_in, stored, place_of_row, place_of_deleted, inserts_from, file_of_rows, delete_by, file_of_deletes, insert_files, delete_files, files_of};
 
 use crate::buckets::bucket_of;
+use crate::held::see_rows;
 use crate::partitions::partition_text;
 use crate::placed::Placed;
 use crate::runs::{Run, runs_of};
@@ -76,7 +78,12 @@ fn place_rows(alloc: Global, shape: &Shape, rows: List<Row>) -> Result<Vec<Place
     Ok(placed)
 }
 
-fn placed_rows(alloc: Global, shape: &Shape, rows: List<Row>) -> Result<Vec<Placed<Row>>, NoMemory>
+/// The rows by partition, bucket and the row order.
+pub fn placed_rows(
+    alloc: Global,
+    shape: &Shape,
+    rows: List<Row>,
+) -> Result<Vec<Placed<Row>>, NoMemory>
     ensures { IfOk result (λ placed. placed.items ≡ sorted_by (placed_cmp row_cmp) (map (place_of_row shape.now) rows)) }
 {
     let mut placed = place_rows(alloc, shape, rows)?;
@@ -212,7 +219,8 @@ fn push_delete_files(
 }
 
 /// The files that a statement's effect makes in a table of this shape, under its write id: those of the inserted rows,
-/// and then those of the deletes, each by partition and bucket. The rows move into the files.
+/// and then those of the deletes, each by partition and bucket. The rows move into the files; each of their values is one that
+/// its type holds.
 #[tactic(auto, unfolding(crate::specs::Routes::files_of))]
 pub fn route(
     alloc: Global,
@@ -221,9 +229,11 @@ pub fn route(
     statement: u32,
     effect: Effect,
 ) -> Result<Vec<OutFile>, NoMemory>
-    ensures { IfOk result (λ files. files.items ≡ files_of shape.now write.0 statement effect) }
+    ensures files { IfOk result (λ files. files.items ≡ files_of shape.now write.0 statement effect) }
+    ensures held { AreHeld effect.inserts }
 {
     let Effect { inserts, deletes } = effect;
+    see_rows(inserts.as_slice());
     let mut files = insert_files(alloc, shape, write, statement, inserts)?;
     push_delete_files(alloc, &mut files, write, deletes)?;
     Ok(files)
