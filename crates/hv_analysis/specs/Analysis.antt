@@ -3,7 +3,6 @@ use Rattle.std.specs.Prelude.{ℕ, Bool, true, false, not, if◌then◌else◌, 
 use Rattle.std.specs.List.{list_all, list_any}
 use Rattle.hv_base.specs.declared.refusal.Refusal.{Refusal}
 use Rattle.hv_base.specs.declared.refusal.Refusal.TheVariants as refusal
-use Rattle.hv_ast.specs.declared.change.Insert.{Insert}
 use Rattle.hv_ast.specs.declared.change.Rows.{Rows}
 use Rattle.hv_ast.specs.declared.change.Rows.TheVariants as rows
 use Rattle.hv_ast.specs.declared.query.From.{From}
@@ -20,7 +19,6 @@ use Rattle.hv_ast.specs.declared.statement.Stmt.{Stmt}
 use Rattle.hv_ast.specs.declared.statement.Stmt.TheVariants as stmt
 use Rattle.hv_logic.specs.declared.catalog.TableInfo.{TableInfo}
 use Rattle.hv_types.specs.Faults.{and_then}
-use Rattle.hv_changes.specs.Inserts.{is_empty}
 use Rattle.hv_analysis.specs.declared.logic.Logic.{Logic}
 use Rattle.hv_analysis.specs.declared.logic.Logic.TheVariants as logic
 use Rattle.hv_analysis.specs.Creates.{created}
@@ -67,21 +65,18 @@ is_windowless_source = fold-Source Bool layer_windowless
 unfoldable pub is_windowless : Query Source → Bool
 is_windowless query = is_windowless_query is_windowless_source query
 
--- ---- the forms that are built: INSERT without PARTITION, and no list of partitions in TRUNCATE
+-- ---- the forms that are built
 
 abbrev pub are_windowless : Rows → Bool
 are_windowless (rows.Values values) = true
 are_windowless (rows.Query query) = is_windowless query
 
-abbrev pub is_plain_insert : Insert → Bool
-is_plain_insert insert = is_empty insert.partition && are_windowless insert.rows
-
 unfoldable pub is_form : Stmt → Bool
 is_form (stmt.Query query) = is_windowless query
-is_form (stmt.Insert insert) = is_plain_insert insert
+is_form (stmt.Insert insert) = are_windowless insert.rows
 is_form (stmt.Update update) = true
 is_form (stmt.Delete delete) = true
-is_form (stmt.Truncate truncate) = is_empty truncate.partition
+is_form (stmt.Truncate truncate) = true
 is_form (stmt.CreateTable create) = true
 is_form _ = false
 

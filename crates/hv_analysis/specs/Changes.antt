@@ -1,5 +1,5 @@
 -- INSERT, UPDATE, DELETE and TRUNCATE over the live tables: the target (NoTable), then what the statement says of it. The source
--- of an INSERT comes behind its column list. Source: Hive Language Manual, DML and DDL; the order of faults is this
+-- of an INSERT comes behind its PARTITION and its column list. Source: Hive Language Manual, DML and DDL; the order of faults is this
 -- project's profile.
 use Rattle.std.specs.Prelude.{ℕ, List, slice_get, Option, None, Some, Result, Ok, Err}
 use Rattle.hv_base.specs.declared.refusal.Refusal.{Refusal}
@@ -14,7 +14,8 @@ use Rattle.hv_logic.specs.declared.catalog.Shape.{Shape}
 use Rattle.hv_logic.specs.declared.catalog.TableInfo.{TableInfo}
 use Rattle.hv_types.specs.Faults.{and_then}
 use Rattle.hv_changes.specs.declared.change.TypedChange.{TypedChange}
-use Rattle.hv_changes.specs.Inserts.{targets_of, rows_typed, values_inserted, query_inserted}
+use Rattle.hv_changes.specs.Inserts.{rows_typed, values_inserted, query_inserted}
+use Rattle.hv_changes.specs.Targets.{targets_of}
 use Rattle.hv_changes.specs.Updates.{updated, deleted, truncated}
 use Rattle.hv_analysis.specs.Creates.{place_of}
 use Rattle.hv_analysis.specs.Sources.{selected}
@@ -22,17 +23,17 @@ use Rattle.hv_analysis.specs.Sources.{selected}
 module _ (tables : List TableInfo) (place : ℕ) (shape : Shape) where
   -- for these columns
   unfoldable pub source_inserted : Insert → Rows → List Column → Result TypedChange Refusal
-  source_inserted insert (rows.Values rows) targets = and_then (rows_typed rows) (values_inserted place shape insert.overwrite targets)
-  source_inserted insert (rows.Query query) targets = and_then (selected tables query) (query_inserted place shape insert.overwrite targets)
+  source_inserted insert (rows.Values rows) targets = and_then (rows_typed rows) (values_inserted place shape insert targets)
+  source_inserted insert (rows.Query query) targets = and_then (selected tables query) (query_inserted place shape insert targets)
 
   unfoldable pub inserted : Insert → Result TypedChange Refusal
-  inserted insert = and_then (targets_of shape insert.columns) (source_inserted insert insert.rows)
+  inserted insert = and_then (targets_of shape insert.partition insert.columns) (source_inserted insert insert.rows)
 
   unfoldable pub changing : Stmt → Result TypedChange Refusal
   changing (stmt.Insert insert) = inserted insert
   changing (stmt.Update update) = updated place shape update
   changing (stmt.Delete delete) = deleted place shape delete
-  changing (stmt.Truncate truncate) = Ok (truncated place)
+  changing (stmt.Truncate truncate) = truncated place shape truncate
   changing _ = Err refusal.Syntax
 
 abbrev pub changing_table : List TableInfo → Stmt → ℕ → Option TableInfo → Result TypedChange Refusal

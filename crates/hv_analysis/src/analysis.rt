@@ -2,14 +2,14 @@
 
 ghost use Rattle.std.specs.Prelude.{◌≡◌};
 ghost use Rattle.hv_types.specs.Faults.{Types};
-ghost use Rattle.hv_analysis.specs.Analysis.{are_windowless, is_plain_insert, is_form, query_analysed, change_analysed, form_analysed, analysed};
+ghost use Rattle.hv_analysis.specs.Analysis.{are_windowless, is_form, query_analysed, change_analysed, form_analysed, analysed};
 
 use crate::changes::change_of;
 use crate::creates::created;
 use crate::logic::Logic;
 use crate::queries::selected;
 use crate::windows::is_windowless;
-use hv_ast::{Insert, Query, Rows, Stmt};
+use hv_ast::{Query, Rows, Stmt};
 use hv_base::{Refusal, Text};
 use hv_logic::TableInfo;
 use hv_types::TypeFault;
@@ -26,12 +26,6 @@ fn are_windowless(rows: &Rows) -> bool
     }
 }
 
-fn is_plain_insert(insert: &Insert) -> bool
-    ensures { result ≡ is_plain_insert insert.now }
-{
-    insert.partition.is_empty() && are_windowless(&insert.rows)
-}
-
 /// Whether statements of this form are analysed.
 #[tactic(auto, unfolding(crate::specs::Analysis::is_form))]
 pub fn is_form(stmt: &Stmt) -> bool
@@ -39,10 +33,10 @@ pub fn is_form(stmt: &Stmt) -> bool
 {
     match stmt {
         Stmt::Query(query) => is_windowless(query),
-        Stmt::Insert(insert) => is_plain_insert(insert),
+        Stmt::Insert(insert) => are_windowless(&insert.rows),
         Stmt::Update(_) => true,
         Stmt::Delete(_) => true,
-        Stmt::Truncate(truncate) => truncate.partition.is_empty(),
+        Stmt::Truncate(_) => true,
         Stmt::CreateTable(_) => true,
         _ => false,
     }

@@ -29,17 +29,10 @@ fn source_inserted(
     ensures { Types result (source_inserted tables.now place shape.now insert.now insert.now.rows targets.now) }
 {
     match &insert.rows {
-        Rows::Values(rows) => rows_inserted(
-            alloc,
-            place,
-            shape,
-            insert.overwrite,
-            targets,
-            rows.as_slice(),
-        ),
+        Rows::Values(rows) => rows_inserted(alloc, place, shape, insert, targets, rows.as_slice()),
         Rows::Query(query) => {
             let query = selected(alloc, tables, query)?;
-            query_inserted(alloc, place, shape, insert.overwrite, targets, query)
+            query_inserted(alloc, place, shape, insert, targets, query)
         }
     }
 }
@@ -54,7 +47,8 @@ fn inserted(
 ) -> Result<TypedChange, TypeFault>
     ensures { Types result (inserted tables.now place shape.now insert.now) }
 {
-    let targets = targets_of(alloc, shape, insert.columns.as_slice())?;
+    let items = insert.partition.as_slice();
+    let targets = targets_of(alloc, shape, items, insert.columns.as_slice())?;
     source_inserted(alloc, tables, place, shape, insert, targets.as_slice())
 }
 
@@ -72,7 +66,7 @@ fn changing(
         Stmt::Insert(insert) => inserted(alloc, tables, place, shape, insert),
         Stmt::Update(update) => updated(alloc, place, shape, update),
         Stmt::Delete(delete) => deleted(alloc, place, shape, delete),
-        Stmt::Truncate(_) => Ok(truncated(alloc, place)),
+        Stmt::Truncate(truncate) => truncated(alloc, place, shape, truncate),
         _ => Err(TypeFault::Refused(Refusal::Syntax)),
     }
 }

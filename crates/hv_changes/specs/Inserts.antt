@@ -1,11 +1,13 @@
--- INSERT: the column list (an unknown name is NoColumn, a repeated one BadCount, and so is at its end a partition column that
--- isn't listed), then the source, the number of its values (BadCount) and their conversions (BadType), VALUES in three passes:
--- the expressions of all rows, all numbers, all conversions. A column that isn't listed is NULL.
+-- INSERT: its target columns (Targets), its source, the number of the source's values (BadCount), and the conversions (BadType), those of
+-- static values before those of the rows; VALUES in three passes: the expressions of all rows, all numbers, all conversions. A
+-- column that isn't listed is NULL. Under OVERWRITE rows go.
 -- Source: Hive Language Manual, DML; the order of faults is this project's profile.
-use Rattle.std.specs.Prelude.{ℕ, ◌+◌, ◌==◌, Bool, true, false, if◌then◌else◌, ◌&&◌, List, [], ◌∷◌, ◌++◌, length, map, drop, position, slice_index_or, Option, None, Some, Result, Ok, Err}
-use Rattle.std.specs.List.{list_all, list_any}
+use Rattle.std.specs.Prelude.{ℕ, ◌==◌, Bool, true, false, if◌then◌else◌, ◌&&◌, List, [], ◌∷◌, length, map, drop, position, Option, None, Some, Result, Ok, Err}
+use Rattle.std.specs.List.{list_all}
 use Rattle.hv_base.specs.declared.refusal.Refusal.{Refusal}
 use Rattle.hv_base.specs.declared.refusal.Refusal.TheVariants as refusal
+use Rattle.hv_ast.specs.declared.change.Insert.{Insert}
+use Rattle.hv_ast.specs.declared.change.PartitionItem.{PartitionItem}
 use Rattle.hv_ast.specs.declared.expr.Expr.{Expr}
 use Rattle.hv_value.specs.declared.sql_type.SqlType.{SqlType}
 use Rattle.hv_value.specs.declared.sql_type.SqlType.TheVariants as type
@@ -18,60 +20,23 @@ use Rattle.hv_logic.specs.declared.catalog.Shape.{Shape}
 use Rattle.hv_query.specs.declared.tree.OutputColumn.{OutputColumn}
 use Rattle.hv_query.specs.declared.tree.TypedQuery.{TypedQuery}
 use Rattle.hv_query.specs.declared.tree.TypedSource.{TypedSource}
-use Rattle.hv_types.specs.declared.scope.Over.TheVariants as over
-use Rattle.hv_types.specs.Faults.{and_then, each_in_order, in_front}
+use Rattle.hv_types.specs.Faults.{and_then, each_in_order}
 use Rattle.hv_types.specs.Kinds.{kind_of}
 use Rattle.hv_types.specs.Nodes.{as_kind}
-use Rattle.hv_types.specs.Scopes.{same_name}
-use Rattle.hv_types.specs.Typing.{typed}
 use Rattle.hv_changes.specs.declared.change.Deletes.{Deletes}
 use Rattle.hv_changes.specs.declared.change.Deletes.TheVariants as deletes
 use Rattle.hv_changes.specs.declared.change.Origin.{Origin}
 use Rattle.hv_changes.specs.declared.change.Origin.TheVariants as origin
 use Rattle.hv_changes.specs.declared.change.TypedChange.{TypedChange}
-use Rattle.hv_changes.specs.Columns.{columns_of, is_named}
+use Rattle.hv_changes.specs.Columns.{columns_of, is_named, kinds_of, kind_at}
+use Rattle.hv_changes.specs.Targets.{value_typed, static_of, are_static}
+use Rattle.hv_changes.specs.Partitions.{static_value, partition_met}
 
 abbrev pub is_empty : {A : Type 0} → List A → Bool
 is_empty [] = true
 is_empty (a ∷ rest) = false
 
--- ---- the column list: the columns that the source's values are for, in its order
-
-abbrev pub column_named : List ℕ → List Column → Option Column
-column_named name [] = None
-column_named name (column ∷ columns) = if is_named name column then Some column else column_named name columns
-
-abbrev pub is_listed : List (List ℕ) → List ℕ → Bool
-is_listed names name = list_any (same_name name) names
-
-abbrev pub if_new : List (List ℕ) → List ℕ → Option Column → Result Column Refusal
-if_new before name None = Err refusal.NoColumn
-if_new before name (Some column) = if is_listed before name then Err refusal.BadCount else Ok column
-
--- behind these names of the list
-unfoldable pub columns_listed : List Column → List (List ℕ) → List (List ℕ) → Result (List Column) Refusal
-columns_listed columns before [] = Ok []
-columns_listed columns before (name ∷ names) =
-    and_then (if_new before name (column_named name columns)) (λ column.
-    in_front column (columns_listed columns (before ++ name ∷ []) names))
-
-abbrev pub are_listed : List (List ℕ) → List Column → Bool
-are_listed names columns = list_all (λ (column : Column). is_listed names column.name) columns
-
--- partition columns are among them
-abbrev pub if_whole : List (List ℕ) → List Column → List Column → Result (List Column) Refusal
-if_whole names parts targets = if are_listed names parts then Ok targets else Err refusal.BadCount
-
--- without a list they are all
-abbrev pub targets_of : Shape → List (List ℕ) → Result (List Column) Refusal
-targets_of shape [] = Ok (columns_of shape)
-targets_of shape (name ∷ names) =
-    and_then (columns_listed (columns_of shape) [] (name ∷ names)) (if_whole (name ∷ names) shape.parts)
-
 -- ---- VALUES: the first pass
-
-abbrev pub value_typed : Expr → Result TypedExpr Refusal
-value_typed expr = typed [] expr over.Row
 
 unfoldable pub row_typed : List Expr → Result (List TypedExpr) Refusal
 row_typed exprs = each_in_order value_typed exprs
@@ -101,9 +66,6 @@ converted_row columns (x ∷ xs) = as_kind (first_type columns) x ∷ converted_
 
 -- ---- the values of a new row, over the source's row with values of these types: a CAST, where the column is of another
 
-abbrev pub kind_at : List SqlType → ℕ → SqlType
-kind_at kinds place = slice_index_or kinds place type.Null
-
 abbrev pub value_at : List SqlType → SqlType → Option ℕ → TypedExpr
 value_at kinds kind None = tree.Literal value.Null kind
 value_at kinds kind (Some place) = as_kind kind (tree.Column place (kind_at kinds place))
@@ -111,37 +73,56 @@ value_at kinds kind (Some place) = as_kind kind (tree.Column place (kind_at kind
 abbrev pub value_for : List Column → List SqlType → Column → TypedExpr
 value_for targets kinds column = value_at kinds column.kind (position (is_named column.name) targets)
 
-abbrev pub values_for : List Column → List SqlType → List Column → List TypedExpr
-values_for targets kinds columns = map (value_for targets kinds) columns
+-- the static one, where there is one
+abbrev pub value_or : List Column → List SqlType → Column → Option Expr → Result TypedExpr Refusal
+value_or targets kinds column None = Ok (value_for targets kinds column)
+value_or targets kinds column (Some expr) = static_value column.kind expr
 
--- ---- which rows go: under OVERWRITE all of a table without partitions, or those of the partitions that get a row
+abbrev pub new_value : List PartitionItem → List Column → List SqlType → Column → Result TypedExpr Refusal
+new_value items targets kinds column = value_or targets kinds column (static_of items column.name)
 
-abbrev pub overwritten : Bool → Shape → Deletes
-overwritten overwrite shape =
-    if overwrite then (if is_empty shape.parts then deletes.Matching None else deletes.Received) else deletes.Nothing
+unfoldable pub values_for : List PartitionItem → List Column → List SqlType → List Column → Result (List TypedExpr) Refusal
+values_for items targets kinds columns = each_in_order (new_value items targets kinds) columns
 
-abbrev pub insert_of : ℕ → Shape → Bool → List Column → List SqlType → Origin → TypedChange
-insert_of place shape overwrite targets kinds origin = record {
-  table = place;
-  deletes = overwritten overwrite shape;
-  values = values_for targets kinds (columns_of shape);
-  origin = origin;
-}
+-- ---- which rows go: under OVERWRITE all of a table without partitions, those of the one partition where no column is dynamic, else
+-- those of the partitions that get a row
+
+abbrev pub overwritten_parts : Shape → List PartitionItem → Result Deletes Refusal
+overwritten_parts shape items =
+    if are_static items shape.parts
+    then and_then (partition_met (columns_of shape) items) (λ condition. Ok (deletes.Matching (Some condition)))
+    else Ok deletes.Received
+
+abbrev pub overwritten_rows : Shape → List PartitionItem → Result Deletes Refusal
+overwritten_rows shape items =
+    if is_empty shape.parts then Ok (deletes.Matching None) else overwritten_parts shape items
+
+unfoldable pub overwritten : Bool → Shape → List PartitionItem → Result Deletes Refusal
+overwritten overwrite shape items = if overwrite then overwritten_rows shape items else Ok deletes.Nothing
+
+-- ---- the change: the static values are converted before those of the source
+
+abbrev pub insert_of : ℕ → Deletes → List TypedExpr → Origin → TypedChange
+insert_of place gone values origin = record { table = place; deletes = gone; values = values; origin = origin }
+
+unfoldable pub insert_typed : ℕ → Shape → Insert → List Column → List SqlType → Origin → Result TypedChange Refusal
+insert_typed place shape insert targets kinds origin =
+    and_then (values_for insert.partition targets kinds (columns_of shape)) (λ values.
+    and_then (overwritten insert.overwrite shape insert.partition) (λ gone. Ok (insert_of place gone values origin)))
+
+abbrev pub if_convertible : Bool → TypedChange → Result TypedChange Refusal
+if_convertible converts change = if converts then Ok change else Err refusal.BadType
 
 -- ---- a source of VALUES
 
-abbrev pub column_kind : Column → SqlType
-column_kind column = column.kind
+abbrev pub values_insert : ℕ → Shape → Insert → List Column → List (List TypedExpr) → Result TypedChange Refusal
+values_insert place shape insert targets rows =
+    and_then (insert_typed place shape insert targets (kinds_of targets) (origin.Values (map (converted_row targets) rows)))
+    (if_convertible (list_all (converts targets) rows))
 
-abbrev pub values_insert : ℕ → Shape → Bool → List Column → List (List TypedExpr) → TypedChange
-values_insert place shape overwrite targets rows =
-    insert_of place shape overwrite targets (map column_kind targets) (origin.Values (map (converted_row targets) rows))
-
-unfoldable pub values_inserted : ℕ → Shape → Bool → List Column → List (List TypedExpr) → Result TypedChange Refusal
-values_inserted place shape overwrite targets rows =
-    if list_all (has_count (length targets)) rows
-    then (if list_all (converts targets) rows then Ok (values_insert place shape overwrite targets rows) else Err refusal.BadType)
-    else Err refusal.BadCount
+unfoldable pub values_inserted : ℕ → Shape → Insert → List Column → List (List TypedExpr) → Result TypedChange Refusal
+values_inserted place shape insert targets rows =
+    if list_all (has_count (length targets)) rows then values_insert place shape insert targets rows else Err refusal.BadCount
 
 -- ---- a source that is a query: its output columns
 
@@ -153,12 +134,11 @@ outputs_convert columns [] = true
 outputs_convert [] (output ∷ outputs) = true
 outputs_convert (column ∷ columns) (output ∷ outputs) = is_convertible output.kind column.kind && outputs_convert columns outputs
 
-abbrev pub query_insert : ℕ → Shape → Bool → List Column → TypedQuery TypedSource → TypedChange
-query_insert place shape overwrite targets query =
-    insert_of place shape overwrite targets (map output_kind query.columns) (origin.Query query)
+abbrev pub query_insert : ℕ → Shape → Insert → List Column → TypedQuery TypedSource → Result TypedChange Refusal
+query_insert place shape insert targets query =
+    and_then (insert_typed place shape insert targets (map output_kind query.columns) (origin.Query query))
+    (if_convertible (outputs_convert targets query.columns))
 
-unfoldable pub query_inserted : ℕ → Shape → Bool → List Column → TypedQuery TypedSource → Result TypedChange Refusal
-query_inserted place shape overwrite targets query =
-    if length query.columns == length targets
-    then (if outputs_convert targets query.columns then Ok (query_insert place shape overwrite targets query) else Err refusal.BadType)
-    else Err refusal.BadCount
+unfoldable pub query_inserted : ℕ → Shape → Insert → List Column → TypedQuery TypedSource → Result TypedChange Refusal
+query_inserted place shape insert targets query =
+    if length query.columns == length targets then query_insert place shape insert targets query else Err refusal.BadCount

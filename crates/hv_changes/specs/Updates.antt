@@ -9,9 +9,10 @@ use Rattle.hv_base.specs.declared.refusal.Refusal.TheVariants as refusal
 use Rattle.hv_ast.specs.declared.expr.Expr.{Expr}
 use Rattle.hv_ast.specs.declared.change.Assignment.{Assignment}
 use Rattle.hv_ast.specs.declared.change.Delete.{Delete}
+use Rattle.hv_ast.specs.declared.change.PartitionItem.{PartitionItem}
+use Rattle.hv_ast.specs.declared.change.Truncate.{Truncate}
 use Rattle.hv_ast.specs.declared.change.Update.{Update}
 use Rattle.hv_value.specs.declared.sql_type.SqlType.{SqlType}
-use Rattle.hv_value.specs.Conversion.{is_convertible}
 use Rattle.hv_typed.specs.declared.tree.TypedExpr.{TypedExpr}
 use Rattle.hv_typed.specs.declared.tree.TypedExpr.TheVariants as tree
 use Rattle.hv_logic.specs.declared.catalog.Column.{Column}
@@ -19,16 +20,14 @@ use Rattle.hv_logic.specs.declared.catalog.Shape.{Shape}
 use Rattle.hv_types.specs.declared.scope.Field.{Field}
 use Rattle.hv_types.specs.declared.scope.Over.TheVariants as over
 use Rattle.hv_types.specs.Faults.{and_then}
-use Rattle.hv_types.specs.Kinds.{kind_of}
-use Rattle.hv_types.specs.Nodes.{as_kind}
 use Rattle.hv_types.specs.Scopes.{same_name}
 use Rattle.hv_types.specs.Typing.{typed}
 use Rattle.hv_select.specs.Sources.{filter_typed}
 use Rattle.hv_changes.specs.declared.change.Deletes.TheVariants as deletes
 use Rattle.hv_changes.specs.declared.change.Origin.TheVariants as origin
 use Rattle.hv_changes.specs.declared.change.TypedChange.{TypedChange}
-use Rattle.hv_changes.specs.Columns.{columns_of, is_named, field_of, fields_of}
-use Rattle.hv_changes.specs.Inserts.{column_kind, kind_at}
+use Rattle.hv_changes.specs.Columns.{columns_of, is_named, field_of, fields_of, kinds_of, kind_at}
+use Rattle.hv_changes.specs.Partitions.{if_converts, partition_met, are_given}
 
 -- ---- which column is set
 
@@ -52,9 +51,6 @@ place_set shape columns before name = if_free shape before name (position (is_na
 
 -- ---- what it is set to
 
-abbrev pub if_converts : SqlType → TypedExpr → Result TypedExpr Refusal
-if_converts kind x = if is_convertible (kind_of x) kind then Ok (as_kind kind x) else Err refusal.BadType
-
 abbrev pub value_set : List Field → SqlType → Expr → Result TypedExpr Refusal
 value_set fields kind expr = and_then (typed fields expr over.Row) (if_converts kind)
 
@@ -63,9 +59,6 @@ value_set fields kind expr = and_then (typed fields expr over.Row) (if_converts 
 abbrev pub kept : ℕ → List SqlType → List TypedExpr
 kept place [] = []
 kept place (kind ∷ kinds) = tree.Column place kind ∷ kept (place + 1) kinds
-
-abbrev pub kinds_of : List Column → List SqlType
-kinds_of columns = map column_kind columns
 
 -- of a table of these columns, of these types, behind these assignments, which came to these values
 module _ (shape : Shape) (columns : List Column) (fields : List Field) (kinds : List SqlType) where
@@ -102,6 +95,14 @@ delete_of place filter =
 unfoldable pub deleted : ℕ → Shape → Delete → Result TypedChange Refusal
 deleted place shape delete = and_then (filter_typed (fields_of shape) delete.filter) (λ filter. Ok (delete_of place filter))
 
--- TRUNCATE without PARTITION: all rows
-abbrev pub truncated : ℕ → TypedChange
-truncated place = delete_of place None
+-- ---- TRUNCATE: all rows, or those of the partitions that its list names
+
+unfoldable pub partitions_met : Shape → List PartitionItem → Result (Option TypedExpr) Refusal
+partitions_met shape [] = Ok None
+partitions_met shape (item ∷ items) =
+    if are_given shape.parts [] (item ∷ items)
+    then and_then (partition_met (columns_of shape) (item ∷ items)) (λ condition. Ok (Some condition))
+    else Err refusal.BadCount
+
+unfoldable pub truncated : ℕ → Shape → Truncate → Result TypedChange Refusal
+truncated place shape truncate = and_then (partitions_met shape truncate.partition) (λ condition. Ok (delete_of place condition))

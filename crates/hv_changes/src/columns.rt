@@ -1,6 +1,6 @@
-ghost use Rattle.std.specs.Prelude.{◌≡◌, IfOk, map, position};
-ghost use Rattle.hv_changes.specs.Columns.{columns_of, is_named, field_of, fields_of};
-ghost use Rattle.hv_changes.specs.Inserts.{column_kind};
+ghost use Rattle.std.specs.Prelude.{◌≡◌, IfOk, map, option_map, position};
+ghost use Rattle.hv_changes.specs.Columns.{columns_of, is_named, field_of, fields_of, kinds_of, kind_at};
+ghost use Rattle.hv_changes.specs.Targets.{column_named};
 
 use hv_base::{Duplicate, List, NoMemory, Text};
 use hv_logic::{Column, Shape};
@@ -52,13 +52,33 @@ pub(crate) fn fields_of(alloc: Global, shape: &Shape) -> Result<List<Field>, NoM
 }
 
 pub(crate) fn column_kinds(alloc: Global, columns: &[Column]) -> Result<Vec<SqlType>, NoMemory>
-    ensures { IfOk result (λ kinds. kinds.items ≡ map column_kind columns.now) }
+    ensures { IfOk result (λ kinds. kinds.items ≡ kinds_of columns.now) }
 {
     let mut kinds = Vec::with_capacity(alloc, columns.len())?;
     for column in columns {
         kinds.push(column.kind)?;
     }
     Ok(kinds)
+}
+
+pub(crate) fn kind_at(kinds: &[SqlType], place: usize) -> SqlType
+    ensures { result ≡ kind_at kinds.now place }
+{
+    match kinds.get(place) {
+        Some(kind) => *kind,
+        None => SqlType::Null,
+    }
+}
+
+pub(crate) fn column_named<'a>(name: &Text, columns: &'a [Column]) -> Option<&'a Column>
+    ensures { option_map (λ column. column.now) result ≡ column_named name.now columns.now }
+{
+    for column in columns {
+        if column.name == *name {
+            return Some(column);
+        }
+    }
+    None
 }
 
 /// The place of the column of that name.

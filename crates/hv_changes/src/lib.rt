@@ -1,4 +1,4 @@
-//! The parts of a change of a table: INSERT with its columns and its source, UPDATE, DELETE, TRUNCATE.
+//! The parts of a change of a table: INSERT with its PARTITION, its columns and its source, UPDATE, DELETE, TRUNCATE.
 //!
 //! The target is found, and a query as a source is taken, by the crate above.
 #![tactic(auto)]
@@ -6,6 +6,8 @@
 mod change;
 mod columns;
 mod inserts;
+mod laws;
+mod partitions;
 mod queries;
 mod targets;
 mod updates;
@@ -14,5 +16,6 @@ mod values;
 pub use change::{Deletes, Origin, TypedChange};
 pub use columns::{columns_of, fields_named};
 pub use inserts::{query_inserted, rows_inserted};
+pub use laws::parts_meet_alike;
 pub use targets::targets_of;
 pub use updates::{deleted, truncated, updated};

@@ -3,19 +3,19 @@
 ghost use Rattle.std.specs.Prelude.{◌≡◌, IfOk, [], slice_set};
 ghost use Rattle.hv_types.specs.Faults.{Types};
 ghost use Rattle.hv_select.specs.Sources.{filter_typed};
-ghost use Rattle.hv_changes.specs.Columns.{fields_of};
-ghost use Rattle.hv_changes.specs.Inserts.{kind_at};
-ghost use Rattle.hv_changes.specs.Updates.{is_bucketed, is_fixed, is_set, if_free, place_set, if_converts, value_set, kept, one_set, all_set, sets_of, update_of, updated, delete_of, deleted, truncated};
+ghost use Rattle.hv_changes.specs.Columns.{fields_of, kind_at};
+ghost use Rattle.hv_changes.specs.Updates.{is_bucketed, is_fixed, is_set, if_free, place_set, value_set, kept, one_set, all_set, sets_of, update_of, updated, delete_of, deleted, partitions_met, truncated};
 
 use crate::change::{Deletes, Origin, TypedChange};
-use crate::columns::{column_kinds, columns_of, fields_named, fields_of, place_named};
-use crate::inserts::kind_at;
-use hv_ast::{Assignment, Delete, Expr, Update};
+use crate::columns::{column_kinds, columns_of, fields_named, fields_of, kind_at, place_named};
+use crate::partitions::{are_given, partition_met};
+use crate::values::if_converts;
+use hv_ast::{Assignment, Delete, Expr, PartitionItem, Truncate, Update};
 use hv_base::{Boxed, List, NoMemory, Refusal, Text};
 use hv_logic::{Column, Shape};
 use hv_typed::TypedExpr;
-use hv_types::{Field, Over, TypeFault, as_kind, condition_of, kind_of, type_expr};
-use hv_value::{SqlType, is_convertible};
+use hv_types::{Field, Over, TypeFault, condition_of, type_expr};
+use hv_value::SqlType;
 use std::alloc::Global;
 
 fn is_bucketed(places: &[u32], place: usize) -> bool
@@ -88,11 +88,7 @@ fn value_set(
     ensures { Types result (value_set fields.now kind expr.now) }
 {
     let value = type_expr(alloc, expr, fields, Over::Row)?;
-    if is_convertible(&kind_of(value.get()), &kind) {
-        Ok(as_kind(alloc, kind, value)?)
-    } else {
-        Err(TypeFault::Refused(Refusal::BadType))
-    }
+    if_converts(alloc, kind, value)
 }
 
 /// Each column as it is.
@@ -245,9 +241,35 @@ pub fn deleted(
     Ok(delete_of(alloc, place, filter))
 }
 
-/// The typed TRUNCATE of a whole table.
-pub fn truncated(alloc: Global, place: u32) -> TypedChange
-    ensures { result ≡ truncated place }
+/// The condition that a row is of the partitions that the list names; none without a list.
+#[tactic(auto, unfolding(crate::specs::Updates::partitions_met))]
+fn partitions_met(
+    alloc: Global,
+    shape: &Shape,
+    items: &[PartitionItem],
+) -> Result<Option<Boxed<TypedExpr>>, TypeFault>
+    ensures { Types result (partitions_met shape.now items.now) }
 {
-    delete_of(alloc, place, None)
+    if items.is_empty() {
+        return Ok(None);
+    }
+    if !are_given(shape.parts.as_slice(), items) {
+        return Err(TypeFault::Refused(Refusal::BadCount));
+    }
+    let columns = columns_of(alloc, shape)?;
+    Ok(Some(partition_met(alloc, columns.as_slice(), items)?))
+}
+
+/// The typed TRUNCATE, or its first fault.
+#[tactic(auto, unfolding(crate::specs::Updates::truncated))]
+pub fn truncated(
+    alloc: Global,
+    place: u32,
+    shape: &Shape,
+    truncate: &Truncate,
+) -> Result<TypedChange, TypeFault>
+    ensures { Types result (truncated place shape.now truncate.now) }
+{
+    let condition = partitions_met(alloc, shape, truncate.partition.as_slice())?;
+    Ok(delete_of(alloc, place, condition))
 }

@@ -1,17 +1,33 @@
-//! VALUES: its rows, in three passes.
+//! VALUES: its rows, in three passes, and the conversion of one value.
 
 ghost use Rattle.std.specs.Prelude.{◌≡◌, IfOk, map, drop};
 ghost use Rattle.std.specs.List.{list_all};
 ghost use Rattle.hv_types.specs.Faults.{Types};
+ghost use Rattle.hv_changes.specs.Partitions.{if_converts};
 ghost use Rattle.hv_changes.specs.Inserts.{row_typed, rows_typed, has_count, converts, first_type, converted_row};
 
 use hv_ast::Expr;
-use hv_base::{List, NoMemory};
+use hv_base::{Boxed, List, NoMemory, Refusal};
 use hv_logic::Column;
 use hv_typed::TypedExpr;
-use hv_types::{Over, TypeFault, item_as_kind, kind_of, type_expr};
+use hv_types::{Over, TypeFault, as_kind, item_as_kind, kind_of, type_expr};
 use hv_value::{SqlType, is_convertible};
 use std::alloc::Global;
+
+/// The value as one of this type.
+pub(crate) fn if_converts(
+    alloc: Global,
+    kind: SqlType,
+    value: Boxed<TypedExpr>,
+) -> Result<Boxed<TypedExpr>, TypeFault>
+    ensures { Types result (if_converts kind value) }
+{
+    if is_convertible(&kind_of(value.get()), &kind) {
+        Ok(as_kind(alloc, kind, value)?)
+    } else {
+        Err(TypeFault::Refused(Refusal::BadType))
+    }
+}
 
 #[tactic(auto, using(crate::proofs::Orders::orders), unfolding(crate::specs::Inserts::row_typed))]
 fn row_typed(alloc: Global, exprs: &[Expr]) -> Result<List<TypedExpr>, TypeFault>
