@@ -2,7 +2,7 @@
 
 ghost use Rattle.std.specs.Prelude.{◌≡◌, IfOk, slice_get};
 ghost use Rattle.hv_query.specs.Rows.{rows_of};
-ghost use Rattle.hv_meaning.specs.Meaning.{tables_of, inserts_of, change_effect, within_limit, or_none, changed_in};
+ghost use Rattle.hv_meaning.specs.Meaning.{tables_of, inserts_of, change_effect, within_limits, or_none, changed_in};
 ghost use Rattle.hv_effect.specs.Tables.{found_of};
 
 use crate::deletes::{deleted, matched};
@@ -10,8 +10,9 @@ use crate::rows::{rows_alone, rows_selected, rows_updated};
 use hv_base::{Duplicate, List, NoMemory};
 use hv_changes::{Origin, TypedChange, columns_of};
 use hv_exec::run;
-use hv_logic::{Effect, Found, Meaning, Shape, TableInfo, TableRows, all_fit};
+use hv_logic::{Effect, Found, Meaning, Shape, TableInfo, TableRows};
 use hv_query::TypedQuery;
+use hv_route::{RouteFault, touches};
 use hv_value::Row;
 use std::alloc::Global;
 
@@ -75,13 +76,14 @@ fn change_effect(
     })
 }
 
-fn within_limit(alloc: Global, info: &TableInfo, effect: Effect) -> Result<Meaning, NoMemory>
-    ensures { IfOk result (λ meaning. meaning ≡ within_limit info.now effect) }
+fn within_limits(alloc: Global, info: &TableInfo, effect: Effect) -> Result<Meaning, NoMemory>
+    ensures { IfOk result (λ meaning. meaning ≡ within_limits info.now effect) }
 {
-    if all_fit(effect.inserts.as_slice()) {
-        Ok(Meaning::Change(info.duplicate(alloc)?, effect))
-    } else {
-        Ok(Meaning::RowLimit)
+    match touches(alloc, info, &effect) {
+        Ok(_touches) => Ok(Meaning::Change(info.duplicate(alloc)?, effect)),
+        Err(RouteFault::RowLimit) => Ok(Meaning::RowLimit),
+        Err(RouteFault::PartitionLimit) => Ok(Meaning::PartitionLimit),
+        Err(RouteFault::NoMemory) => Err(NoMemory),
     }
 }
 
@@ -110,5 +112,5 @@ pub(crate) fn changed_in(
     };
     let found = rows_at(tables, place);
     let effect = change_effect(alloc, &info.shape, change, found, tables)?;
-    Ok(Some(within_limit(alloc, info, effect)?))
+    Ok(Some(within_limits(alloc, info, effect)?))
 }

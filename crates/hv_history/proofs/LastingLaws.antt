@@ -8,7 +8,7 @@ use Rattle.hv_history.specs.declared.entry.Entry.{Entry}
 use Rattle.hv_history.specs.declared.entry.Entry.TheVariants as entry
 use Rattle.hv_history.specs.declared.state.Written.{Written}
 use Rattle.hv_history.specs.declared.state.Snapshot.{Snapshot}
-use Rattle.hv_history.specs.State.{State, Statement, Table, Transaction, Ending, Committed, Aborted, Made, Dropped, nothing_yet, numbered, changed, changed_at, first_of, first_known, meaning_in, meant_in, started, given_id, wrote_as, committed, ended, while_open, unless_ended, owned, written_to, dropped, forgot, commits, tables_behind, made_by, opened, acted, after, state_of}
+use Rattle.hv_history.specs.State.{State, Statement, Table, Transaction, Ending, Aborted, Made, Dropped, numbered, changed, changed_at, first_of, first_known, meaning_in, meant_in, started, given_id, wrote_as, committed, ended, while_open, unless_ended, owned, written_to, dropped, forgot, commits, tables_behind, made_by, opened, acted, after}
 use Rattle.hv_history.specs.Lasting.{StatementLater, AllLater, IsFront, Later, TableLater, GoesOn, txn_of}
 
 -- ---- what is there stays there, where one is changed and where some come behind

@@ -1,34 +1,9 @@
--- Lemmas on what is numbered: rows under a write id, and what stands at a number.
-use Rattle.std.proofs.Common.{◌≡◌, ℕ, zero, suc, ◌+◌, ◌<◌, ◌≤◌, Option, Some, None, List, [], ◌∷◌, ◌++◌, length, get_or, set, take, refl, sym, ap, ◌∙◌, arith}
+-- Lemmas on what stands at a number.
+use Rattle.std.proofs.Common.{◌≡◌, ℕ, zero, suc, ◌+◌, ◌<◌, ◌≤◌, Option, Some, None, List, [], ◌∷◌, length, get_or, set, refl, sym, ap, ◌∙◌, arith}
 use Rattle.std.specs.Prelude.{slice_get, slice_set, slice_index_or, true, false, is_none}
-use Rattle.std.proofs.lemmas.List.{take_more, length-take-le, set-get_or, get_or_default}
-use Rattle.hv_value.specs.declared.row.Row.{Row}
-use Rattle.hv_logic.specs.declared.effect.Found.{Found}
-use Rattle.hv_history.specs.State.{Transaction, Ending, numbered, changed, changed_at, numbered_from, while_open, unless_ended}
+use Rattle.std.proofs.lemmas.List.{set-get_or, get_or_default}
+use Rattle.hv_history.specs.State.{Transaction, Ending, numbered, changed, changed_at, while_open, unless_ended}
 use Rattle.hv_history.specs.Places.{IsPlaceOf, IsOpenPlaceOf}
-
--- ---- rows under a write id
-
-abbrev found_at : ℕ → ℕ → ℕ → Row → Found
-found_at write statement number row =
-    record { partition = []; id = record { write = record { 0 = write }; statement = statement; bucket = 0; row = number }; row = row }
-
-number_snoc : (write statement number : ℕ) (rows : List Row) (row : Row)
-    → numbered_from write statement number (rows ++ row ∷ []) ≡ numbered_from write statement number rows ++ found_at write statement (number + length rows) row ∷ []
-number_snoc write statement number [] row = let here : number ≡ number + 0 = omega arith in ap (λ n. found_at write statement n row ∷ []) here
-number_snoc write statement number (first ∷ rows) row =
-    let later : number + 1 + length rows ≡ number + suc (length rows) = omega arith in
-    ap (λ xs. found_at write statement number first ∷ xs) (number_snoc write statement (number + 1) rows row ∙ ap (λ n. numbered_from write statement (number + 1) rows ++ found_at write statement n row ∷ []) later)
-
-pub number_more : (write statement : ℕ) (rows : List Row) (i : ℕ) (row : Row) → i < length rows → row ≡ get_or rows i row
-    → numbered_from write statement 0 (take (i + 1) rows) ≡ numbered_from write statement 0 (take i rows) ++ found_at write statement i row ∷ []
-number_more write statement rows i row p e =
-    let count : 0 + length (take i rows) ≡ i = omega (arith, length_taken) in
-    ap (numbered_from write statement 0) (take_more rows i row p ∙ ap (λ x. take i rows ++ x ∷ []) (sym e))
-    ∙ number_snoc write statement 0 (take i rows) row ∙ ap (λ n. numbered_from write statement 0 (take i rows) ++ found_at write statement n row ∷ []) count
-  where
-    length_taken : length (take i rows) ≡ i
-    length_taken = length-take-le i rows (omega arith)
 
 -- ---- what stands at a number
 

@@ -1,22 +1,22 @@
 -- Laws of the fold: how it goes on, what stays, and what changes a table's rows.
-use Rattle.std.proofs.Common.{◌≡◌, ℕ, zero, suc, ◌+◌, ◌<◌, Option, Some, None, List, [], ◌∷◌, ◌++◌, fold, refl, sym, ap, ◌∙◌, arith}
+use Rattle.std.proofs.Common.{◌≡◌, ℕ, zero, suc, Option, Some, None, List, [], ◌∷◌, ◌++◌, fold, refl, sym, ap, ◌∙◌}
 use Rattle.std.specs.List.{slice_get, AllByRecursion}
-use Rattle.std.specs.declared.cmp.Ordering.{Ordering}
-use Rattle.std.specs.declared.cmp.Ordering.TheVariants.{Less, Equal}
-use Rattle.std.specs.Ordering.{nat_cmp, is_eq, ordering_then}
-use Rattle.std.specs.Cmp.{nat_cmp_is}
+use Rattle.std.specs.declared.cmp.Ordering.TheVariants.{Less}
+use Rattle.std.specs.Ordering.{is_eq}
 use Rattle.std.specs.Prelude.{IsFalse}
 use Rattle.std.specs.Option.{option_map}
-use Rattle.hv_base.specs.Identifiers.{row_id_cmp}
-use Rattle.hv_base.specs.declared.ids.RowId.{RowId}
-use Rattle.hv_value.specs.declared.row.Row.{Row}
 use Rattle.hv_logic.specs.declared.effect.Effect.{Effect}
 use Rattle.hv_logic.specs.declared.effect.Found.{Found}
-use Rattle.hv_logic.specs.Rows.{sorted, found_cmp}
+use Rattle.hv_logic.specs.Rows.{found_cmp}
+use Rattle.hv_logic.specs.declared.catalog.Shape.{Shape}
+use Rattle.hv_route.specs.Routes.{numbered_rows}
+use Rattle.hv_route.specs.Rising.{IsNumbered}
+use Rattle.hv_route.proofs.NumberedLemmas.{rows-are-numbered}
+use Rattle.std.specs.List.Sorted.{IsStrictlySortedBy}
 use Rattle.hv_history.specs.Answers.{answer, answer_in, ending_text}
 use Rattle.hv_history.specs.declared.entry.Entry.{Entry}
 use Rattle.hv_history.specs.declared.entry.Entry.TheVariants as entry
-use Rattle.hv_history.specs.State.{State, Transaction, Table, Ending, numbered, changed, changed_at, while_open, unless_ended, acted, after, state_of, nothing_yet, content, content_in, content_of, made_by, owned, dropped, forgot, numbered_from, written_by, IsNoCommit, Carry, Differ}
+use Rattle.hv_history.specs.State.{State, Transaction, Table, Ending, numbered, changed, changed_at, while_open, unless_ended, acted, after, state_of, nothing_yet, content, content_in, content_of, made_by, owned, dropped, forgot, written_by, IsNoCommit, Carry, Differ}
 
 -- ---- the fold goes on by one entry
 
@@ -163,40 +163,25 @@ rows-change_at_commits state (entry.Forgot forgotten write) table h = content-ch
 
 -- ---- identifiers
 
-numbered-carry : (write statement number : ℕ) (rows : List Row) → Carry write (numbered_from write statement number rows)
-numbered-carry write statement number [] = tt
-numbered-carry write statement number (row ∷ rows) = (refl, numbered-carry write statement (number + 1) rows)
+carry : (shape : Shape) (write statement : ℕ) (founds : List Found) → AllByRecursion (IsNumbered shape write statement) founds → Carry write founds
+carry shape write statement [] h = tt
+carry shape write statement (found ∷ founds) h = let first : IsNumbered shape write statement found = h.0 in (first.write_is, carry shape write statement founds h.1)
 
-abbrev numbered_id : ℕ → ℕ → ℕ → RowId
-numbered_id write statement number = record { write = record { 0 = write }; statement = statement; bucket = 0; row = number }
+apart : (found : Found) (founds : List Found) → AllByRecursion (λ other. found_cmp found other ≡ Less) founds
+    → AllByRecursion (λ (other : Found). IsFalse (is_eq (found_cmp found other))) founds
+apart found [] h = tt
+apart found (other ∷ founds) h = (ap is_eq h.0, apart found founds h.1)
 
--- a row that is numbered later comes later
-pub numbered-rises : (write statement number later : ℕ) → number < later
-    → row_id_cmp (numbered_id write statement number) (numbered_id write statement later) ≡ Less
-unfolding row_id_cmp
-numbered-rises write statement number later below =
-    let writes : nat_cmp write write ≡ Equal = sym (nat_cmp_is write write Equal refl) in
-    let statements : nat_cmp statement statement ≡ Equal = sym (nat_cmp_is statement statement Equal refl) in
-    let rises : nat_cmp number later ≡ Less = sym (nat_cmp_is number later Less below) in
-    ap (λ (o : Ordering). ordering_then o (ordering_then (nat_cmp statement statement) (nat_cmp number later))) writes
-    ∙ ap (λ (o : Ordering). ordering_then o (nat_cmp number later)) statements ∙ rises
+-- rows that rise differ
+differ : (founds : List Found) → IsStrictlySortedBy found_cmp founds → Differ founds
+unfolding IsStrictlySortedBy
+differ [] h = tt
+differ (found ∷ founds) h = (apart found founds h.0, differ founds h.1)
 
-abbrev numbered_row : ℕ → ℕ → ℕ → Row → Found
-numbered_row write statement number row = record { partition = []; id = numbered_id write statement number; row = row }
+pub inserts-carry : (shape : Shape) (write statement : ℕ) (effect : Effect) → Carry write (written_by shape write statement effect).inserts
+inserts-carry shape write statement effect =
+    carry shape write statement (numbered_rows shape write statement effect.inserts) (rows-are-numbered shape write statement effect.inserts).each
 
-numbered-apart : (write statement number later : ℕ) (first : Row) (rows : List Row) → number < later
-    → AllByRecursion (λ (other : Found). IsFalse (is_eq (found_cmp (numbered_row write statement number first) other))) (numbered_from write statement later rows)
-numbered-apart write statement number later first [] h = tt
-numbered-apart write statement number later first (row ∷ rows) h =
-    (ap is_eq (numbered-rises write statement number later h), numbered-apart write statement number (later + 1) first rows (omega arith))
-
-numbered-differ : (write statement number : ℕ) (rows : List Row) → Differ (numbered_from write statement number rows)
-numbered-differ write statement number [] = tt
-numbered-differ write statement number (row ∷ rows) =
-    (numbered-apart write statement number (number + 1) row rows (omega arith), numbered-differ write statement (number + 1) rows)
-
-pub inserts-carry : (write statement : ℕ) (effect : Effect) → Carry write (written_by write statement effect).inserts
-inserts-carry write statement effect = numbered-carry write statement 0 (sorted effect.inserts)
-
-pub inserts-differ : (write statement : ℕ) (effect : Effect) → Differ (written_by write statement effect).inserts
-inserts-differ write statement effect = numbered-differ write statement 0 (sorted effect.inserts)
+pub inserts-differ : (shape : Shape) (write statement : ℕ) (effect : Effect) → Differ (written_by shape write statement effect).inserts
+inserts-differ shape write statement effect =
+    differ (numbered_rows shape write statement effect.inserts) (rows-are-numbered shape write statement effect.inserts).rise

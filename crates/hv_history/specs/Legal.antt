@@ -18,16 +18,16 @@ use Rattle.hv_ast.specs.declared.statement.Stmt.{Stmt}
 use Rattle.hv_ast.specs.declared.statement.Stmt.TheVariants as stmt
 use Rattle.hv_built.specs.Running.{Runs}
 use Rattle.hv_grammar.specs.Texts.{tree_of}
-use Rattle.hv_logic.specs.declared.catalog.TableInfo.{TableInfo}
-use Rattle.hv_logic.specs.declared.effect.Effect.{Effect}
 use Rattle.hv_logic.specs.declared.meaning.Meaning.{Meaning}
 use Rattle.hv_logic.specs.declared.meaning.Meaning.TheVariants.{Refused, Listing, Change, Make, Plain, RowLimit, PartitionLimit}
 use Rattle.hv_logic.specs.Names.{names_in}
+use Rattle.hv_route.specs.Back.{AreFlat}
+use Rattle.hv_route.specs.Touching.{touches_of}
 use Rattle.hv_history.specs.declared.entry.Entry.{Entry}
 use Rattle.hv_history.specs.declared.entry.Entry.TheVariants as entry
 use Rattle.hv_history.specs.declared.entry.Cause.{Cause}
 use Rattle.hv_history.specs.declared.entry.Cause.TheVariants as cause
-use Rattle.hv_history.specs.State.{State, Job, Statement, Table, Snapshot, Transaction, Ending, Committed, numbered, meaning, opening_tree, given_in, nothing_yet, after}
+use Rattle.hv_history.specs.State.{State, Job, Statement, Table, Snapshot, Transaction, Ending, Committed, numbered, meaning, opening_tree, created_shape, given_in, nothing_yet, after}
 
 -- ---- a transaction's state
 
@@ -197,10 +197,11 @@ pub record CommitFits (state : State) (wrote : List Touch) (transaction : Transa
   pub used : AllByRecursion (λ given. IsTrue (is_touched wrote given)) transaction.given
   pub clear : MeetsNoConflict state transaction wrote
 
--- a Create is counted by Creates, whatever they made
+-- a Create is counted by Creates, whatever they made; no partition column is an ARRAY, since no text of a partition says one
 pub record CreateFits (state : State) (table : ℕ) (transaction : Transaction) : Type 0 where
   pub running : IsRunning transaction
   pub create : IsTrue (is_create (opening_tree transaction))
+  pub flat : AreFlat (created_shape (opening_tree transaction)).parts
   pub absent : IsFalse (list_any (is_named (made_name (opening_tree transaction))) state.tables)
   pub next : table ≡ length state.tables + 1
 
@@ -272,11 +273,6 @@ Fits limits state (entry.Create txn table) = Of state txn.0 (CreateFits state ta
 Fits limits state _ = ⊥
 
 -- ---- what is true: an entry says of its statement what it came to at its Start
-
-abbrev pub touches_of : TableInfo → Effect → List Touch
-touches_of info effect =
-    if (length effect.inserts == 0) && (length effect.deletes == 0) then []
-    else record { table = info.table; partition = []; inserted = length effect.inserts; deleted = length effect.deletes } ∷ []
 
 -- these touches are what the statement means
 abbrev pub TouchesAreMeant : List Touch → Option Meaning → Type 0

@@ -9,7 +9,6 @@ use Rattle.hv_base.specs.declared.ids.Touch.{Touch}
 use Rattle.hv_ast.specs.declared.statement.Stmt.{Stmt}
 use Rattle.hv_ast.specs.declared.statement.Stmt.TheVariants as stmt
 use Rattle.hv_grammar.specs.Texts.{tree_of}
-use Rattle.hv_value.specs.declared.row.Row.{Row}
 use Rattle.hv_logic.specs.declared.catalog.Shape.{Shape}
 use Rattle.hv_logic.specs.declared.catalog.TableInfo.{TableInfo}
 use Rattle.hv_logic.specs.declared.effect.Effect.{Effect}
@@ -19,8 +18,9 @@ use Rattle.hv_logic.specs.declared.seen.Seen.{Seen}
 use Rattle.hv_logic.specs.declared.meaning.Meaning.TheVariants.{Change}
 use Rattle.hv_logic.specs.Shapes.{shape_of}
 use Rattle.hv_logic.specs.Sorting.{sorted_by}
-use Rattle.hv_logic.specs.Rows.{sorted, found_cmp}
+use Rattle.hv_logic.specs.Rows.{found_cmp}
 use Rattle.hv_meaning.specs.Meaning.{meaning_of}
+use Rattle.hv_route.specs.Routes.{numbered_rows}
 use Rattle.hv_history.specs.declared.entry.Entry.{Entry}
 use Rattle.hv_history.specs.declared.entry.Entry.TheVariants as entry
 use Rattle.hv_history.specs.declared.entry.JobKind.{JobKind}
@@ -113,24 +113,15 @@ means state (Some tree) = meaning_of (seen_tables state.tables) tree
 unfoldable pub meaning_in : State → List ℕ → Option Meaning
 meaning_in state text = means state (tree_of text)
 
--- ---- the effect of a statement: its inserted rows in row order, numbered from 0, with the write id and the number of
--- the statement in its transaction
+-- ---- the effect of a statement on a table of this shape: its inserted rows in row order, numbered from 0 in each
+-- partition and bucket, with the write id and the number of the statement in its transaction
 
-abbrev pub numbered_from : ℕ → ℕ → ℕ → List Row → List Found
-numbered_from write statement number [] = []
-numbered_from write statement number (row ∷ rows) =
-    record {
-      partition = [];
-      id = record { write = record { 0 = write }; statement = statement; bucket = 0; row = number };
-      row = row;
-    } ∷ numbered_from write statement (number + 1) rows
-
-abbrev pub written_by : ℕ → ℕ → Effect → Written
-written_by write statement effect =
+abbrev pub written_by : Shape → ℕ → ℕ → Effect → Written
+written_by shape write statement effect =
     record {
       write = write;
       statement = statement;
-      inserts = numbered_from write statement 0 (sorted effect.inserts);
+      inserts = numbered_rows shape write statement effect.inserts;
       deletes = effect.deletes;
     }
 
@@ -142,7 +133,7 @@ given_in table (given ∷ more) = if given.0 == table then Some given.1 else giv
 -- what a statement of this meaning and number writes to its table, under the ids of its transaction
 abbrev pub writes_of : Option Meaning → ℕ → List (ℕ × ℕ) → List (ℕ × Written)
 writes_of (Some (Change info effect)) statement given =
-    option_to_list (option_map (λ write. (info.table.0, written_by write statement effect)) (given_in info.table.0 given))
+    option_to_list (option_map (λ write. (info.table.0, written_by info.shape write statement effect)) (given_in info.table.0 given))
 writes_of _ statement given = []
 
 -- ---- a transaction's statements

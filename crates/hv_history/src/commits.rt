@@ -1,75 +1,30 @@
-ghost use Rattle.std.specs.Prelude.{◌≡◌, IfOk, []};
-ghost use Rattle.hv_history.specs.State.{numbered_from, written_by, given_in};
+ghost use Rattle.std.specs.Prelude.{◌≡◌, IfOk};
+ghost use Rattle.hv_route.specs.Back.{AreHeld};
+ghost use Rattle.hv_history.specs.State.{written_by, given_in};
 
 use crate::state::Written;
-use hv_base::{Duplicate, List, NoMemory, RowId, Text, WriteId};
-use hv_logic::{Effect, Found, sort_rows};
-use hv_value::Row;
+use hv_base::{NoMemory, WriteId};
+use hv_logic::{Effect, Shape};
+use hv_route::number_rows;
 use std::alloc::Global;
 
-// A row of an unpartitioned, unbucketed table, with its identifier.
-fn found_row(
-    alloc: Global,
-    write: u64,
-    statement: u32,
-    number: u64,
-    row: &Row,
-) -> Result<Found, NoMemory>
-    ensures { IfOk result (λ found. found ≡ record {
-      partition = [];
-      id = record {
-        write = record { 0 = write };
-        statement = statement;
-        bucket = 0;
-        row = number;
-      };
-      row = row.now;
-    }) }
-{
-    Ok(Found {
-        partition: Text::of(alloc, "")?,
-        id: RowId {
-            write: WriteId(write),
-            statement,
-            bucket: 0,
-            row: number,
-        },
-        row: row.duplicate(alloc)?,
-    })
-}
-
-/// The rows in their order, numbered from 0 under a write id and a statement's number.
-pub fn number_rows(
-    alloc: Global,
-    write: u64,
-    statement: u32,
-    rows: &[Row],
-) -> Result<List<Found>, NoMemory>
-    ensures { IfOk result (λ found. found ≡ numbered_from write statement 0 rows.now) }
-{
-    let mut found = Vec::new(alloc);
-    for i in 0..rows.len() {
-        found.push(found_row(alloc, write, statement, i as u64, &rows[i])?)?;
-    }
-    Ok(List::from_vec(found))
-}
-
-/// What the effect of the statement of that number writes under a write id.
+/// What the effect of the statement of that number writes under a write id to a table of this shape. Each value of the inserted
+/// rows is one that its type holds.
 pub fn written_by(
     alloc: Global,
+    shape: &Shape,
     write: u64,
     statement: u32,
     effect: Effect,
 ) -> Result<Written, NoMemory>
-    ensures { IfOk result (λ written. written ≡ written_by write statement effect) }
+    ensures written { IfOk result (λ written. written ≡ written_by shape.now write statement effect) }
+    ensures held { AreHeld effect.inserts }
 {
     let Effect { inserts, deletes } = effect;
-    let mut rows = inserts.into_vec();
-    sort_rows(&mut rows)?;
     Ok(Written {
         write,
         statement,
-        inserts: number_rows(alloc, write, statement, &rows)?,
+        inserts: number_rows(alloc, shape, WriteId(write), statement, inserts)?,
         deletes,
     })
 }

@@ -1,5 +1,6 @@
 ghost use Rattle.std.specs.Prelude.{◌≡◌, ℕ, List, [], ◌∷◌, ◌++◌, Some, fold};
 ghost use Rattle.hv_history.specs.declared.entry.Entry.{Entry};
+ghost use Rattle.hv_logic.specs.declared.catalog.Shape.{Shape};
 ghost use Rattle.hv_logic.specs.declared.effect.Effect.{Effect};
 ghost use Rattle.hv_history.specs.declared.state.Transaction.{Transaction};
 ghost use Rattle.hv_history.specs.Lasting.{GoesOn, txn_of};
@@ -26,10 +27,10 @@ pub fn rows_change_at_commits()
 
 /// The rows that a statement inserts carry its write id, and no two are one by partition and identifier.
 pub fn identifiers_differ()
-    ensures carry { (write statement : ℕ) (effect : Effect)
-        → Carry write (written_by write statement effect).inserts }
-    ensures differ { (write statement : ℕ) (effect : Effect)
-        → Differ (written_by write statement effect).inserts }
+    ensures carry { (shape : Shape) (write statement : ℕ) (effect : Effect)
+        → Carry write (written_by shape write statement effect).inserts }
+    ensures differ { (shape : Shape) (write statement : ℕ) (effect : Effect)
+        → Differ (written_by shape write statement effect).inserts }
 {}
 
 /// One entry leaves each transaction what it has, and each table: snapshots are fixed, ids and writes are

@@ -11,7 +11,7 @@ mod state;
 
 pub use answers::{counts_line, listing, ok_line};
 pub use causes::{cause_text, refusal_name};
-pub use commits::{given_in, number_rows, written_by};
+pub use commits::{given_in, written_by};
 pub use entry::{Cause, Entry, FilePlace, JobCause, JobKind};
 pub use laws::{
     answers_stay, entries_keep_what_is, identifiers_differ, other_transactions_stay,

@@ -1,9 +1,16 @@
 -- What a note says is what the transaction says.
-use Rattle.std.proofs.Common.{◌≡◌, ℕ, suc, ◌+◌, zero, Option, Some, None, List, [], ◌∷◌, ◌++◌, drop, length, map, refl, sym, ap, ◌∙◌, arith}
+use Rattle.std.proofs.Common.{◌≡◌, ℕ, suc, ◌+◌, zero, Option, Some, None, List, [], ◌∷◌, ◌++◌, drop, length, map, refl, sym, ap, ◌∙◌, subst, arith}
 use Rattle.std.specs.Prelude.{Bool, true, false, not, ◌&&◌, ◌||◌, ◌↔◌, IsTrue, IsFalse, IsSomeAnd, IsNone, ◌==◌, is_none, is_some, sum_by}
 use Rattle.std.specs.Option.{option_map}
-use Rattle.std.specs.List.{slice_get, list_any}
+use Rattle.std.specs.List.{slice_get, list_all, list_any}
 use Rattle.hv_ast.specs.declared.statement.Stmt.{Stmt}
+use Rattle.hv_ast.specs.declared.statement.Stmt.TheVariants as stmt
+use Rattle.hv_ast.specs.declared.table.ColumnDefinition.{ColumnDefinition}
+use Rattle.hv_ast.specs.declared.types.TypeName.{TypeName}
+use Rattle.hv_ast.specs.declared.types.TypeName.TheVariants as type_name
+use Rattle.hv_ast.specs.declared.types.ScalarName.TheVariants as scalar
+use Rattle.hv_logic.specs.Shapes.{type_of, column_of}
+use Rattle.hv_route.specs.Back.{is_flat, AreFlat}
 use Rattle.std.proofs.lemmas.Bool.{eq-eqb, eqb-true}
 use Rattle.std.proofs.lemmas.List.Sums.{sum_by-cons}
 use Rattle.hv_history.specs.declared.state.Transaction.{Transaction}
@@ -12,15 +19,15 @@ use Rattle.hv_history.specs.declared.state.Ending.{Ending}
 use Rattle.hv_history.specs.declared.state.Ending.TheVariants.{Committed, Aborted, Made, Dropped}
 use Rattle.hv_base.specs.declared.ids.Limits.{Limits}
 use Rattle.hv_history.specs.declared.state.Table.{Table}
-use Rattle.hv_history.specs.State.{State, Job, numbered, given_in}
+use Rattle.hv_history.specs.State.{State, Job, numbered, given_in, created_shape}
 use Rattle.hv_history.specs.Legal.{is_open, IsRunning, open_one, one_if, is_working, working_one, GivenFits, HasRoom, CreateFits, is_named, is_create, made_name}
 use Rattle.hv_book.specs.Briefs.{brief, brief_table, tree_in, given_at, given_while, brief_job, end_of, snapshot_place, open_from, open_next}
 use Rattle.hv_meta.specs.declared.facts.TxnState.TheVariants.{Ended}
-use Rattle.hv_meta.specs.States.{ending_place, state_by, noted_by, transaction_state, noted_state, is_unended_note, is_running_note, is_working_note, working_note, is_next_note, is_held, named_in}
+use Rattle.hv_meta.specs.States.{ending_place, state_by, noted_by, transaction_state, noted_state, is_unended_note, is_running_note, is_working_note, working_note, is_next_note, is_held, is_flat_name, is_flat_definition, made_parts, named_in}
 use Rattle.hv_meta.specs.Catalogs.{live_infos, info_in, info_if}
 use Rattle.hv_logic.specs.declared.catalog.TableInfo.{TableInfo}
 use Rattle.hv_book.specs.declared.notes.TableNote.{TableNote}
-use Rattle.std.proofs.lemmas.List.{append-nil}
+use Rattle.std.proofs.lemmas.List.{append-nil, length-map}
 
 end-place : (e : Ending) → (end_of e).at ≡ ending_place e
 end-place (Committed place wrote) = refl
@@ -233,23 +240,80 @@ dropped-info (Some t) infos note e dead =
 
 -- ---- a table that is made
 
+flat-type : (kind : TypeName) → is_flat (type_of kind) ≡ is_flat_name kind
+flat-type (type_name.Array scalar) = refl
+flat-type (type_name.Scalar scalar.Boolean) = refl
+flat-type (type_name.Scalar scalar.Int) = refl
+flat-type (type_name.Scalar scalar.BigInt) = refl
+flat-type (type_name.Scalar scalar.String) = refl
+flat-type (type_name.Scalar scalar.Date) = refl
+
+flat-columns : (columns : List ColumnDefinition) → list_all is_flat_definition columns ≡ true → AreFlat (map column_of columns)
+flat-columns [] e = tt
+flat-columns (column ∷ columns) e = (
+  flat-type column.kind ∙ and-left (is_flat_definition column) (list_all is_flat_definition columns) e,
+  flat-columns columns (and-right (is_flat_definition column) (list_all is_flat_definition columns) e),
+)
+
+columns-flat : (columns : List ColumnDefinition) → AreFlat (map column_of columns) → list_all is_flat_definition columns ≡ true
+columns-flat [] h = refl
+columns-flat (column ∷ columns) h =
+    and-both (is_flat_definition column) (list_all is_flat_definition columns) (sym (flat-type column.kind) ∙ h.0) (columns-flat columns h.1)
+
+made-columns : (tree : Option Stmt) → (created_shape tree).parts ≡ map column_of (made_parts tree)
+made-columns (Some (stmt.CreateTable create)) = refl
+made-columns other = refl
+
+flat-parts : (tree : Option Stmt) → list_all is_flat_definition (made_parts tree) ≡ true → AreFlat (created_shape tree).parts
+flat-parts tree e = subst AreFlat (sym (made-columns tree)) (flat-columns (made_parts tree) e)
+
+parts-flat : (tree : Option Stmt) → AreFlat (created_shape tree).parts → list_all is_flat_definition (made_parts tree) ≡ true
+parts-flat tree h = columns-flat (made_parts tree) (subst AreFlat (made-columns tree) h)
+
 module _ (state : State) (table : ℕ) where
-  pub create-law : (o : Option Transaction) (tree : Option Stmt) → tree ≡ tree_in o → is_create tree ≡ true → (r h n : Bool)
+  pub create-law : (o : Option Transaction) (tree : Option Stmt) → tree ≡ tree_in o → is_create tree ≡ true → (f r h n : Bool)
+      → f ≡ list_all is_flat_definition (made_parts tree) → f ≡ true
       → (IsTrue r ↔ IsSomeAnd o IsRunning) → h ≡ list_any (is_named (made_name tree)) state.tables → (IsTrue n ↔ (table ≡ length state.tables + 1))
       → (IsTrue (r && (not h && n))) ↔ IsSomeAnd o (CreateFits state table)
-  create-law None tree is made r h n running named next = (λ e. absurd (running.0 (and-left r (not h && n) e)), λ e. absurd e)
-  create-law (Some t) tree is made r h n running named next = (
+  create-law None tree is made f r h n flat are running named next = (λ e. absurd (running.0 (and-left r (not h && n) e)), λ e. absurd e)
+  create-law (Some t) tree is made f r h n flat are running named next = (
     λ e.
         let rest = and-right r (not h && n) e in
         record {
           running = running.0 (and-left r (not h && n) e);
           create = ap is_create (sym is) ∙ made;
+          flat = subst (λ (o : Option Stmt). AreFlat (created_shape o).parts) is (flat-parts tree (sym flat ∙ are));
           absent = ap (λ o. list_any (is_named (made_name o)) state.tables) (sym is) ∙ sym named ∙ (false-is h).0 (and-left (not h) n rest);
           next = next.0 (and-right (not h) n rest);
         },
     λ fits.
         let free : h ≡ false = named ∙ ap (λ o. list_any (is_named (made_name o)) state.tables) is ∙ fits.absent in
         and-both r (not h && n) (running.1 fits.running) (and-both (not h) n ((false-is h).1 free) (next.1 fits.next)),
+  )
+
+  -- of one that runs, where no live table has the name
+  pub create-next : (o : Option Transaction) (tree : Option Stmt) → tree ≡ tree_in o → is_create tree ≡ true → (f r h : Bool) (notes : List TableNote)
+      → f ≡ list_all is_flat_definition (made_parts tree) → f ≡ true → (IsTrue r ↔ IsSomeAnd o IsRunning) → r ≡ true
+      → h ≡ list_any (is_named (made_name tree)) state.tables → h ≡ false → notes ≡ map brief_table state.tables
+      → IsTrue (table == length notes + 1) ↔ IsSomeAnd o (CreateFits state table)
+  create-next o tree is made f r h notes flat are running runs named free noted =
+      let count : length notes ≡ length state.tables = ap length noted ∙ length-map state.tables brief_table in
+      let next : IsTrue (table == length notes + 1) ↔ (table ≡ length state.tables + 1) =
+      (λ e. eqb-true table (length notes + 1) e ∙ ap (λ n. n + 1) count, λ e. eq-eqb table (length notes + 1) (e ∙ ap (λ n. n + 1) (sym count))) in
+      let law = create-law o tree is made f r h (table == length notes + 1) flat are running named next in (
+        λ e. law.0 (and-both r (not h && (table == length notes + 1)) runs (and-both (not h) (table == length notes + 1) (ap not free) e)),
+        λ fits. and-right (not h) (table == length notes + 1) (and-right r (not h && (table == length notes + 1)) (law.1 fits)),
+      )
+
+  -- where a partition column is an ARRAY
+  pub unflat : (o : Option Transaction) (tree : Option Stmt) → tree ≡ tree_in o → (f : Bool) → f ≡ list_all is_flat_definition (made_parts tree) → f ≡ false
+      → IsTrue false ↔ IsSomeAnd o (CreateFits state table)
+  unflat None tree is f flat arrays = (λ e. cc, λ e. absurd e)
+  unflat (Some t) tree is f flat arrays = (
+    λ e. cc,
+    λ fits.
+        let parts : AreFlat (created_shape tree).parts = subst (λ (o : Option Stmt). AreFlat (created_shape o).parts) (sym is) fits.flat in
+        let both : true ≡ false = sym (parts-flat tree parts) ∙ sym flat ∙ arrays in cc,
   )
 
   pub uncreated : (o : Option Transaction) (tree : Option Stmt) → tree ≡ tree_in o → is_create tree ≡ false → IsTrue false ↔ IsSomeAnd o (CreateFits state table)

@@ -1,5 +1,10 @@
 -- How far a transaction has come. Source: Hive Transactions (open, committed, aborted).
-use Rattle.std.specs.Prelude.{ℕ, ◌+◌, ◌==◌, ◌&&◌, Bool, false, not, is_none, is_some, Option, None, Some, List}
+use Rattle.std.specs.Prelude.{ℕ, ◌+◌, ◌==◌, ◌&&◌, Bool, true, false, not, is_none, is_some, Option, None, Some, List, []}
+use Rattle.hv_ast.specs.declared.statement.Stmt.{Stmt}
+use Rattle.hv_ast.specs.declared.statement.Stmt.TheVariants as stmt
+use Rattle.hv_ast.specs.declared.table.ColumnDefinition.{ColumnDefinition}
+use Rattle.hv_ast.specs.declared.types.TypeName.{TypeName}
+use Rattle.hv_ast.specs.declared.types.TypeName.TheVariants as type_name
 use Rattle.hv_history.specs.declared.state.Transaction.{Transaction}
 use Rattle.hv_history.specs.declared.state.Ending.{Ending}
 use Rattle.hv_history.specs.declared.state.Table.{Table}
@@ -63,6 +68,19 @@ is_next_note write (Some note) = note.is_live && (write == note.high + 1)
 -- a write id of this table is among these
 abbrev pub is_held : ℕ → List (ℕ × ℕ) → Bool
 is_held table given = is_some (given_in table given)
+
+-- the column is no ARRAY
+abbrev pub is_flat_name : TypeName → Bool
+is_flat_name (type_name.Array scalar) = false
+is_flat_name (type_name.Scalar scalar) = true
+
+abbrev pub is_flat_definition : ColumnDefinition → Bool
+is_flat_definition column = is_flat_name column.kind
+
+-- the partition columns of the table that a text makes
+abbrev pub made_parts : Option Stmt → List ColumnDefinition
+made_parts (Some (stmt.CreateTable create)) = create.partitions
+made_parts _ = []
 
 -- the table is there, is live and has this name
 abbrev pub named_in : List ℕ → Option Table → Bool

@@ -1,14 +1,14 @@
 ghost use Rattle.std.specs.Prelude.{◌≡◌, ◌↔◌, ◌+◌, ◌<◌, IsTrue, Option, None, Some, nat_eq};
 ghost use Rattle.std.specs.Option.{option_copied};
-ghost use Rattle.std.specs.List.{list_any};
+ghost use Rattle.std.specs.List.{list_all, list_any};
 ghost use Rattle.std.specs.Cmp.Lexicographic.{pointwise};
 ghost use Rattle.hv_history.specs.State.{state_of, numbered, created_shape};
 ghost use Rattle.hv_history.specs.Legal.{CreateFits, Of, is_named, is_create, made_name};
 ghost use Rattle.hv_book.specs.Briefs.{tree_in};
-ghost use Rattle.hv_meta.specs.States.{named_in};
+ghost use Rattle.hv_meta.specs.States.{is_flat_definition, named_in};
 
 use crate::facts::is_running;
-use hv_ast::Stmt;
+use hv_ast::{ColumnDefinition, Stmt, TypeName};
 use hv_base::{TableId, Text, TxnId};
 use hv_book::Book;
 use hv_history::numbered;
@@ -45,6 +45,27 @@ pub fn has_named(book: &Book, name: &Text) -> bool
     false
 }
 
+fn is_flat(column: &ColumnDefinition) -> bool
+    ensures { result ≡ is_flat_definition column.now }
+{
+    match column.kind {
+        TypeName::Array(_) => false,
+        TypeName::Scalar(_) => true,
+    }
+}
+
+/// Whether none of these columns is an ARRAY.
+fn are_flat(columns: &[ColumnDefinition]) -> bool
+    ensures flat { result ≡ list_all is_flat_definition columns.now }
+{
+    for column in columns {
+        if !is_flat(column) {
+            return false;
+        }
+    }
+    true
+}
+
 /// Whether a Create of this table fits the book.
 pub fn create_fits(book: &Book, txn: TxnId, table: TableId) -> bool
     ensures fits { IsTrue result ↔ Of (state_of book.now.entries) txn.0
@@ -56,6 +77,9 @@ pub fn create_fits(book: &Book, txn: TxnId, table: TableId) -> bool
     let Stmt::CreateTable(create) = tree else {
         return false;
     };
+    if !are_flat(create.partitions.as_slice()) {
+        return false;
+    }
     let named = has_named(book, &create.table);
     let next = table.0 == book.tables().len() as u64 + 1;
     is_running(book, txn) && !named && next

@@ -108,7 +108,7 @@ fn writes_of(
     if let Meaning::Change(info, effect) = meaning.get() {
         if let Some(write) = given_in(info.table.0, given) {
             let effect = effect.duplicate(alloc)?;
-            let written = written_by(alloc, write, statement, effect)?;
+            let written = written_by(alloc, &info.shape, write, statement, effect)?;
             writes.push((info.table.0, written))?;
         }
     }

@@ -115,6 +115,7 @@ impl Tables {
             Meaning::Refused(why) => show::refusal(alloc, why, out),
             Meaning::Plain => Ok(out.extend_from_slice(b"nothing")?),
             Meaning::RowLimit => Ok(out.extend_from_slice(b"row limit")?),
+            Meaning::PartitionLimit => Ok(out.extend_from_slice(b"partition limit")?),
             Meaning::Listing(names, rows) => {
                 show::names(names.as_slice(), out)?;
                 show::rows(rows.as_slice(), out)
