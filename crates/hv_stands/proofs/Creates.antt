@@ -9,6 +9,7 @@ use Rattle.hv_logic.specs.declared.seen.Seen.{Seen}
 use Rattle.hv_logic.specs.declared.meaning.Meaning.{Meaning}
 use Rattle.hv_logic.specs.declared.meaning.Meaning.TheVariants.{Make}
 use Rattle.hv_logic.specs.Tables.{named}
+use Rattle.hv_route.specs.Back.{AreFlat}
 use Rattle.hv_history.specs.declared.entry.Entry.TheVariants as entry
 use Rattle.hv_history.specs.declared.state.Table.{Table}
 use Rattle.hv_history.specs.declared.state.Transaction.{Transaction}
@@ -73,6 +74,7 @@ made-legal s number text tree shape is new =
     (record {
       running = record { unended = refl; started = refl };
       create = subst (λ (o : Option Stmt). IsTrue (is_create o)) (sym is) new.create;
+      flat = subst (λ (o : Option Stmt). AreFlat (created_shape o).parts) (sym is) new.flat;
       absent = subst (λ (o : Option Stmt). IsFalse (list_any (is_named (made_name o)) s.tables)) (sym is) none;
       next = refl;
     }))

@@ -12,7 +12,6 @@ use Rattle.hv_logic.specs.declared.catalog.TableInfo.{TableInfo}
 use Rattle.hv_logic.specs.declared.effect.Effect.{Effect}
 use Rattle.hv_logic.specs.declared.meaning.Meaning.{Meaning}
 use Rattle.hv_logic.specs.declared.meaning.Meaning.TheVariants.{Refused, Listing, Change, Make, Plain, RowLimit, PartitionLimit}
-use Rattle.hv_logic.specs.Rows.{sorted}
 use Rattle.hv_history.specs.declared.entry.Entry.{Entry}
 use Rattle.hv_history.specs.declared.entry.Entry.TheVariants as entry
 use Rattle.hv_history.specs.declared.state.Written.{Written}
@@ -24,10 +23,10 @@ use Rattle.hv_history.specs.declared.state.Transaction.{Transaction}
 use Rattle.hv_history.specs.State.{State, nothing_yet, numbered, changed, changed_at, unless_ended, while_open, opened, meant_in, meaning_in, means, first_known, started, given_id, given_in, owned, written_to, committed, ended, did, wrote_as, writes_of, written_by, commits, tables_behind, made_by, acted, after}
 use Rattle.hv_history.specs.Legal.{is_open, Fits, OpenedFits, GivenFits, CommitFits, CreateFits, IsStatement, AllFit}
 use Rattle.hv_stands.specs.Files.{ending_of}
-use Rattle.hv_stands.specs.Sound.{IsWhole, IsPlainWrite, HasOther, AreApart, AreSound, DeletesWhole, IsSingle, IsBefore, EndsBefore, given_of, owners_of, given_among, owner_among, AreGiven, IsDone, IsOfCommitted, AreOfCommitted, IsSound}
+use Rattle.hv_stands.specs.Sound.{IsRoutedWrite, HasOther, AreApart, AreSound, info_in, IsRoutedChange, ChangesAmong, IsSingle, IsBefore, EndsBefore, given_of, owners_of, given_among, owner_among, AreGiven, IsDone, IsOfCommitted, AreOfCommitted, IsSound}
 use Rattle.hv_stands.proofs.Numbers.{same_one, none_is, found, changed-here, numbered-map, map-changed, map-more, numbered-more}
 use Rattle.hv_stands.proofs.Owning.{opened-given, created-given, gave-given}
-use Rattle.hv_stands.proofs.Written.{deletes-whole}
+use Rattle.hv_stands.proofs.Written.{changes-among}
 use Rattle.hv_stands.proofs.Soundness.{all-mapped, all-more, all-numbered, all-changed, soundness-later, table-made-sound, changed-sound, owned-few}
 
 -- ---- a transaction is changed while it is open
@@ -132,35 +131,50 @@ apart-more (first ∷ writes) written apart other =
 
 -- ---- what a commit writes
 
-abbrev pub IsWriteOf : Transaction → ℕ × Written → Type 0
-IsWriteOf t x = (given_in x.0 t.given ≡ Some x.1.write) × IsPlainWrite x.1
+-- a write under the id that the transaction was given, to one of these tables
+pub record IsWriteOf (infos : List TableInfo) (t : Transaction) (x : ℕ × Written) : Type 0 where
+  pub given : given_in x.0 t.given ≡ Some x.1.write
+  pub info : TableInfo
+  pub here : numbered infos x.0 ≡ Some info
+  pub routed : IsRoutedWrite info.shape x.1
 
 -- nothing, or the rows of one table
-abbrev pub IsOneWrite : Transaction → List (ℕ × Written) → Type 0
-IsOneWrite t ws = (ws ≡ []) ⊎ ((x : ℕ × Written) × (ws ≡ x ∷ []) × IsWriteOf t x)
+abbrev pub IsOneWrite : List TableInfo → Transaction → List (ℕ × Written) → Type 0
+IsOneWrite infos t ws = (ws ≡ []) ⊎ ((x : ℕ × Written) × (ws ≡ x ∷ []) × IsWriteOf infos t x)
 
-change-writes : (info : TableInfo) (effect : Effect) (number : ℕ) (t : Transaction) → AllByRecursion IsWhole effect.deletes → (o : Option ℕ) → given_in info.table.0 t.given ≡ o
-    → IsOneWrite t (option_to_list (option_map (λ write. (info.table.0, written_by write number effect)) o))
-change-writes info effect number t whole None is = inl refl
-change-writes info effect number t whole (Some write) is =
-    inr ((info.table.0, written_by write number effect), refl, (is, record { deletes = whole; rows = sorted effect.inserts; numbered = refl }))
+module _ (infos : List TableInfo) where
+  change-writes : (info : TableInfo) (effect : Effect) (number : ℕ) (t : Transaction) → IsRoutedChange infos info effect
+      → (o : Option ℕ) → given_in info.table.0 t.given ≡ o
+      → IsOneWrite infos t (option_to_list (option_map (λ write. (info.table.0, written_by info.shape write number effect)) o))
+  change-writes info effect number t routed None is = inl refl
+  change-writes info effect number t routed (Some write) is =
+      inr (
+        (info.table.0, written_by info.shape write number effect),
+        refl,
+        record {
+          given = is;
+          info = info;
+          here = routed.here;
+          routed = record { rows = effect.inserts; whole = routed.whole; numbered = refl; deletes = routed.deletes };
+        },
+      )
 
-writes-one : (m : Option Meaning) (number : ℕ) (t : Transaction) → DeletesWhole m → IsOneWrite t (writes_of m number t.given)
-writes-one None number t whole = inl refl
-writes-one (Some (Refused why)) number t whole = inl refl
-writes-one (Some (Listing names rows)) number t whole = inl refl
-writes-one (Some (Change info effect)) number t whole = change-writes info effect number t whole (given_in info.table.0 t.given) refl
-writes-one (Some (Make shape)) number t whole = inl refl
-writes-one (Some Plain) number t whole = inl refl
-writes-one (Some RowLimit) number t whole = inl refl
-writes-one (Some PartitionLimit) number t whole = inl refl
+  writes-one : (m : Option Meaning) (number : ℕ) (t : Transaction) → ChangesAmong infos m → IsOneWrite infos t (writes_of m number t.given)
+  writes-one None number t routed = inl refl
+  writes-one (Some (Refused why)) number t routed = inl refl
+  writes-one (Some (Listing names rows)) number t routed = inl refl
+  writes-one (Some (Change info effect)) number t routed = change-writes info effect number t routed (given_in info.table.0 t.given) refl
+  writes-one (Some (Make shape)) number t routed = inl refl
+  writes-one (Some Plain) number t routed = inl refl
+  writes-one (Some RowLimit) number t routed = inl refl
+  writes-one (Some PartitionLimit) number t routed = inl refl
 
-pub one-write : (t : Transaction) → IsSingle t → IsOneWrite t (commits (Some t))
-one-write t single =
-    subst (IsOneWrite t)
-    (sym (ap (λ (ss : List Statement). flat_map (λ (statement : Statement). statement.wrote) (changed_at (wrote_as t.given 0) ss 0)) single.one
-    ∙ append-nil (writes_of single.statement.meaning 0 t.given)))
-    (writes-one single.statement.meaning 0 t single.deletes)
+  pub one-write : (t : Transaction) → IsSingle infos t → IsOneWrite infos t (commits (Some t))
+  one-write t single =
+      subst (IsOneWrite infos t)
+      (sym (ap (λ (ss : List Statement). flat_map (λ (statement : Statement). statement.wrote) (changed_at (wrote_as t.given 0) ss 0)) single.one
+      ∙ append-nil (writes_of single.statement.meaning 0 t.given)))
+      (writes-one single.statement.meaning 0 t single.changes)
 
 -- the table of a write id
 pub owner-table : (owners : List (List ℕ)) (tables : List Table) (k write txn : ℕ) → owners ≡ map owners_of tables → owner_among (numbered owners k) write ≡ Some txn
@@ -175,36 +189,64 @@ owner-table owners tables k write txn are e =
 
 -- ---- one statement
 
-single-with : (t next : Transaction) (statement : Statement) → next.statements ≡ statement ∷ [] → IsStatement statement.text → DeletesWhole statement.meaning → IsSingle next
-single-with t next statement one text whole = record { statement = statement; one = one; text = text; deletes = whole }
+single-with : (infos : List TableInfo) (next : Transaction) (statement : Statement) → next.statements ≡ statement ∷ [] → IsStatement statement.text
+    → ChangesAmong infos statement.meaning → IsSingle infos next
+single-with infos next statement one text changes = record { statement = statement; one = one; text = text; changes = changes }
 
-deletes-in : (s : State) (text : List ℕ) → IsSound s → DeletesWhole (meaning_in s text)
+changes-in : (s : State) (text : List ℕ) → IsSound s → ChangesAmong (map info_in s.tables) (meaning_in s text)
 unfolding meaning_in
-deletes-in s text sound = by (tree_of text)
+changes-in s text sound = by (tree_of text)
   where
-    by : (o : Option Stmt) → DeletesWhole (means s o)
+    by : (o : Option Stmt) → ChangesAmong (map info_in s.tables) (means s o)
     by None = tt
-    by (Some tree) = deletes-whole s tree sound
+    by (Some tree) = changes-among s tree sound
 
-deletes-first : (o now : Option Meaning) → DeletesWhole o → DeletesWhole now → DeletesWhole (first_known o now)
-deletes-first None now before next = next
-deletes-first (Some m) now before next = before
+changes-first : (infos : List TableInfo) (o now : Option Meaning) → ChangesAmong infos o → ChangesAmong infos now → ChangesAmong infos (first_known o now)
+changes-first infos None now before next = next
+changes-first infos (Some m) now before next = before
 
-single-started : (s : State) (number : ℕ) (t : Transaction) → IsSound s → IsSingle t → IsSingle (started s number t)
+single-started : (s : State) (number : ℕ) (t : Transaction) → IsSound s → IsSingle (map info_in s.tables) t → IsSingle (map info_in s.tables) (started s number t)
 single-started s zero t sound single =
-    single-with t (started s zero t) (meant_in s single.statement) (ap (λ ss. changed_at (meant_in s) ss zero) single.one) single.text
-    (deletes-first single.statement.meaning (meaning_in s single.statement.text) single.deletes (deletes-in s single.statement.text sound))
+    single-with (map info_in s.tables) (started s zero t) (meant_in s single.statement) (ap (λ ss. changed_at (meant_in s) ss zero) single.one) single.text
+    (changes-first (map info_in s.tables) single.statement.meaning (meaning_in s single.statement.text) single.changes (changes-in s single.statement.text sound))
 single-started s (suc n) t sound single =
-    single-with t (started s (suc n) t) single.statement (ap (λ ss. changed_at (meant_in s) ss (suc n)) single.one) single.text single.deletes
+    single-with (map info_in s.tables) (started s (suc n) t) single.statement (ap (λ ss. changed_at (meant_in s) ss (suc n)) single.one) single.text single.changes
 
-single-did : (ending : Ending) (number : ℕ) (t : Transaction) → IsSingle t → IsSingle (ended ending (did number t))
-single-did ending zero t single =
-    single-with t (ended ending (did zero t)) (wrote_as t.given zero single.statement) (ap (λ ss. changed_at (wrote_as t.given zero) ss zero) single.one) single.text single.deletes
-single-did ending (suc n) t single =
-    single-with t (ended ending (did (suc n) t)) single.statement (ap (λ ss. changed_at (wrote_as t.given (suc n)) ss (suc n)) single.one) single.text single.deletes
+single-did : (infos : List TableInfo) (ending : Ending) (number : ℕ) (t : Transaction) → IsSingle infos t → IsSingle infos (ended ending (did number t))
+single-did infos ending zero t single =
+    single-with infos (ended ending (did zero t)) (wrote_as t.given zero single.statement) (ap (λ ss. changed_at (wrote_as t.given zero) ss zero) single.one) single.text
+    single.changes
+single-did infos ending (suc n) t single =
+    single-with infos (ended ending (did (suc n) t)) single.statement (ap (λ ss. changed_at (wrote_as t.given (suc n)) ss (suc n)) single.one) single.text single.changes
 
-single-same : (t next : Transaction) → next.statements ≡ t.statements → IsSingle t → IsSingle next
-single-same t next same single = single-with t next single.statement (same ∙ single.one) single.text single.deletes
+single-same : (infos : List TableInfo) (t next : Transaction) → next.statements ≡ t.statements → IsSingle infos t → IsSingle infos next
+single-same infos t next same single = single-with infos next single.statement (same ∙ single.one) single.text single.changes
+
+-- beside one table more
+changes-more : (infos : List TableInfo) (info : TableInfo) (m : Option Meaning) → ChangesAmong infos m → ChangesAmong (infos ++ info ∷ []) m
+changes-more infos info None h = tt
+changes-more infos info (Some (Refused why)) h = tt
+changes-more infos info (Some (Listing names rows)) h = tt
+changes-more infos info (Some (Change of effect)) h =
+    record { here = numbered-more infos info of.table.0 of h.here; whole = h.whole; deletes = h.deletes }
+changes-more infos info (Some (Make shape)) h = tt
+changes-more infos info (Some Plain) h = tt
+changes-more infos info (Some RowLimit) h = tt
+changes-more infos info (Some PartitionLimit) h = tt
+
+single-more : (infos : List TableInfo) (info : TableInfo) (t : Transaction) → IsSingle infos t → IsSingle (infos ++ info ∷ []) t
+single-more infos info t single =
+    single-with (infos ++ info ∷ []) t single.statement single.one single.text (changes-more infos info single.statement.meaning single.changes)
+
+-- what is kept of each is kept of all
+map-same : {A B : Type 0} (g : A → B) (f : A → A) (same : (x : A) → g (f x) ≡ g x) (xs : List A) (n : ℕ) → map g (changed f xs n) ≡ map g xs
+map-same {A} g f same xs zero = refl
+map-same {A} g f same xs (suc n) = slice xs n
+  where
+    slice : (xs : List A) (n : ℕ) → map g (changed_at f xs n) ≡ map g xs
+    slice [] n = refl
+    slice (x ∷ xs) zero = ap (λ y. y ∷ map g xs) (same x)
+    slice (x ∷ xs) (suc n) = ap (λ ys. g x ∷ ys) (slice xs n)
 
 -- ---- where commits stand
 
@@ -243,7 +285,7 @@ past-open s now f n past entries are step =
 
 -- the entries are counted, and nothing else changed
 module _ (s now : State) (sound : IsSound s) (tables : now.tables ≡ s.tables) (jobs : now.jobs ≡ s.jobs) (entries : now.entries ≡ s.entries + 1)
-    (single : AllByRecursion IsSingle now.transactions) (past : AllByRecursion (EndsBefore now.entries) now.transactions) where
+    (single : AllByRecursion (IsSingle (map info_in s.tables)) now.transactions) (past : AllByRecursion (EndsBefore now.entries) now.transactions) where
   same-tables : AreSound now.entries now.tables
   same-tables =
       subst (λ ts. AreSound now.entries ts) (sym tables)
@@ -255,7 +297,7 @@ module _ (s now : State) (sound : IsSound s) (tables : now.tables ≡ s.tables) 
   with-tables given later = record {
     no_jobs = jobs ∙ sound.no_jobs;
     tables = same-tables;
-    single = single;
+    single = subst (λ ts. AllByRecursion (IsSingle (map info_in ts)) now.transactions) (sym tables) single;
     given = subst (λ ts. AreGiven (map given_of now.transactions) (map owners_of ts)) (sym tables) given;
     committed = subst (λ ts. AllByRecursion (AreOfCommitted (map ending_of now.transactions)) ts) (sym tables)
         (committed-later (map ending_of s.transactions) (map ending_of now.transactions) later s.tables sound.committed);
@@ -264,11 +306,11 @@ module _ (s now : State) (sound : IsSound s) (tables : now.tables ≡ s.tables) 
 
 -- one transaction was changed, and its write ids are as before
 changed-open : (s now : State) (f : Transaction → Transaction) (n : ℕ) → IsSound s → now.tables ≡ s.tables → now.jobs ≡ s.jobs → now.entries ≡ s.entries + 1
-    → now.transactions ≡ changed (while_open f) s.transactions n → ((t : Transaction) → IsSingle t → IsSingle (f t)) → ((t : Transaction) → (f t).given ≡ t.given)
+    → now.transactions ≡ changed (while_open f) s.transactions n → ((t : Transaction) → IsSingle (map info_in s.tables) t → IsSingle (map info_in s.tables) (f t)) → ((t : Transaction) → (f t).given ≡ t.given)
     → ((t : Transaction) → EndsBefore (s.entries + 1) t → EndsBefore (s.entries + 1) (f t)) → IsSound now
 changed-open s now f n sound tables jobs entries are single given ends =
     with-tables s now sound tables jobs entries
-    (subst (AllByRecursion IsSingle) (sym are) (all-open IsSingle f single s.transactions n sound.single))
+    (subst (AllByRecursion (IsSingle (map info_in s.tables))) (sym are) (all-open (IsSingle (map info_in s.tables)) f single s.transactions n sound.single))
     (past-open s now f n sound.past entries are ends)
     (subst (λ gs. AreGiven gs (map owners_of s.tables)) (sym (ap (map given_of) are ∙ map-open given_of f given s.transactions n)) sound.given)
     (λ m done. subst (λ ts. IsDone (numbered (map ending_of ts) m)) (sym are) (done-stays f s.transactions n m done))
@@ -277,9 +319,9 @@ opened-sound : (limits : Limits) (s now : State) (session : List ℕ) (number tx
     → now.tables ≡ s.tables → now.jobs ≡ s.jobs → now.entries ≡ s.entries + 1 → now.transactions ≡ s.transactions ++ opened session number text ∷ [] → IsSound now
 opened-sound limits s now session number txn text fits sound tables jobs entries are =
     with-tables s now sound tables jobs entries
-    (subst (AllByRecursion IsSingle) (sym are)
-    (all-more IsSingle s.transactions (opened session number text) sound.single
-    (record { statement = record { number = number; text = text; meaning = None; wrote = [] }; one = refl; text = fits.statement; deletes = tt })))
+    (subst (AllByRecursion (IsSingle (map info_in s.tables))) (sym are)
+    (all-more (IsSingle (map info_in s.tables)) s.transactions (opened session number text) sound.single
+    (record { statement = record { number = number; text = text; meaning = None; wrote = [] }; one = refl; text = fits.statement; changes = tt })))
     (past-more s now (opened session number text) sound.past entries are tt)
     (subst (λ gs. AreGiven gs (map owners_of s.tables)) (sym (ap (map given_of) are ∙ map-more given_of s.transactions (opened session number text)))
     (opened-given (map given_of s.transactions) (map owners_of s.tables) sound.given))
@@ -328,8 +370,11 @@ module _ (limits : Limits) (s now : State) (n k w : ℕ) (t : Transaction) (soun
             (subst (λ m. AreSound m (changed (owned n) s.tables k)) (sym entries)
             (changed-sound s.entries (s.entries + 1) s.tables k (owned n) table there.1 (λ t. refl) (λ t. refl) (λ t. refl)
             (λ t few. omega arith) (λ few. owned-few s.entries n table few) (λ h. record { each = h.each; apart = h.apart }) sound.tables));
-        single = subst (AllByRecursion IsSingle) (sym transactions)
-            (all-open IsSingle (given_id k w) (λ t single. single-same t (given_id k w t) refl single) s.transactions n sound.single);
+        single = subst (λ infos. AllByRecursion (IsSingle infos) now.transactions)
+            (sym (ap (map info_in) tables ∙ map-same info_in (owned n) (λ t. refl) s.tables k))
+            (subst (AllByRecursion (IsSingle (map info_in s.tables))) (sym transactions)
+            (all-open (IsSingle (map info_in s.tables)) (given_id k w) (λ t single. single-same (map info_in s.tables) t (given_id k w t) refl single) s.transactions n
+            sound.single));
         given = gave-there table there.1 there.2.1;
         committed = subst (λ ts. AllByRecursion (AreOfCommitted (map ending_of now.transactions)) ts) (sym tables)
             (subst (λ es. AllByRecursion (AreOfCommitted es) (changed (owned n) s.tables k)) (sym ends)
@@ -343,13 +388,16 @@ module _ (s now : State) (n place : ℕ) (here : place ≡ s.entries) (wrote : L
     (transactions : now.transactions ≡ changed (while_open (committed place wrote)) s.transactions n)
     (tables : now.tables ≡ tables_behind (commits (Some t)) s.tables)
     (jobs : now.jobs ≡ s.jobs) (entries : now.entries ≡ s.entries + 1) where
-  single-there : IsSingle t
-  single-there = all-numbered IsSingle s.transactions n t at sound.single
+  abbrev infos : List TableInfo
+  infos = map info_in s.tables
 
-  singles : AllByRecursion IsSingle now.transactions
+  single-there : IsSingle infos t
+  single-there = all-numbered (IsSingle infos) s.transactions n t at sound.single
+
+  singles : AllByRecursion (IsSingle infos) now.transactions
   singles =
-      subst (AllByRecursion IsSingle) (sym transactions)
-      (all-open IsSingle (committed place wrote) (λ t single. single-did (Committed place wrote) 0 t single) s.transactions n sound.single)
+      subst (AllByRecursion (IsSingle infos)) (sym transactions)
+      (all-open (IsSingle infos) (committed place wrote) (λ t single. single-did infos (Committed place wrote) 0 t single) s.transactions n sound.single)
 
   past-now : AllByRecursion (EndsBefore now.entries) now.transactions
   past-now = past-open s now (committed place wrote) n sound.past entries transactions (λ t h. omega (arith, here))
@@ -372,27 +420,24 @@ module _ (s now : State) (n place : ℕ) (here : place ≡ s.entries) (wrote : L
       subst IsDone (numbered-map ending_of s.transactions n ∙ ap (option_map ending_of) at ∙ ap (λ o. Some o) unended) done
 
   owners-written : (x : ℕ × Written) (ts : List Table) → map owners_of (changed (written_to x.1) ts x.0) ≡ map owners_of ts
-  owners-written x ts = by_number x.0
-    where
-      by_place : (ts : List Table) (k : ℕ) → map owners_of (changed_at (written_to x.1) ts k) ≡ map owners_of ts
-      by_place [] k = refl
-      by_place (first ∷ ts) zero = refl
-      by_place (first ∷ ts) (suc k) = ap (λ os. first.owners ∷ os) (by_place ts k)
+  owners-written x ts = map-same owners_of (written_to x.1) (λ t. refl) ts x.0
 
-      by_number : (k : ℕ) → map owners_of (changed (written_to x.1) ts k) ≡ map owners_of ts
-      by_number zero = refl
-      by_number (suc k) = by_place ts k
+  -- the table that it writes to is of the description by which it was routed
+  routed-there : (x : ℕ × Written) (is : IsWriteOf infos t x) (table : Table) → numbered s.tables x.0 ≡ Some table → IsRoutedWrite table.info.shape x.1
+  routed-there x is table there =
+      subst (λ (info : TableInfo). IsRoutedWrite info.shape x.1)
+      (same_one (numbered infos x.0) is.info table.info is.here (numbered-map info_in s.tables x.0 ∙ ap (option_map info_in) there)) is.routed
 
   wrote-none : now.tables ≡ s.tables → IsSound now
   wrote-none same =
       with-tables s now sound same jobs entries singles past-now
       (subst (λ gs. AreGiven gs (map owners_of s.tables)) (sym given-same) sound.given) done-later
 
-  wrote-one : (x : ℕ × Written) → IsWriteOf t x → now.tables ≡ changed (written_to x.1) s.tables x.0 → IsSound now
+  wrote-one : (x : ℕ × Written) → IsWriteOf infos t x → now.tables ≡ changed (written_to x.1) s.tables x.0 → IsSound now
   wrote-one x is made =
       let before : List (Option Ending) = map ending_of s.transactions in
       let there = owner-table (map owners_of s.tables) s.tables x.0 x.1.write n refl
-      (sound.given.has_owner n x.0 x.1.write (ap (λ o. given_among o x.0) (numbered-map given_of s.transactions n ∙ ap (option_map given_of) at) ∙ is.0)) in
+      (sound.given.has_owner n x.0 x.1.write (ap (λ o. given_among o x.0) (numbered-map given_of s.transactions n ∙ ap (option_map given_of) at) ∙ is.given)) in
       let table : Table = there.0 in
       let each : AreOfCommitted before table = all-numbered (AreOfCommitted before) s.tables x.0 table there.1 sound.committed in
       let later : AllByRecursion (AreOfCommitted (map ending_of now.transactions)) s.tables =
@@ -404,10 +449,11 @@ module _ (s now : State) (n place : ℕ) (here : place ≡ s.entries) (wrote : L
             (changed-sound s.entries (s.entries + 1) s.tables x.0 (written_to x.1) table there.1 (λ t. refl) (λ t. refl) (λ t. refl)
             (λ t few. omega arith) (λ few. omega arith)
             (λ h. record {
-              each = all-more IsPlainWrite table.writes x.1 h.each is.1;
+              each = all-more (IsRoutedWrite table.info.shape) table.writes x.1 h.each (routed-there x is table there.1);
               apart = apart-more table.writes x.1 h.apart (other-write before table.owners x.1 n there.2 undone-before table.writes each);
             }) sound.tables));
-        single = singles;
+        single = subst (λ infos. AllByRecursion (IsSingle infos) now.transactions)
+            (sym (ap (map info_in) made ∙ map-same info_in (written_to x.1) (λ t. refl) s.tables x.0)) singles;
         given = subst (λ gs. AreGiven gs (map owners_of now.tables)) (sym given-same)
             (subst (λ os. AreGiven (map given_of s.transactions) os) (sym (ap (map owners_of) made ∙ owners-written x s.tables)) sound.given);
         committed = subst (λ ts. AllByRecursion (AreOfCommitted (map ending_of now.transactions)) ts) (sym made)
@@ -419,9 +465,9 @@ module _ (s now : State) (n place : ℕ) (here : place ≡ s.entries) (wrote : L
       }
 
   committed-sound : IsSound now
-  committed-sound = by (one-write t single-there)
+  committed-sound = by (one-write infos t single-there)
     where
-      by : IsOneWrite t (commits (Some t)) → IsSound now
+      by : IsOneWrite infos t (commits (Some t)) → IsSound now
       by (inl none) = wrote-none (tables ∙ ap (λ ws. tables_behind ws s.tables) none)
       by (inr one) = wrote-one one.0 one.2 (tables ∙ ap (λ ws. tables_behind ws s.tables) one.1)
 
@@ -437,9 +483,13 @@ created-sound s now n k place t sound at fits transactions tables jobs entries =
           (subst (λ m. AreSound m (s.tables ++ made ∷ [])) (sym entries)
           (table-made-sound (s.entries + 1) s.tables made
           (soundness-later s.entries (s.entries + 1) s.tables sound.tables (omega arith))
-          refl fits.next (omega arith) refl (record { each = tt; apart = tt })));
-      single = subst (AllByRecursion IsSingle) (sym transactions)
-          (all-open IsSingle (ended (Made place k)) (λ t single. single-same t (ended (Made place k) t) refl single) s.transactions n sound.single);
+          refl fits.flat fits.next (omega arith) refl (record { each = tt; apart = tt })));
+      single = subst (λ infos. AllByRecursion (IsSingle infos) now.transactions) (sym (ap (map info_in) tables ∙ map-more info_in s.tables made))
+          (subst (AllByRecursion (IsSingle (map info_in s.tables ++ made.info ∷ []))) (sym transactions)
+          (all-open (IsSingle (map info_in s.tables ++ made.info ∷ [])) (ended (Made place k))
+          (λ t single. single-same (map info_in s.tables ++ made.info ∷ []) t (ended (Made place k) t) refl single) s.transactions n
+          (all-mapped (IsSingle (map info_in s.tables)) (IsSingle (map info_in s.tables ++ made.info ∷ [])) (single-more (map info_in s.tables) made.info) s.transactions
+          sound.single)));
       given = subst (λ ts. AreGiven (map given_of now.transactions) (map owners_of ts)) (sym tables)
           (subst (λ os. AreGiven (map given_of now.transactions) os) (sym (map-more owners_of s.tables made))
           (subst (λ gs. AreGiven gs (map owners_of s.tables ++ [] ∷ []))
@@ -475,7 +525,7 @@ sound-after limits s (entry.Commit txn wrote) fits sound =
     (ap (λ o. tables_behind (commits o) s.tables) here.1) refl refl
 sound-after limits s (entry.Abort txn cause) fits sound =
     changed-open s (after s (entry.Abort txn cause)) (ended (Aborted s.entries cause)) txn.0 sound refl refl refl refl
-    (λ t single. single-same t (ended (Aborted s.entries cause) t) refl single) (λ t. refl) (λ t h. tt)
+    (λ t single. single-same (map info_in s.tables) t (ended (Aborted s.entries cause) t) refl single) (λ t. refl) (λ t h. tt)
 sound-after limits s (entry.Create txn table) fits sound =
     let here = found (CreateFits s table.0) (numbered s.transactions txn.0) fits in
     created-sound s (after s (entry.Create txn table)) txn.0 table.0 s.entries here.0 sound here.1 here.2 refl
@@ -490,7 +540,7 @@ sound-all limits s (event ∷ more) fit sound = sound-all limits (after s event)
 pub nothing-sound : IsSound nothing_yet
 nothing-sound = record {
   no_jobs = refl;
-  tables = record { live = tt; in_order = tt; few = tt; keeping = tt; written = tt };
+  tables = record { live = tt; flat = tt; in_order = tt; few = tt; keeping = tt; written = tt };
   single = tt;
   given = record { has_owner = λ txn table write e. none-given txn table write e; is_given = λ txn table write e. none-owned txn table write e };
   committed = tt;

@@ -8,7 +8,9 @@ pub mod Changes
 pub mod Soundness
 pub mod Tables
 pub mod StandingFiles
-pub mod ReadRows
+pub mod Ordered
+pub mod StandingRows
+pub mod FileRecords
 pub mod SeenTables
 pub mod Numbers
 pub mod Owning

@@ -1,9 +1,11 @@
 -- What a statement's meaning says, by the laws of meanings.
-use Rattle.std.proofs.Common.{◌≡◌, ◌⊎◌, ◌&&◌, not, true, cond, None, slice_get, inl, inr, ℕ, ◌≤◌, Bool, false, IsTrue, IsNone, Option, Some, Result, Ok, Err, List, [], ◌∷◌, length, map, filter, refl, sym, ap, ◌∙◌, subst}
-use Rattle.std.specs.List.{AllByRecursion, list_all}
+use Rattle.std.proofs.Common.{◌≡◌, ◌⊎◌, true, None, slice_get, inl, inr, ℕ, suc, Bool, IsTrue, IsNone, Option, Some, Result, Ok, Err, List, [], ◌∷◌, length, map, filter, refl, sym, ap, ◌∙◌, subst}
+use Rattle.std.specs.List.{AllByRecursion}
 use Rattle.hv_base.specs.declared.refusal.Refusal.{Refusal}
 use Rattle.hv_ast.specs.declared.statement.Stmt.{Stmt}
-use Rattle.hv_built.specs.Built.{makes_built_table, IsBuilt}
+use Rattle.hv_built.specs.Built.{IsBuilt}
+use Rattle.hv_value.specs.declared.value.Value.{Value}
+use Rattle.hv_logic.specs.declared.catalog.Column.{Column}
 use Rattle.hv_logic.specs.declared.catalog.Shape.{Shape}
 use Rattle.hv_logic.specs.declared.catalog.TableInfo.{TableInfo}
 use Rattle.hv_logic.specs.declared.effect.Effect.{Effect}
@@ -15,13 +17,18 @@ use Rattle.hv_logic.specs.Tables.{named}
 use Rattle.hv_query.specs.Rows.{Tables}
 use Rattle.hv_analysis.specs.declared.logic.Logic.{Logic}
 use Rattle.hv_analysis.specs.declared.logic.Logic.TheVariants as logic
-use Rattle.hv_analysis.specs.Analysis.{is_form, analysed}
+use Rattle.hv_analysis.specs.Analysis.{analysed}
 use Rattle.hv_changes.specs.Columns.{columns_of}
-use Rattle.hv_rowfile.specs.Layout.{RowIsTaken}
 use Rattle.hv_changes.specs.declared.change.TypedChange.{TypedChange}
-use Rattle.hv_logic.specs.Sizes.{row_fits}
-use Rattle.hv_meaning.specs.Meaning.{info_of, found_in, tables_of, or_none, change_effect, changed_in, meant, meaning_over, meaning_in, meaning_of}
-use Rattle.hv_meaning.specs.Laws.{has_meaning, MeansSomething}
+use Rattle.hv_base.specs.declared.ids.Touch.{Touch}
+use Rattle.hv_route.specs.Touching.{touched}
+use Rattle.hv_route.specs.declared.fault.RouteFault.{RouteFault}
+use Rattle.hv_route.specs.declared.fault.RouteFault.TheVariants as route_fault
+use Rattle.hv_route.specs.Back.{AreFlat}
+use Rattle.hv_meaning.specs.Meaning.{info_of, found_in, tables_of, or_none, change_effect, changed_in, unless_limited, meant, meaning_over, meaning_in, meaning_of}
+use Rattle.hv_meaning.specs.Laws.{MeansSomething, AreOf, IsRowOf, FitsTable}
+use Rattle.hv_stands.specs.Sound.{HasAllValues}
+use Rattle.hv_stands.proofs.Soundness.{all-mapped}
 use Rattle.hv_meaning.proofs.Forms.{forms-mean}
 use Rattle.hv_meaning.proofs.Meanings.{tables-new, changes-named}
 use Rattle.hv_history.specs.State.{created_shape}
@@ -34,15 +41,18 @@ pub record IsNew (tree : Stmt) (tables : List Seen) (shape : Shape) : Type 0 whe
   pub create : IsTrue (is_create (Some tree))
   pub absent : IsNone (named (made_name (Some tree)) tables)
   pub shape_is : created_shape (Some tree) ≡ shape
+  pub flat : AreFlat (created_shape (Some tree)).parts
 
 pub makes-new : (tree : Stmt) (tables : List Seen) (shape : Shape) → meaning_of tables tree ≡ Some (Make shape) → IsNew tree tables shape
 makes-new tree tables shape e =
     let new = tables-new tree tables shape e in
+    let same : created_shape (Some tree) ≡ shape = ap (λ (t : Stmt). created_shape (Some t)) new.tree_is ∙ sym new.shape_is in
     record {
       create = subst (λ (t : Stmt). IsTrue (is_create (Some t))) (sym new.tree_is) refl;
       absent = subst (λ (t : Stmt). IsNone (named (made_name (Some t)) tables)) (sym new.tree_is)
           (subst (λ (o : Option Seen). IsNone o) (sym new.absent) refl);
-      shape_is = ap (λ (t : Stmt). created_shape (Some t)) new.tree_is ∙ sym new.shape_is;
+      shape_is = same;
+      flat = subst (λ (s : Shape). AreFlat s.parts) (sym same) new.flat;
     }
 
 -- ---- a change is of a table that is seen, and deletes rows that stand in it
@@ -51,13 +61,21 @@ makes-new tree tables shape e =
 abbrev pub ArePicked : List Found → List Found → Type 0
 ArePicked rows picked = (test : Found → Bool) × (picked ≡ filter test rows)
 
+-- a row of the types of columns has a value for each
+of-columns : (columns : List Column) (values : List Value) → AreOf columns values → length values ≡ length columns
+of-columns [] [] are = refl
+of-columns [] (v ∷ values) are = absurd are
+of-columns (column ∷ columns) [] are = absurd are
+of-columns (column ∷ columns) (v ∷ values) are = ap (λ n. suc n) (of-columns columns values are.1)
+
 pub record ChangesLive (tables : List Seen) (info : TableInfo) (effect : Effect) : Type 0 where
   pub name : List ℕ
   pub seen : Seen
   pub here : named name tables ≡ Some seen
   pub info_is : info ≡ seen.info
   pub deletes : ArePicked seen.rows effect.deletes
-  pub taken : length (columns_of info.shape) ≤ 65535 → AllByRecursion RowIsTaken effect.inserts
+  pub whole : AllByRecursion (HasAllValues info.shape) effect.inserts
+  pub fits : FitsTable info effect
 
 pub changes-seen : (tree : Stmt) (tables : List Seen) (info : TableInfo) (effect : Effect) → meaning_of tables tree ≡ Some (Change info effect)
     → ChangesLive tables info effect
@@ -69,20 +87,14 @@ changes-seen tree tables info effect e =
       here = change.here;
       info_is = change.info_is;
       deletes = (change.stand.test, change.stand.deletes_are);
-      taken = change.taken;
+      whole = all-mapped (IsRowOf (columns_of info.shape)) (HasAllValues info.shape) (λ row are. of-columns (columns_of info.shape) row.values are) effect.inserts change.fits.typed;
+      fits = change.fits;
     }
 
 -- ---- a statement of a form that is built means something
 
-built-form : (tree : Stmt) → IsBuilt tree → IsTrue (has_meaning tree)
-built-form tree built = by (is_form tree) (makes_built_table tree) built
-  where
-    by : (form plain : Bool) → IsTrue (form && plain) → IsTrue form
-    by true plain h = refl
-    by false plain h = cc
-
 pub built-means : (tables : List Seen) (tree : Stmt) → IsBuilt tree → MeansSomething (meaning_of tables tree)
-built-means tables tree built = forms-mean tree tables (built-form tree built)
+built-means tables tree built = forms-mean tree tables built
 
 -- ---- over tables of the same descriptions, whatever their rows, it means the same, or what may come of rows
 
@@ -93,16 +105,18 @@ ComesOfRows (Some RowLimit) = Unit {0}
 ComesOfRows (Some PartitionLimit) = Unit {0}
 ComesOfRows _ = ⊥
 
-within-limit : (fits : Bool) (info : TableInfo) (effect : Effect) → ComesOfRows (Some (cond fits (Change info effect) RowLimit))
-within-limit true info effect = tt
-within-limit false info effect = tt
+limited : (info : TableInfo) (effect : Effect) (r : Result (List Touch) RouteFault) → ComesOfRows (Some (unless_limited info effect r))
+limited info effect (Ok touches) = tt
+limited info effect (Err route_fault.RowLimit) = tt
+limited info effect (Err route_fault.PartitionLimit) = tt
+limited info effect (Err route_fault.NoMemory) = tt
 
 changed-alike : (info : Option TableInfo) (one : Option (List Found)) (other : Option (List Found)) (rows others : Tables) (change : TypedChange)
     → (changed_in info one rows change ≡ changed_in info other others change) ⊎ ComesOfRows (changed_in info one rows change)
 changed-alike None one other rows others change = inl refl
 changed-alike (Some info) one other rows others change =
     let effect = change_effect info.shape change (or_none one) rows in
-    inr (within-limit (list_all row_fits effect.inserts) info effect)
+    inr (limited info effect (touched info effect))
 
 alike : (infos : List TableInfo) (found others : List (List Found)) (r : Result Logic Refusal)
     → (meant infos found r ≡ meant infos others r) ⊎ ComesOfRows (meant infos found r)

@@ -1,5 +1,5 @@
 -- What a statement reads of the tables that it names is what it sees of them.
-use Rattle.std.proofs.Common.{◌≡◌, ◌≤◌, length, ℕ, zero, suc, Bool, true, false, cond, Option, Some, None, List, [], ◌∷◌, ◌++◌, map, refl, sym, ap, ◌∙◌}
+use Rattle.std.proofs.Common.{◌≡◌, ◌≤◌, length, ℕ, zero, suc, Bool, true, false, cond, Option, Some, None, Ok, List, [], ◌∷◌, ◌++◌, map, refl, sym, ap, ◌∙◌}
 use Rattle.std.proofs.lemmas.List.{map-append}
 use Rattle.std.specs.List.{flat_map, slice_get, AllByRecursion}
 use Rattle.std.specs.Option.{option_map, option_to_list}
@@ -8,15 +8,18 @@ use Rattle.hv_ast.specs.declared.statement.Stmt.{Stmt}
 use Rattle.hv_logic.specs.declared.catalog.TableInfo.{TableInfo}
 use Rattle.hv_logic.specs.Names.{names_in}
 use Rattle.hv_meaning.specs.Meaning.{info_of, named_by, its_tables, meaning_in}
+use Rattle.hv_value.specs.declared.row.Row.{Row}
+use Rattle.hv_changes.specs.Columns.{columns_of}
+use Rattle.hv_rowfile.specs.Layout.{RowIsTaken}
+use Rattle.hv_route.specs.Routes.{stored}
+use Rattle.hv_route.specs.Touching.{touched, touches_of}
 use Rattle.hv_meaning.specs.Laws.{reads_rows}
+use Rattle.hv_meaning.proofs.Meanings.{changes-seen}
 use Rattle.hv_meaning.proofs.Unseen.{unseen-in}
 use Rattle.hv_history.specs.declared.state.Table.{Table}
 use Rattle.hv_logic.specs.declared.seen.Seen.{Seen}
 use Rattle.hv_logic.specs.declared.effect.Effect.{Effect}
 use Rattle.hv_logic.specs.declared.meaning.Meaning.TheVariants.{Change}
-use Rattle.hv_changes.specs.Columns.{columns_of}
-use Rattle.hv_rowfile.specs.Layout.{RowIsTaken}
-use Rattle.hv_meaning.proofs.Meanings.{changes-seen}
 use Rattle.hv_history.specs.State.{state_of, numbered, seen_table, seen_tables, content_of}
 use Rattle.hv_stands.specs.Sound.{IsLive, NumberedFrom}
 use Rattle.hv_stands.specs.Reading.{table_of_name, named_in, tables_named, seen_of, seen_read}
@@ -103,13 +106,14 @@ info-at [] place = refl
 info-at (one ∷ seen) zero = refl
 info-at (one ∷ seen) (suc place) = info-at seen place
 
--- ---- whatever rows are seen of the tables that a statement names, a change is of one of the book's tables, and a row file takes
--- each row that it inserts
+-- ---- whatever rows are seen of the tables that a statement names, a change is of one of the book's tables, is within the limits, and
+-- a row file takes what is stored of each row that it inserts
 
 pub record CanChangeTable (tables : List Table) (info : TableInfo) (effect : Effect) : Type 0 where
   pub table : Table
   pub here : numbered tables info.table.0 ≡ Some table
-  pub taken : length (columns_of info.shape) ≤ 65535 → AllByRecursion RowIsTaken effect.inserts
+  pub within : touched info effect ≡ Ok (touches_of info effect)
+  pub taken : length (columns_of info.shape) ≤ 65535 → AllByRecursion (λ (row : Row). RowIsTaken (stored info.shape row)) effect.inserts
 
 pub change-of-seen : (tables : List Table) → AllByRecursion IsLive tables → NumberedFrom 1 tables → (tree : Stmt) (seen : List Seen) (info : TableInfo) (effect : Effect)
     → map info_of seen ≡ map info_of (its_tables tree (seen_tables tables)) → meaning_in tree seen ≡ Some (Change info effect) → CanChangeTable tables info effect
@@ -118,4 +122,4 @@ change-of-seen tables live order tree seen info effect same e =
     let at : slice_get (map info_of seen) change.place ≡ Some info =
     info-at seen change.place ∙ ap (option_map info_of) change.here ∙ ap Some (sym change.info_is) in
     let there = seen-place tables live order tree seen change.place info same at in
-    record { table = there.0; here = there.1; taken = change.taken }
+    record { table = there.0; here = there.1; within = change.fits.within; taken = change.fits.taken }

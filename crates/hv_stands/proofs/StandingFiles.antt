@@ -1,5 +1,5 @@
 -- Which files may stand, over any state: each entry that fits, and each file that is put, keeps it.
-use Rattle.std.proofs.Common.{refl, ◌≡◌, ℕ, zero, suc, ◌+◌, ◌<◌, ◌≤◌, ◌==◌, ◌&&◌, ◌⊎◌, inl, inr, Bool, true, false, cond, IsFalse, Option, Some, None, List, [], ◌∷◌, ◌++◌, length, map, option_map, sym, ap, ◌∙◌, subst, arith, eqb-true}
+use Rattle.std.proofs.Common.{refl, ◌≡◌, ℕ, zero, suc, ◌+◌, ◌<◌, ◌≤◌, ◌==◌, ◌⊎◌, inl, inr, Bool, true, false, cond, IsFalse, Option, Some, None, List, [], ◌∷◌, ◌++◌, length, map, option_map, sym, ap, ◌∙◌, subst, arith, eqb-true}
 use Rattle.std.specs.declared.cmp.Ordering.{Ordering}
 use Rattle.std.specs.declared.cmp.Ordering.TheVariants.{Less, Equal, Greater}
 use Rattle.std.specs.Cmp.{eq_by_cmp_equiv}
@@ -10,6 +10,8 @@ use Rattle.hv_base.specs.declared.ids.Limits.{Limits}
 use Rattle.hv_shelf.specs.declared.place.Place.{Place}
 use Rattle.hv_shelf.specs.Disk.{Tree}
 use Rattle.hv_shelf.specs.Places.{place_cmp, place_total, place_antisymmetric}
+use Rattle.hv_logic.specs.declared.catalog.Shape.{Shape}
+use Rattle.hv_logic.specs.declared.catalog.TableInfo.{TableInfo}
 use Rattle.hv_history.specs.declared.entry.Entry.{Entry}
 use Rattle.hv_history.specs.declared.entry.Entry.TheVariants as entry
 use Rattle.hv_history.specs.declared.entry.Cause.{Cause}
@@ -22,7 +24,7 @@ use Rattle.hv_history.specs.State.{State, first_known, numbered, changed, change
 use Rattle.hv_history.specs.Legal.{Fits, CommitFits, CreateFits}
 use Rattle.hv_dirs.specs.Names.{write_end}
 use Rattle.hv_stands.specs.Files.{commit_file, own_dir, own_place, file_at, file_in, made_in, made_at, ending_of, IsOwn, IsUndone, IsLoose, IsEncoded, AreEncoded, Stands, IsFiled}
-use Rattle.hv_stands.specs.Sound.{HasOther, AreApart, HasSoundWrites, HasFewOwners, KeepsAll, given_of, owners_of, given_among, IsDone, IsSingle, IsOfCommitted, AreOfCommitted, IsSound}
+use Rattle.hv_stands.specs.Sound.{HasOther, AreApart, HasSoundWrites, HasFewOwners, KeepsAll, info_in, given_of, owners_of, given_among, IsDone, IsSingle, IsOfCommitted, AreOfCommitted, IsSound}
 use Rattle.hv_stands.specs.Laws.{SoundnessGoesOn, StandingGoesOn, PutsAreLoose, FilesAreOfTables, NewIdsHaveNoFile, HasItsFiles, CommitsHaveFiles}
 use Rattle.hv_stands.proofs.Numbers.{one_value, same_one, none_is, found, either, numbered-changed, numbered-map, map-changed, map-more, numbered-more, numbered-within}
 use Rattle.hv_stands.proofs.Soundness.{all-numbered}
@@ -49,30 +51,32 @@ other-place place other e same =
 
 -- ---- what is made
 
--- a table whose writes stay makes the same
-same-made-slice : (f : Table → Table) → ((t : Table) → (f t).writes ≡ t.writes) → (place : Place) (tables : List Table) (k n : ℕ)
+-- a table whose shape and writes stay makes the same
+pub record MakesSame (before now : Table) : Type 0 where
+  pub info : now.info ≡ before.info
+  pub writes : now.writes ≡ before.writes
+
+same-made-slice : (f : Table → Table) → ((t : Table) → MakesSame t (f t)) → (place : Place) (tables : List Table) (k n : ℕ)
     → made_in (slice_get (changed_at f tables k) n) place ≡ made_in (slice_get tables n) place
 same-made-slice f same place [] k n = refl
-same-made-slice f same place (t ∷ tables) zero zero = ap (λ ws. cond ((length place.partition == 0) && (place.bucket == 0)) (file_in ws place.dir) None) (same t)
+same-made-slice f same place (t ∷ tables) zero zero =
+    let is = same t in λ i. file_in (is.info i).shape (is.writes i) place
 same-made-slice f same place (t ∷ tables) zero (suc n) = refl
 same-made-slice f same place (t ∷ tables) (suc k) zero = refl
 same-made-slice f same place (t ∷ tables) (suc k) (suc n) = same-made-slice f same place tables k n
 
-same-made-number : (f : Table → Table) → ((t : Table) → (f t).writes ≡ t.writes) → (place : Place) (tables : List Table) (k n : ℕ)
+same-made-number : (f : Table → Table) → ((t : Table) → MakesSame t (f t)) → (place : Place) (tables : List Table) (k n : ℕ)
     → made_in (numbered (changed f tables k) n) place ≡ made_in (numbered tables n) place
 same-made-number f same place tables zero n = refl
 same-made-number f same place tables (suc k) zero = refl
 same-made-number f same place tables (suc k) (suc n) = same-made-slice f same place tables k n
 
-pub same-made : (f : Table → Table) → ((t : Table) → (f t).writes ≡ t.writes) → (tables : List Table) (k : ℕ) (place : Place)
+pub same-made : (f : Table → Table) → ((t : Table) → MakesSame t (f t)) → (tables : List Table) (k : ℕ) (place : Place)
     → made_at (changed f tables k) place ≡ made_at tables place
 unfolding made_at
 same-made f same tables k place = same-made-number f same place tables k place.table.0
 
 -- a new table makes nothing
-no_file : (b : Bool) → cond {A = Option (List ℕ)} b None None ≡ None
-no_file true = refl
-no_file false = refl
 
 made-more-slice : (place : Place) (tables : List Table) (table : Table) (n : ℕ) → made_in (Some table) place ≡ None
     → made_in (slice_get (tables ++ table ∷ []) n) place ≡ made_in (slice_get tables n) place
@@ -88,7 +92,7 @@ made-more place tables table (suc n) none = made-more-slice place tables table n
 
 made_at-more : (tables : List Table) (k : ℕ) (t : Option Transaction) (place : Place) → made_at (tables ++ made_by k t ∷ []) place ≡ made_at tables place
 unfolding made_at
-made_at-more tables k t place = made-more place tables (made_by k t) place.table.0 (no_file ((length place.partition == 0) && (place.bucket == 0)))
+made_at-more tables k t place = made-more place tables (made_by k t) place.table.0 refl
 
 -- ---- own directories
 
@@ -239,25 +243,13 @@ stands-ended s now files n stands later stays owns others whole encoded = record
 
 -- the table behind a commit
 made-in-written : (table : Table) (written : Written) (place : Place) (bytes : List ℕ) → made_in (Some (written_to written table)) place ≡ Some bytes
-    → (made_in (Some table) place ≡ Some bytes) ⊎ IsMadeBy written place.dir bytes
-made-in-written table written place bytes e = by ((length place.partition == 0) && (place.bucket == 0)) e
+    → (made_in (Some table) place ≡ Some bytes) ⊎ IsMadeBy table.info.shape written place bytes
+made-in-written table written place bytes e = by (file-or-last table.info.shape table.writes written place bytes e)
   where
-    by : (b : Bool) → cond b (file_in (table.writes ++ written ∷ []) place.dir) None ≡ Some bytes
-        → (cond b (file_in table.writes place.dir) None ≡ Some bytes) ⊎ IsMadeBy written place.dir bytes
-    by false e = inl e
-    by true e = or (file-or-last table.writes written place.dir bytes e)
-      where
-        or : (file_in table.writes place.dir ≡ Some bytes) ⊎ (file_at written place.dir ≡ Some bytes)
-            → (file_in table.writes place.dir ≡ Some bytes) ⊎ IsMadeBy written place.dir bytes
-        or (inl h) = inl h
-        or (inr h) = inr (made-by written place.dir bytes h)
-
-made-in-none : (table : Table) (written : Written) (place : Place) → made_in (Some (written_to written table)) place ≡ None → made_in (Some table) place ≡ None
-made-in-none table written place e = by ((length place.partition == 0) && (place.bucket == 0)) e
-  where
-    by : (b : Bool) → cond b (file_in (table.writes ++ written ∷ []) place.dir) None ≡ None → cond b (file_in table.writes place.dir) None ≡ None
-    by false e = refl
-    by true e = file-none table.writes written place.dir e
+    by : (file_in table.info.shape table.writes place ≡ Some bytes) ⊎ (file_at table.info.shape written place ≡ Some bytes)
+        → (made_in (Some table) place ≡ Some bytes) ⊎ IsMadeBy table.info.shape written place bytes
+    by (inl h) = inl h
+    by (inr h) = inr (made-by table.info.shape written place bytes h)
 
 -- nothing is forgotten
 pub kept-none : (ids : List ℕ) (write : ℕ) → ids ≡ [] → IsFalse (list_any (λ other. other == write) ids)
@@ -280,7 +272,7 @@ module _ (tables : List Table) (k n : ℕ) (written : Written) (table : Table) (
           or here (made-in-written table written place bytes
           (ap (λ b. made_in (cond b (Some (written_to written table)) (numbered tables place.table.0)) place) (sym same) ∙ now))
         where
-          or : numbered tables place.table.0 ≡ Some table → (made_in (Some table) place ≡ Some bytes) ⊎ IsMadeBy written place.dir bytes
+          or : numbered tables place.table.0 ≡ Some table → (made_in (Some table) place ≡ Some bytes) ⊎ IsMadeBy table.info.shape written place bytes
               → (made_in (numbered tables place.table.0) place ≡ Some bytes) ⊎ IsOwn tables n place
           or here (inl h) = inl (ap (λ o. made_in o place) here ∙ h)
           or here (inr h) = inr (record {
@@ -305,17 +297,20 @@ module _ (tables : List Table) (k n : ℕ) (written : Written) (table : Table) (
       by (inr other) = ap (λ b. made_in (cond b (Some (written_to written table)) (numbered tables place.table.0)) place) (sym other) ∙ now
       by (inl same) =
           ap (λ o. made_in o place) (ap (numbered tables) (eqb-true place.table.0 k same) ∙ at)
-          ∙ made-in-none table written place (ap (λ b. made_in (cond b (Some (written_to written table)) (numbered tables place.table.0)) place) (sym same) ∙ now)
+          ∙ file-none table.info.shape table.writes written place (ap (λ b. made_in (cond b (Some (written_to written table)) (numbered tables place.table.0)) place) (sym same) ∙ now)
 
-all-encoded : (f : Table → Table) → ((t : Table) → (f t).writes ≡ t.writes) → (t : Table) → AreEncoded t → AreEncoded (f t)
-all-encoded f same t h = subst (AllByRecursion IsEncoded) (sym (same t)) h
+all-encoded : (f : Table → Table) → ((t : Table) → MakesSame t (f t)) → (t : Table) → AreEncoded t → AreEncoded (f t)
+all-encoded f same t h =
+    let is = same t in
+    subst (λ (ws : List Written). AllByRecursion (IsEncoded (f t).info.shape) ws) (sym is.writes)
+    (subst (λ (info : TableInfo). AllByRecursion (IsEncoded info.shape) t.writes) (sym is.info) h)
 
 module _ (s now : State) (files : Tree) (n : ℕ) (f : Transaction → Transaction) (t : Transaction) (sound : IsSound s) (stands : Stands s files)
     (at : numbered s.transactions n ≡ Some t) (transactions : now.transactions ≡ changed (while_open f) s.transactions n) where
   others-later : (m : ℕ) → (m == n) ≡ false → numbered (map ending_of now.transactions) m ≡ numbered (map ending_of s.transactions) m
   others-later m other = ap (λ ts. numbered (map ending_of ts) m) transactions ∙ other-ending (while_open f) s.transactions n m t at other
 
-  commit-stands : (ws : List (ℕ × Written)) → IsOneWrite t ws → now.tables ≡ tables_behind ws s.tables
+  commit-stands : (ws : List (ℕ × Written)) → IsOneWrite (map info_in s.tables) t ws → now.tables ≡ tables_behind ws s.tables
       → ((place : Place) → IsOwn s.tables n place → tree.get files place ≡ made_at now.tables place) → AllByRecursion AreEncoded now.tables → Stands now files
   commit-stands ws (inl none) tables whole encoded =
       let same : now.tables ≡ s.tables = tables ∙ ap (λ xs. tables_behind xs s.tables) none in
@@ -328,7 +323,7 @@ module _ (s now : State) (files : Tree) (n : ℕ) (f : Transaction → Transacti
       let x : ℕ × Written = one.0 in
       let same : now.tables ≡ changed (written_to x.1) s.tables x.0 = tables ∙ ap (λ xs. tables_behind xs s.tables) one.1 in
       let here = owner-table (map owners_of s.tables) s.tables x.0 x.1.write n refl
-      (sound.given.has_owner n x.0 x.1.write (ap (λ o. given_among o x.0) (numbered-map given_of s.transactions n ∙ ap (option_map given_of) at) ∙ one.2.0)) in
+      (sound.given.has_owner n x.0 x.1.write (ap (λ o. given_among o x.0) (numbered-map given_of s.transactions n ∙ ap (option_map given_of) at) ∙ one.2.given)) in
       let keeping = all-numbered KeepsAll s.tables x.0 here.0 here.1 sound.tables.keeping in
       stands-ended s now files n stands
       (λ place bytes is. written-later s.tables x.0 n x.1 here.0 here.1 here.2 keeping place bytes (sym (ap (λ ts. made_at ts place) same) ∙ is))
@@ -363,15 +358,15 @@ stands-after limits s (entry.Start txn statement) files fits sound filed stands 
     (λ m h. subst (λ es. IsUndone (numbered es m)) (sym (map-open ending_of (started s statement) (λ t. refl) s.transactions txn.0)) h) stands.encoded
 stands-after limits s (entry.Given txn table write) files fits sound filed stands =
     stands-same s (after s (entry.Given txn table write)) files stands
-    (λ place. same-made (owned txn.0) (λ t. refl) s.tables table.0 place)
+    (λ place. same-made (owned txn.0) (λ t. record { info = refl; writes = refl }) s.tables table.0 place)
     (λ n place own. own-changed (owned txn.0) (λ t w n e. numbered-more t.owners txn.0 w n e) (λ t. refl) s.tables table.0 n place own)
     (λ m h. subst (λ es. IsUndone (numbered es m)) (sym (map-open ending_of (given_id table.0 write.0) (λ t. refl) s.transactions txn.0)) h)
-    (all-each AreEncoded (owned txn.0) (all-encoded (owned txn.0) (λ t. refl)) s.tables table.0 stands.encoded)
+    (all-each AreEncoded (owned txn.0) (all-encoded (owned txn.0) (λ t. record { info = refl; writes = refl })) s.tables table.0 stands.encoded)
 stands-after limits s (entry.Commit txn wrote) files fits sound filed stands =
     let here = found (CommitFits s wrote) (numbered s.transactions txn.0) fits in
-    let single = all-numbered IsSingle s.transactions txn.0 here.0 here.1 sound.single in
+    let single = all-numbered (IsSingle (map info_in s.tables)) s.transactions txn.0 here.0 here.1 sound.single in
     commit-stands s (after s (entry.Commit txn wrote)) files txn.0 (committed s.entries wrote) here.0 sound stands here.1 refl
-    (commits (Some here.0)) (one-write here.0 single) (ap (λ o. tables_behind (commits o) s.tables) here.1) filed.whole filed.encoded
+    (commits (Some here.0)) (one-write (map info_in s.tables) here.0 single) (ap (λ o. tables_behind (commits o) s.tables) here.1) filed.whole filed.encoded
 stands-after limits s (entry.Abort txn cause) files fits sound filed stands =
     stands-same s (after s (entry.Abort txn cause)) files stands (λ place. refl) (λ n place own. own)
     (λ m h. undone-aborted s.entries cause s.transactions txn.0 m h) stands.encoded
@@ -413,13 +408,6 @@ made-of-table tables place bytes e = by (numbered tables place.table.0) refl e
     by None is e = cc
     by (Some table) is e = (table, is, e)
 
-pub made-file : (table : Table) (place : Place) (bytes : List ℕ) → made_in (Some table) place ≡ Some bytes → file_in table.writes place.dir ≡ Some bytes
-made-file table place bytes e = by ((length place.partition == 0) && (place.bucket == 0)) e
-  where
-    by : (b : Bool) → cond b (file_in table.writes place.dir) None ≡ Some bytes → file_in table.writes place.dir ≡ Some bytes
-    by true e = e
-    by false e = cc
-
 pub files-of-tables : FilesAreOfTables
 files-of-tables s files place bytes stands is = by (made_at s.tables place) refl
   where
@@ -441,7 +429,7 @@ being-written-unmade s place sound room txn own undone bytes made =
     let here = made-of-table s.tables place bytes made in
     let same : own.table ≡ here.0 = same_one (numbered s.tables place.table.0) own.table here.0 own.is here.1 in
     let each = all-numbered (AreOfCommitted (map ending_of s.transactions)) s.tables place.table.0 here.0 here.1 sound.committed in
-    let write = file-write (IsOfCommitted (map ending_of s.transactions) here.0.owners) here.0.writes place.dir bytes (made-file here.0 place bytes here.2) each in
+    let write = file-write here.0.info.shape (IsOfCommitted (map ending_of s.transactions) here.0.owners) here.0.writes place bytes here.2 each in
     let owner : numbered here.0.owners own.write ≡ Some txn = subst (λ (t : Table). numbered t.owners own.write ≡ Some txn) same own.owner in
     let first = few-ids s sound place.table.0 write.0.write write.2.0 here.0 here.1 write.2.1 in
     let second = few-ids s sound place.table.0 own.write txn here.0 here.1 owner in
@@ -497,60 +485,71 @@ new-ids-bare s files place table deletes statement sound room stands at dir = by
             let here = made-of-table s.tables place made some in
             let same : here.0 ≡ table = same_one (numbered s.tables place.table.0) here.0 table here.1 at in
             let each = all-numbered (AreOfCommitted (map ending_of s.transactions)) s.tables place.table.0 table at sound.committed in
-            let write = file-write (IsOfCommitted (map ending_of s.transactions) table.owners) table.writes place.dir made
-            (subst (λ (t : Table). file_in t.writes place.dir ≡ Some made) same (made-file here.0 place made here.2)) each in
+            let write = file-write table.info.shape (IsOfCommitted (map ending_of s.transactions) table.owners) table.writes place made
+            (subst (λ (t : Table). file_in t.info.shape t.writes place ≡ Some made) same here.2) each in
             absurd (not_given write.0.write write.2.0 write.2.1 write.1.deletes 0 write.1.dir_is)
 
 -- ---- the files of what was committed
 
-abbrev FilesIn : List Written → Written → Type 0
-FilesIn writes written = (deletes : Bool) → file_in writes (own_dir deletes written.write 0) ≡ commit_file deletes written
+-- at each place in its own directories a commit's own file is found among those of the table
+abbrev FilesIn : Shape → List Written → Written → Type 0
+FilesIn shape writes written =
+    (deletes : Bool) (place : Place) → place.dir ≡ own_dir deletes written.write 0
+    → file_in shape writes place ≡ commit_file shape deletes place.partition place.bucket written
 
 -- the first of that name
-files-in-own : (endings : List (Option Ending)) (owners : List ℕ) (most : ℕ) → length owners ≤ most → most < write_end
-    → (writes : List Written) → AreApart writes → AllByRecursion (IsOfCommitted endings owners) writes → AllByRecursion (FilesIn writes) writes
-files-in-own endings owners most few room [] apart each = tt
-files-in-own endings owners most few room (first ∷ writes) apart each =
-    (here, behind writes apart.0 each.1 (files-in-own endings owners most few room writes apart.1 each.1))
-  where
-    small : (written : Written) → IsOfCommitted endings owners written → written.write < write_end
-    small written is = let within = numbered-within owners written.write is.0 is.1 in omega (arith, within.1, few, room)
+module _ (shape : Shape) (endings : List (Option Ending)) (owners : List ℕ) (most : ℕ) (few : length owners ≤ most) (room : most < write_end) where
+  small : (written : Written) → IsOfCommitted endings owners written → written.write < write_end
+  small written is = let within = numbered-within owners written.write is.0 is.1 in omega (arith, within.1, few, room)
 
-    none_behind : (dir : List ℕ) (later : List Written) → AllByRecursion (λ (written : Written). file_at written dir ≡ None) later → file_in later dir ≡ None
-    none_behind dir [] h = refl
-    none_behind dir (written ∷ later) h = (λ i. first_known (h.0 i) (none_behind dir later h.1 i))
+  none_behind : (place : Place) (later : List Written) → AllByRecursion (λ (written : Written). file_at shape written place ≡ None) later
+      → file_in shape later place ≡ None
+  none_behind place [] h = refl
+  none_behind place (written ∷ later) h = (λ i. first_known (h.0 i) (none_behind place later h.1 i))
 
-    others : (deletes : Bool) (later : List Written) → AllByRecursion (HasOther first.write) later → AllByRecursion (IsOfCommitted endings owners) later
-        → AllByRecursion (λ (written : Written). file_at written (own_dir deletes first.write 0) ≡ None) later
-    others deletes [] other is = tt
-    others deletes (written ∷ later) other is =
-        (made-not written deletes first.write 0 (small written is.0) (small first each.0) other.0, others deletes later other.1 is.1)
+  others : (first : Written) → first.write < write_end → (deletes : Bool) (place : Place) → place.dir ≡ own_dir deletes first.write 0
+      → (later : List Written) → AllByRecursion (HasOther first.write) later → AllByRecursion (IsOfCommitted endings owners) later
+      → AllByRecursion (λ (written : Written). file_at shape written place ≡ None) later
+  others first tiny deletes place dir [] other is = tt
+  others first tiny deletes place dir (written ∷ later) other is =
+      (made-not shape written deletes first.write 0 place (small written is.0) tiny other.0 dir, others first tiny deletes place dir later other.1 is.1)
 
-    first_or : (o file : Option (List ℕ)) → o ≡ file → first_known o None ≡ file
-    first_or None file e = e
-    first_or (Some x) file e = e
+  first_or : (o file : Option (List ℕ)) → o ≡ file → first_known o None ≡ file
+  first_or None file e = e
+  first_or (Some x) file e = e
 
-    here : FilesIn (first ∷ writes) first
-    here deletes =
-        ap (first_known (file_at first (own_dir deletes first.write 0))) (none_behind (own_dir deletes first.write 0) writes (others deletes writes apart.0 each.1))
-        ∙ first_or (file_at first (own_dir deletes first.write 0)) (commit_file deletes first) (made-own first deletes (small first each.0))
+  here-first : (first : Written) (writes : List Written) → first.write < write_end → AllByRecursion (HasOther first.write) writes
+      → AllByRecursion (IsOfCommitted endings owners) writes → FilesIn shape (first ∷ writes) first
+  here-first first writes tiny apart each deletes place dir =
+      ap (first_known (file_at shape first place)) (none_behind place writes (others first tiny deletes place dir writes apart each))
+      ∙ first_or (file_at shape first place) (commit_file shape deletes place.partition place.bucket first) (made-own shape first deletes place tiny dir)
 
-    skips : (written : Written) → IsOfCommitted endings owners written → HasOther first.write written → FilesIn writes written → FilesIn (first ∷ writes) written
-    skips written is other h deletes =
-        ap (λ o. first_known o (file_in writes (own_dir deletes written.write 0)))
-        (made-not first deletes written.write 0 (small first each.0) (small written is) (λ same. other (sym same)))
-        ∙ h deletes
+  skips : (first : Written) (writes : List Written) (written : Written) → first.write < write_end → IsOfCommitted endings owners written
+      → HasOther first.write written → FilesIn shape writes written → FilesIn shape (first ∷ writes) written
+  skips first writes written tiny is other h deletes place dir =
+      ap (λ o. first_known o (file_in shape writes place))
+      (made-not shape first deletes written.write 0 place tiny (small written is) (λ same. other (sym same)) dir)
+      ∙ h deletes place dir
 
-    behind : (later : List Written) → AllByRecursion (HasOther first.write) later → AllByRecursion (IsOfCommitted endings owners) later
-        → AllByRecursion (FilesIn writes) later → AllByRecursion (FilesIn (first ∷ writes)) later
-    behind [] other is h = tt
-    behind (written ∷ later) other is h = (skips written is.0 other.0 h.0, behind later other.1 is.1 h.1)
+  behind-first : (first : Written) (writes later : List Written) → first.write < write_end → AllByRecursion (HasOther first.write) later
+      → AllByRecursion (IsOfCommitted endings owners) later → AllByRecursion (FilesIn shape writes) later
+      → AllByRecursion (FilesIn shape (first ∷ writes)) later
+  behind-first first writes [] tiny other is h = tt
+  behind-first first writes (written ∷ later) tiny other is h =
+      (skips first writes written tiny is.0 other.0 h.0, behind-first first writes later tiny other.1 is.1 h.1)
+
+  files-in-own : (writes : List Written) → AreApart writes → AllByRecursion (IsOfCommitted endings owners) writes → AllByRecursion (FilesIn shape writes) writes
+  files-in-own [] apart each = tt
+  files-in-own (first ∷ writes) apart each = (
+    here-first first writes (small first each.0) apart.0 each.1,
+    behind-first first writes writes (small first each.0) apart.0 each.1 (files-in-own writes apart.1 each.1),
+  )
 
 pub commits-have-files : CommitsHaveFiles
 unfolding made_at commit_file
 commits-have-files s files k table sound room stands at =
     all-filed table.writes committed (all-numbered AreEncoded s.tables k table at stands.encoded)
-    (files-in-own (map ending_of s.transactions) table.owners s.entries few room table.writes each.apart committed)
+    (files-in-own table.info.shape (map ending_of s.transactions) table.owners s.entries few room table.writes each.apart committed)
   where
     each : HasSoundWrites table
     each = all-numbered HasSoundWrites s.tables k table at sound.tables.written
@@ -562,30 +561,41 @@ commits-have-files s files k table sound room stands at =
     committed = all-numbered (AreOfCommitted (map ending_of s.transactions)) s.tables k table at sound.committed
 
     -- what stands in an own directory of a committed write id
-    there : (written : Written) (txn : ℕ) → numbered table.owners written.write ≡ Some txn → IsDone (numbered (map ending_of s.transactions) txn) → (deletes : Bool)
-        → (o : Option (List ℕ)) → made_at s.tables (own_place deletes k written.write) ≡ o → tree.get files (own_place deletes k written.write) ≡ o
-    there written txn owner done deletes (Some bytes) made = stands.made (own_place deletes k written.write) bytes made
-    there written txn owner done deletes None unmade = by (tree.get files (own_place deletes k written.write)) refl
+    there : (written : Written) (txn : ℕ) → numbered table.owners written.write ≡ Some txn → IsDone (numbered (map ending_of s.transactions) txn)
+        → (deletes : Bool) (place : Place) → place.table.0 ≡ k → place.dir ≡ own_dir deletes written.write 0
+        → (o : Option (List ℕ)) → made_at s.tables place ≡ o → tree.get files place ≡ o
+    there written txn owner done deletes place of dir (Some bytes) made = stands.made place bytes made
+    there written txn owner done deletes place of dir None unmade = by (tree.get files place) refl
       where
-        by : (o : Option (List ℕ)) → tree.get files (own_place deletes k written.write) ≡ o → tree.get files (own_place deletes k written.write) ≡ None
+        by : (o : Option (List ℕ)) → tree.get files place ≡ o → tree.get files place ≡ None
         by None is = is
         by (Some bytes) is =
-            let loose = stands.other (own_place deletes k written.write) bytes is unmade in
-            let same : loose.own.table ≡ table = same_one (numbered s.tables k) loose.own.table table loose.own.is at in
+            let loose = stands.other place bytes is unmade in
+            let same : loose.own.table ≡ table = same_one (numbered s.tables k) loose.own.table table (ap (numbered s.tables) (sym of) ∙ loose.own.is) at in
             let owned_ : numbered table.owners loose.own.write ≡ Some loose.txn = subst (λ (t : Table). numbered t.owners loose.own.write ≡ Some loose.txn) same loose.own.owner in
             let first = few-ids s sound k written.write txn table at owner in
             let second = few-ids s sound k loose.own.write loose.txn table at owned_ in
-            let same_name = own_dir-same deletes loose.own.deletes written.write 0 loose.own.write loose.own.statement (omega (arith, first, room)) (omega (arith, second, room)) loose.own.dir in
+            let same_name = own_dir-same deletes loose.own.deletes written.write 0 loose.own.write loose.own.statement (omega (arith, first, room)) (omega (arith, second, room))
+            (sym dir ∙ loose.own.dir) in
             let by_same : txn ≡ loose.txn = same_one (numbered table.owners loose.own.write) txn loose.txn (ap (numbered table.owners) (sym same_name.1) ∙ owner) owned_ in
             absurd (done-undone (numbered (map ending_of s.transactions) loose.txn) (subst (λ n. IsDone (numbered (map ending_of s.transactions) n)) by_same done) loose.undone)
 
-    all-filed : (writes : List Written) → AllByRecursion (IsOfCommitted (map ending_of s.transactions) table.owners) writes → AllByRecursion IsEncoded writes
-        → AllByRecursion (FilesIn table.writes) writes → AllByRecursion (HasItsFiles files k) writes
+    filed : (written : Written) → IsOfCommitted (map ending_of s.transactions) table.owners written → IsEncoded table.info.shape written
+        → FilesIn table.info.shape table.writes written → HasItsFiles files k table.info.shape written
+    filed written is encoded found = record {
+      each = λ deletes partition bucket. record {
+        encoded = encoded.files deletes partition bucket;
+        file_is = there written is.0 is.1 is.2 deletes (own_place k partition deletes written.write bucket) refl refl
+            (commit_file table.info.shape deletes partition bucket written)
+            (ap (λ o. made_in o (own_place k partition deletes written.write bucket)) at
+            ∙ found deletes (own_place k partition deletes written.write bucket) refl);
+      };
+      said = encoded.said;
+    }
+
+    all-filed : (writes : List Written) → AllByRecursion (IsOfCommitted (map ending_of s.transactions) table.owners) writes
+        → AllByRecursion (IsEncoded table.info.shape) writes → AllByRecursion (FilesIn table.info.shape table.writes) writes
+        → AllByRecursion (HasItsFiles files k table.info.shape) writes
     all-filed [] is encoded found = tt
-    all-filed (written ∷ writes) is encoded found = (
-      λ deletes. record {
-        encoded = encoded.0 deletes;
-        file_is = there written is.0.0 is.0.1 is.0.2 deletes (commit_file deletes written) (ap (λ o. made_in o (own_place deletes k written.write)) at ∙ found.0 deletes);
-      },
-      all-filed writes is.1 encoded.1 found.1,
-    )
+    all-filed (written ∷ writes) is encoded found =
+        (filed written is.0 encoded.0 found.0, all-filed writes is.1 encoded.1 found.1)

@@ -1,13 +1,17 @@
 -- The files that stand behind a whole statement.
-use Rattle.std.proofs.Common.{refl, ◌≡◌, ℕ, ◌+◌, ◌<◌, ◌==◌, ◌&&◌, ◌⊎◌, inl, inr, Bool, true, false, cond, Option, Some, None, List, [], ◌∷◌, ◌++◌, length, map, fold, option_map, sym, ap, ◌∙◌, subst, arith, eqb-true}
+use Rattle.std.proofs.Common.{refl, ◌≡◌, ℕ, ◌+◌, ◌<◌, ◌==◌, ◌⊎◌, inl, inr, nat_eq, Bool, true, false, cond, Option, Some, None, List, [], ◌∷◌, ◌++◌, length, map, fold, option_map, sym, ap, ◌∙◌, subst, arith, eqb-true}
 use Rattle.std.specs.Ordering.{eq_by_cmp}
+use Rattle.std.specs.Cmp.Lexicographic.{pointwise}
 use Rattle.std.specs.List.{AllByRecursion}
+use Rattle.std.specs.List.Sorted.{IsStrictlySortedBy}
+use Rattle.std.specs.declared.cmp.Ordering.TheVariants.{Less}
 use Rattle.std.specs.FinMap as tree
 use Rattle.hv_shelf.specs.declared.place.Place.{Place}
 use Rattle.hv_shelf.specs.Disk.{Tree}
 use Rattle.hv_shelf.specs.Places.{place_cmp, place_total}
 use Rattle.hv_ast.specs.declared.statement.Stmt.{Stmt}
 use Rattle.hv_built.specs.Running.{Runs}
+use Rattle.hv_logic.specs.declared.catalog.Shape.{Shape}
 use Rattle.hv_logic.specs.declared.catalog.TableInfo.{TableInfo}
 use Rattle.hv_logic.specs.declared.effect.Effect.{Effect}
 use Rattle.hv_logic.specs.declared.meaning.Meaning.{Meaning}
@@ -21,15 +25,26 @@ use Rattle.hv_history.specs.declared.state.Transaction.{Transaction}
 use Rattle.hv_history.specs.State.{State, writes_of, nothing_yet, numbered, changed, given_in, written_by, owned, made_by, meaning_in, acted, after, state_of}
 use Rattle.hv_history.specs.Legal.{Fits, IsLegalFrom, profile}
 use Rattle.hv_dirs.specs.Names.{write_end}
-use Rattle.hv_stands.specs.Files.{commit_file, own_dir, own_place, file_at, file_in, made_in, made_at, ending_of, IsOwn, IsEncoded, AreEncoded, Stands, IsFiled, with_file}
+use Rattle.hv_rowfile.specs.declared.record.Rec.{Rec}
+use Rattle.hv_rowfile.specs.Layout.{file_spelling}
+use Rattle.hv_route.specs.Routes.{files_of}
+use Rattle.hv_route.specs.Rising.{file_cmp}
+use Rattle.hv_route.specs.Standing.{is_file_of, recs_at}
+use Rattle.hv_route.specs.Touching.{touches_of}
+use Rattle.hv_route.specs.declared.files.OutFile.{OutFile}
+use Rattle.hv_route.proofs.RisingLemmas.{all-files-rise}
+use Rattle.hv_route.proofs.StandingLemmas.{files-have-rows, files-have-records}
+use Rattle.hv_stands.specs.Files.{commit_file, file_of, own_dir, own_place, file_at, file_in, made_in, made_at, ending_of, IsOwn, IsEncoded, AreEncoded, Stands, IsFiled, place_of_file, with_file, with_files}
 use Rattle.hv_stands.specs.Sound.{HasFewOwners, given_of, owners_of, given_among, owner_among, IsSound, IsIdle}
 use Rattle.hv_stands.specs.Endings.{next_number, opening, starting, statement_entries}
-use Rattle.hv_stands.specs.Laws.{meant, committing, changing, tables_changed, IsQuiet, QuietStatementsStand, changing_ends, ChangedFilesStand}
-use Rattle.hv_stands.proofs.Numbers.{one_value, none_is, either, changed-here, numbered-map, numbered-last}
+use Rattle.hv_stands.specs.Laws.{meant, committing, tables_changed, IsQuiet, QuietStatementsStand, changing_ends, ChangedFilesStand}
+use Rattle.hv_stands.proofs.Numbers.{one_value, same_one, none_is, either, changed-here, numbered-map, numbered-last}
 use Rattle.hv_stands.proofs.Soundness.{all-numbered, all-more, all-changed, changed_by, tables_changed-once}
 use Rattle.hv_stands.proofs.Keeping.{sound-after}
-use Rattle.hv_stands.proofs.StandingFiles.{stands-after, puts-loose, new-ids-bare, kept-none, same-place, place-tied, other-place, made-file}
-use Rattle.hv_stands.proofs.MadeFiles.{own_dir-same, made-by, made-own, file-or-last, file-last}
+use Rattle.hv_stands.proofs.StandingFiles.{stands-after, puts-loose, new-ids-bare, kept-none, same-place, place-tied}
+use Rattle.hv_stands.proofs.FileRecords.{IsKeyOf, file-key, key-file, less-other}
+use Rattle.hv_stands.proofs.Written.{IsOfTables, of-tables}
+use Rattle.hv_stands.proofs.MadeFiles.{own_dir-same, same-dir, dir-tied, made-by, made-own, file-or-last, file-last}
 use Rattle.hv_stands.proofs.Endings.{with_last, next_of, running, behind_opened, behind_start, fold-append, opened-behind, started-behind, meaning-started}
 use Rattle.hv_stands.proofs.Queries.{idle-behind}
 use Rattle.hv_stands.proofs.Changes.{given-behind, changed-behind}
@@ -114,29 +129,7 @@ module _ (book : List Entry) (number : ℕ) (text : List ℕ) where
 pub quiet-statements-stand : QuietStatementsStand
 quiet-statements-stand book number text event files idle quiet legal stands = quiet-stands book number text event files idle quiet legal stands
 
--- ---- a change
-
-zero-length : (xs : List ℕ) → (length xs == 0) ≡ true → xs ≡ []
-zero-length [] e = refl
-zero-length (x ∷ xs) e = let none : length (x ∷ xs) ≡ 0 = eqb-true (length (x ∷ xs)) 0 e in absurd (omega (arith, none))
-
--- a place at which a table makes a file has no partition and the first bucket
-made-plain : (o : Option (List ℕ)) (place : Place) (bytes : List ℕ) → cond ((length place.partition == 0) && (place.bucket == 0)) o None ≡ Some bytes
-    → (place.partition ≡ []) × (place.bucket ≡ 0)
-made-plain o place bytes e = by (either (length place.partition == 0)) (either (place.bucket == 0))
-  where
-    no : (b c : Bool) → b && c ≡ false → cond (b && c) o None ≡ Some bytes → ⊥
-    no b c is e = none_is (cond (b && c) o None) bytes (ap (λ x. cond x o None) is) e
-
-    second-false : (b : Bool) → b && false ≡ false
-    second-false true = refl
-    second-false false = refl
-
-    by : (length place.partition == 0 ≡ true) ⊎ (length place.partition == 0 ≡ false) → (place.bucket == 0 ≡ true) ⊎ (place.bucket == 0 ≡ false)
-        → (place.partition ≡ []) × (place.bucket ≡ 0)
-    by (inl p) (inl b) = (zero-length place.partition p, eqb-true place.bucket 0 b)
-    by (inl p) (inr b) = absurd (no (length place.partition == 0) (place.bucket == 0) (ap (λ x. (length place.partition == 0) && x) b ∙ second-false (length place.partition == 0)) e)
-    by (inr p) b = absurd (no (length place.partition == 0) (place.bucket == 0) (ap (λ x. x && (place.bucket == 0)) p) e)
+-- ---- files that are put
 
 put-others : (old : Tree) (place : Place) (bytes : List ℕ) (other : Place) → (other ≡ place → ⊥) → tree.get (tree.insert old place bytes) other ≡ tree.get old other
 put-others old place bytes other apart =
@@ -147,21 +140,89 @@ put-others old place bytes other apart =
     by (inl same) = absurd (apart (same-place other place same))
     by (inr apart) = ap (λ b. cond b (Some bytes) (tree.get old other)) apart
 
--- the file at a place, where there is one
-with-others : (old : Tree) (place : Place) (file : Option (List ℕ)) (other : Place) → (other ≡ place → ⊥) → tree.get (with_file old place file) other ≡ tree.get old other
-with-others old place None other apart = refl
-with-others old place (Some bytes) other apart = put-others old place bytes other apart
-
-with-here : (old : Tree) (place : Place) (file : Option (List ℕ)) → tree.get old place ≡ None → tree.get (with_file old place file) place ≡ file
-with-here old place None bare = bare
-with-here old place (Some bytes) bare =
+put-here : (old : Tree) (place : Place) (bytes : List ℕ) → tree.get (tree.insert old place bytes) place ≡ Some bytes
+put-here old place bytes =
     tree.get-insert place_total old place bytes place ∙ ap (λ b. cond b (Some bytes) (tree.get old place)) (place-tied place)
+
+module _ (k w : ℕ) where
+  -- none of these files is put there
+  abbrev IsElsewhere : Place → OutFile → Type 0
+  IsElsewhere place file = place ≡ place_of_file k w file → ⊥
+
+  all-others : (old : Tree) (outs : List OutFile) (place : Place) → AllByRecursion (IsElsewhere place) outs → tree.get (with_files old k w outs) place ≡ tree.get old place
+  all-others old [] place apart = refl
+  all-others old (file ∷ outs) place apart =
+      all-others (with_file k w old file) outs place apart.1
+      ∙ put-others old (place_of_file k w file) (file_spelling file.deletes file.bucket file.recs) place apart.0
+
+  module _ (small : w < write_end) (deletes : Bool) (partition : List ℕ) (bucket : ℕ) where
+    abbrev key_place : Place
+    key_place = own_place k partition deletes w bucket
+
+    same-key : (file : OutFile) → key_place ≡ place_of_file k w file → IsKeyOf deletes partition bucket file
+    same-key file same =
+        let kinds = own_dir-same file.deletes deletes w 0 w 0 small small (ap (λ (p : Place). p.dir) (sym same)) in
+        record {
+          of_kind = kinds.0;
+          of_part = ap (λ (p : Place). p.partition) (sym same);
+          of_bucket = ap (λ (p : Place). p.bucket) (sym same);
+        }
+
+    apart-key : (file : OutFile) → is_file_of deletes partition bucket file ≡ false → IsElsewhere key_place file
+    apart-key file apart same =
+        let never : true ≡ false = sym (key-file deletes partition bucket file (same-key file same)) ∙ apart in cc
+
+    -- files behind one of that key
+    behind-key : (first : OutFile) (outs : List OutFile) → is_file_of deletes partition bucket first ≡ true → AllByRecursion (λ file. file_cmp first file ≡ Less) outs
+        → AllByRecursion (IsElsewhere key_place) outs
+    behind-key first [] is less = tt
+    behind-key first (file ∷ outs) is less = (
+      λ same.
+          let key = file-key deletes partition bucket first is in
+          let own = same-key file same in
+          let still : is_file_of file.deletes file.partition file.bucket first ≡ true =
+          key-file file.deletes file.partition file.bucket first
+          (record { of_kind = key.of_kind ∙ sym own.of_kind; of_part = key.of_part ∙ sym own.of_part; of_bucket = key.of_bucket ∙ sym own.of_bucket }) in
+          let never : true ≡ false = sym still ∙ less-other first file less.0 in cc,
+      behind-key first outs is less.1,
+    )
+
+    some-file : (recs : List Rec) → 0 < length recs → file_of deletes bucket recs ≡ Some (file_spelling deletes bucket recs)
+    some-file [] some = absurd (omega (arith, some))
+    some-file (r ∷ recs) some = refl
+
+    -- what stands there then has the records of that key
+    all-here : (outs : List OutFile) (old : Tree) → IsStrictlySortedBy file_cmp outs → AllByRecursion (λ (file : OutFile). 0 < length file.recs) outs
+        → tree.get old key_place ≡ None → tree.get (with_files old k w outs) key_place ≡ file_of deletes bucket (recs_at outs deletes partition bucket)
+    unfolding IsStrictlySortedBy
+    all-here [] old up some bare = bare
+    all-here (file ∷ outs) old up some bare = by (either (is_file_of deletes partition bucket file)) (λ none. all-here outs (with_file k w old file) up.1 some.1 none)
+      where
+        by : (is_file_of deletes partition bucket file ≡ true) ⊎ (is_file_of deletes partition bucket file ≡ false)
+            → (tree.get (with_file k w old file) key_place ≡ None
+            → tree.get (with_files (with_file k w old file) k w outs) key_place ≡ file_of deletes bucket (recs_at outs deletes partition bucket))
+            → tree.get (with_files old k w (file ∷ outs)) key_place
+            ≡ file_of deletes bucket (cond (is_file_of deletes partition bucket file) file.recs (recs_at outs deletes partition bucket))
+        by (inl is) rest =
+            let key = file-key deletes partition bucket file is in
+            let there : key_place ≡ place_of_file k w file = λ i. own_place k (sym key.of_part i) (sym key.of_kind i) w (sym key.of_bucket i) in
+            all-others (with_file k w old file) outs key_place (behind-key file outs is up.0)
+            ∙ ap (tree.get (with_file k w old file)) there
+            ∙ put-here old (place_of_file k w file) (file_spelling file.deletes file.bucket file.recs)
+            ∙ (λ i. Some (file_spelling (key.of_kind i) (key.of_bucket i) file.recs))
+            ∙ sym (some-file file.recs some.0)
+            ∙ sym (ap (λ b. file_of deletes bucket (cond b file.recs (recs_at outs deletes partition bucket))) is)
+        by (inr apart) rest =
+            rest (put-others old (place_of_file k w file) (file_spelling file.deletes file.bucket file.recs) key_place (apart-key file apart) ∙ bare)
+            ∙ sym (ap (λ b. file_of deletes bucket (cond b file.recs (recs_at outs deletes partition bucket))) apart)
+
+-- ---- a change
 
 module _ (book : List Entry) (number : ℕ) (text : List ℕ) (said : Stmt) (info : TableInfo) (effect : Effect) (table : Table) (old : Tree)
     (idle : IsIdle (state_of book)) (room : (state_of book).entries + 4 < write_end) (runs : Runs text said) (means : meant book said ≡ Some (Change info effect))
     (at : numbered (state_of book).tables info.table.0 ≡ Some table)
     (legal : IsLegalFrom profile (state_of book) (statement_entries book number text (changing_ends book info effect (length table.owners + 1))))
-    (encoded : IsEncoded (written_by (length table.owners + 1) 0 effect)) (stands : Stands (state_of book) old) where
+    (encoded : IsEncoded info.shape (written_by info.shape (length table.owners + 1) 0 effect)) (stands : Stands (state_of book) old) where
   abbrev st : State
   st = state_of book
 
@@ -175,24 +236,25 @@ module _ (book : List Entry) (number : ℕ) (text : List ℕ) (said : Stmt) (inf
   w = length table.owners + 1
 
   abbrev written : Written
-  written = written_by w 0 effect
+  written = written_by info.shape w 0 effect
 
-  abbrev place_w : Bool → Place
-  place_w deletes = own_place deletes k w
-
-  abbrev first : Tree
-  first = with_file old (place_w false) (commit_file false written)
+  abbrev outs : List OutFile
+  outs = files_of info.shape w 0 effect
 
   abbrev new : Tree
-  new = with_file first (place_w true) (commit_file true written)
+  new = with_files old k w outs
+
+  there : IsOfTables st info effect
+  there = of-tables st said info effect idle.sound means
+
+  -- the table is of the description by which the change was routed
+  same-shape : table.info.shape ≡ info.shape
+  same-shape =
+      ap (λ (t : Table). t.info.shape) (same_one (numbered st.tables k) table there.change.table at there.change.here)
+      ∙ ap (λ (i : TableInfo). i.shape) there.change.info_is
 
   small : w < write_end
   small = let few = all-numbered (HasFewOwners st.entries) st.tables k table at idle.sound.tables.few in omega (arith, few, room)
-
-  kinds-apart : place_w false ≡ place_w true → ⊥
-  kinds-apart same =
-      let kinds = own_dir-same false true w 0 w 0 small small (ap (λ (p : Place). p.dir) same) in
-      let never : false ≡ true = kinds.0 in cc
 
   abbrev meaning_now : Option Meaning
   meaning_now = Some (Change info effect)
@@ -208,7 +270,7 @@ module _ (book : List Entry) (number : ℕ) (text : List ℕ) (said : Stmt) (inf
   given = with_last st (st.entries + 1 + 1 + 1) tables_given t
 
   event : Entry
-  event = committing book (changing info effect ∷ [])
+  event = committing book (touches_of info effect)
 
   started : after (after st (opening book number text)) (starting book) ≡ behind_start st number text meaning_now
   started =
@@ -239,11 +301,11 @@ module _ (book : List Entry) (number : ℕ) (text : List ℕ) (said : Stmt) (inf
   here = changed-here (owned n) st.tables k table at
 
   -- its own directories
-  own : (deletes : Bool) → IsOwn tables_given n (place_w deletes)
-  own deletes = record {
+  own : (file : OutFile) → IsOwn tables_given n (place_of_file k w file)
+  own file = record {
     table = owned n table;
     is = here;
-    deletes = deletes;
+    deletes = file.deletes;
     write = w;
     statement = 0;
     dir = refl;
@@ -254,12 +316,13 @@ module _ (book : List Entry) (number : ℕ) (text : List ℕ) (said : Stmt) (inf
   unended : numbered (map ending_of given.transactions) n ≡ Some None
   unended = numbered-map ending_of given.transactions n ∙ ap (option_map ending_of) (numbered-last st.transactions t)
 
-  stands-put : IsGiven → Stands given new
-  stands-put is =
-      puts-loose given first new (place_w true) is.sound (omega (arith, room)) (record { txn = n; own = own true; unended = unended })
-      (λ other apart. with-others first (place_w true) (commit_file true written) other apart)
-      (puts-loose given old first (place_w false) is.sound (omega (arith, room)) (record { txn = n; own = own false; unended = unended })
-      (λ other apart. with-others old (place_w false) (commit_file false written) other apart) is.stands_old)
+  stands-put : IsGiven → (files : Tree) (more : List OutFile) → Stands given files → Stands given (with_files files k w more)
+  stands-put is files [] before = before
+  stands-put is files (file ∷ more) before =
+      stands-put is (with_file k w files file) more
+      (puts-loose given files (with_file k w files file) (place_of_file k w file) is.sound (omega (arith, room))
+      (record { txn = n; own = own file; unended = unended })
+      (λ other apart. put-others files (place_of_file k w file) (file_spelling file.deletes file.bucket file.recs) other apart) before)
 
   -- no other place is in them
   given-only : (table_number write : ℕ) → given_in table_number ((k, w) ∷ []) ≡ Some write → (table_number ≡ k) × (write ≡ w)
@@ -283,109 +346,99 @@ module _ (book : List Entry) (number : ℕ) (text : List ℕ) (said : Stmt) (inf
   abbrev tables_now : List Table
   tables_now = tables_changed st.tables n k written
 
-  then : after given (committing book (changing info effect ∷ []))
+  then : after given (committing book (touches_of info effect))
       ≡ with_last st (st.entries + 1 + 1 + 1 + 1) tables_now
-      (running st number text meaning_now (writes_of meaning_now 0 ((k, w) ∷ [])) ((k, w) ∷ []) (Some (Committed (st.entries + 1 + 1 + 1) (changing info effect ∷ []))))
-  then = ap (λ x. after x (committing book (changing info effect ∷ []))) (sym (given-behind st number text meaning_now info w)) ∙ changed-behind st number text info effect w
+      (running st number text meaning_now (writes_of meaning_now 0 ((k, w) ∷ [])) ((k, w) ∷ []) (Some (Committed (st.entries + 1 + 1 + 1) (touches_of info effect))))
+  then = ap (λ x. after x (committing book (touches_of info effect))) (sym (given-behind st number text meaning_now info w)) ∙ changed-behind st number text info effect w
 
-  now-at : (place : Place) → place.table.0 ≡ k → made_at tables_now place ≡ made_in (Some (changed_by n written table)) place
+  now-at : (place : Place) → place.table.0 ≡ k → made_at tables_now place ≡ file_in info.shape (table.writes ++ written ∷ []) place
   unfolding made_at
   now-at place of =
       ap (λ ts. made_in (numbered ts place.table.0) place) (tables_changed-once st.tables n k written)
       ∙ ap (λ o. made_in o place) (ap (numbered (changed (changed_by n written) st.tables k)) of ∙ changed-here (changed_by n written) st.tables k table at)
+      ∙ ap (λ (s : Shape). file_in s (table.writes ++ written ∷ []) place) same-shape
 
   -- no earlier write has the name
-  no-earlier : (place : Place) (deletes : Bool) (statement : ℕ) → place.table.0 ≡ k → place.dir ≡ own_dir deletes w statement → place.partition ≡ [] → place.bucket ≡ 0
-      → (bytes : List ℕ) → file_in table.writes place.dir ≡ Some bytes → ⊥
+  no-earlier : (place : Place) (deletes : Bool) (statement : ℕ) → place.table.0 ≡ k → place.dir ≡ own_dir deletes w statement
+      → (bytes : List ℕ) → file_in info.shape table.writes place ≡ Some bytes → ⊥
   unfolding made_at
-  no-earlier place deletes statement of dir whole first_one bytes e =
-      let test : (length place.partition == 0) && (place.bucket == 0) ≡ true =
-      (λ i. (length (whole i) == 0) && (first_one i == 0)) in
+  no-earlier place deletes statement of dir bytes e =
       let made : made_at st.tables place ≡ Some bytes =
       ap (λ o. made_in o place) (ap (numbered st.tables) of ∙ at)
-      ∙ ap (λ b. cond b (file_in table.writes place.dir) None) test ∙ e in
+      ∙ ap (λ (s : Shape). file_in s table.writes place) same-shape ∙ e in
       none_is (tree.get old place) bytes (bare place deletes statement of dir) (stands.made place bytes made)
 
-  made-here : (deletes : Bool) → made_at tables_now (place_w deletes) ≡ commit_file deletes written
-  made-here deletes =
-      now-at (place_w deletes) refl
-      ∙ file-last table.writes written (own_dir deletes w 0)
-      (λ bytes e. no-earlier (place_w deletes) deletes 0 refl refl refl refl bytes e)
-      ∙ made-own written deletes small
+  -- in its own directories stands what it wrote there
+  whole-own : (deletes : Bool) (place : Place) → place.table.0 ≡ k → place.dir ≡ own_dir deletes w 0 → tree.get new place ≡ made_at tables_now place
+  unfolding commit_file
+  whole-own deletes place of dir =
+      let same : place ≡ own_place k place.partition deletes w place.bucket =
+      λ i. record { table = record { 0 = of i }; partition = place.partition; dir = dir i; bucket = place.bucket } in
+      ap (tree.get new) same
+      ∙ all-here k w small deletes place.partition place.bucket outs old (all-files-rise info.shape w 0 effect) (files-have-records info.shape w 0 effect)
+      (bare (own_place k place.partition deletes w place.bucket) deletes 0 refl refl)
+      ∙ ap (file_of deletes place.bucket) (files-have-rows info.shape w 0 effect deletes place.partition place.bucket there.gone.up)
+      ∙ sym (made-own info.shape written deletes place small dir)
+      ∙ sym (now-at place of ∙ file-last info.shape table.writes written place (no-earlier place deletes 0 of dir))
 
-  put-here : (deletes : Bool) → tree.get new (place_w deletes) ≡ commit_file deletes written
-  put-here false =
-      with-others first (place_w true) (commit_file true written) (place_w false) kinds-apart
-      ∙ with-here old (place_w false) (commit_file false written) (bare (place_w false) false 0 refl refl)
-  put-here true =
-      with-here first (place_w true) (commit_file true written)
-      (with-others old (place_w false) (commit_file false written) (place_w true) (λ same. kinds-apart (sym same)) ∙ bare (place_w true) true 0 refl refl)
+  -- no file is put elsewhere
+  elsewhere : (place : Place) → ((deletes : Bool) → place.dir ≡ own_dir deletes w 0 → ⊥) → (more : List OutFile) → AllByRecursion (IsElsewhere k w place) more
+  elsewhere place apart [] = tt
+  elsewhere place apart (file ∷ more) = (λ same. apart file.deletes (ap (λ (p : Place). p.dir) same), elsewhere place apart more)
+
+  whole-other : (place : Place) (deletes : Bool) (statement : ℕ) → place.table.0 ≡ k → place.dir ≡ own_dir deletes w statement
+      → ((kind : Bool) → place.dir ≡ own_dir kind w 0 → ⊥) → tree.get new place ≡ made_at tables_now place
+  whole-other place deletes statement of dir apart =
+      all-others k w old outs place (elsewhere place apart outs) ∙ bare place deletes statement of dir ∙ sym (unmade (made_at tables_now place) refl)
+    where
+      unmade : (x : Option (List ℕ)) → made_at tables_now place ≡ x → made_at tables_now place ≡ None
+      unmade None e = e
+      unmade (Some bytes) e = or (file-or-last info.shape table.writes written place bytes (sym (now-at place of) ∙ e))
+        where
+          or : (file_in info.shape table.writes place ≡ Some bytes) ⊎ (file_at info.shape written place ≡ Some bytes) → made_at tables_now place ≡ None
+          or (inl earlier) = absurd (no-earlier place deletes statement of dir bytes earlier)
+          or (inr last) = let made = made-by info.shape written place bytes last in absurd (apart made.deletes made.dir_is)
 
   whole-at : IsGiven → (place : Place) → IsOwn tables_given n place → tree.get new place ≡ made_at tables_now place
-  whole-at is place o = by (either (eq_by_cmp place_cmp place (place_w false))) (either (eq_by_cmp place_cmp place (place_w true)))
+  whole-at is place o = by (either (pointwise nat_eq (own_dir false w 0) place.dir)) (either (pointwise nat_eq (own_dir true w 0) place.dir))
     where
       both : (place.table.0 ≡ k) × (o.write ≡ w)
       both = own-is is place o
 
-      dir : place.dir ≡ own_dir o.deletes w o.statement
-      dir = o.dir ∙ ap (λ x. own_dir o.deletes x o.statement) both.1
-
-      at-own : (deletes : Bool) → place ≡ place_w deletes → tree.get new place ≡ made_at tables_now place
-      at-own deletes same = ap (tree.get new) same ∙ put-here deletes ∙ sym (ap (made_at tables_now) same ∙ made-here deletes)
-
-      by : (eq_by_cmp place_cmp place (place_w false) ≡ true) ⊎ (eq_by_cmp place_cmp place (place_w false) ≡ false)
-          → (eq_by_cmp place_cmp place (place_w true) ≡ true) ⊎ (eq_by_cmp place_cmp place (place_w true) ≡ false)
+      by : (pointwise nat_eq (own_dir false w 0) place.dir ≡ true) ⊎ (pointwise nat_eq (own_dir false w 0) place.dir ≡ false)
+          → (pointwise nat_eq (own_dir true w 0) place.dir ≡ true) ⊎ (pointwise nat_eq (own_dir true w 0) place.dir ≡ false)
           → tree.get new place ≡ made_at tables_now place
-      by (inl same) second = at-own false (same-place place (place_w false) same)
-      by (inr apart) (inl same) = at-own true (same-place place (place_w true) same)
-      by (inr apart) (inr apart_too) =
-          with-others first (place_w true) (commit_file true written) place (other true)
-          ∙ with-others old (place_w false) (commit_file false written) place (other false)
-          ∙ bare place o.deletes o.statement both.0 dir ∙ sym (unmade (made_at tables_now place) refl)
+      by (inl same) second = whole-own false place both.0 (same-dir false w place.dir same)
+      by (inr first) (inl same) = whole-own true place both.0 (same-dir true w place.dir same)
+      by (inr first) (inr second) =
+          whole-other place o.deletes o.statement both.0 (o.dir ∙ ap (λ x. own_dir o.deletes x o.statement) both.1) apart
         where
-          other : (deletes : Bool) → place ≡ place_w deletes → ⊥
-          other false same = other-place place (place_w false) apart same
-          other true same = other-place place (place_w true) apart_too same
+          differs : (kind : Bool) → pointwise nat_eq (own_dir kind w 0) place.dir ≡ false → place.dir ≡ own_dir kind w 0 → ⊥
+          differs kind none same =
+              let never : true ≡ false = sym (dir-tied kind w) ∙ ap (pointwise nat_eq (own_dir kind w 0)) (sym same) ∙ none in cc
 
-          unmade : (x : Option (List ℕ)) → made_at tables_now place ≡ x → made_at tables_now place ≡ None
-          unmade None e = e
-          unmade (Some bytes) e =
-              let made : made_in (Some (changed_by n written table)) place ≡ Some bytes = sym (now-at place both.0) ∙ e in
-              let plain = made-plain (file_in (table.writes ++ written ∷ []) place.dir) place bytes made in
-              or plain (file-or-last table.writes written place.dir bytes (made-file (changed_by n written table) place bytes made))
-            where
-              or : (place.partition ≡ []) × (place.bucket ≡ 0) → (file_in table.writes place.dir ≡ Some bytes) ⊎ (file_at written place.dir ≡ Some bytes)
-                  → made_at tables_now place ≡ None
-              or plain (inl earlier) = absurd (no-earlier place o.deletes o.statement both.0 dir plain.0 plain.1 bytes earlier)
-              or plain (inr last) =
-                  let is_made = made-by written place.dir bytes last in
-                  let same : place ≡ place_w is_made.deletes =
-                  λ i. record {
-                    table = record { 0 = both.0 i };
-                    partition = plain.0 i;
-                    dir = is_made.dir_is i;
-                    bucket = plain.1 i;
-                  } in
-                  absurd (other is_made.deletes same)
+          apart : (kind : Bool) → place.dir ≡ own_dir kind w 0 → ⊥
+          apart false same = differs false first same
+          apart true same = differs true second same
 
   all-encoded : AllByRecursion AreEncoded tables_now
   all-encoded =
       subst (AllByRecursion AreEncoded) (sym (tables_changed-once st.tables n k written))
       (all-changed AreEncoded AreEncoded (changed_by n written) st.tables k table at (λ t h. h)
-      (λ h. all-more IsEncoded table.writes written h encoded) stands.encoded)
+      (λ h. all-more (IsEncoded table.info.shape) table.writes written h (subst (λ (s : Shape). IsEncoded s written) (sym same-shape) encoded)) stands.encoded)
 
   changed-stand : Stands (state_of (book ++ statement_entries book number text (changing_ends book info effect w))) new
   changed-stand =
       let is = is-given in
-      let fits : Fits profile given (committing book (changing info effect ∷ [])) = subst (λ x. Fits profile x (committing book (changing info effect ∷ []))) gave legal.fit.1.1.1.0 in
-      let filed : IsFiled (committing book (changing info effect ∷ [])) given new = record {
+      let fits : Fits profile given (committing book (touches_of info effect)) = subst (λ x. Fits profile x (committing book (touches_of info effect))) gave legal.fit.1.1.1.0 in
+      let filed : IsFiled (committing book (touches_of info effect)) given new = record {
         whole = λ place o. whole-at is place o ∙ ap (λ (x : State). made_at x.tables place) (sym then);
         encoded = subst (λ (x : State). AllByRecursion AreEncoded x.tables) (sym then) all-encoded;
       } in
       subst (λ x. Stands x new)
       (sym (fold-append after nothing_yet book (statement_entries book number text (changing_ends book info effect w))
-      ∙ ap (λ x. after x (committing book (changing info effect ∷ []))) gave))
-      (stands-after profile given (committing book (changing info effect ∷ [])) new fits is.sound filed (stands-put is))
+      ∙ ap (λ x. after x (committing book (touches_of info effect))) gave))
+      (stands-after profile given (committing book (touches_of info effect)) new fits is.sound filed (stands-put is old outs is.stands_old))
 
 pub changed-files-stand : ChangedFilesStand
 changed-files-stand book number text said info effect table old idle room runs means at legal encoded stands =

@@ -1,5 +1,5 @@
 -- The table that a statement names is one of the book's, and what a statement sees of it is what stands there.
-use Rattle.std.proofs.Common.{refl, ◌≡◌, ℕ, suc, ◌+◌, nat_eq, Bool, true, false, cond, IsTrue, Option, Some, None, List, [], ◌∷◌, map, filter, option_map, sym, ap, ◌∙◌, subst, arith, ◌≤◌, length}
+use Rattle.std.proofs.Common.{refl, ◌≡◌, ℕ, suc, ◌+◌, nat_eq, Bool, true, false, cond, IsTrue, Option, Some, None, List, [], ◌∷◌, map, filter, option_map, sym, ap, ◌∙◌, subst, arith}
 use Rattle.std.specs.Cmp.Lexicographic.{pointwise}
 use Rattle.std.specs.List.{slice_get, AllByRecursion}
 use Rattle.hv_ast.specs.declared.statement.Stmt.{Stmt}
@@ -9,12 +9,13 @@ use Rattle.hv_logic.specs.declared.seen.Seen.{Seen}
 use Rattle.hv_logic.specs.declared.meaning.Meaning.TheVariants.{Change}
 use Rattle.hv_logic.specs.Tables.{named}
 use Rattle.hv_meaning.specs.Meaning.{meaning_of}
+use Rattle.hv_meaning.specs.Laws.{FitsTable}
 use Rattle.hv_history.specs.declared.state.Table.{Table}
 use Rattle.hv_history.specs.State.{state_of, numbered, content_of, seen_table, seen_tables}
-use Rattle.hv_stands.specs.Sound.{IsLive, NumberedFrom}
+use Rattle.hv_stands.specs.Sound.{IsLive, NumberedFrom, HasAllValues}
 use Rattle.hv_stands.specs.Reading.{table_of_name}
 use Rattle.hv_stands.specs.Laws.{ChangedTableStands}
-use Rattle.hv_stands.proofs.Meanings.{ArePicked, changes-seen}
+use Rattle.hv_stands.proofs.Meanings.{ArePicked, ChangesLive, changes-seen}
 
 -- ---- all tables are seen
 
@@ -89,26 +90,29 @@ pub record ChangesTable (tables : List Table) (info : TableInfo) (effect : Effec
   pub here : numbered tables info.table.0 ≡ Some table
   pub info_is : table.info ≡ info
   pub deletes : ArePicked (content_of table.writes) effect.deletes
+  pub whole : AllByRecursion (HasAllValues info.shape) effect.inserts
+  pub fits : FitsTable info effect
 
 module _ (tables : List Table) (live : AllByRecursion IsLive tables) (order : NumberedFrom 1 tables) (info : TableInfo) (effect : Effect) where
-  found-table : (name : List ℕ) (o : Option Table) (seen : Seen) → table_of_name name tables ≡ o → option_map seen_table o ≡ Some seen
-      → info ≡ seen.info → ArePicked seen.rows effect.deletes → ChangesTable tables info effect
-  found-table name None seen found e same part = cc
-  found-table name (Some table) seen found e same part =
-      let is : seen_table table ≡ seen = cc in
-      let own : table.info ≡ info = ap (λ (s : Seen). s.info) is ∙ sym same in
+  found-table : (all : List Seen) (change : ChangesLive all info effect) (o : Option Table) → table_of_name change.name tables ≡ o
+      → option_map seen_table o ≡ Some change.seen → ChangesTable tables info effect
+  found-table all change None found e = cc
+  found-table all change (Some table) found e =
+      let is : seen_table table ≡ change.seen = cc in
+      let own : table.info ≡ info = ap (λ (s : Seen). s.info) is ∙ sym change.info_is in
       record {
         table = table;
-        here = ap (λ (i : TableInfo). numbered tables i.table.0) (sym own) ∙ named-numbered name tables table order found;
+        here = ap (λ (i : TableInfo). numbered tables i.table.0) (sym own) ∙ named-numbered change.name tables table order found;
         info_is = own;
-        deletes = subst (λ (s : Seen). ArePicked s.rows effect.deletes) (sym is) part;
+        deletes = subst (λ (s : Seen). ArePicked s.rows effect.deletes) (sym is) change.deletes;
+        whole = change.whole;
+        fits = change.fits;
       }
 
   pub changes-table : (tree : Stmt) → meaning_of (seen_tables tables) tree ≡ Some (Change info effect) → ChangesTable tables info effect
   changes-table tree e =
       let change = changes-seen tree (seen_tables tables) info effect e in
-      found-table change.name (table_of_name change.name tables) change.seen refl
-      (sym (named-seen change.name tables live) ∙ change.here) change.info_is change.deletes
+      found-table (seen_tables tables) change (table_of_name change.name tables) refl (sym (named-seen change.name tables live) ∙ change.here)
 
 pub changed-table : ChangedTableStands
 changed-table book tree info effect idle e =

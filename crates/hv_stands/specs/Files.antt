@@ -1,17 +1,19 @@
--- Which files a history makes: each commit that inserted rows has one in its own delta, and each that deleted rows one in
--- its own delete delta; and which may stand beside.
--- Source: Hive Transactions, base and delta directories. Built so far: unpartitioned, unbucketed tables, and
--- transactions of one statement.
-use Rattle.std.specs.Prelude.{◌≡◌, ℕ, ◌==◌, ◌&&◌, Bool, true, false, IsFalse, if◌then◌else◌, nat_eq, Option, Some, None, List, [], ◌∷◌, length, map}
+-- Which files a history makes: each commit has one in its own delta for each partition and bucket in which it inserted rows,
+-- and one in its own delete delta for each in which it deleted rows; and which may stand beside.
+-- Source: Hive Transactions, base and delta directories. Built so far: transactions of one statement.
+use Rattle.std.specs.Prelude.{◌≡◌, ℕ, ◌==◌, Bool, true, false, IsFalse, if◌then◌else◌, nat_eq, Option, Some, None, List, [], ◌∷◌, map, fold}
 use Rattle.std.specs.List.{list_any, AllByRecursion}
 use Rattle.std.specs.Cmp.Lexicographic.{pointwise}
 use Rattle.std.specs.FinMap as tree
 use Rattle.hv_shelf.specs.declared.place.Place.{Place}
 use Rattle.hv_shelf.specs.Disk.{Tree}
+use Rattle.hv_logic.specs.declared.catalog.Shape.{Shape}
 use Rattle.hv_logic.specs.declared.effect.Found.{Found}
+use Rattle.hv_route.specs.Standing.{records_in_place}
+use Rattle.hv_route.specs.declared.files.OutFile.{OutFile}
 use Rattle.hv_rowfile.specs.declared.record.Rec.{Rec}
-use Rattle.hv_rowfile.specs.declared.record.Rec.TheVariants.{Insert, Delete}
 use Rattle.hv_rowfile.specs.Layout.{IsFile, file_spelling}
+use Rattle.hv_meaning.specs.Laws.{SaysParts}
 use Rattle.hv_history.specs.declared.entry.Entry.{Entry}
 use Rattle.hv_history.specs.declared.entry.Entry.TheVariants as entry
 use Rattle.hv_history.specs.declared.state.Ending.{Ending}
@@ -23,30 +25,29 @@ use Rattle.hv_history.specs.State.{State, first_known, numbered, after}
 use Rattle.hv_dirs.specs.declared.names.DirName.TheVariants.{Own}
 use Rattle.hv_dirs.specs.Names.{text_of}
 
--- ---- what a commit writes, by kind: the rows that it inserted, or those that it deleted
+-- ---- what a commit writes in a partition and bucket, by kind: the rows that it inserted there, or those that it deleted
 
-abbrev pub insert_record : Found → Rec
-insert_record found = Insert found.id found.row
+abbrev pub records_of : Shape → Bool → List ℕ → ℕ → Written → List Rec
+records_of shape deletes partition bucket written =
+    records_in_place shape written.write deletes partition bucket written.inserts written.deletes
 
-abbrev pub delete_record : ℕ → Found → Rec
-delete_record write found = Delete found.id (record { 0 = write })
+-- the file of these records in a bucket; without records there is none
+abbrev pub file_of : Bool → ℕ → List Rec → Option (List ℕ)
+file_of deletes bucket [] = None
+file_of deletes bucket (r ∷ recs) = Some (file_spelling deletes bucket (r ∷ recs))
 
-abbrev pub records_of : Bool → Written → List Rec
-records_of false written = map insert_record written.inserts
-records_of true written = map (delete_record written.write) written.deletes
+unfoldable pub commit_file : Shape → Bool → List ℕ → ℕ → Written → Option (List ℕ)
+commit_file shape deletes partition bucket written = file_of deletes bucket (records_of shape deletes partition bucket written)
 
--- the file of these records; without records there is none
-abbrev pub file_of : Bool → List Rec → Option (List ℕ)
-file_of deletes [] = None
-file_of deletes (r ∷ recs) = Some (file_spelling deletes 0 (r ∷ recs))
+-- these records have a file, where there are some
+abbrev pub CanStand : Bool → ℕ → List Rec → Type 0
+CanStand deletes bucket [] = Unit {0}
+CanStand deletes bucket (r ∷ recs) = IsFile deletes bucket (r ∷ recs)
 
-unfoldable pub commit_file : Bool → Written → Option (List ℕ)
-commit_file deletes written = file_of deletes (records_of deletes written)
-
--- what stands at a place is the file of these records
-pub record HasRecords (deletes : Bool) (recs : List Rec) (file : Option (List ℕ)) : Type 0 where
-  pub encoded : IsFile deletes 0 recs
-  pub file_is : file ≡ file_of deletes recs
+-- what stands at a place of that bucket is the file of these records
+pub record HasRecords (deletes : Bool) (bucket : ℕ) (recs : List Rec) (file : Option (List ℕ)) : Type 0 where
+  pub encoded : CanStand deletes bucket recs
+  pub file_is : file ≡ file_of deletes bucket recs
 
 -- ---- where it stands
 
@@ -54,25 +55,25 @@ pub record HasRecords (deletes : Bool) (recs : List Rec) (file : Option (List �
 abbrev pub own_dir : Bool → ℕ → ℕ → List ℕ
 own_dir deletes write statement = text_of (Own deletes (record { 0 = write }) statement)
 
-abbrev pub own_place : Bool → ℕ → ℕ → Place
-own_place deletes table write =
-    record { table = record { 0 = table }; partition = []; dir = own_dir deletes write 0; bucket = 0 }
+abbrev pub own_place : ℕ → List ℕ → Bool → ℕ → ℕ → Place
+own_place table partition deletes write bucket =
+    record { table = record { 0 = table }; partition = partition; dir = own_dir deletes write 0; bucket = bucket }
 
--- the file that a commit makes in the directory of that name
-abbrev pub file_at : Written → List ℕ → Option (List ℕ)
-file_at written dir =
-    if pointwise nat_eq (own_dir false written.write 0) dir then commit_file false written
-    else if pointwise nat_eq (own_dir true written.write 0) dir then commit_file true written else None
+-- the file that a commit makes at a place
+abbrev pub file_at : Shape → Written → Place → Option (List ℕ)
+file_at shape written place =
+    if pointwise nat_eq (own_dir false written.write 0) place.dir then commit_file shape false place.partition place.bucket written
+    else if pointwise nat_eq (own_dir true written.write 0) place.dir then commit_file shape true place.partition place.bucket written
+    else None
 
 -- that of the first commit that makes one there
-abbrev pub file_in : List Written → List ℕ → Option (List ℕ)
-file_in [] dir = None
-file_in (written ∷ writes) dir = first_known (file_at written dir) (file_in writes dir)
+abbrev pub file_in : Shape → List Written → Place → Option (List ℕ)
+file_in shape [] place = None
+file_in shape (written ∷ writes) place = first_known (file_at shape written place) (file_in shape writes place)
 
 abbrev pub made_in : Option Table → Place → Option (List ℕ)
 made_in None place = None
-made_in (Some table) place =
-    if (length place.partition == 0) && (place.bucket == 0) then file_in table.writes place.dir else None
+made_in (Some table) place = file_in table.info.shape table.writes place
 
 -- the file that the tables' commits make at a place
 unfoldable pub made_at : List Table → Place → Option (List ℕ)
@@ -106,12 +107,17 @@ pub record IsLoose (state : State) (place : Place) : Type 0 where
   pub own : IsOwn state.tables txn place
   pub undone : IsUndone (numbered (map ending_of state.transactions) txn)
 
--- what was written can be read again
-abbrev pub IsEncoded : Written → Type 0
-IsEncoded written = (deletes : Bool) → IsFile deletes 0 (records_of deletes written)
+-- the text of its partition says the row's values of the partition columns, which its file doesn't keep
+abbrev pub IsSaid : Shape → Found → Type 0
+IsSaid shape found = SaysParts shape found.row
+
+-- what was written can be read again, from its files and the texts of its partitions
+pub record IsEncoded (shape : Shape) (written : Written) : Type 0 where
+  pub files : (deletes : Bool) (partition : List ℕ) (bucket : ℕ) → CanStand deletes bucket (records_of shape deletes partition bucket written)
+  pub said : AllByRecursion (IsSaid shape) written.inserts
 
 abbrev pub AreEncoded : Table → Type 0
-AreEncoded table = AllByRecursion IsEncoded table.writes
+AreEncoded table = AllByRecursion (IsEncoded table.info.shape) table.writes
 
 -- Each file that the history makes stands. Every other place is loose, and may hold anything: a write may have failed
 -- there, or a run may have stopped before its commit.
@@ -123,15 +129,16 @@ pub record Stands (state : State) (files : Tree) : Type 0 where
 -- ---- files that are put
 
 -- the file at a place, where there is one
-abbrev pub with_file : Tree → Place → Option (List ℕ) → Tree
-with_file files place None = files
-with_file files place (Some bytes) = tree.insert files place bytes
+abbrev pub place_of_file : ℕ → ℕ → OutFile → Place
+place_of_file table write file = own_place table file.partition file.deletes write file.bucket
 
--- the files of a commit in a table: what it inserted, and then what it deleted
-abbrev pub with_files : Tree → ℕ → Written → Tree
-with_files files table written =
-    with_file (with_file files (own_place false table written.write) (commit_file false written))
-    (own_place true table written.write) (commit_file true written)
+abbrev pub with_file : ℕ → ℕ → Tree → OutFile → Tree
+with_file table write files file =
+    tree.insert files (place_of_file table write file) (file_spelling file.deletes file.bucket file.recs)
+
+-- the files of a change in a table under a write id, put one after another
+abbrev pub with_files : Tree → ℕ → ℕ → List OutFile → Tree
+with_files files table write outs = fold (with_file table write) files outs
 
 -- ---- what an entry asks of the files: one that ends a transaction as committed, that its own directories have what is
 -- made there then, and no more

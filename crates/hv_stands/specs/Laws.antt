@@ -7,7 +7,6 @@ use Rattle.hv_base.specs.declared.ids.Limits.{Limits}
 use Rattle.hv_shelf.specs.declared.place.Place.{Place}
 use Rattle.hv_shelf.specs.Disk.{Tree}
 use Rattle.hv_ast.specs.declared.statement.Stmt.{Stmt}
-use Rattle.hv_built.specs.Built.{IsBuilt}
 use Rattle.hv_built.specs.Running.{Runs}
 use Rattle.hv_value.specs.declared.row.Row.{Row}
 use Rattle.hv_logic.specs.declared.catalog.Shape.{Shape}
@@ -17,21 +16,25 @@ use Rattle.hv_logic.specs.declared.meaning.Meaning.{Meaning}
 use Rattle.hv_logic.specs.declared.meaning.Meaning.TheVariants.{Listing, Change, Make, Plain, RowLimit, PartitionLimit}
 use Rattle.hv_changes.specs.Columns.{columns_of}
 use Rattle.hv_meaning.specs.Meaning.{meaning_in, meaning_of}
-use Rattle.hv_rowfile.specs.Layout.{CanWrite}
+use Rattle.hv_route.specs.Back.{AreHeld}
+use Rattle.hv_route.specs.Routes.{files_of}
+use Rattle.hv_route.specs.Touching.{touches_of}
+use Rattle.hv_route.specs.declared.files.OutFile.{OutFile}
+use Rattle.hv_rowfile.specs.Layout.{CanWrite, IsFile}
 use Rattle.hv_history.specs.declared.entry.Entry.{Entry}
 use Rattle.hv_history.specs.declared.entry.Entry.TheVariants as entry
 use Rattle.hv_history.specs.declared.entry.Cause.{Cause}
 use Rattle.hv_history.specs.declared.entry.Cause.TheVariants as cause
 use Rattle.hv_history.specs.declared.state.Written.{Written}
 use Rattle.hv_history.specs.declared.state.Table.{Table}
-use Rattle.hv_history.specs.State.{State, after, state_of, numbered, changed, seen_tables, content_of, written_by, written_to, owned, new_table}
+use Rattle.hv_history.specs.State.{State, after, state_of, numbered, changed, seen_tables, written_by, written_to, owned, new_table}
 use Rattle.hv_history.specs.Legal.{IsRefusedAs, Fits, IsLegalFrom, profile}
 use Rattle.hv_history.specs.Answers.{listing, counts_line, ok_line, cause_text}
 use Rattle.hv_dirs.specs.Names.{write_end}
-use Rattle.hv_stands.specs.Files.{records_of, HasRecords, own_dir, own_place, ending_of, IsOwn, IsEncoded, IsFiled, Stands, with_files}
-use Rattle.hv_stands.specs.Sound.{IsSound, IsIdle, HasSoundWrites}
+use Rattle.hv_stands.specs.Files.{records_of, HasRecords, own_dir, own_place, ending_of, IsOwn, IsSaid, IsEncoded, IsFiled, Stands, with_files}
+use Rattle.hv_stands.specs.Sound.{IsSound, IsIdle}
 use Rattle.hv_stands.specs.Endings.{next_number, statement_entries, HasSpace, Goes}
-use Rattle.hv_stands.specs.Reading.{rows_read, IsRead, seen_read}
+use Rattle.hv_stands.specs.Reading.{seen_read}
 
 -- what a statement of this tree comes to behind a book
 abbrev pub meant : List Entry → Stmt → Option Meaning
@@ -90,25 +93,23 @@ TablesAreMade =
 abbrev pub tables_changed : List Table → ℕ → ℕ → Written → List Table
 tables_changed tables txn number written = changed (written_to written) (changed (owned txn) tables number) number
 
-abbrev pub changing : TableInfo → Effect → Touch
-changing info effect =
-    record { table = info.table; partition = []; inserted = length effect.inserts; deleted = length effect.deletes }
-
 -- how many rows it inserts and deletes
 abbrev pub changes_in : Effect → ℕ
 changes_in effect = length effect.inserts + length effect.deletes
+
+-- the entries that end a change under this write id
+abbrev pub changing_ends : List Entry → TableInfo → Effect → ℕ → List Entry
+changing_ends book info effect write =
+    entry.Given (record { 0 = next_number book }) info.table (record { 0 = write }) ∷ committing book (touches_of info effect) ∷ []
 
 abbrev pub RowsAreChanged : Type 0
 RowsAreChanged =
     (book : List Entry) (number : ℕ) (text : List ℕ) (tree : Stmt) (info : TableInfo) (effect : Effect) (table : Table)
     → IsIdle (state_of book) → HasSpace book → Runs text tree → meant book tree ≡ Some (Change info effect) → 0 < changes_in effect
     → numbered (state_of book).tables info.table.0 ≡ Some table
-    → Goes book
-    (statement_entries book number text
-    (entry.Given (record { 0 = next_number book }) info.table (record { 0 = length table.owners + 1 })
-    ∷ committing book (changing info effect ∷ []) ∷ []))
-    number text (counts_line (changing info effect ∷ [])) false
-    (tables_changed (state_of book).tables (next_number book) info.table.0 (written_by (length table.owners + 1) 0 effect))
+    → Goes book (statement_entries book number text (changing_ends book info effect (length table.owners + 1)))
+    number text (counts_line (touches_of info effect)) false
+    (tables_changed (state_of book).tables (next_number book) info.table.0 (written_by info.shape (length table.owners + 1) 0 effect))
 
 -- where no row is inserted or deleted no write id is given
 abbrev pub NothingIsChanged : Type 0
@@ -120,13 +121,29 @@ NothingIsChanged =
 
 -- ---- rows and files
 
+-- the records of a file can be written as one
+abbrev pub CanBeFile : OutFile → Type 0
+CanBeFile file = CanWrite file.deletes file.bucket file.recs
+
 -- what a statement inserts and what it deletes can be written as files
 abbrev pub ChangesCanBeWritten : Type 0
 ChangesCanBeWritten =
-    (book : List Entry) (tree : Stmt) (info : TableInfo) (effect : Effect) (write : ℕ) (deletes : Bool)
+    (book : List Entry) (tree : Stmt) (info : TableInfo) (effect : Effect) (write : ℕ)
     → IsIdle (state_of book) → meant book tree ≡ Some (Change info effect) → 1 ≤ write
     → length (columns_of info.shape) ≤ 65535
-    → CanWrite deletes 0 (records_of deletes (written_by write 0 effect))
+    → AllByRecursion CanBeFile (files_of info.shape write 0 effect)
+
+-- its records are those of a file
+abbrev pub HasFile : OutFile → Type 0
+HasFile file = IsFile file.deletes file.bucket file.recs
+
+-- where its files are files and its values are those that the code's types hold, a change can be read again
+abbrev pub WrittenChangesAreEncoded : Type 0
+WrittenChangesAreEncoded =
+    (book : List Entry) (tree : Stmt) (info : TableInfo) (effect : Effect) (write : ℕ)
+    → IsIdle (state_of book) → meant book tree ≡ Some (Change info effect)
+    → AllByRecursion HasFile (files_of info.shape write 0 effect) → AreHeld effect.inserts
+    → IsEncoded info.shape (written_by info.shape write 0 effect)
 
 -- the table of a change is one of the book's
 abbrev pub ChangedTableStands : Type 0
@@ -134,13 +151,6 @@ ChangedTableStands =
     (book : List Entry) (tree : Stmt) (info : TableInfo) (effect : Effect)
     → IsIdle (state_of book) → meant book tree ≡ Some (Change info effect)
     → (table : Table) × (numbered (state_of book).tables info.table.0 ≡ Some table) × (table.info ≡ info)
-
--- the rows of a table's write ids, one after another, without those that were deleted under them, are those that stand in
--- it, in their order
-abbrev pub ReadRowsAreContent : Type 0
-ReadRowsAreContent =
-    (lost : List ℕ) (given : ℕ) (table : Table) → HasSoundWrites table → AllByRecursion (IsRead lost given) table.writes
-    → rows_read lost table.writes given ≡ content_of table.writes
 
 -- a statement means the same over the tables that it names, with their rows where it reads rows
 abbrev pub ReadingIsEnough : Type 0
@@ -186,16 +196,19 @@ NewIdsHaveNoFile =
     → IsSound state → state.entries + 1 < write_end → Stands state files → numbered state.tables place.table.0 ≡ Some table
     → place.dir ≡ own_dir deletes (length table.owners + 1) statement → tree.get files place ≡ None
 
-abbrev pub HasItsFiles : Tree → ℕ → Written → Type 0
-HasItsFiles files table written =
-    (deletes : Bool) → HasRecords deletes (records_of deletes written) (tree.get files (own_place deletes table written.write))
+-- of every kind, partition and bucket; and the texts of its partitions say its rows
+pub record HasItsFiles (files : Tree) (number : ℕ) (shape : Shape) (written : Written) : Type 0 where
+  pub each : (deletes : Bool) (partition : List ℕ) (bucket : ℕ)
+      → HasRecords deletes bucket (records_of shape deletes partition bucket written)
+      (tree.get files (own_place number partition deletes written.write bucket))
+  pub said : AllByRecursion (IsSaid shape) written.inserts
 
 -- what the write ids of committed transactions show is what was committed
 abbrev pub CommitsHaveFiles : Type 0
 CommitsHaveFiles =
     (state : State) (files : Tree) (number : ℕ) (table : Table)
     → IsSound state → state.entries < write_end → Stands state files → numbered state.tables number ≡ Some table
-    → AllByRecursion (HasItsFiles files number) table.writes
+    → AllByRecursion (HasItsFiles files number table.info.shape) table.writes
 
 -- ---- of a statement: the files that stood stand, with those of what it inserts and deletes
 
@@ -212,18 +225,13 @@ QuietStatementsStand =
     → IsIdle (state_of book) → IsQuiet book event → IsLegalFrom profile (state_of book) (statement_entries book number text (event ∷ []))
     → Stands (state_of book) files → Stands (state_of (book ++ statement_entries book number text (event ∷ []))) files
 
--- the entries that end this change
-abbrev pub changing_ends : List Entry → TableInfo → Effect → ℕ → List Entry
-changing_ends book info effect write =
-    entry.Given (record { 0 = next_number book }) info.table (record { 0 = write }) ∷ committing book (changing info effect ∷ []) ∷ []
-
 abbrev pub ChangedFilesStand : Type 0
 ChangedFilesStand =
     (book : List Entry) (number : ℕ) (text : List ℕ) (said : Stmt) (info : TableInfo) (effect : Effect) (table : Table) (old : Tree)
     → IsIdle (state_of book) → (state_of book).entries + 4 < write_end → Runs text said → meant book said ≡ Some (Change info effect)
     → numbered (state_of book).tables info.table.0 ≡ Some table
     → IsLegalFrom profile (state_of book) (statement_entries book number text (changing_ends book info effect (length table.owners + 1)))
-    → IsEncoded (written_by (length table.owners + 1) 0 effect)
+    → IsEncoded info.shape (written_by info.shape (length table.owners + 1) 0 effect)
     → Stands (state_of book) old
     → Stands (state_of (book ++ statement_entries book number text (changing_ends book info effect (length table.owners + 1))))
-    (with_files old info.table.0 (written_by (length table.owners + 1) 0 effect))
+    (with_files old info.table.0 (length table.owners + 1) (files_of info.shape (length table.owners + 1) 0 effect))

@@ -3,17 +3,24 @@
 -- committed. Between two statements of one thread no transaction is open beside.
 use Rattle.std.specs.Prelude.{◌≡◌, ◌≢◌, ℕ, ◌+◌, ◌<◌, ◌≤◌, IsTrue, IsFalse, Option, Some, None, List, [], ◌∷◌, length, map}
 use Rattle.std.specs.List.{AllByRecursion}
+use Rattle.std.specs.List.Sorted.{IsStrictlySortedBy}
 use Rattle.hv_value.specs.declared.row.Row.{Row}
-use Rattle.hv_logic.specs.declared.effect.Found.{Found}
+use Rattle.hv_logic.specs.declared.catalog.Shape.{Shape}
+use Rattle.hv_logic.specs.declared.catalog.TableInfo.{TableInfo}
+use Rattle.hv_logic.specs.declared.effect.Effect.{Effect}
 use Rattle.hv_logic.specs.declared.meaning.Meaning.{Meaning}
 use Rattle.hv_logic.specs.declared.meaning.Meaning.TheVariants.{Change}
+use Rattle.hv_logic.specs.Rows.{found_cmp}
+use Rattle.hv_changes.specs.Columns.{columns_of}
+use Rattle.hv_route.specs.Back.{AreFlat}
+use Rattle.hv_route.specs.Routes.{numbered_rows}
 use Rattle.hv_history.specs.declared.state.Written.{Written}
 use Rattle.hv_history.specs.declared.state.Statement.{Statement}
 use Rattle.hv_history.specs.declared.state.Table.{Table}
 use Rattle.hv_history.specs.declared.state.Ending.{Ending}
 use Rattle.hv_history.specs.declared.state.Ending.TheVariants.{Committed}
 use Rattle.hv_history.specs.declared.state.Transaction.{Transaction}
-use Rattle.hv_history.specs.State.{State, numbered, given_in, numbered_from}
+use Rattle.hv_history.specs.State.{State, numbered, given_in}
 use Rattle.hv_history.specs.Legal.{is_open, IsStatement}
 use Rattle.hv_stands.specs.Files.{ending_of}
 
@@ -28,16 +35,19 @@ abbrev pub NumberedFrom : ℕ → List Table → Type 0
 NumberedFrom first [] = Unit {0}
 NumberedFrom first (table ∷ tables) = (table.info.table.0 ≡ first) × NumberedFrom (first + 1) tables
 
-abbrev pub IsWhole : Found → Type 0
-IsWhole found = found.partition ≡ []
-
 -- ---- writes
 
--- a change of an unpartitioned, unbucketed table: inserted rows are numbered from 0 under its write id
-pub record IsPlainWrite (written : Written) : Type 0 where
-  pub deletes : AllByRecursion IsWhole written.deletes
+-- the row has a value for every column, those of the partition columns behind those of the table's own
+abbrev pub HasAllValues : Shape → Row → Type 0
+HasAllValues shape row = length row.values ≡ length (columns_of shape)
+
+-- a change of a table of this shape: its inserted rows as they stand there under its write id, and the rows that it deleted,
+-- each once, in the order in which rows stand
+pub record IsRoutedWrite (shape : Shape) (written : Written) : Type 0 where
   pub rows : List Row
-  pub numbered : written.inserts ≡ numbered_from written.write written.statement 0 rows
+  pub whole : AllByRecursion (HasAllValues shape) rows
+  pub numbered : written.inserts ≡ numbered_rows shape written.write written.statement rows
+  pub deletes : IsStrictlySortedBy found_cmp written.deletes
 
 abbrev pub HasOther : ℕ → Written → Type 0
 HasOther write other = other.write ≢ write
@@ -49,7 +59,7 @@ AreApart (written ∷ writes) = AllByRecursion (HasOther written.write) writes �
 
 -- in the order of their commits
 pub record HasSoundWrites (table : Table) : Type 0 where
-  pub each : AllByRecursion IsPlainWrite table.writes
+  pub each : AllByRecursion (IsRoutedWrite table.info.shape) table.writes
   pub apart : AreApart table.writes
 
 -- no more write ids were given than there are entries
@@ -60,8 +70,13 @@ HasFewOwners most table = length table.owners ≤ most
 abbrev pub KeepsAll : Table → Type 0
 KeepsAll table = table.forgotten ≡ []
 
+-- no partition column is an ARRAY
+abbrev pub HasFlatParts : Table → Type 0
+HasFlatParts table = AreFlat table.info.shape.parts
+
 pub record AreSound (most : ℕ) (tables : List Table) : Type 0 where
   pub live : AllByRecursion IsLive tables
+  pub flat : AllByRecursion HasFlatParts tables
   pub in_order : NumberedFrom 1 tables
   pub few : AllByRecursion (HasFewOwners most) tables
   pub keeping : AllByRecursion KeepsAll tables
@@ -69,17 +84,26 @@ pub record AreSound (most : ℕ) (tables : List Table) : Type 0 where
 
 -- ---- transactions
 
--- what a statement means deletes rows of unpartitioned tables
-abbrev pub DeletesWhole : Option Meaning → Type 0
-DeletesWhole (Some (Change info effect)) = AllByRecursion IsWhole effect.deletes
-DeletesWhole _ = Unit {0}
+abbrev pub info_in : Table → TableInfo
+info_in table = table.info
+
+-- a change of a table that has this description among these, by its number
+pub record IsRoutedChange (infos : List TableInfo) (info : TableInfo) (effect : Effect) : Type 0 where
+  pub here : numbered infos info.table.0 ≡ Some info
+  pub whole : AllByRecursion (HasAllValues info.shape) effect.inserts
+  pub deletes : IsStrictlySortedBy found_cmp effect.deletes
+
+-- what a statement means changes one of these tables, where it changes one
+abbrev pub ChangesAmong : List TableInfo → Option Meaning → Type 0
+ChangesAmong infos (Some (Change info effect)) = IsRoutedChange infos info effect
+ChangesAmong infos _ = Unit {0}
 
 -- it has one statement
-pub record IsSingle (transaction : Transaction) : Type 0 where
+pub record IsSingle (infos : List TableInfo) (transaction : Transaction) : Type 0 where
   pub statement : Statement
   pub one : transaction.statements ≡ statement ∷ []
   pub text : IsStatement statement.text
-  pub deletes : DeletesWhole statement.meaning
+  pub changes : ChangesAmong infos statement.meaning
 
 -- a commit stands before this place of the book
 abbrev pub IsBefore : ℕ → Option Ending → Type 0
@@ -126,7 +150,7 @@ AreOfCommitted endings table = AllByRecursion (IsOfCommitted endings table.owner
 pub record IsSound (state : State) : Type 0 where
   pub no_jobs : state.jobs ≡ []
   pub tables : AreSound state.entries state.tables
-  pub single : AllByRecursion IsSingle state.transactions
+  pub single : AllByRecursion (IsSingle (map info_in state.tables)) state.transactions
   pub given : AreGiven (map given_of state.transactions) (map owners_of state.tables)
   pub committed : AllByRecursion (AreOfCommitted (map ending_of state.transactions)) state.tables
   pub past : AllByRecursion (EndsBefore state.entries) state.transactions

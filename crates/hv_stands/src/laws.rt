@@ -1,8 +1,7 @@
-ghost use Rattle.std.specs.Prelude.{◌≡◌, [], ◌∷◌, true, None};
-ghost use Rattle.hv_stands.specs.Files.{commit_file};
-ghost use Rattle.hv_stands.specs.Reading.{rows_read};
-ghost use Rattle.hv_stands.specs.Worked.{row_by_hand, first_by_hand, writes_by_hand};
-ghost use Rattle.hv_stands.specs.Laws.{QueriesEnd, PlainsEnd, RefusalsEnd, TablesAreMade, RowsAreChanged, NothingIsChanged, ChangesCanBeWritten, ChangedTableStands, ReadRowsAreContent, ReadingIsEnough, SoundnessGoesOn, StandingGoesOn, PutsAreLoose, FilesAreOfTables, NewIdsHaveNoFile, CommitsHaveFiles, QuietStatementsStand, ChangedFilesStand};
+ghost use Rattle.std.specs.Prelude.{◌≡◌, [], ◌∷◌, true, false, None};
+ghost use Rattle.hv_stands.specs.Files.{records_of, commit_file};
+ghost use Rattle.hv_stands.specs.Worked.{shape_by_hand, part_one, part_two, id_by_hand, write_by_hand, record_by_hand, delete_by_hand};
+ghost use Rattle.hv_stands.specs.Laws.{QueriesEnd, PlainsEnd, RefusalsEnd, TablesAreMade, RowsAreChanged, NothingIsChanged, ChangesCanBeWritten, WrittenChangesAreEncoded, ChangedTableStands, ReadingIsEnough, SoundnessGoesOn, StandingGoesOn, PutsAreLoose, FilesAreOfTables, NewIdsHaveNoFile, CommitsHaveFiles, QuietStatementsStand, ChangedFilesStand};
 
 /// A query commits without rows, and its answer is its listing; what asks for nothing commits too.
 pub fn queries_end()
@@ -30,9 +29,10 @@ pub fn nothing_is_changed()
     ensures law { NothingIsChanged }
 {}
 
-/// The rows that a statement inserts fit a row file, and so do those that it deletes.
+/// The rows that a statement inserts fit row files, and so do those that it deletes; what was written so can be read again.
 pub fn changes_can_be_written()
     ensures law { ChangesCanBeWritten }
+    ensures encoded { WrittenChangesAreEncoded }
 {}
 
 /// A statement changes a table that stands.
@@ -40,10 +40,8 @@ pub fn changed_tables_stand()
     ensures law { ChangedTableStands }
 {}
 
-/// The rows in a table's files, without those that its files delete, are those that stand in it, in
-/// their order, and the tables that a statement names, with these rows, are all that it has to see.
+/// The tables that a statement names, with the rows that stand in them, are all that it has to see.
 pub fn reading_is_enough()
-    ensures rows { ReadRowsAreContent }
     ensures law { ReadingIsEnough }
 {}
 
@@ -79,10 +77,12 @@ pub fn statements_stand()
     ensures changed { ChangedFilesStand }
 {}
 
-/// Two commits worked out by hand. A row that the second one deleted isn't read, but where the second one
-/// is lost; the first one makes no delete file.
+/// A commit worked out by hand: the records of two partitions and two buckets, and where it makes no file.
 pub fn worked_by_hand()
-    ensures read { rows_read [] writes_by_hand 2 ≡ row_by_hand 1 1 ∷ row_by_hand 2 0 ∷ [] }
-    ensures lost { rows_read (2 ∷ []) writes_by_hand 2 ≡ row_by_hand 1 0 ∷ row_by_hand 1 1 ∷ [] }
-    ensures file { commit_file true first_by_hand ≡ None }
+    ensures first { records_of shape_by_hand false part_one 0 write_by_hand ≡ record_by_hand (id_by_hand 2 0 0) 4 ∷ [] }
+    ensures second { records_of shape_by_hand false part_one 1 write_by_hand ≡ record_by_hand (id_by_hand 2 1 0) 7 ∷ [] }
+    ensures both { records_of shape_by_hand false part_two 1 write_by_hand ≡ record_by_hand (id_by_hand 2 1 0) 5 ∷ record_by_hand (id_by_hand 2 1 1) 9 ∷ [] }
+    ensures none { commit_file shape_by_hand false part_two 0 write_by_hand ≡ None }
+    ensures gone { records_of shape_by_hand true part_one 0 write_by_hand ≡ delete_by_hand ∷ [] }
+    ensures kept { commit_file shape_by_hand true part_one 1 write_by_hand ≡ None }
 {}
