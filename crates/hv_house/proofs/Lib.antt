@@ -1,11 +1,8 @@
 pub mod Lengths
 pub mod Journals
 pub mod Gives
-pub mod FileRows
 pub mod Stays
-pub mod Damage
 pub mod Openings
 pub mod Boots
 pub mod Faithful
-pub mod Gone
-pub mod Deletable
+pub mod Passing

@@ -2,7 +2,6 @@
 use Rattle.std.specs.Prelude.{◌≡◌, ℕ, ◌+◌, ◌*◌, ◌^◌, ◌<◌, ◌≤◌, Option, Some, None, List, [], ◌∷◌, ◌++◌, length, if◌then◌else◌, nat_eq}
 use Rattle.std.specs.Cmp.Lexicographic.{pointwise}
 use Rattle.hv_base.specs.Told.{Tells, Moves}
-use Rattle.hv_shelf.specs.declared.place.Place.{Place}
 use Rattle.hv_shelf.specs.Disk.{Store}
 use Rattle.hv_history.specs.declared.entry.Entry.{Entry}
 use Rattle.hv_base.specs.declared.ids.TxnId.{TxnId}
@@ -10,14 +9,13 @@ use Rattle.hv_base.specs.declared.ids.TableId.{TableId}
 use Rattle.hv_base.specs.declared.ids.WriteId.{WriteId}
 use Rattle.std.specs.Option.{option_map}
 use Rattle.hv_history.specs.declared.entry.Entry.TheVariants as entry
-use Rattle.hv_history.specs.declared.state.Written.{Written}
 use Rattle.hv_history.specs.State.{State, state_of, numbered}
 use Rattle.hv_history.specs.Spelling.{entry_spelling}
 use Rattle.hv_history.specs.Journal.{place_of}
 use Rattle.hv_history.specs.Legal.{IsLegal, profile}
 use Rattle.hv_journal.specs.Appending.{Holds, HoldsMore, KeepsTree}
 use Rattle.hv_dirs.specs.Names.{write_end}
-use Rattle.hv_stands.specs.Files.{Stands, with_file, with_files}
+use Rattle.hv_stands.specs.Files.{Stands}
 use Rattle.hv_stands.specs.Sound.{IsIdle}
 use Rattle.hv_stands.specs.Endings.{statement_entries}
 use Rattle.hv_known.specs.declared.known.Known.{Known}
@@ -149,13 +147,3 @@ pub record IsHaltedGiving {D : Type 0} (told : D → Option Store) (why : HouseF
 -- the journal is as it was
 abbrev pub KeepsJournal : Store → Store → Type 0
 KeepsJournal before now = now.journal ≡ before.journal
-
--- a file was put, where there is one, and the journal is as it was
-pub record PutsAt (place : Place) (file : Option (List ℕ)) (before now : Store) : Type 0 where
-  pub tree_is : now.tree ≡ with_file before.tree place file
-  pub journal_is : now.journal ≡ before.journal
-
--- the files of a commit were put
-pub record PutsFiles (table : ℕ) (written : Written) (before now : Store) : Type 0 where
-  pub tree_is : now.tree ≡ with_files before.tree table written
-  pub journal_is : now.journal ≡ before.journal

@@ -4,20 +4,18 @@ use Rattle.hv_base.specs.Told.{Tells}
 use Rattle.hv_shelf.specs.Disk.{Store}
 use Rattle.hv_logic.specs.declared.effect.Found.{Found}
 use Rattle.hv_logic.specs.declared.seen.Seen.{Seen}
-use Rattle.hv_history.specs.declared.state.Written.{Written}
-use Rattle.hv_stands.specs.Reading.{rows_read}
+use Rattle.hv_logic.specs.declared.catalog.TableInfo.{TableInfo}
+use Rattle.hv_tables.specs.Reading.{AreRows, IsSpoiled as IsSpoiledOf}
 use Rattle.hv_known.specs.declared.known.Known.{Known}
 use Rattle.hv_house.specs.House.{known_of_name}
-use Rattle.hv_house.specs.Rows.{HasAllCommits, LacksCommits}
 
--- where its rows are read they are those of all its commits
-abbrev pub AreRead : Bool → ℕ → ℕ → List ℕ → List Found → Store → Type 0
-AreRead reads table given lost rows store =
-    (writes : List Written) → reads ≡ true → HasAllCommits table given lost writes store → rows ≡ rows_read lost writes given
+-- where its rows are read they are those of its files
+abbrev pub AreRead : Bool → TableInfo → ℕ → List ℕ → List Found → Store → Type 0
+AreRead reads info given lost rows store = reads ≡ true → AreRows info given lost store.tree rows
 
 -- the rows of a table where they are read, and none where they aren't
 pub record SeesRows (told : Option Store) (reads : Bool) (known : Known) (rows : List Found) : Type 0 where
-  pub read : Tells told (AreRead reads known.info.table.0 known.given known.lost rows)
+  pub read : Tells told (AreRead reads known.info known.given known.lost rows)
   pub none : reads ≡ false → rows ≡ []
 
 -- a table is seen as it is known, with its rows
@@ -26,9 +24,9 @@ IsSeenOf told reads None seen = seen ≡ None
 IsSeenOf told reads (Some known) seen =
     (rows : List Found) × (seen ≡ Some (record { info = known.info; rows = rows })) × SeesRows told reads known rows
 
--- the store lacks a file of the commits of a table that is found by a name
+-- a file of a table that is found by a name doesn't stand
 pub record IsSpoiled (told : Option Store) (tables : List Known) : Type 0 where
   pub name : List ℕ
   pub known : Known
   pub named : known_of_name name tables ≡ Some known
-  pub lacks : Tells told (LacksCommits known.info.table.0 known.given known.lost)
+  pub lacks : Tells told (λ s. IsSpoiledOf known.info known.given known.lost s.tree)

@@ -74,15 +74,16 @@ impl From<HouseFault> for RowFault {
     }
 }
 
-impl From<ShelfFault> for RowFault {
-    ghost use Rattle.hv_house.specs.Faults.{house_fault};
+impl From<hv_tables::RowFault> for RowFault {
+    ghost use Rattle.hv_house.specs.Faults.{read_fault};
 
-    ghost from_gives = { λ fault e. e ≡ row_fault.House (house_fault fault) };
+    ghost from_gives = { λ fault e. e ≡ read_fault fault };
 
-    fn from(fault: ShelfFault) -> RowFault {
+    fn from(fault: hv_tables::RowFault) -> RowFault {
         match fault {
-            ShelfFault::Failed => RowFault::House(HouseFault::Store),
-            ShelfFault::NoMemory => RowFault::House(HouseFault::NoMemory),
+            hv_tables::RowFault::Damaged(place) => RowFault::Damaged(place),
+            hv_tables::RowFault::Failed => RowFault::House(HouseFault::Store),
+            hv_tables::RowFault::NoMemory => RowFault::House(HouseFault::NoMemory),
         }
     }
 }

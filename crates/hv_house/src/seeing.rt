@@ -4,16 +4,17 @@ ghost use Rattle.hv_base.specs.Told.{Tells};
 ghost use Rattle.hv_dirs.specs.Names.{write_end};
 ghost use Rattle.hv_house.specs.Faults.{StoreCause, StoreFails, IsShortDamage, IsDamage};
 ghost use Rattle.hv_house.specs.House.{HasNumbers, IsAsked, known_of_name};
-ghost use Rattle.hv_house.specs.Rows.{LacksCommits};
+ghost use Rattle.hv_tables.specs.Reading.{IsSpoiled as IsSpoiledOf};
 ghost use Rattle.hv_house.specs.Seeing.{AreRead, IsSeenOf, IsSpoiled};
 
 use crate::fault::RowFault;
 use crate::house::House;
 use crate::known::find;
-use hv_base::{List, NoMemory, TableId, Text};
+use hv_base::{List, NoMemory, Text};
 use hv_known::Known;
-use hv_logic::{Found, Seen};
+use hv_logic::{Found, Seen, TableInfo};
 use hv_shelf::Shelf;
+use hv_tables::read_rows;
 use std::alloc::Global;
 
 /// What is known of the table of that name.
@@ -32,7 +33,7 @@ impl<D: Shelf> House<D> {
         &mut self,
         alloc: Global,
         reads: bool,
-        table: TableId,
+        info: &TableInfo,
         given: u64,
         lost: &[u64],
     ) -> Result<List<Found>, RowFault>
@@ -40,15 +41,16 @@ impl<D: Shelf> House<D> {
         ensures asked { IsAsked D.told self.old self.new }
         ensures short { IfErr result IsShortDamage }
         ensures rows { IfOk result (λ rows. Tells (D.told self.old.shelf)
-            (AreRead reads table.0 given lost.now rows)) }
+            (AreRead reads info.now given lost.now rows)) }
         ensures none { IfOk result (λ rows. reads ≡ false → rows ≡ []) }
         ensures damage { IfErr result (λ fault. IsDamage fault
-            → Tells (D.told self.old.shelf) (LacksCommits table.0 given lost.now)) }
+            → Tells (D.told self.old.shelf) (λ s. IsSpoiledOf info.now given lost.now s.tree)) }
         ensures cause { StoreCause (D.faults self.old.shelf) (D.faults self.new.shelf)
             (StoreFails result) }
     {
         if reads {
-            Ok(List::from_vec(self.read_rows(alloc, table, given, lost)?))
+            let rows = read_rows(alloc, &mut self.shelf, info, given, lost)?;
+            Ok(List::from_vec(rows))
         } else {
             Ok(List::empty(alloc))
         }
@@ -69,7 +71,7 @@ impl<D: Shelf> House<D> {
         match known_in(alloc, name, &self.tables)? {
             Some(known) => {
                 let lost = known.lost.as_slice();
-                let rows = self.rows_for(alloc, reads, known.info.table, known.given, lost)?;
+                let rows = self.rows_for(alloc, reads, &known.info, known.given, lost)?;
                 let info = known.info;
                 Ok(Some(Seen { info, rows }))
             }

@@ -1,0 +1,9 @@
+pub mod Searching
+pub mod Names
+pub mod Sheets
+pub mod Puts
+pub mod Members
+pub mod KeyPlaces
+pub mod Shown
+pub mod ReadContent
+pub mod StoredRows

@@ -1,0 +1,16 @@
+//! The rows of a table, read from its files, and the files of a change, put into a store.
+#![tactic(auto)]
+
+mod fault;
+mod key;
+mod keys;
+mod laws;
+mod putting;
+mod reading;
+mod row_at;
+mod rows;
+
+pub use fault::RowFault;
+pub use laws::rows_are_content;
+pub use putting::{put_file, put_files};
+pub use reading::read_rows;

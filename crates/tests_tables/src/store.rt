@@ -1,0 +1,94 @@
+//! A store with the files of a table, spelled by hand.
+use hv_base::{List, NoMemory, TableId, Text};
+use hv_logic::{Column, Shape, TableInfo};
+use hv_shelf::{MemoryShelf, Place, Shelf, ShelfFault};
+use hv_value::SqlType;
+use std::alloc::Global;
+
+/// A file: its partition, directory, bucket and bytes.
+pub type File = (&'static str, &'static str, u32, &'static [u8]);
+
+/// Of write id 1 bucket 0 of `p=a` has (2, 'y') and bucket 1 has (1, 'x') and (7, 'v'), and bucket 1 of `p=b` has (3, 'w'). Write id 2 inserts
+/// (9, 'z') into `p=a`. Write id 3 inserts (5, 'q') where p is NULL, and deletes the first row of bucket 1 of `p=a`. The directories that stand
+/// beside are no transaction's own, or are of its second statement, or of a write id that wasn't given.
+pub static FILES: [File; 9] = [
+    ("p=a", "delta_0000001_0000001_0000", 0, ROW_2),
+    ("p=a", "delta_0000001_0000001_0000", 1, ROWS_1_AND_7),
+    ("p=b", "delta_0000001_0000001_0000", 1, ROW_3),
+    ("p=a", "delta_0000002_0000002_0000", 1, ROW_9),
+    (
+        "p=__HIVE_DEFAULT_PARTITION__",
+        "delta_0000003_0000003_0000",
+        1,
+        ROW_5,
+    ),
+    ("p=a", "delete_delta_0000003_0000003_0000", 1, GONE_1),
+    ("p=a", "delta_0000001_0000001_0001", 0, b"?"),
+    ("p=a", "base_0000003", 0, b"?"),
+    ("p=a", "delta_0000004_0000004_0000", 0, b"?"),
+];
+
+const ROW_2: &[u8] = b"HVR1\0\0\0\0\0\0\0\0\0\0\0\0\x01\
+\0\0\0\0\0\0\0\x01\0\0\0\0\0\0\0\0\0\0\0\0\0\0\0\x0d\0\x02\x02\0\0\0\x02\x04\0\0\0\x01y";
+
+const ROWS_1_AND_7: &[u8] = b"HVR1\0\0\0\0\x01\0\0\0\0\0\0\0\x02\
+\0\0\0\0\0\0\0\x01\0\0\0\0\0\0\0\0\0\0\0\0\0\0\0\x0d\0\x02\x02\0\0\0\x01\x04\0\0\0\x01x\
+\0\0\0\0\0\0\0\x01\0\0\0\0\0\0\0\0\0\0\0\x01\0\0\0\x0d\0\x02\x02\0\0\0\x07\x04\0\0\0\x01v";
+
+const ROW_3: &[u8] = b"HVR1\0\0\0\0\x01\0\0\0\0\0\0\0\x01\
+\0\0\0\0\0\0\0\x01\0\0\0\0\0\0\0\0\0\0\0\0\0\0\0\x0d\0\x02\x02\0\0\0\x03\x04\0\0\0\x01w";
+
+const ROW_9: &[u8] = b"HVR1\0\0\0\0\x01\0\0\0\0\0\0\0\x01\
+\0\0\0\0\0\0\0\x02\0\0\0\0\0\0\0\0\0\0\0\0\0\0\0\x0d\0\x02\x02\0\0\0\x09\x04\0\0\0\x01z";
+
+const ROW_5: &[u8] = b"HVR1\0\0\0\0\x01\0\0\0\0\0\0\0\x01\
+\0\0\0\0\0\0\0\x03\0\0\0\0\0\0\0\0\0\0\0\0\0\0\0\x0d\0\x02\x02\0\0\0\x05\x04\0\0\0\x01q";
+
+pub const GONE_1: &[u8] = b"HVR1\x01\0\0\0\x01\0\0\0\0\0\0\0\x01\
+\0\0\0\0\0\0\0\x01\0\0\0\0\0\0\0\0\0\0\0\0\0\0\0\0\0\0\0\x03";
+
+fn column(alloc: Global, name: &str, kind: SqlType) -> Result<Column, NoMemory> {
+    Ok(Column {
+        name: Text::of(alloc, name)?,
+        kind,
+    })
+}
+
+/// `t (id INT, s STRING) PARTITIONED BY (p STRING) CLUSTERED BY (id) INTO 2 BUCKETS`, the table of number 7.
+pub fn table(alloc: Global) -> Result<TableInfo, NoMemory> {
+    let columns = vec![in alloc;
+        column(alloc, "id", SqlType::Int)?,
+        column(alloc, "s", SqlType::Str)?,
+    ]?;
+    let parts = vec![in alloc; column(alloc, "p", SqlType::Str)?]?;
+    let bucketed = vec![in alloc; 0u32]?;
+    Ok(TableInfo {
+        table: TableId(7),
+        shape: Shape {
+            name: Text::of(alloc, "t")?,
+            columns: List::from_vec(columns),
+            parts: List::from_vec(parts),
+            bucketed: List::from_vec(bucketed),
+            buckets: 2,
+        },
+    })
+}
+
+pub fn put(alloc: Global, shelf: &mut MemoryShelf, file: &File) -> Result<(), ShelfFault> {
+    let place = Place {
+        table: TableId(7),
+        partition: Text::of(alloc, file.0)?,
+        dir: Text::of(alloc, file.1)?,
+        bucket: file.2,
+    };
+    shelf.put(&place, file.3)
+}
+
+/// A store with these files.
+pub fn store(alloc: Global) -> Result<MemoryShelf, ShelfFault> {
+    let mut shelf = MemoryShelf::new(alloc, Vec::new(alloc))?;
+    for file in &FILES {
+        put(alloc, &mut shelf, file)?;
+    }
+    Ok(shelf)
+}
