@@ -1,5 +1,5 @@
 -- A statement that commits, without rows or with some, leaves the tables that are known, whatever it means.
-use Rattle.std.proofs.Common.{◌≡◌, ℕ, ◌+◌, ◌<◌, false, Option, Some, None, List, [], ◌∷◌, ◌++◌, length, fold, refl, sym, ap, ◌∙◌, subst}
+use Rattle.std.proofs.Common.{◌≡◌, ℕ, ◌+◌, ◌<◌, false, Option, Some, None, Ok, List, [], ◌∷◌, ◌++◌, length, fold, refl, sym, ap, ◌∙◌, subst}
 use Rattle.std.specs.List.{AllByRecursion}
 use Rattle.std.proofs.lemmas.List.{length-append}
 use Rattle.hv_base.specs.declared.ids.Touch.{Touch}
@@ -19,7 +19,8 @@ use Rattle.hv_built.specs.Running.{Runs}
 use Rattle.hv_history.specs.Legal.{Fits, AllFit, GivenFits, CommitFits, CauseFits, IsRunning, profile}
 use Rattle.hv_stands.specs.Sound.{HasEnded, IsIdle}
 use Rattle.hv_stands.specs.Endings.{next_number, opening, starting, statement_entries, HasSpace, is_abort}
-use Rattle.hv_stands.specs.Laws.{meant, committing, changing, changes_in, changing_ends}
+use Rattle.hv_route.specs.Touching.{touches_of, touched}
+use Rattle.hv_stands.specs.Laws.{meant, committing, changes_in, changing_ends}
 use Rattle.hv_stands.proofs.Endings.{with_last, running, behind_opened, behind_start, of-last, fold-append, all-last, opened-behind, started-behind, begins-legal, legal-none}
 use Rattle.hv_stands.proofs.Queries.{idle-behind, nothing-fits, committed-behind}
 use Rattle.hv_stands.proofs.Refusals.{aborted-behind}
@@ -68,15 +69,16 @@ tables_left book number text info write =
     (changed (owned (next_number book)) (state_of book).tables info.table.0)
 
 pub change-leaves : (book : List Entry) (number : ℕ) (text : List ℕ) (tree : Stmt) (info : TableInfo) (effect : Effect) (table : Table)
-    → IsIdle (state_of book) → HasSpace book → Runs text tree → 0 < changes_in effect → numbered (state_of book).tables info.table.0 ≡ Some table
+    → IsIdle (state_of book) → HasSpace book → Runs text tree → 0 < changes_in effect → touched info effect ≡ Ok (touches_of info effect)
+    → numbered (state_of book).tables info.table.0 ≡ Some table
     → LeavesDone book (statement_entries book number text (changing_ends book info effect (length table.owners + 1)))
     (tables_left book number text info (length table.owners + 1))
-change-leaves book number text tree info effect table at_rest space is some at =
+change-leaves book number text tree info effect table at_rest space is some within at =
     let s : State = state_of book in
     let m : Option Meaning = meaning_in (behind_opened s number text) text in
     let write : ℕ = length table.owners + 1 in
     let given : List (ℕ × ℕ) = (info.table.0, write) ∷ [] in
-    let wrote : List Touch = changing info effect ∷ [] in
+    let wrote : List Touch = touches_of info effect in
     let tables : List Table = changed (owned (next_number book)) s.tables info.table.0 in
     let t : Transaction = running s number text m (writes_of m 0 given) given (Some (Committed (s.entries + 1 + 1 + 1) wrote)) in
     let before : Transaction = running s number text m [] given None in
@@ -96,7 +98,7 @@ change-leaves book number text tree info effect table at_rest space is some at =
     (given-fits s number text m info.table.0 table at_rest space at) in
     let commits : Fits profile (with_last s (s.entries + 1 + 1 + 1) tables before) (committing book wrote) =
     of-last s (s.entries + 1 + 1 + 1) tables before (CommitFits (with_last s (s.entries + 1 + 1 + 1) tables before) wrote)
-    (commit-fits s number text m info effect write at_rest some) in
+    (commit-fits info effect s number text m write at_rest some within) in
     record {
       leaves = record {
         fit = (

@@ -2,6 +2,7 @@ pub mod Shorts
 pub mod Books
 pub mod Stores
 pub mod SeenTables
+pub mod Puttable
 pub mod Idle
 pub mod Halfway
 pub mod Running

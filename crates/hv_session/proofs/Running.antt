@@ -1,11 +1,10 @@
 -- A statement from its Start to its end: what the house is then, and that the reply is its answer.
-use Rattle.std.proofs.Common.{◌≡◌, ℕ, ◌+◌, ◌<◌, ◌≤◌, Bool, true, false, is_none, Option, Some, None, List, [], ◌∷◌, ◌++◌, length, map, refl, sym, ap, ◌∙◌, subst, arith, append_assoc, ◌⊎◌, inl, inr}
+use Rattle.std.proofs.Common.{◌≡◌, ℕ, ◌+◌, ◌<◌, ◌≤◌, Bool, true, false, is_none, Option, Some, None, Ok, List, [], ◌∷◌, ◌++◌, length, map, refl, sym, ap, ◌∙◌, subst, arith, append_assoc, ◌⊎◌, inl, inr}
 use Rattle.std.specs.List.{AllByRecursion}
 use Rattle.std.specs.Option.{option_map}
 use Rattle.std.proofs.lemmas.List.{length-append}
 use Rattle.hv_base.specs.declared.ids.TxnId.{TxnId}
 use Rattle.hv_base.specs.declared.ids.TableId.{TableId}
-use Rattle.hv_base.specs.declared.ids.Touch.{Touch}
 use Rattle.hv_base.specs.Refusals as refusals
 use Rattle.hv_base.specs.Told.{Moves}
 use Rattle.hv_shelf.specs.Disk.{Store}
@@ -18,6 +17,10 @@ use Rattle.hv_logic.specs.declared.effect.Effect.{Effect}
 use Rattle.hv_logic.specs.declared.seen.Seen.{Seen}
 use Rattle.hv_logic.specs.declared.meaning.Meaning.{Meaning}
 use Rattle.hv_logic.specs.declared.meaning.Meaning.TheVariants.{Refused, Listing, Change, Make, Plain, RowLimit, PartitionLimit}
+use Rattle.hv_route.specs.Back.{AreHeld}
+use Rattle.hv_route.specs.Routes.{files_of}
+use Rattle.hv_route.specs.Touching.{touches_of, touched}
+use Rattle.hv_route.specs.declared.files.OutFile.{OutFile}
 use Rattle.hv_meaning.specs.Meaning.{meaning_in}
 use Rattle.hv_meaning.specs.Laws.{MeansSomething}
 use Rattle.hv_history.specs.declared.entry.Entry.{Entry}
@@ -25,20 +28,19 @@ use Rattle.hv_history.specs.declared.entry.Entry.TheVariants as entry
 use Rattle.hv_history.specs.declared.entry.Cause.{Cause}
 use Rattle.hv_history.specs.declared.entry.Cause.TheVariants as cause
 use Rattle.hv_history.specs.declared.state.Table.{Table}
-use Rattle.hv_history.specs.declared.state.Written.{Written}
 use Rattle.hv_history.specs.declared.entry.FilePlace.{FilePlace}
 use Rattle.hv_history.specs.declared.state.Ending.{Ending}
 use Rattle.hv_history.specs.declared.state.Ending.TheVariants.{Committed, Aborted, Made, Dropped}
 use Rattle.hv_history.specs.declared.state.Transaction.{Transaction}
-use Rattle.hv_history.specs.State.{nothing_yet, after, state_of, numbered, changed, writes_of, meaning_in as meaning_in_state}
+use Rattle.hv_history.specs.State.{nothing_yet, after, state_of, numbered, changed, written_by, writes_of, meaning_in as meaning_in_state}
 use Rattle.hv_history.specs.Legal.{profile}
 use Rattle.hv_history.specs.Answers.{listing, counts_line, ok_line, cause_text}
 use Rattle.hv_dirs.specs.Names.{write_end}
-use Rattle.hv_stands.specs.Files.{Stands, IsEncoded, with_files}
+use Rattle.hv_stands.specs.Files.{Stands, with_files}
 use Rattle.hv_stands.specs.Sound.{HasEnded, IsSound, IsIdle}
 use Rattle.hv_stands.specs.Endings.{next_number, statement_entries, HasSpace, is_abort, Goes}
-use Rattle.hv_stands.specs.Laws.{meant, committing, IsCauseOf, IsQuiet, made_table, next_table, changing, changes_in, tables_changed}
-use Rattle.hv_stands.proofs.Written.{inserts-written}
+use Rattle.hv_stands.specs.Laws.{meant, committing, IsCauseOf, IsQuiet, made_table, next_table, changes_in, changing_ends, tables_changed, HasFile}
+use Rattle.hv_stands.proofs.Written.{changes-encoded}
 use Rattle.hv_stands.proofs.Queries.{queries-end, plains-end}
 use Rattle.hv_stands.proofs.Refusals.{refusals-end}
 use Rattle.hv_stands.proofs.Creates.{tables-made}
@@ -55,12 +57,13 @@ use Rattle.hv_house.specs.House.{entries_of, with_next, HasNumbers, book_limit, 
 use Rattle.hv_house.specs.Seeing.{IsSpoiled}
 use Rattle.hv_session.specs.Seeing.{IsSeen, IsNarrow}
 use Rattle.hv_session.specs.Started.{IsStarted}
-use Rattle.hv_session.specs.Ends.{IsDone, Commits, Refuses, PutsCommit, Writes, KnownOf, next_written, ChangesRows, next_id, Makes, EndsAs, CanEnd}
+use Rattle.hv_session.specs.Ends.{IsDone, Commits, Refuses, PutsCommit, Writes, KnownOf, next_write_id, ChangesRows, next_id, Makes, EndsAs, CanEnd}
 use Rattle.hv_session.specs.Halting.{IsEnding, next_txn}
 use Rattle.hv_session.specs.Answered.{WentThrough, AddsAtMost, HasRun}
 use Rattle.hv_session.proofs.Books.{entries-counted, space-left, legal-goes-on, length-map, numbers-known}
 use Rattle.hv_session.proofs.SeenTables.{meant-or-rows, means-some, change-seen, meant-told, unspoiled}
 use Rattle.hv_stands.proofs.Meanings.{ComesOfRows}
+use Rattle.hv_session.proofs.Puttable.{inserts-can-be-put}
 use Rattle.hv_session.proofs.Idle.{Leaves, idle-leaves, tables_left, change-leaves, limit-leaves, many-leaves}
 use Rattle.hv_session.proofs.Stores.{became, untold, tells-none, tells-some, told-some, still-stands, keeps-keeps, keeps-puts, Any, any-of}
 
@@ -348,64 +351,62 @@ module _ {D : Type 0} (told : D → Option Store) (h0 h3 h4 h5 : House D) (numbe
         ∙ numbered-map (known_of (state_of book)) (state_of book).tables info.table.0 ∙ ap (option_map (known_of (state_of book))) at in
         cc
 
-    module _ (info : TableInfo) (effect : Effect) (table : Table) (at : numbered (state_of book).tables info.table.0 ≡ Some table) where
-      write : ℕ
+    module _ (info : TableInfo) (effect : Effect) (table : Table) (within : touched info effect ≡ Ok (touches_of info effect)) (at : numbered (state_of book).tables info.table.0 ≡ Some table) where
+      abbrev write : ℕ
       write = length table.owners + 1
 
-      written : Written
-      written = next_written (known_of (state_of book) table) effect
-
-      wrote : List Touch
-      wrote = changing info effect ∷ []
+      abbrev files : List OutFile
+      files = files_of info.shape (length table.owners + 1) 0 effect
 
       change_ends : List Entry
-      change_ends = entry.Given (record { 0 = next_number book }) info.table (record { 0 = length table.owners + 1 }) ∷ committing book (changing info effect ∷ []) ∷ []
+      change_ends = changing_ends book info effect (length table.owners + 1)
 
       tables_then : List Table
-      tables_then = tables_changed (state_of book).tables (next_number book) info.table.0 (next_written (known_of (state_of book) table) effect)
+      tables_then = tables_changed (state_of book).tables (next_number book) info.table.0 (written_by info.shape (length table.owners + 1) 0 effect)
 
-      change-stands : (s now : Store) → meant book tree ≡ Some (Change info effect) → IsFaithful book s → IsEncoded (next_written (known_of (state_of book) table) effect)
-          → now.tree ≡ with_files s.tree info.table.0 (next_written (known_of (state_of book) table) effect)
-          → Goes book (statement_entries book number text change_ends) number text (counts_line (changing info effect ∷ [])) false tables_then
+      change-stands : (s now : Store) → meant book tree ≡ Some (Change info effect) → IsFaithful book s
+          → AllByRecursion HasFile files → AreHeld effect.inserts
+          → now.tree ≡ with_files s.tree info.table.0 write files
+          → Goes book (statement_entries book number text change_ends) number text (counts_line (touches_of info effect)) false tables_then
           → Stands (state_of (book ++ statement_entries book number text change_ends)) now.tree
       unfolding change_ends tables_then
-      change-stands s now is faithful file put goes =
+      change-stands s now is faithful each held put goes =
           subst (Stands (state_of (book ++ statement_entries book number text change_ends))) (sym put)
-          (changed-files-stand book number text tree info effect table s.tree given.ready.idle small given.is is at goes.legal file faithful.stands)
+          (changed-files-stand book number text tree info effect table s.tree given.ready.idle small given.is is at goes.legal
+          (changes-encoded book tree info effect write given.ready.idle is each held) faithful.stands)
 
       changed-rows : ((s : Store) → told h0.shelf ≡ Some s → IsFaithful book s → meant book tree ≡ Some (Change info effect)) → 0 < changes_in effect
-          → Writes told h4 h5 txn info (next_written (known_of (state_of book) table) effect) (changing info effect ∷ [])
-          → Ran change_ends (counts_line (changing info effect ∷ [])) false
+          → Writes told h4 h5 txn info effect write
+          → Ran change_ends (counts_line (touches_of info effect)) false
       unfolding change_ends tables_then
       changed-rows means_this some wrote_it =
-          let done = change-leaves book number text tree info effect table given.ready.idle space given.is some at in
+          let done = change-leaves book number text tree info effect table given.ready.idle space given.is some within at in
           let left = done.leaves in
-          let now_tables = tables_left book number text info (length table.owners + 1) in
+          let now_tables = tables_left book number text info write in
           let noted : entries_of h5 ≡ entries_of h4 ++ change_ends =
           wrote_it.entries
-          ∙ ap (λ (t : TxnId). entries_of h4 ++ entry.Given t info.table (record { 0 = length table.owners + 1 }) ∷ entry.Commit t (changing info effect ∷ []) ∷ []) txn-is in
+          ∙ ap (λ (t : TxnId). entries_of h4 ++ entry.Given t info.table (record { 0 = write }) ∷ entry.Commit t (touches_of info effect) ∷ []) txn-is in
           let known : h5.tables.items ≡ all_known (state_of (book ++ statement_entries book number text change_ends)) =
           wrote_it.tables ∙ ap (λ (ks : List Known). changed with_next ks info.table.0) tables-known
           ∙ sym (known-changed (state_of book) (state_of (book ++ statement_entries book number text change_ends)) left.last (next_number book) info.table.0
-          (writes_of (meaning_in_state (behind_opened (state_of book) number text) text) 0 ((info.table.0, length table.owners + 1) ∷ []))
+          (writes_of (meaning_in_state (behind_opened (state_of book) number text) text) 0 ((info.table.0, write) ∷ []))
           given.ready.idle.sound left.transactions left.tables_are
           (done-marked (state_of book).transactions left.last (state_of (book ++ statement_entries book number text change_ends)).transactions left.transactions done.last_ended done.last_kept)) in
-          let written_now = next_written (known_of (state_of book) table) effect in
-          let through : Moves (PutsCommit info.table.0 written_now) (told h0.shelf) (told h5.shelf) =
-          keeps-puts info.table.0 written_now (told h0.shelf) (told h4.shelf) (told h5.shelf)
+          let through : Moves (PutsCommit info.table.0 write files) (told h0.shelf) (told h5.shelf) =
+          keeps-puts info.table.0 write files (told h0.shelf) (told h4.shelf) (told h5.shelf)
           (subst (λ (o : Option Store). Moves KeepsTree (told h0.shelf) o) (sym given.asked.store) given.started.tree) wrote_it.put in
           record {
             ready = ready-behind change_ends now_tables wrote_it.kept noted left wrote_it.opened known;
             noted = noted;
             short = omega arith;
-            through = any-of (PutsCommit info.table.0 written_now) (told h0.shelf) (told h5.shelf) through;
+            through = any-of (PutsCommit info.table.0 write files) (told h0.shelf) (told h5.shelf) through;
             shows = λ s e faithful.
                 let is = means_this s e faithful in
                 let goes = rows-changed book number text tree info effect table given.ready.idle space given.is is some at in
-                let now = became (PutsCommit info.table.0 written_now) (told h0.shelf) (told h5.shelf) s through e in
-                shown change_ends (counts_line (changing info effect ∷ [])) false tables_then s now.now now.tells noted faithful
-                (inr (inl (info.table, record { 0 = length table.owners + 1 }, changing info effect ∷ [], refl))) goes
-                (change-stands s now.now is faithful wrote_it.file now.made goes);
+                let now = became (PutsCommit info.table.0 write files) (told h0.shelf) (told h5.shelf) s through e in
+                shown change_ends (counts_line (touches_of info effect)) false tables_then s now.now now.tells noted faithful
+                (inr (inl (info.table, record { 0 = write }, touches_of info effect, refl))) goes
+                (change-stands s now.now is faithful wrote_it.files wrote_it.held now.made goes);
           }
 
     changes : (seen : List Seen) → Sees seen → (info : TableInfo) (effect : Effect) (text_now : List ℕ) (refused : Bool) → Some (Change info effect) ≡ meaning_in tree seen
@@ -413,9 +414,9 @@ module _ {D : Type 0} (told : D → Option Store) (h0 h3 h4 h5 : House D) (numbe
     changes seen sees info effect text_now refused is some change =
         let there = change-seen (told h3.shelf) h3.tables.items book tree given.ready.idle given.is.built known-then seen info effect sees (sym is) in
         let known = known-of info change.0 there.table change.1 there.here in
-        let wrote_it = subst (λ (k : Known). Writes told h4 h5 txn info (next_written k effect) (changing info effect ∷ [])) known change.2 in
-        let ran = has-run (change_ends info effect there.table there.here) (counts_line (changing info effect ∷ [])) false
-        (changed-rows info effect there.table there.here (λ s e faithful. sym (means-told seen sees s e faithful) ∙ sym is) some wrote_it) in
+        let wrote_it = subst (λ (k : Known). Writes told h4 h5 txn info effect (next_write_id k)) known change.2 in
+        let ran = has-run (change_ends info effect there.table there.within there.here) (counts_line (touches_of info effect)) false
+        (changed-rows info effect there.table there.within there.here (λ s e faithful. sym (means-told seen sees s e faithful) ∙ sym is) some wrote_it) in
         subst (λ (b : Bool). HasRun told h0 h5 number text text_now b) (sym change.3.accepted)
         (subst (λ (r : List ℕ). HasRun told h0 h5 number text r false) (sym change.3.text_is) ran)
 
@@ -504,7 +505,12 @@ module _ {D : Type 0} (told : D → Option Store) (h0 h3 h4 h5 : House D) (numbe
         let found : KnownOf h4 info (known_of (state_of book) there.table) =
         ap (λ (ks : List Known). numbered ks info.table.0) tables-known
         ∙ numbered-map (known_of (state_of book)) (state_of book).tables info.table.0 ∙ ap (option_map (known_of (state_of book))) there.here in
-        (known_of (state_of book) there.table, found, inserts-written (length there.table.owners + 1) effect (omega arith) (there.taken few))
+        record {
+          known = known_of (state_of book) there.table;
+          here = found;
+          within = there.within;
+          fit = λ write some. inserts-can-be-put info.shape write some effect (there.taken few);
+        }
     can-end seen sees (Listing names rows) is few = tt
     can-end seen sees (Make shape) is few = tt
     can-end seen sees (Refused why) is few = tt

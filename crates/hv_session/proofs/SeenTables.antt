@@ -1,17 +1,14 @@
 -- What was seen of the tables that a statement names is what the statement means something over.
-use Rattle.std.proofs.Common.{◌≡◌, ℕ, ◌+◌, ◌<◌, ◌≤◌, ◌==◌, Bool, true, false, true≢false, eqb-true, cond, Option, Some, None, List, [], ◌∷◌, ◌++◌, map, length, refl, sym, ap, ◌∙◌, subst, arith, ◌⊎◌, inl, inr, append_assoc, append-nil, take, get_or}
+use Rattle.std.proofs.Common.{◌≡◌, ℕ, ◌+◌, ◌<◌, ◌≤◌, Bool, true, false, cond, Option, Some, None, List, [], ◌∷◌, ◌++◌, map, length, refl, sym, ap, ◌∙◌, subst, arith, ◌⊎◌, inl, inr, append_assoc, append-nil, take, get_or}
 use Rattle.std.proofs.lemmas.List.{take_more}
 use Rattle.std.specs.Prelude.{nat_eq}
 use Rattle.std.specs.Cmp.Lexicographic.{pointwise}
 use Rattle.std.specs.Option.{option_map, option_to_list}
-use Rattle.std.specs.FinMap as files
-use Rattle.std.specs.List.{flat_map, AllByRecursion}
-use Rattle.std.proofs.lemmas.Bool.{eqb-false}
+use Rattle.std.specs.List.{flat_map}
 use Rattle.std.proofs.lemmas.List.{map-append}
 use Rattle.hv_base.specs.Told.{Tells}
 use Rattle.hv_locks.specs.declared.table.Lock.{Lock}
-use Rattle.hv_shelf.specs.Disk.{Store, Tree}
-use Rattle.hv_shelf.specs.declared.place.Place.{Place}
+use Rattle.hv_shelf.specs.Disk.{Store}
 use Rattle.hv_ast.specs.declared.statement.Stmt.{Stmt}
 use Rattle.hv_built.specs.Built.{IsBuilt}
 use Rattle.hv_logic.specs.declared.catalog.TableInfo.{TableInfo}
@@ -25,31 +22,28 @@ use Rattle.hv_meaning.specs.Meaning.{info_of, meaning_in}
 use Rattle.hv_meaning.specs.Laws.{MeansSomething, reads_rows}
 use Rattle.hv_history.specs.declared.entry.Entry.{Entry}
 use Rattle.hv_history.specs.declared.state.Table.{Table}
-use Rattle.hv_history.specs.declared.state.Written.{Written}
 use Rattle.hv_history.specs.declared.state.Ending.{Ending}
 use Rattle.hv_history.specs.declared.state.Ending.TheVariants.{Committed, Aborted, Made, Dropped}
 use Rattle.hv_history.specs.declared.state.Transaction.{Transaction}
 use Rattle.hv_history.specs.State.{State, state_of, numbered, content_of, seen_tables}
 use Rattle.hv_dirs.specs.Names.{write_end}
-use Rattle.hv_stands.specs.Files.{Stands, records_of, HasRecords, own_dir, own_place, file_in, made_at, ending_of, IsUndone}
-use Rattle.hv_stands.specs.Sound.{IsSound, IsIdle, HasFewOwners, HasSoundWrites, HasOther, IsDone, IsOfCommitted, AreOfCommitted}
-use Rattle.hv_stands.specs.Reading.{written_with, records_in, is_among, IsRead, table_of_name, named_in, rows_seen, seen_of, seen_read}
+use Rattle.hv_stands.specs.Files.{Stands, ending_of, IsUndone}
+use Rattle.hv_stands.specs.Sound.{IsIdle, IsDone}
+use Rattle.hv_stands.specs.Reading.{table_of_name, named_in, rows_seen, seen_of, seen_read}
 use Rattle.hv_stands.specs.Laws.{meant}
 use Rattle.hv_stands.proofs.Meanings.{ComesOfRows, same-or-rows, built-means}
-use Rattle.hv_stands.proofs.ReadRows.{read-content}
 use Rattle.hv_stands.proofs.SeenTables.{reading-enough, read-infos, CanChangeTable, change-of-seen}
-use Rattle.hv_stands.proofs.Numbers.{one_value, numbered-map, numbered-within}
+use Rattle.hv_stands.proofs.Numbers.{one_value, numbered-map}
 use Rattle.hv_stands.proofs.Tables.{named-numbered}
-use Rattle.hv_stands.proofs.Soundness.{all-numbered, all-mapped}
-use Rattle.hv_stands.proofs.StandingFiles.{commits-have-files, made-of-table, made-file}
-use Rattle.hv_stands.proofs.MadeFiles.{own_dir-same, file-write}
-use Rattle.hv_known.specs.Known.{is_unfinished, is_undone, is_marked, lost_from, lost_ids, known_of, all_known}
+use Rattle.hv_known.specs.Known.{is_unfinished, is_undone, is_marked, lost_ids, known_of, all_known}
 use Rattle.hv_known.specs.declared.known.Known.{Known}
 use Rattle.hv_known.proofs.Staying.{undone-lost, lost-owner}
 use Rattle.hv_house.specs.declared.house.House.{House}
 use Rattle.hv_house.specs.House.{known_of_name, IsAsked}
-use Rattle.hv_house.specs.Rows.{HasAllCommits, LacksCommits}
-use Rattle.hv_house.proofs.FileRows.{nothing-file}
+use Rattle.hv_tables.specs.Keys.{is_among}
+use Rattle.hv_tables.specs.Reading.{IsSpoiled as IsSpoiledOf}
+use Rattle.hv_tables.specs.Laws.{AreLost, IsStored}
+use Rattle.hv_tables.proofs.StoredRows.{rows-are-content, none-is-spoiled}
 use Rattle.hv_house.specs.Seeing.{AreRead, SeesRows, IsSeenOf, IsSpoiled}
 use Rattle.hv_session.specs.Seeing.{AddsSeen, AreSeen, IsSeen, SeesUpTo}
 
@@ -108,29 +102,6 @@ known-named s name [] = refl
 known-named s name (table ∷ tables) =
     known-by s (pointwise nat_eq table.info.shape.name name) table (known_of_name name (map (known_of s) tables)) (table_of_name name tables) (known-named s name tables)
 
--- the write of a write id
-found-with : (P : Written → Type 0) (write : ℕ) (writes : List Written) (written : Written) → written_with write writes ≡ Some written → AllByRecursion P writes
-    → (written.write ≡ write) × P written
-found-with P write [] written e each = cc
-found-with P write (first ∷ writes) written e each = by (first.write == write) refl e (λ h. found-with P write writes written h each.1)
-  where
-    by : (b : Bool) → (first.write == write) ≡ b → cond b (Some first) (written_with write writes) ≡ Some written
-        → (written_with write writes ≡ Some written → (written.write ≡ write) × P written) → (written.write ≡ write) × P written
-    by true is e rest =
-        let same : first ≡ written = cc in
-        (ap (λ (w : Written). w.write) (sym same) ∙ eqb-true first.write write is, subst P same each.0)
-    by false is e rest = rest e
-
--- no write has a write id that none is found by
-without : (write : ℕ) (writes : List Written) → written_with write writes ≡ None → AllByRecursion (HasOther write) writes
-without write [] e = tt
-without write (first ∷ writes) e = by (first.write == write) refl e (without write writes)
-  where
-    by : (b : Bool) → (first.write == write) ≡ b → cond b (Some first) (written_with write writes) ≡ None
-        → (written_with write writes ≡ None → AllByRecursion (HasOther write) writes) → AllByRecursion (HasOther write) (first ∷ writes)
-    by true is e rest = cc
-    by false is e rest = (eqb-false first.write write is, rest e)
-
 -- ---- which write ids are lost
 
 undone-marked : (ts : List Transaction) (n : ℕ) → IsUndone (numbered (map ending_of ts) n) → is_marked (numbered (map is_undone ts) n) ≡ true
@@ -165,64 +136,17 @@ unlost : (b : Bool) → (b ≡ true → ⊥) → b ≡ false
 unlost true no_ = absurd (no_ refl)
 unlost false no_ = refl
 
--- a committed write's id isn't lost
-committed-kept : (ts : List Transaction) (owners : List ℕ) (written : Written) → IsOfCommitted (map ending_of ts) owners written
-    → IsRead (lost_from (map is_undone ts) 1 owners) (length owners) written
-committed-kept ts owners written is =
-    let within = numbered-within owners written.write is.0 is.1 in
-    record {
-      first = within.0;
-      last = within.1;
-      kept = unlost (is_among (lost_from (map is_undone ts) 1 owners) written.write) (λ lost.
-          let owner = lost-owner (map is_undone ts) owners written.write lost in
-          done-unmarked ts is.0 is.2
-          (ap (λ n. is_marked (numbered (map is_undone ts) n)) (one_value is.0 owner.0 (sym is.1 ∙ owner.1)) ∙ owner.2));
-    }
-
--- where no write has the write id, and it isn't lost, no file stands
-nothing-there : (st : State) (tree : Tree) (table : Table) (deletes : Bool) (write : ℕ) → IsSound st → st.entries < write_end → Stands st tree
-    → numbered st.tables table.info.table.0 ≡ Some table → write ≤ st.entries → written_with write table.writes ≡ None → is_among (lost_ids st table) write ≡ false
-    → files.get tree (own_place deletes table.info.table.0 write) ≡ None
-nothing-there st tree table deletes write sound small stands at low none kept = by (files.get tree place) refl
-  where
-    place : Place
-    place = own_place deletes table.info.table.0 write
-
-    few_ids : (other n : ℕ) → numbered table.owners other ≡ Some n → other < write_end
-    few_ids other n owner =
-        let within = numbered-within table.owners other n owner in
-        let few = all-numbered (HasFewOwners st.entries) st.tables table.info.table.0 table at sound.tables.few in
-        omega (arith, within.1, few, small)
-
-    same_id : (kind : Bool) (other statement : ℕ) → other < write_end → own_dir kind other statement ≡ own_dir deletes write 0 → other ≡ write
-    same_id kind other statement few is = let same = own_dir-same kind deletes other statement write 0 few (omega (arith, low, small)) is in same.1
-
-    by : (o : Option (List ℕ)) → files.get tree place ≡ o → files.get tree place ≡ None
-    by None is = is
-    by (Some bytes) is = or (made_at st.tables place) refl
-      where
-        or : (o : Option (List ℕ)) → made_at st.tables place ≡ o → files.get tree place ≡ None
-        or None unmade =
-            let loose = stands.other place bytes is unmade in
-            let same : loose.own.table ≡ table = one_value loose.own.table table (sym loose.own.is ∙ at) in
-            let owner : numbered table.owners loose.own.write ≡ Some loose.txn = subst (λ (t : Table). numbered t.owners loose.own.write ≡ Some loose.txn) same loose.own.owner in
-            let number : loose.own.write ≡ write = same_id loose.own.deletes loose.own.write loose.own.statement (few_ids loose.own.write loose.txn owner) (sym loose.own.dir) in
-            let lost : is_among (lost_ids st table) write ≡ true =
-            undone-lost (map is_undone st.transactions) table.owners write loose.txn (ap (numbered table.owners) (sym number) ∙ owner) (undone-marked st.transactions loose.txn loose.undone) in
-            absurd (true≢false (sym lost ∙ kept))
-        or (Some made) some =
-            let here = made-of-table st.tables place made some in
-            let same : here.0 ≡ table = one_value here.0 table (sym here.1 ∙ at) in
-            let each = all-both table.writes (without write table.writes none)
-            (all-numbered (AreOfCommitted (map ending_of st.transactions)) st.tables table.info.table.0 table at sound.committed) in
-            let write_of = file-write (λ (w : Written). HasOther write w × IsOfCommitted (map ending_of st.transactions) table.owners w) table.writes place.dir made
-            (subst (λ (t : Table). file_in t.writes place.dir ≡ Some made) same (made-file here.0 place made here.2)) each in
-            absurd (write_of.2.0 (same_id write_of.1.deletes write_of.0.write 0 (few_ids write_of.0.write write_of.2.1.0 write_of.2.1.1) (sym write_of.1.dir_is)))
-          where
-            all-both : (writes : List Written) → AllByRecursion (HasOther write) writes → AllByRecursion (IsOfCommitted (map ending_of st.transactions) table.owners) writes
-                → AllByRecursion (λ (w : Written). HasOther write w × IsOfCommitted (map ending_of st.transactions) table.owners w) writes
-            all-both [] a b = tt
-            all-both (w ∷ writes) a b = ((a.0, b.0), all-both writes a.1 b.1)
+-- they are those of transactions that haven't committed
+known-lost : (s : State) (table : Table) → AreLost s table (lost_ids s table)
+known-lost s table = record {
+  undone = λ write txn owner undone.
+      undone-lost (map is_undone s.transactions) table.owners write txn owner (undone-marked s.transactions txn undone);
+  done = λ write txn owner done.
+      unlost (is_among (lost_ids s table) write) (λ lost.
+      let here = lost-owner (map is_undone s.transactions) table.owners write lost in
+      done-unmarked s.transactions txn done
+      (ap (λ n. is_marked (numbered (map is_undone s.transactions) n)) (one_value txn here.0 (sym owner ∙ here.1)) ∙ here.2));
+}
 
 -- ---- what is seen of a table
 
@@ -287,41 +211,23 @@ module _ (told : Option Store) (known : List Known) (book : List Entry) (tree : 
 
   -- the rows of a table whose files stand
   module _ (s : Store) (tells : told ≡ Some s) (stands : Stands (state_of book) s.tree) (small : (state_of book).entries < write_end) where
-    few : (table : Table) → numbered tables table.info.table.0 ≡ Some table → length table.owners ≤ (state_of book).entries
-    few table at = all-numbered (HasFewOwners (state_of book).entries) tables table.info.table.0 table at at_rest.sound.tables.few
-
-    -- each commit's file stands, and no other of the write ids that aren't lost
-    commits : (table : Table) → numbered tables table.info.table.0 ≡ Some table
-        → HasAllCommits table.info.table.0 (length table.owners) (lost_ids (state_of book) table) table.writes s
-    commits table at deletes write low kept = by (written_with write table.writes) refl
-      where
-        by : (o : Option Written) → written_with write table.writes ≡ o
-            → HasRecords deletes (records_in deletes o) (files.get s.tree (own_place deletes table.info.table.0 write))
-        by (Some written) is =
-            let has = found-with _ write table.writes written is (commits-have-files (state_of book) s.tree table.info.table.0 table at_rest.sound small stands at) in
-            subst (λ w. HasRecords deletes (records_of deletes written) (files.get s.tree (own_place deletes table.info.table.0 w))) has.0 (has.1 deletes)
-        by None is = record {
-          encoded = nothing-file deletes;
-          file_is = nothing-there (state_of book) s.tree table deletes write at_rest.sound small stands at (omega (arith, low, few table at)) is kept;
-        }
-
-    committed-read : (table : Table) → numbered tables table.info.table.0 ≡ Some table
-        → AllByRecursion (IsRead (lost_ids (state_of book) table) (length table.owners)) table.writes
-    committed-read table at =
-        all-mapped (IsOfCommitted (map ending_of (state_of book).transactions) table.owners) (IsRead (lost_ids (state_of book) table) (length table.owners))
-        (λ written is. committed-kept (state_of book).transactions table.owners written is) table.writes
-        (all-numbered (AreOfCommitted (map ending_of (state_of book).transactions)) tables table.info.table.0 table at at_rest.sound.committed)
+    stored : (table : Table) → numbered tables table.info.table.0 ≡ Some table → IsStored (state_of book) s.tree table (lost_ids (state_of book) table)
+    stored table at = record {
+      sound = at_rest.sound;
+      few = small;
+      stands = stands;
+      here = at;
+      known = known-lost (state_of book) table;
+    }
 
     -- they are those that stand in it
     read-rows : (table : Table) (rows : List Found) → numbered tables table.info.table.0 ≡ Some table
         → SeesRows told (reads_rows tree) (known_of (state_of book) table) rows → rows ≡ rows_seen tree table
     read-rows table rows at sees =
-        let sound = all-numbered HasSoundWrites tables table.info.table.0 table at at_rest.sound.tables.written in
-        let are : AreRead (reads_rows tree) table.info.table.0 (length table.owners) (lost_ids (state_of book) table) rows s =
-        subst (λ (o : Option Store). Tells o (AreRead (reads_rows tree) table.info.table.0 (length table.owners) (lost_ids (state_of book) table) rows)) tells sees.read in
+        let are : AreRead (reads_rows tree) table.info (length table.owners) (lost_ids (state_of book) table) rows s =
+        subst (λ (o : Option Store). Tells o (AreRead (reads_rows tree) table.info (length table.owners) (lost_ids (state_of book) table) rows)) tells sees.read in
         rows-by (reads_rows tree) rows (content_of table.writes)
-        (λ reads. are table.writes reads (commits table at)
-        ∙ read-content (lost_ids (state_of book) table) (length table.owners) table sound (committed-read table at))
+        (λ reads. rows-are-content (state_of book) s.tree table (lost_ids (state_of book) table) rows (stored table at) (are reads))
         sees.none
 
     one-seen : (o : Option Table) (first : Option Seen) → ((table : Table) → o ≡ Some table → numbered tables table.info.table.0 ≡ Some table)
@@ -344,19 +250,18 @@ module _ (told : Option Store) (known : List Known) (book : List Entry) (tree : 
     pub meant-told : (seen : List Seen) → IsSeen told known tree seen → meaning_in tree seen ≡ meant book tree
     meant-told seen is = ap (meaning_in tree) (all-seen (names_in tree) seen (known-seen seen is)) ∙ reading-enough book tree at_rest
 
-    -- none of them is lacking
-    lacks-none : (name : List ℕ) (o : Option Table) (one : Known) → table_of_name name tables ≡ o → option_map (known_of (state_of book)) o ≡ Some one
-        → LacksCommits one.info.table.0 one.given one.lost s → ⊥
-    lacks-none name None one at e lacks = cc
-    lacks-none name (Some table) one at e lacks =
+    -- no file of them is damaged
+    spoils-none : (name : List ℕ) (o : Option Table) (one : Known) → table_of_name name tables ≡ o → option_map (known_of (state_of book)) o ≡ Some one
+        → IsSpoiledOf one.info one.given one.lost s.tree → ⊥
+    spoils-none name None one at e spoiled = cc
+    spoils-none name (Some table) one at e spoiled =
         let here = named-numbered name tables table at_rest.sound.tables.in_order at in
         let same : known_of (state_of book) table ≡ one = cc in
-        let none : LacksCommits table.info.table.0 (length table.owners) (lost_ids (state_of book) table) s =
-        subst (λ (k : Known). LacksCommits k.info.table.0 k.given k.lost s) (sym same) lacks in
-        none table.writes (commits table here)
+        none-is-spoiled (state_of book) s.tree table (lost_ids (state_of book) table) (stored table here)
+        (subst (λ (k : Known). IsSpoiledOf k.info k.given k.lost s.tree) (sym same) spoiled)
 
     pub unspoiled : IsSpoiled told known → ⊥
     unspoiled spoiled =
-        lacks-none spoiled.name (table_of_name spoiled.name tables) spoiled.known refl
+        spoils-none spoiled.name (table_of_name spoiled.name tables) spoiled.known refl
         (sym (ap (known_of_name spoiled.name) knows ∙ known-named (state_of book) spoiled.name tables) ∙ spoiled.named)
-        (subst (λ (o : Option Store). Tells o (LacksCommits spoiled.known.info.table.0 spoiled.known.given spoiled.known.lost)) tells spoiled.lacks)
+        (subst (λ (o : Option Store). Tells o (λ s. IsSpoiledOf spoiled.known.info spoiled.known.given spoiled.known.lost s.tree)) tells spoiled.lacks)

@@ -1,12 +1,12 @@
 -- Stores that tell, and what a step leaves of their files.
-use Rattle.std.proofs.Common.{◌≡◌, ℕ, Option, Some, None, refl, sym, ap, ◌∙◌, subst}
+use Rattle.std.proofs.Common.{◌≡◌, ℕ, Option, Some, None, List, refl, sym, ap, ◌∙◌, subst}
 use Rattle.hv_base.specs.Told.{Tells, Moves}
 use Rattle.hv_shelf.specs.Disk.{Store, Tree}
 use Rattle.hv_journal.specs.Appending.{KeepsTree}
 use Rattle.hv_history.specs.State.{State}
-use Rattle.hv_history.specs.declared.state.Written.{Written}
+use Rattle.hv_route.specs.declared.files.OutFile.{OutFile}
 use Rattle.hv_stands.specs.Files.{Stands, with_files}
-use Rattle.hv_house.specs.House.{PutsFiles}
+use Rattle.hv_tables.specs.Putting.{PutsFiles}
 use Rattle.hv_session.specs.Ends.{PutsCommit}
 
 -- what a store that told became
@@ -50,12 +50,12 @@ keeps-keeps (Some x) None c first second = absurd first
 keeps-keeps (Some x) (Some y) None first second = absurd second
 keeps-keeps (Some x) (Some y) (Some z) first second = second ∙ first
 
-pub keeps-puts : (table : ℕ) (written : Written) (a b c : Option Store) → Moves KeepsTree a b → Moves (PutsCommit table written) b c → Moves (PutsCommit table written) a c
-keeps-puts table written None None c first second = second
-keeps-puts table written None (Some y) c first second = absurd first
-keeps-puts table written (Some x) None c first second = absurd first
-keeps-puts table written (Some x) (Some y) None first second = absurd second
-keeps-puts table written (Some x) (Some y) (Some z) first second = second ∙ ap (λ (t : Tree). with_files t table written) first
+pub keeps-puts : (table write : ℕ) (files : List OutFile) (a b c : Option Store) → Moves KeepsTree a b → Moves (PutsCommit table write files) b c → Moves (PutsCommit table write files) a c
+keeps-puts table write files None None c first second = second
+keeps-puts table write files None (Some y) c first second = absurd first
+keeps-puts table write files (Some x) None c first second = absurd first
+keeps-puts table write files (Some x) (Some y) None first second = absurd second
+keeps-puts table write files (Some x) (Some y) (Some z) first second = second ∙ ap (λ (t : Tree). with_files t table write files) first
 
 abbrev pub Any : Store → Store → Type 0
 Any before now = Unit {0}
@@ -66,15 +66,15 @@ any-of step None (Some y) moves = absurd moves
 any-of step (Some x) None moves = absurd moves
 any-of step (Some x) (Some y) moves = tt
 
-pub puts-keeps : (table : ℕ) (written : Written) (a b c : Option Store) → Moves (PutsCommit table written) a b → Moves KeepsTree b c → Moves (PutsCommit table written) a c
-puts-keeps table written None None c first second = second
-puts-keeps table written None (Some y) c first second = absurd first
-puts-keeps table written (Some x) None c first second = absurd first
-puts-keeps table written (Some x) (Some y) None first second = absurd second
-puts-keeps table written (Some x) (Some y) (Some z) first second = second ∙ first
+pub puts-keeps : (table write : ℕ) (files : List OutFile) (a b c : Option Store) → Moves (PutsCommit table write files) a b → Moves KeepsTree b c → Moves (PutsCommit table write files) a c
+puts-keeps table write files None None c first second = second
+puts-keeps table write files None (Some y) c first second = absurd first
+puts-keeps table write files (Some x) None c first second = absurd first
+puts-keeps table write files (Some x) (Some y) None first second = absurd second
+puts-keeps table write files (Some x) (Some y) (Some z) first second = second ∙ first
 
-pub has-files-puts : (table : ℕ) (written : Written) (a b : Option Store) → Moves (PutsFiles table written) a b → Moves (PutsCommit table written) a b
-has-files-puts table written None None moves = tt
-has-files-puts table written None (Some y) moves = absurd moves
-has-files-puts table written (Some x) None moves = absurd moves
-has-files-puts table written (Some x) (Some y) moves = moves.tree_is
+pub has-files-puts : (table write : ℕ) (files : List OutFile) (a b : Option Store) → Moves (PutsFiles table write files) a b → Moves (PutsCommit table write files) a b
+has-files-puts table write files None None moves = tt
+has-files-puts table write files None (Some y) moves = absurd moves
+has-files-puts table write files (Some x) None moves = absurd moves
+has-files-puts table write files (Some x) (Some y) moves = moves.tree_is

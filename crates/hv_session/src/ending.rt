@@ -1,4 +1,4 @@
-ghost use Rattle.std.specs.Prelude.{◌≡◌, ◌<◌, ◌≤◌, ◌+◌, [], ◌∷◌, length, true, false, None, Some, IfOk, IfErr, IsErrOf};
+ghost use Rattle.std.specs.Prelude.{◌≡◌, ◌<◌, ◌≤◌, ◌+◌, [], ◌∷◌, length, true, false, None, Some, Ok, IfOk, IfErr, IsErrOf};
 ghost use Rattle.std.specs.List.{AllByRecursion};
 ghost use Rattle.hv_base.specs.Told.{StaysTold};
 ghost use Rattle.hv_history.specs.declared.entry.Entry.TheVariants as entries;
@@ -7,15 +7,17 @@ ghost use Rattle.hv_history.specs.Answers.{listing, counts_line, ok_line, cause_
 ghost use Rattle.hv_house.specs.declared.fault.HouseFault.TheVariants.{Store};
 ghost use Rattle.hv_house.specs.Faults.{StoreCause};
 ghost use Rattle.hv_house.specs.House.{entries_of, book_limit, entry_limit, HasNumbers, IsKept, IsHalted};
-ghost use Rattle.hv_stands.specs.Laws.{changing, changes_in};
+ghost use Rattle.hv_route.specs.Touching.{touches_of, touched};
+ghost use Rattle.hv_stands.specs.Laws.{changes_in};
 ghost use Rattle.hv_session.specs.Ends.{IsDone, Commits, Refuses, Makes, ChangesBy, ChangesRows, CanChange, CanEnd, EndsAs, next_id};
 ghost use Rattle.hv_session.specs.Halting.{IsUnended};
 
 use crate::reply::Reply;
-use hv_base::{List, NoMemory, TableId, Text, Touch, TxnId};
-use hv_history::{Cause, cause_text, counts_line, listing, ok_line, written_by};
+use hv_base::{List, NoMemory, TableId, Touch, TxnId};
+use hv_history::{Cause, cause_text, counts_line, listing, ok_line};
 use hv_house::{House, HouseFault};
 use hv_logic::{Effect, Meaning, Shape, TableInfo};
+use hv_route::{RouteFault, route, touches};
 use hv_shelf::Shelf;
 use hv_value::Row;
 use std::alloc::Global;
@@ -102,27 +104,16 @@ fn make<D: Shelf>(
     Ok(done(text))
 }
 
-/// The touch of a change of a table.
-fn touches(
-    alloc: Global,
-    table: TableId,
-    inserted: u64,
-    deleted: u64,
-) -> Result<List<Touch>, NoMemory>
-    ensures { IfOk result (λ touches. touches ≡ record {
-      table = table;
-      partition = [];
-      inserted = inserted;
-      deleted = deleted;
-    } ∷ []) }
+/// The touches of a change that is within its limits.
+fn touches_within(alloc: Global, info: &TableInfo, effect: &Effect) -> Result<List<Touch>, NoMemory>
+    requires { touched info.now effect.now ≡ Ok (touches_of info.now effect.now) }
+    ensures { IfOk result (λ wrote. wrote ≡ touches_of info.now effect.now) }
 {
-    let touch = Touch {
-        table,
-        partition: Text::of(alloc, "")?,
-        inserted,
-        deleted,
-    };
-    Ok(List::from_vec(vec![in alloc; touch]?))
+    match touches(alloc, info, effect) {
+        Ok(wrote) => Ok(wrote),
+        Err(RouteFault::NoMemory) => Err(NoMemory),
+        Err(RouteFault::RowLimit | RouteFault::PartitionLimit) => unreachable!(),
+    }
 }
 
 /// Whether a change inserts or deletes a row.
@@ -133,6 +124,7 @@ fn changes_rows(effect: &Effect) -> bool
     effect.inserts.len() > 0 || effect.deletes.len() > 0
 }
 
+/// Changes rows of a table under its next write id: puts the files of the change, and then commits it.
 fn change<D: Shelf>(
     alloc: Global,
     house: &mut House<D>,
@@ -151,13 +143,11 @@ fn change<D: Shelf>(
     ensures cause { StoreCause (D.faults house.old.shelf) (D.faults house.new.shelf)
         (IsErrOf result Store) }
 {
-    let inserted = effect.inserts.len() as u64;
-    let deleted = effect.deletes.len() as u64;
-    let wrote = touches(alloc, info.table, inserted, deleted)?;
+    let wrote = touches_within(alloc, &info, &effect)?;
     let text = counts_line(alloc, wrote.as_slice())?;
     let write = house.give(txn, info.table)?;
-    let written = written_by(alloc, write.0, 0, effect)?;
-    house.put_written(alloc, info.table, &written)?;
+    let files = route(alloc, &info.shape, write, 0, effect)?;
+    house.put_files(alloc, info.table, write, &files)?;
     house.commit(txn, wrote)?;
     Ok(done(text))
 }
