@@ -6,7 +6,7 @@ use hv_reading::{TextFault, read_statement, read_text};
 use std::alloc::Global;
 use std::test::Fail;
 
-const RUNNING: [&str; 48] = [
+const RUNNING: [&str; 53] = [
     "CREATE TABLE t (a INT)",
     "CREATE TABLE t (a INTEGER)",
     "CREATE TABLE t (a INT, b STRING)",
@@ -20,6 +20,8 @@ const RUNNING: [&str; 48] = [
     "CREATE TABLE t (a INT) COMMENT 'c'",
     "CREATE TABLE t (a INT) STORED AS ORC",
     "CREATE TABLE t (a INT) TBLPROPERTIES ('k' = 'v')",
+    "CREATE TABLE t (a INT) PARTITIONED BY (p INT)",
+    "CREATE TABLE t (a INT) CLUSTERED BY (a) INTO 4 BUCKETS",
     "INSERT INTO t VALUES (1)",
     "INSERT INTO t VALUES (1, 'x')",
     "INSERT INTO TABLE t VALUES (1, 'x'), (2, 'y')",
@@ -32,11 +34,14 @@ const RUNNING: [&str; 48] = [
     "INSERT INTO t VALUES (1), (NULL)",
     "INSERT INTO t (a) VALUES (1)",
     "INSERT OVERWRITE TABLE t VALUES (1)",
+    "INSERT INTO t PARTITION (p) VALUES (1)",
+    "INSERT OVERWRITE TABLE t PARTITION (p = 1) VALUES (1)",
     "INSERT INTO t SELECT * FROM u",
     "UPDATE t SET a = 1",
     "DELETE FROM t",
     "DELETE FROM t WHERE a",
     "TRUNCATE TABLE t",
+    "TRUNCATE TABLE t PARTITION (p = 1)",
     "SELECT * FROM t",
     "SELECT * FROM default.t",
     "SELECT DISTINCT * FROM t",
@@ -57,12 +62,7 @@ const RUNNING: [&str; 48] = [
     "SELECT * FROM t ORDER BY a",
 ];
 
-const OTHERS: [&str; 13] = [
-    "CREATE TABLE t (a INT) PARTITIONED BY (p INT)",
-    "CREATE TABLE t (a INT) CLUSTERED BY (a) INTO 4 BUCKETS",
-    "INSERT INTO t PARTITION (p) VALUES (1)",
-    "INSERT OVERWRITE TABLE t PARTITION (p = 1) VALUES (1)",
-    "TRUNCATE TABLE t PARTITION (p = 1)",
+const OTHERS: [&str; 8] = [
     "EXPLAIN FORMATTED SELECT * FROM t",
     "MERGE INTO t USING u ON a WHEN MATCHED THEN DELETE",
     "DROP TABLE t",
