@@ -1,4 +1,6 @@
-ghost use Rattle.std.specs.Prelude.{◌≡◌, ◌++◌, ◌∷◌, [], map, filter, IfOk, OnOk};
+ghost use Rattle.std.specs.Prelude.{◌≡◌, ◌++◌, ◌∷◌, [], List, map, filter, IfOk, OnOk};
+ghost use Rattle.hv_value.specs.declared.row.Row.{Row as RowOf};
+ghost use Rattle.hv_order.specs.First.{IsEnough, IsSound};
 ghost use Rattle.hv_keyed.specs.Folds.{added};
 ghost use Rattle.hv_query.specs.Grouped.{groups};
 ghost use Rattle.hv_query.specs.Rows.{key_of, is_met_over, group_row, grouped, same_row};
@@ -8,6 +10,7 @@ use crate::items::item_values;
 use hv_base::{Boxed, NoMemory};
 use hv_eval::{Frame, Scope, is_true_at};
 use hv_keyed::{Chain, GroupFold, Groups, fold_groups};
+use hv_order::{Front, Kept};
 use hv_query::Grouping;
 use hv_typed::TypedExpr;
 use hv_value::Row;
@@ -85,12 +88,16 @@ fn add_group<'a>(
     items: &'a [TypedExpr],
     having: &'a Option<Boxed<TypedExpr>>,
     group: &'a [Frame<'a>],
-    rows: &mut Vec<Row>,
+    front: Option<Front<'a>>,
+    kept: &mut Kept,
 ) -> Result<(), NoMemory>
-    ensures { OnOk result (rows.new.items ≡ rows.old.items ++ map (group_row items.now) (filter (is_met_over having.now) (frames_values group.now ∷ []))) }
+    requires sound { IsSound front kept.old }
+    ensures enough { (all : List RowOf) → IsEnough front.entry kept.old.rows.items all → OnOk result (IsEnough front.entry kept.new.rows.items (all ++ map (group_row items.now) (filter (is_met_over having.now) (frames_values group.now ∷ [])))) }
+    ensures sound { OnOk result (IsSound front.entry kept.new) }
 {
     if is_met_over(alloc, having, group)? {
-        rows.push(group_row(alloc, items, group)?)?;
+        let row = group_row(alloc, items, group)?;
+        return kept.push(front, row);
     }
     Ok(())
 }
@@ -101,13 +108,15 @@ fn group_rows<'a>(
     items: &'a [TypedExpr],
     having: &'a Option<Boxed<TypedExpr>>,
     groups: Vec<Chain<Frame<'a>>>,
+    front: Option<Front<'a>>,
 ) -> Result<Vec<Row>, NoMemory>
-    ensures { IfOk result (λ rows. rows.items ≡ map (group_row items.now) (filter (is_met_over having.now) (map frames_values groups.entry.items))) }
+    ensures { IfOk result (λ rows. IsEnough front.entry rows.items (map (group_row items.now) (filter (is_met_over having.now) (map frames_values groups.entry.items)))) }
 {
-    let mut rows = Vec::new(alloc);
+    let mut kept = Kept::with_room(alloc, 0)?;
     for group in groups.as_slice() {
-        add_group(alloc, &*items, &*having, group.as_slice(), &mut rows)?;
+        add_group(alloc, &*items, &*having, group.as_slice(), front, &mut kept)?;
     }
+    let Kept { rows, .. } = kept;
     Ok(rows)
 }
 
@@ -125,21 +134,23 @@ fn chains_by<'a>(
     Ok(kept)
 }
 
-/// The items over each group for which HAVING holds.
+/// The items over each group for which HAVING holds, as far as they are wanted.
 pub(crate) fn grouped_rows<'a>(
     alloc: Global,
     items: &'a [TypedExpr],
     grouping: &'a Grouping,
     frames: &'a [Frame<'a>],
+    front: Option<Front<'a>>,
 ) -> Result<Vec<Row>, NoMemory>
-    ensures { IfOk result (λ rows. rows.items ≡ map (group_row items.now) (filter (is_met_over grouping.now.having) (grouped grouping.now.keys (frames_values frames.now)))) }
+    ensures { IfOk result (λ rows. IsEnough front.entry rows.items (map (group_row items.now) (filter (is_met_over grouping.now.having) (grouped grouping.now.keys (frames_values frames.now))))) }
 {
     let keys = grouping.keys.as_slice();
     if keys.is_empty() {
-        let mut rows = Vec::new(alloc);
-        add_group(alloc, items, &grouping.having, frames, &mut rows)?;
+        let mut kept = Kept::with_room(alloc, 1)?;
+        add_group(alloc, items, &grouping.having, frames, front, &mut kept)?;
+        let Kept { rows, .. } = kept;
         return Ok(rows);
     }
     let chains = chains_by(alloc, keys, frames)?;
-    group_rows(alloc, items, &grouping.having, chains)
+    group_rows(alloc, items, &grouping.having, chains, front)
 }

@@ -1,11 +1,15 @@
-ghost use Rattle.std.specs.Prelude.{◌≡◌, ◌++◌, ◌∷◌, [], map, filter, IfOk, OnOk, if◌then◌else◌};
+ghost use Rattle.std.specs.Prelude.{◌≡◌, ◌++◌, ◌∷◌, [], List, map, filter, IfOk, OnOk, if◌then◌else◌};
 ghost use Rattle.hv_typed.specs.declared.tree.TypedExpr.{TypedExpr as Expr};
+ghost use Rattle.hv_value.specs.declared.row.Row.{Row as RowOf};
+ghost use Rattle.hv_order.specs.First.{IsEnough, IsSound};
 ghost use Rattle.hv_query.specs.Rows.{is_met, item_row};
 ghost use Rattle.hv_eval.specs.Frames.{frame_values, frames_values, values_at};
 
+use crate::wanted::is_needless;
 use hv_base::{Boxed, List, NoMemory};
 use hv_eval::{Frame, Scope, eval_at};
 use hv_joins::is_met;
+use hv_order::{Front, Kept};
 use hv_typed::TypedExpr;
 use hv_value::{Row, Value};
 use std::alloc::Global;
@@ -27,6 +31,9 @@ pub(crate) fn filtered<'a>(
 ) -> Result<Vec<Frame<'a>>, NoMemory>
     ensures { IfOk result (λ kept. frames_values kept.items ≡ filter (is_met condition.now) (frames_values frames.entry.items)) }
 {
+    if condition.is_none() {
+        return Ok(frames);
+    }
     let mut kept = Vec::new(alloc);
     for frame in frames.as_slice() {
         let keeps = is_met(alloc, condition, frame)?;
@@ -59,17 +66,39 @@ fn item_row<'a>(alloc: Global, items: &'a [TypedExpr], frame: &Frame<'a>) -> Res
     })
 }
 
-/// The items on each row by itself.
+// The items on one row more. A row that is seen not to be wanted isn't made.
+fn add_row<'a>(
+    alloc: Global,
+    items: &'a [TypedExpr],
+    frame: &Frame<'a>,
+    front: Option<Front<'a>>,
+    kept: &mut Kept,
+) -> Result<(), NoMemory>
+    requires sound { IsSound front kept.old }
+    ensures enough { (all : List RowOf) → IsEnough front.entry kept.old.rows.items all → OnOk result (IsEnough front.entry kept.new.rows.items (all ++ item_row items.now (frame_values frame.now) ∷ [])) }
+    ensures sound { OnOk result (IsSound front.entry kept.new) }
+{
+    if is_needless(items, frame, front, kept) {
+        return Ok(());
+    }
+    let row = item_row(alloc, items, frame)?;
+    kept.push(front, row)
+}
+
+/// The items on each row by itself, as far as they are wanted.
 pub(crate) fn item_rows<'a>(
     alloc: Global,
     items: &'a [TypedExpr],
     frames: &'a [Frame<'a>],
+    front: Option<Front<'a>>,
 ) -> Result<Vec<Row>, NoMemory>
-    ensures { IfOk result (λ rows. rows.items ≡ map (item_row items.now) (frames_values frames.now)) }
+    ensures { IfOk result (λ rows. IsEnough front.entry rows.items (map (item_row items.now) (frames_values frames.now))) }
 {
-    let mut rows = Vec::with_capacity(alloc, frames.len())?;
+    let room = if front.is_none() { frames.len() } else { 0 };
+    let mut kept = Kept::with_room(alloc, room)?;
     for frame in frames {
-        rows.push(item_row(alloc, items, frame)?)?;
+        add_row(alloc, items, frame, front, &mut kept)?;
     }
+    let Kept { rows, .. } = kept;
     Ok(rows)
 }

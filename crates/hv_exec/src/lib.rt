@@ -9,5 +9,6 @@ mod queries;
 mod selects;
 mod tables;
 mod unions;
+mod wanted;
 
 pub use queries::run;

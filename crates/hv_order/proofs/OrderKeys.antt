@@ -162,3 +162,14 @@ false_of false h = refl
 pub trimmed_bounded : (keys : List SortKey) (n : ℕ) (old rows : List Row) → rows ≡ first_ordered keys n old → 0 < n → n ≤ length rows → IsBounded keys n rows
 trimmed_bounded keys n old rows e some enough =
     (some, enough, subst (IsSorted (order_cmp keys)) (sym (take_again n (ordered keys old)) ∙ ap (take n) (sym e)) (sorted-take (order_cmp keys) n (ordered keys old) (sorted-sorted_by (order_total keys) old)))
+
+-- where a row stands in what is sorted is all the same
+pub put_last : (keys : List SortKey) (count : ℕ) (row : Row) (rows : List Row) → first_ordered keys count (row ∷ rows) ≡ first_ordered keys count (rows ++ row ∷ [])
+put_last keys count row rows =
+    ap (take count) (sorted-permuted (order_total keys) (order_exact keys) (row ∷ rows) (rows ++ row ∷ []) (IsPermutation-sym (rows ++ row ∷ []) (row ∷ rows) (IsPermutation-to_front rows row)))
+
+-- a row that changes nothing of the first ones of what is kept
+pub not_wanted : (keys : List SortKey) (count : ℕ) (row : Row) (kept all : List Row) → first_ordered keys count (row ∷ kept) ≡ first_ordered keys count kept
+    → first_ordered keys count kept ≡ first_ordered keys count all → first_ordered keys count kept ≡ first_ordered keys count (all ++ row ∷ [])
+not_wanted keys count row kept all changes_nothing enough =
+    sym changes_nothing ∙ take-sorted (order_cmp keys) count row kept all enough ∙ put_last keys count row all

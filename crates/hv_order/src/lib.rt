@@ -1,10 +1,11 @@
 //! ORDER BY and LIMIT over rows in memory.
 #![tactic(auto)]
 
-ghost use Rattle.std.specs.Prelude.{◌≡◌, ◌∷◌, ◌<◌, ◌≤◌, length, List, IsTrue, OnOk, IfOk};
+ghost use Rattle.std.specs.Prelude.{◌≡◌, ◌∷◌, ◌++◌, [], ◌<◌, ◌≤◌, false, length, List, IsTrue, OnOk, IfOk, IfSome};
+ghost use Rattle.std.specs.Ordering.{is_lt};
 ghost use Rattle.hv_value.specs.declared.row.Row.{Row as RowOf};
 ghost use Rattle.hv_query.specs.Order.{key_cmp, order_cmp, ordered, limited};
-ghost use Rattle.hv_order.specs.First.{first_ordered, IsBounded};
+ghost use Rattle.hv_order.specs.First.{first_ordered, IsBounded, IsEnough, IsSound};
 
 use hv_base::NoMemory;
 use hv_query::SortKey;
@@ -90,6 +91,64 @@ fn add(
         return Ok(is_full(count, kept.as_slice()));
     }
     Ok(bounded)
+}
+
+/// Which rows are wanted: the first ones of an order.
+#[derive(Clone, Copy)]
+pub struct Front<'a> {
+    pub keys: &'a [SortKey],
+    pub count: usize,
+}
+
+/// Rows that are made one by one. Where not all are wanted, no more than about twice those that are: the first ones of
+/// all that were added are among them.
+#[derive(Drop)]
+pub struct Kept {
+    pub rows: Vec<Row>,
+    // whether the wanted ones stand in front, in order
+    pub bounded: bool,
+}
+
+impl Kept {
+    /// No row yet, with room for so many.
+    pub fn with_room(alloc: Global, count: usize) -> Result<Kept, NoMemory>
+        ensures rows { IfOk result (λ kept. kept.rows.items ≡ []) }
+        ensures bounded { IfOk result (λ kept. kept.bounded ≡ false) }
+    {
+        Ok(Kept {
+            rows: Vec::with_capacity(alloc, count)?,
+            bounded: false,
+        })
+    }
+
+    /// One row more, behind the others.
+    pub fn push(&mut self, front: Option<Front>, row: Row) -> Result<(), NoMemory>
+        requires sound { IsSound front self.old }
+        ensures enough { (all : List RowOf) → IsEnough front.entry self.old.rows.items all → OnOk result (IsEnough front.entry self.new.rows.items (all ++ row ∷ [])) }
+        ensures sound { OnOk result (IsSound front.entry self.new) }
+    {
+        match front {
+            None => {
+                self.rows.push(row)?;
+            }
+            Some(front) => {
+                self.bounded = add(front.keys, front.count, &mut self.rows, self.bounded, row)?;
+            }
+        }
+        Ok(())
+    }
+
+    /// The last row that is wanted of those so far, where it is known: a row that isn't before it isn't wanted.
+    pub fn last(&self, front: Front) -> Option<&Row>
+        requires sound { IsTrue self.now.bounded → IsBounded front.keys.now front.count self.now.rows.items }
+        ensures { IfSome result (λ last. (row : RowOf) → is_lt (order_cmp front.entry.keys.now row last.now) ≡ false → first_ordered front.entry.keys.now front.entry.count (row ∷ self.now.rows.items) ≡ first_ordered front.entry.keys.now front.entry.count self.now.rows.items) }
+    {
+        if self.bounded {
+            Some(&self.rows[front.count - 1])
+        } else {
+            None
+        }
+    }
 }
 
 /// The first rows of an order, without a sort of all: no more than about twice as many are kept.
