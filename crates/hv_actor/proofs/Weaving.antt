@@ -5,10 +5,11 @@ use Rattle.std.specs.Option.{option_to_list}
 use Rattle.std.proofs.lemmas.List.{append-nil}
 use Rattle.hv_shelf.specs.Disk.{Store}
 use Rattle.hv_trail.specs.declared.trail.TrailItem.{TrailItem}
-use Rattle.hv_trail.specs.Steps.{HouseSeen, Call, Outcome}
+use Rattle.hv_trail.specs.Steps.{HouseSeen, Call, Outcome, gains}
 use Rattle.hv_trail.specs.Own.{RiseWithin, items_at}
 use Rattle.hv_trail.proofs.LastingLaws.{goes-on-front}
 use Rattle.hv_trail.proofs.OwnLaws.{items-front}
+use Rattle.hv_trail.proofs.StepLaws.{gains-few, two-at-most}
 use Rattle.hv_actor.specs.Acting.{Reached, Held, Went, Woven, AreRows, Nothing, Anything, placed_from, places_of, items_of, numbers_from, own_alone, own_among, Adds}
 
 pub length-append : {A : Type 0} (xs ys : List A) → length (xs ++ ys) ≡ length xs + length ys
@@ -246,7 +247,13 @@ kept-none at now least not =
 pub settled-own : (early : List ℕ) (since : ℕ) (trail : List TrailItem) → own_among early (min since (length trail)) trail ≡ own_among early since trail
 settled-own early since trail = ap (λ places. early ++ places) (settled since (length trail))
 
--- a step behind others: its place is kept
+-- a step adds two items at most
+pub two-more : (call : Call) (outcome : Outcome) (at end : ℕ) (house now : List TrailItem) → at ≡ length house → end ≡ length now
+    → now ≡ house ++ gains call outcome → end ≤ at + 2
+two-more call outcome at end house now from to adds =
+    omega (arith, from, to, ap length adds, length-append house (gains call outcome), gains-few call outcome, two-at-most call)
+
+-- a step behind others: its places are kept
 pub kept-more : (early early' : List ℕ) (since at end : ℕ) (old house now gained : List TrailItem) → since ≡ length old → at ≡ length house → end ≡ length now
     → now ≡ house ++ gained → early' ≡ early ++ numbers_from at (end - at)
     → own_among early' end now ≡ own_among early since old ++ numbers_from (length house) (length gained)

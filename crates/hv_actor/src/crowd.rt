@@ -25,24 +25,32 @@ pub struct Crowd<D: Shelf, H: Housed<D>, O: Others<D, H>> {
     store: PhantomData<D>,
 }
 
-/// Keeps a place in a list that has room, where an item stands there.
+/// Keeps the places of the items from `at` on, two at most, in a list that has room.
 fn keep(early: &mut Vec<u64>, at: u64, now: u64)
-    requires room { vec_len early.old < vec_capacity early.old }
+    requires room { vec_len early.old + 2 ≤ vec_capacity early.old }
     requires least { at ≤ now }
-    requires most { now ≤ at + 1 }
+    requires most { now ≤ at + 2 }
     ensures places { early.new.items ≡ early.old.items ++ numbers_from at (now - at) }
 {
     if at < now {
         early.push(at).unwrap();
+        if at + 1 < now {
+            early.push(at + 1).unwrap();
+        }
     }
 }
 
 impl<D: Shelf, H: Housed<D>, O: Others<D, H>> Crowd<D, H, O> {
-    /// The house among these others, who come so many times.
-    pub fn new(alloc: Global, house: H, others: O, times: usize) -> Result<Crowd<D, H, O>, NoMemory>
+    /// The house among these others, who come as often as there is room for the places of a step, two at most, among so many.
+    pub fn new(
+        alloc: Global,
+        house: H,
+        others: O,
+        places: usize,
+    ) -> Result<Crowd<D, H, O>, NoMemory>
         ensures house { IfOk result (λ crowd. crowd.house ≡ house) }
     {
-        let early = Vec::with_capacity(alloc, times)?;
+        let early = Vec::with_capacity(alloc, places)?;
         let since = house.items();
         Ok(Crowd {
             house,
@@ -78,18 +86,18 @@ impl<D: Shelf, H: Housed<D>, O: Others<D, H>> Crowd<D, H, O> {
         self.since = self.since.min(self.house.items());
     }
 
-    /// Whether others may come: there is room to keep one more place, and no place is its own but those that are kept.
+    /// Whether others may come: there is room to keep a step's places, and no place is its own but those that are kept.
     fn has_room(&self) -> bool
-        ensures room { result ≡ true → vec_len self.now.early < vec_capacity self.now.early }
+        ensures room { result ≡ true → vec_len self.now.early + 2 ≤ vec_capacity self.now.early }
         ensures since { result ≡ true → self.now.since ≡ length (H.seen self.now.house).trail }
     {
-        self.early.len() < self.early.capacity() && self.since == self.house.items()
+        self.early.len() + 2 <= self.early.capacity() && self.since == self.house.items()
     }
 
     /// One step, behind those of the others.
     fn behind_others<A: Act<D, H>>(&mut self, alloc: Global, act: A) -> A::Answer
         requires can { (house : HouseSeen D) → Reached Anything (H.seen self.old.house).start (H.seen self.old.house).trail house → A.can act house }
-        requires room { vec_len self.old.early < vec_capacity self.old.early }
+        requires room { vec_len self.old.early + 2 ≤ vec_capacity self.old.early }
         requires since { self.old.since ≡ length (H.seen self.old.house).trail }
         ensures root { (H.seen self.new.house).start ≡ (H.seen self.old.house).start }
         ensures held { Held D.told D.faults Anything (H.seen self.old.house).start (H.seen self.old.house).trail (H.seen self.new.house).trail

@@ -1,3 +1,4 @@
+pub mod KeptLaws
 pub mod LastingLaws
 pub mod MarkLaws
 pub mod OwnLaws

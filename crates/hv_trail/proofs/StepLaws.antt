@@ -4,7 +4,7 @@ use Rattle.std.specs.Option.{option_to_list}
 use Rattle.std.proofs.lemmas.List.{append-nil}
 use Rattle.hv_shelf.specs.Disk.{Store}
 use Rattle.hv_trail.specs.declared.trail.TrailItem.{TrailItem}
-use Rattle.hv_trail.specs.Steps.{HouseSeen, Call, Note, Commit, Put, Remove, Read, Request, Check, Ask, Outcome, gained, gains, all_gains, IsShutOut, Step, Run, KeepsRest}
+use Rattle.hv_trail.specs.Steps.{HouseSeen, Call, Note, Begin, Commit, Put, Remove, Read, Request, Check, Ask, Outcome, Done, Conflict, Failed, Closed, Refused, gained, gains, most_items, all_gains, IsShutOut, Step, Run, KeepsRest}
 use Rattle.hv_trail.specs.Lasting.{GoesOn}
 use Rattle.hv_trail.proofs.LastingLaws.{goes-on-front}
 
@@ -12,8 +12,31 @@ one-at-most : (item : Option TrailItem) → length (option_to_list item) ≤ 1
 one-at-most None = omega arith
 one-at-most (Some item) = omega arith
 
-pub gains-one : (call : Call) (outcome : Outcome) → length (gains call outcome) ≤ 1
-gains-one call outcome = one-at-most (gained call outcome)
+pub gains-few : (call : Call) (outcome : Outcome) → length (gains call outcome) ≤ most_items call
+gains-few (Note event) outcome = one-at-most (gained (Note event) outcome)
+gains-few (Begin txn session number text) Done = omega arith
+gains-few (Begin txn session number text) (Conflict with_ table partition) = omega arith
+gains-few (Begin txn session number text) (Failed count) = omega arith
+gains-few (Begin txn session number text) Closed = omega arith
+gains-few (Begin txn session number text) Refused = omega arith
+gains-few (Commit txn wrote) outcome = one-at-most (gained (Commit txn wrote) outcome)
+gains-few (Put by place bytes) outcome = one-at-most (gained (Put by place bytes) outcome)
+gains-few (Remove by dir) outcome = one-at-most (gained (Remove by dir) outcome)
+gains-few (Read by) outcome = one-at-most (gained (Read by) outcome)
+gains-few (Request txn locks) outcome = one-at-most (gained (Request txn locks) outcome)
+gains-few (Check txn state) outcome = one-at-most (gained (Check txn state) outcome)
+gains-few Ask outcome = one-at-most (gained Ask outcome)
+
+pub two-at-most : (call : Call) → most_items call ≤ 2
+two-at-most (Begin txn session number text) = omega arith
+two-at-most (Note event) = omega arith
+two-at-most (Commit txn wrote) = omega arith
+two-at-most (Put by place bytes) = omega arith
+two-at-most (Remove by dir) = omega arith
+two-at-most (Read by) = omega arith
+two-at-most (Request txn locks) = omega arith
+two-at-most (Check txn state) = omega arith
+two-at-most Ask = omega arith
 
 pub step-goes-on : {D : Type 0} (told : D → Option Store) (faults : D → ℕ) (call : Call) (outcome : Outcome) (before now : HouseSeen D)
     → Step told faults call outcome before now → GoesOn before.trail now.trail
@@ -22,6 +45,7 @@ step-goes-on told faults call outcome before now step =
 
 shut-gains : (call : Call) (outcome : Outcome) → IsShutOut call outcome → gains call outcome ≡ []
 shut-gains (Note event) outcome e = ap (λ o. gains (Note event) o) e
+shut-gains (Begin txn session number text) outcome e = ap (λ o. gains (Begin txn session number text) o) e
 shut-gains (Commit txn wrote) outcome e = ap (λ o. gains (Commit txn wrote) o) e
 shut-gains (Put by place bytes) outcome e = ap (λ o. gains (Put by place bytes) o) e
 shut-gains (Remove by dir) outcome e = ap (λ o. gains (Remove by dir) o) e

@@ -1,6 +1,7 @@
-pub mod Trail
+pub mod Kept
 pub mod Lasting
-pub mod Steps
 pub mod Own
 pub mod Serial
+pub mod Steps
+pub mod Trail
 pub mod Worked

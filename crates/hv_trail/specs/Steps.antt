@@ -42,6 +42,8 @@ pub record HouseSeen (D : Type 0) : Type 0 where
 pub data Call : Type 0 where
   -- note an entry
   Note : Entry → Call
+  -- take up a statement as a transaction and give it its snapshot, both at once: its session, number and text
+  Begin : TxnId → List ℕ → ℕ → List ℕ → Call
   -- commit a transaction, which may be answered by a conflict
   Commit : TxnId → List Touch → Call
   -- put a file
@@ -74,6 +76,7 @@ MayEnd (Commit txn wrote) (Failed count) = ⊥
 MayEnd (Commit txn wrote) outcome = Unit {0}
 MayEnd call (Conflict with_ table partition) = ⊥
 MayEnd (Note event) (Failed count) = ⊥
+MayEnd (Begin txn session number text) (Failed count) = ⊥
 MayEnd (Request txn locks) (Failed count) = ⊥
 MayEnd (Check txn state) (Failed count) = ⊥
 MayEnd Ask (Failed count) = ⊥
@@ -81,7 +84,11 @@ MayEnd call outcome = Unit {0}
 
 -- ---- the table
 
--- the one item that the trail gains, where it gains any
+-- the entries that begin a statement
+abbrev pub begun : TxnId → List ℕ → ℕ → List ℕ → List Entry
+begun txn session number text = entry.Opened txn session number text ∷ entry.Start txn 0 ∷ []
+
+-- the one item that the trail gains, where it gains one
 abbrev pub gained : Call → Outcome → Option TrailItem
 gained (Note event) Done = Some (Noted event)
 gained (Commit txn wrote) Done = Some (Noted (entry.Commit txn wrote))
@@ -93,7 +100,9 @@ gained (Remove by dir) (Failed count) = Some (Marked (Broke by false count))
 gained (Read by) (Failed count) = Some (Marked (Broke by false count))
 gained call outcome = None
 
+-- all that it gains: a statement's beginning has two items
 abbrev pub gains : Call → Outcome → List TrailItem
+gains (Begin txn session number text) Done = map Noted (begun txn session number text)
 gains call outcome = option_to_list (gained call outcome)
 
 -- whether the house is closed by it
@@ -101,25 +110,40 @@ abbrev pub shuts : Outcome → Bool
 shuts Closed = true
 shuts outcome = false
 
--- the journal read to this book, and reads to it and this entry
-pub record Notes (event : Entry) (book : List Entry) (before now : Store) : Type 0 where
-  pub tree_is : now.tree ≡ before.tree
-  pub reads : IsJournal book before.journal → IsJournal (book ++ event ∷ []) now.journal
+-- the most that it gains
+abbrev pub most_items : Call → ℕ
+most_items (Begin txn session number text) = 2
+most_items call = 1
 
--- the journal read to this book, and reads to it, or to it and this entry
-pub record NotesOrNot (event : Entry) (book : List Entry) (before now : Store) : Type 0 where
+-- the journal read to this book, and reads to it and these entries
+pub record Notes (events book : List Entry) (before now : Store) : Type 0 where
   pub tree_is : now.tree ≡ before.tree
-  pub reads : IsJournal book before.journal → IsJournal book now.journal ⊎ IsJournal (book ++ event ∷ []) now.journal
+  pub reads : IsJournal book before.journal → IsJournal (book ++ events) now.journal
+
+-- the journal read to this book, and reads to it, or to it and all of these entries
+pub record NotesOrNot (events book : List Entry) (before now : Store) : Type 0 where
+  pub tree_is : now.tree ≡ before.tree
+  pub reads : IsJournal book before.journal → IsJournal book now.journal ⊎ IsJournal (book ++ events) now.journal
+
+-- The journal read to this book, and reads to it. Where memory lacked, something may stand behind its closed gate.
+pub record NotesNone (book : List Entry) (before now : Store) : Type 0 where
+  pub tree_is : now.tree ≡ before.tree
+  pub reads : IsJournal book before.journal → IsJournal book now.journal
 
 -- what becomes of the store of a house with this book: what the trail gained was done, and a failed call leaves what it may
 abbrev pub Changes : List Entry → Call → Outcome → Store → Store → Type 0
-Changes book (Note event) Done = Notes event book
-Changes book (Note event) Closed = NotesOrNot event book
-Changes book (Commit txn wrote) Done = Notes (entry.Commit txn wrote) book
-Changes book (Commit txn wrote) (Conflict with_ table partition) = Notes (entry.Abort txn (cause.Conflict with_ table partition)) book
+Changes book (Note event) Done = Notes (event ∷ []) book
+Changes book (Note event) Closed = NotesOrNot (event ∷ []) book
+Changes book (Note event) Refused = NotesNone book
+Changes book (Begin txn session number text) Done = Notes (begun txn session number text) book
+Changes book (Begin txn session number text) Closed = NotesOrNot (begun txn session number text) book
+Changes book (Begin txn session number text) Refused = NotesNone book
+Changes book (Commit txn wrote) Done = Notes (entry.Commit txn wrote ∷ []) book
+Changes book (Commit txn wrote) (Conflict with_ table partition) = Notes (entry.Abort txn (cause.Conflict with_ table partition) ∷ []) book
+Changes book (Commit txn wrote) Refused = NotesNone book
 Changes book (Commit txn wrote) Closed =
-    λ before now. NotesOrNot (entry.Commit txn wrote) book before now
-    ⊎ ((with_ : TxnId) × (table : TableId) × (partition : List ℕ) × NotesOrNot (entry.Abort txn (cause.Conflict with_ table partition)) book before now)
+    λ before now. NotesOrNot (entry.Commit txn wrote ∷ []) book before now
+    ⊎ ((with_ : TxnId) × (table : TableId) × (partition : List ℕ) × NotesOrNot (entry.Abort txn (cause.Conflict with_ table partition) ∷ []) book before now)
 Changes book (Put by place bytes) Done = HasFile place bytes
 Changes book (Put by place bytes) (Failed count) = TornFile place
 Changes book (Put by place bytes) Closed = TornFile place

@@ -1,12 +1,13 @@
 ghost use Rattle.std.specs.Prelude.{◌≡◌, ◌≤◌, List, ◌++◌, length, true};
-ghost use Rattle.hv_trail.specs.Steps.{HouseSeen, Call, Outcome, gains, all_gains, Step, Run, KeepsRest};
+ghost use Rattle.hv_trail.specs.Steps.{HouseSeen, Call, Outcome, gains, most_items, all_gains, Step, Run, KeepsRest};
 ghost use Rattle.hv_trail.specs.Lasting.{GoesOn};
 
 use hv_shelf::Shelf;
 
-/// A call adds at most one item, and none where the house is closed; what was there goes on.
-pub fn a_step_adds_one<D: Shelf>()
-    ensures one { (call : Call) (outcome : Outcome) → length (gains call outcome) ≤ 1 }
+/// A call adds at most one item, or two where a statement begins, and none where the house is closed; what was there goes on.
+pub fn a_step_adds_few<D: Shelf>()
+    ensures few { (call : Call) (outcome : Outcome) → length (gains call outcome) ≤ most_items call }
+    ensures two { (call : Call) → most_items call ≤ 2 }
     ensures goes_on { (call : Call) (outcome : Outcome) (before now : HouseSeen D)
         → Step D.told D.faults call outcome before now → GoesOn before.trail now.trail }
     ensures shut { (call : Call) (outcome : Outcome) (before now : HouseSeen D)

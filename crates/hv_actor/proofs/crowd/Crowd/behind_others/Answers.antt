@@ -1,7 +1,11 @@
 use Rattle.hv_actor.specs.Acting.{Anything}
 use Rattle.hv_actor.specs.Rows.{anything_rows}
-use Rattle.hv_actor.proofs.Weaving.{reached-behind, went-held, kept-more}
+use Rattle.hv_actor.proofs.Weaving.{reached-behind, went-held, kept-more, two-more}
 use Rattle.hv_actor.proofs.crowd.Crowd.behind_others.Goals as goal
+
+pub keep-requires-clause-most : goal.keep-requires-clause-most
+keep-requires-clause-most g c =
+    two-more _ _ c.items-at.result c.items-now.result _ _ c.items-at.ensures.items c.items-now.ensures.items c.act-answer.ensures.step.trail
 
 pub returns-clause-went : goal.returns-clause-went
 returns-clause-went g c =
