@@ -21,12 +21,16 @@ use Rattle.hv_known.specs.declared.tally.Tally.{Tally}
 use Rattle.hv_known.specs.Known.{number_next, marked_from}
 use Rattle.hv_known.specs.Tally.{items_of, view_of, nothing_seen, all_stepped, IsTally, known_from}
 use Rattle.hv_known.proofs.Tallies.{tally-of, known-all}
+use Rattle.hv_trail.specs.declared.trail.TrailItem.TheVariants.{Noted}
+use Rattle.hv_trail.specs.Trail.{woven_from}
+use Rattle.hv_trail.specs.Kept.{trail_of}
 use Rattle.hv_house.specs.declared.boot.Left.{Left}
 use Rattle.hv_house.specs.declared.house.House.{House}
 use Rattle.hv_house.specs.declared.fault.HouseFault.{HouseFault}
 use Rattle.hv_house.specs.declared.fault.HouseFault.TheVariants as house
 use Rattle.hv_house.specs.declared.boot.BootFault.TheVariants as fault
 use Rattle.hv_house.specs.House.{entries_of, IsKept, Knows, IsReady, IsNoted, IsBeside, IsHalted, Leaves}
+use Rattle.hv_house.specs.Steps.{KeepsMarks, IsOpenedOver}
 use Rattle.hv_house.specs.Booting.{open_numbers, lost_entry, opening_entries, opening_of, boot_fault, LeavesFront, IsCutOpening, CutsOpening, LosesSome, IsLearned}
 
 -- ---- what is learned of a book
@@ -183,30 +187,15 @@ module _ {D : Type 0} (told : D → Option Store) where
 
 -- ---- the loop over those that are open
 
-keeps_same : (o : Option Store) → Moves KeepsTree o o
-keeps_same None = tt
-keeps_same (Some s) = refl
-
-pub keeps_both : (a b c : Option Store) → Moves KeepsTree a b → Moves KeepsTree b c → Moves KeepsTree a c
-keeps_both None None c first second = second
-keeps_both None (Some y) c first second = absurd first
-keeps_both (Some x) None c first second = absurd first
-keeps_both (Some x) (Some y) None first second = absurd second
-keeps_both (Some x) (Some y) (Some z) first second = second ∙ first
-
 -- so many of them were aborted as lost
 pub record IsLosing {D : Type 0} (told : D → Option Store) (faults : D → ℕ) (first now : House D) (unended : List ℕ) (i : ℕ) : Type 0 where
   pub kept : IsKept told now
   pub entries : entries_of now ≡ entries_of first ++ map lost_entry (take i unended)
   pub opened : now.opened ≡ first.opened
   pub tables : now.tables ≡ first.tables
+  pub marks : KeepsMarks first now
   pub tree : Moves KeepsTree (told first.shelf) (told now.shelf)
   pub later : faults first.shelf ≤ faults now.shelf
-
-take-next : (xs : List ℕ) (i x : ℕ) → i < length xs → x ≡ slice_index_or xs i x → take (suc i) xs ≡ take i xs ++ x ∷ []
-take-next [] i x low at = absurd (omega arith)
-take-next (y ∷ xs) zero x low at = ap (λ z. z ∷ []) (sym at)
-take-next (y ∷ xs) (suc i) x low at = ap (λ ys. y ∷ ys) (take-next xs i x (omega arith) at)
 
 parts-at : (xs : List ℕ) (i x : ℕ) → i < length xs → x ≡ slice_index_or xs i x → xs ≡ take i xs ++ x ∷ drop (suc i) xs
 parts-at [] i x low at = absurd (omega arith)
@@ -219,62 +208,7 @@ index-same [] i d e low = absurd (omega (arith, low))
 index-same (x ∷ xs) zero d e low = refl
 index-same (x ∷ xs) (suc i) d e low = index-same xs i d e (omega (arith, low))
 
-taken : (xs : List ℕ) (i : ℕ) → i ≤ length xs → length (take i xs) ≡ i
-taken xs zero few = refl
-taken [] (suc i) few = absurd (omega (arith, few))
-taken (x ∷ xs) (suc i) few = let h = taken xs i (omega (arith, few)) in omega (arith, h)
-
-all-taken : (xs : List ℕ) (i : ℕ) → length xs ≤ i → take i xs ≡ xs
-all-taken [] zero past = refl
-all-taken [] (suc i) past = refl
-all-taken (x ∷ xs) zero past = absurd (omega (arith, past))
-all-taken (x ∷ xs) (suc i) past = ap (λ ys. x ∷ ys) (all-taken xs i (omega (arith, past)))
-
 module _ {D : Type 0} (told : D → Option Store) (faults : D → ℕ) (first now : House D) (unended : List ℕ) where
-  pub lose-begins : IsKept told first → IsLosing told faults first first unended 0
-  lose-begins kept = record {
-    kept = kept;
-    entries = sym (append-nil (entries_of first));
-    opened = refl;
-    tables = refl;
-    tree = keeps_same (told first.shelf);
-    later = omega arith;
-  }
-
-  pub lose-room : (i : ℕ) → IsLosing told faults first now unended i → i < length unended → length (entries_of first) + length unended ≤ 131072
-      → length (entries_of now) < 131072
-  lose-room i losing low room =
-      omega (
-        arith,
-        ap length losing.entries,
-        length-append (entries_of first) (map lost_entry (take i unended)),
-        length-map (take i unended) lost_entry,
-        taken unended i (omega (arith, low)),
-        low,
-        room,
-      )
-
-  pub lose-next : (next : House D) (i n : ℕ) → IsLosing told faults first now unended i → i < length unended → n ≡ slice_index_or unended i n
-      → IsNoted told (lost_entry n) now next → next.opened ≡ now.opened → next.tables ≡ now.tables → faults now.shelf ≤ faults next.shelf
-      → IsLosing told faults first next unended (i + 1)
-  lose-next next i n losing low at noted opened tables later =
-      let more : i + 1 ≡ suc i = omega arith in
-      record {
-        kept = noted.kept;
-        entries =
-            noted.entries ∙ ap (λ b. b ++ lost_entry n ∷ []) losing.entries
-            ∙ append_assoc (entries_of first) (map lost_entry (take i unended)) (lost_entry n ∷ [])
-            ∙ ap (λ es. entries_of first ++ es)
-            (sym (map-append (take i unended) (n ∷ [])) ∙ ap (map lost_entry) (sym (take-next unended i n low at)) ∙ ap (λ k. map lost_entry (take k unended)) (sym more));
-        opened = opened ∙ losing.opened;
-        tables = tables ∙ losing.tables;
-        tree = keeps_both (told first.shelf) (told now.shelf) (told next.shelf) losing.tree noted.tree;
-        later = omega (arith, losing.later, later);
-      }
-
-  pub lose-ends : (i : ℕ) → IsLosing told faults first now unended i → length unended ≤ i → entries_of now ≡ entries_of first ++ map lost_entry unended
-  lose-ends i losing past = losing.entries ∙ ap (λ xs. entries_of first ++ map lost_entry xs) (all-taken unended i past)
-
   pub lose-halts : {T : Type 0} (next : House D) (i n : ℕ) (why same : HouseFault) (result : Result T HouseFault) → result ≡ Err same → same ≡ why
       → IsLosing told faults first now unended i → i < length unended → n ≡ slice_index_or unended i n
       → IsHalted told (lost_entry n) why now next → IfErr result (λ fault. LosesSome told fault unended first next)
@@ -289,21 +223,6 @@ module _ {D : Type 0} (told : D → Option Store) (faults : D → ℕ) (first no
         entries = halted.entries ∙ losing.entries;
         leaves = subst (Leaves why (lost_entry n ∷ []) (told next.shelf)) (sym halted.entries) halted.leaves;
       }))
-
--- ---- the house before its first note
-
-module _ {D : Type 0} (told : D → Option Store) (before made : House D) where
-  pub made-kept : before.place ≤ 2 ^ 62 → before.place ≡ place_of (entries_of before) → before.opened ≤ length (entries_of before)
-      → length (entries_of before) ≤ 131072 → IsBeside before made → Holds (told made.shelf) (entries_of before) → IsKept told made
-  made-kept near place opened few beside holds =
-      let same : entries_of made ≡ entries_of before = ap (λ b. b.entries) beside.book in
-      record {
-        place = beside.place ∙ place ∙ ap place_of (sym same);
-        near = omega (arith, beside.place, near);
-        few = omega (arith, ap length same, few);
-        opened = omega (arith, beside.opened, ap length same, opened);
-        reads = subst (Holds (told made.shelf)) (sym same) holds;
-      }
 
 -- ---- how each step of an opening may stop
 
@@ -379,3 +298,30 @@ raised-ready told book left now fit is room kept entries opened tables =
         idle = subst (λ b. IsIdle (state_of b)) (sym whole) behind.idle;
       },
     )
+
+-- the items that stand are taken as those of the opening
+pub settled-ready : {D : Type 0} (told : D → Option Store) (before now : House D) → now.shelf ≡ before.shelf → now.place ≡ before.place
+    → now.opened ≡ before.opened → now.tables.items ≡ before.tables.items → entries_of now ≡ entries_of before → now.trail.closed ≡ before.trail.closed
+    → IsReady told before → IsReady told now
+settled-ready told before now shelf place opened tables entries closed ready = record {
+  kept = record {
+    place = place ∙ ready.kept.place ∙ ap place_of (sym entries);
+    near = omega (arith, place, ready.kept.near, ap length entries);
+    few = omega (arith, ready.kept.few, ap length entries);
+    opened = omega (arith, opened, ready.kept.opened, ap length entries);
+    reads = subst (λ d. Holds (told d) (entries_of now)) (sym shelf) (subst (Holds (told before.shelf)) (sym entries) ready.kept.reads);
+    running = closed ∙ ready.kept.running;
+  };
+  knows = subst (λ b. Knows (state_of b) now) (sym entries) (record { opened = opened ∙ ready.knows.opened; tables = tables ∙ ready.knows.tables });
+  idle = subst (λ b. IsIdle (state_of b)) (sym entries) ready.idle;
+}
+
+-- a trail without marks is its book, and all of it was left by the opening
+pub over-book : {D : Type 0} (start : D) (noted now : House D) → now.start.value ≡ start → now.trail.marks ≡ [] → noted.trail.marks ≡ []
+    → entries_of now ≡ entries_of noted → now.trail.opened ≡ length (trail_of noted.trail) → IsOpenedOver start now
+over-book start noted now same none bare entries all = record {
+  start = same;
+  trail = ap (λ ms. woven_from 0 (entries_of now) ms) none;
+  opened =
+      all ∙ ap (λ ms. length (woven_from 0 (entries_of noted) ms)) bare ∙ length-map (entries_of noted) Noted ∙ ap length (sym entries);
+}

@@ -6,3 +6,4 @@ pub mod Openings
 pub mod Boots
 pub mod Faithful
 pub mod Passing
+pub mod Steps

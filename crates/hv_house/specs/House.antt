@@ -1,5 +1,5 @@
 -- What a house holds of a store's history, for one thread of statements.
-use Rattle.std.specs.Prelude.{◌≡◌, ℕ, ◌+◌, ◌*◌, ◌^◌, ◌<◌, ◌≤◌, Option, Some, None, List, [], ◌∷◌, ◌++◌, length, if◌then◌else◌, nat_eq}
+use Rattle.std.specs.Prelude.{◌≡◌, ℕ, false, ◌+◌, ◌*◌, ◌^◌, ◌<◌, ◌≤◌, Option, Some, None, List, [], ◌∷◌, ◌++◌, length, if◌then◌else◌, nat_eq}
 use Rattle.std.specs.Cmp.Lexicographic.{pointwise}
 use Rattle.hv_base.specs.Told.{Tells, Moves}
 use Rattle.hv_shelf.specs.Disk.{Store}
@@ -55,15 +55,16 @@ known_of_name name (known ∷ tables) =
     if pointwise nat_eq known.info.shape.name name then Some known else known_of_name name tables
 
 abbrev pub entries_of : {D : Type 0} → House D → List Entry
-entries_of house = house.book.entries
+entries_of house = house.trail.entries
 
--- the journal is the book's, and its closed gate stands where the house has it
+-- the journal is the book's, its closed gate stands where the house has it, and it didn't fail
 pub record IsKept {D : Type 0} (told : D → Option Store) (house : House D) : Type 0 where
   pub place : house.place ≡ place_of (entries_of house)
   pub near : house.place ≤ 2 ^ 62 + length (entries_of house) * record_limit
   pub few : length (entries_of house) ≤ book_limit
   pub opened : house.opened ≤ length (entries_of house)
   pub reads : Holds (told house.shelf) (entries_of house)
+  pub running : house.trail.closed ≡ false
 
 -- what the house keeps of this state
 pub record Knows {D : Type 0} (state : State) (house : House D) : Type 0 where
@@ -112,14 +113,14 @@ beginning_of opened session number text =
 pub record IsAsked {D : Type 0} (told : D → Option Store) (before now : House D) : Type 0 where
   pub store : told now.shelf ≡ told before.shelf
   pub place : now.place ≡ before.place
-  pub book : now.book ≡ before.book
+  pub book : now.trail ≡ before.trail
   pub opened : now.opened ≡ before.opened
   pub tables : now.tables ≡ before.tables
 
 -- only the store changed
 pub record IsBeside {D : Type 0} (before now : House D) : Type 0 where
   pub place : now.place ≡ before.place
-  pub book : now.book ≡ before.book
+  pub book : now.trail ≡ before.trail
   pub opened : now.opened ≡ before.opened
   pub tables : now.tables ≡ before.tables
 

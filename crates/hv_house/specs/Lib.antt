@@ -1,4 +1,5 @@
+pub mod Booting
 pub mod Faults
 pub mod House
-pub mod Booting
 pub mod Seeing
+pub mod Steps

@@ -1,4 +1,4 @@
-ghost use Rattle.std.specs.Prelude.{◌≡◌, ◌≤◌, ◌<◌, ◌+◌, ◌^◌, ◌++◌, ◌∷◌, [], length, map, List, IfOk, OnOk, IfErr, IsErrOf};
+ghost use Rattle.std.specs.Prelude.{◌≡◌, ◌≤◌, ◌<◌, ◌+◌, ◌^◌, ◌++◌, ◌∷◌, [], length, map, false, List, IfOk, OnOk, IfErr, IsErrOf};
 ghost use Rattle.hv_base.specs.Told.{Tells, Moves, StaysTold};
 ghost use Rattle.hv_history.specs.declared.entry.Entry.{Entry};
 ghost use Rattle.hv_history.specs.declared.entry.Entry.TheVariants.{Boot};
@@ -11,6 +11,7 @@ ghost use Rattle.hv_house.specs.Faults.{StoreCause};
 ghost use Rattle.hv_house.specs.declared.fault.HouseFault.TheVariants.{Store};
 ghost use Rattle.hv_known.specs.Known.{all_known};
 ghost use Rattle.hv_house.specs.House.{entries_of, book_limit, IsKept, IsReady, IsBeside};
+ghost use Rattle.hv_house.specs.Steps.{KeepsMarks, IsOpenedOver};
 ghost use Rattle.hv_house.specs.Booting.{boot_fault, lost_entry, opening_of, IsLearned, LosesSome, CutsOpening, IsCutOpening, IsRaiseFault, Opens, IsBootFault, IsBootStore, StopsOpening};
 
 use crate::fault::HouseFault;
@@ -22,7 +23,9 @@ use hv_journal::open_empty;
 use hv_known::{Known, Tally};
 use hv_recovery::{OpenFault, read_journal};
 use hv_shelf::Shelf;
+use hv_trail::KeptTrail;
 use std::alloc::Global;
+use std::snapshot::Snapshot;
 use thiserror::Error;
 
 /// Why a store was not opened.
@@ -53,6 +56,7 @@ impl From<HouseFault> for BootFault {
 }
 
 impl From<OpenFault> for BootFault {
+    ghost use Rattle.hv_house.specs.Steps.{KeepsMarks, IsOpenedOver};
     ghost use Rattle.hv_house.specs.Booting.{open_fault};
 
     ghost from_gives = { λ fault e. e ≡ open_fault fault };
@@ -106,6 +110,7 @@ impl<D: Shelf + Drop> House<D> {
         ensures journal { IfErr result (λ _. Tells (D.told self.new.shelf)
             (λ s. IsJournal (entries_of self.old) s.journal)) }
         ensures tree { Moves KeepsTree (D.told self.old.shelf) (D.told self.new.shelf) }
+        ensures marks { KeepsMarks self.old self.new }
         ensures cause { StoreCause (D.faults self.old.shelf) (D.faults self.new.shelf)
             (IsErrOf result Store) }
     {
@@ -130,6 +135,7 @@ impl<D: Shelf + Drop> House<D> {
         ensures tree { Moves KeepsTree (D.told self.old.shelf) (D.told self.new.shelf) }
         ensures halted { IfErr result (λ fault.
             LosesSome D.told fault unended.now self.old self.new) }
+        ensures marks { KeepsMarks self.old self.new }
         ensures cause { StoreCause (D.faults self.old.shelf) (D.faults self.new.shelf)
             (IsErrOf result Store) }
     {
@@ -147,6 +153,7 @@ impl<D: Shelf + Drop> House<D> {
 
     /// Notes the opening of a book that was read.
     fn note_opening(&mut self, runs: u64, unended: &[u64]) -> Result<(), HouseFault>
+        requires running { self.old.trail.closed ≡ false }
         requires near { self.old.place ≤ 2 ^ 62 }
         requires place { self.old.place ≡ place_of (entries_of self.old) }
         requires opened { self.old.opened ≤ length (entries_of self.old) }
@@ -161,6 +168,7 @@ impl<D: Shelf + Drop> House<D> {
         ensures tree { Moves KeepsTree (D.told self.old.shelf) (D.told self.new.shelf) }
         ensures halted { IfErr result (λ fault. CutsOpening fault
             (entries_of self.old) (Boot runs ∷ map lost_entry unended.now) (D.told self.new.shelf)) }
+        ensures marks { KeepsMarks self.old self.new }
         ensures cause { StoreCause (D.faults self.old.shelf) (D.faults self.new.shelf)
             (IsErrOf result Store) }
     {
@@ -170,7 +178,13 @@ impl<D: Shelf + Drop> House<D> {
     }
 
     /// Opens a store over the book that its journal was read to.
-    fn raise(alloc: Global, shelf: D, book: Book, place: u64) -> Result<House<D>, (BootFault, D)>
+    fn raise(
+        alloc: Global,
+        start: Snapshot<D>,
+        shelf: D,
+        book: Book,
+        place: u64,
+    ) -> Result<House<D>, (BootFault, D)>
         requires fit { AllFit profile nothing_yet book.entries }
         requires place { place ≡ place_of book.entries }
         requires journal { Tells (D.told shelf) (λ s. IsJournal book.entries s.journal) }
@@ -178,6 +192,7 @@ impl<D: Shelf + Drop> House<D> {
         ensures opened { IfOk result (λ house. (entries_of house ≡ opening_of book.entries)
             × HasRoom profile (state_of book.entries) 1) }
         ensures tree { IfOk result (λ house. Moves KeepsTree (D.told shelf) (D.told house.shelf)) }
+        ensures over { IfOk result (IsOpenedOver start.value) }
         ensures full { IfErr result (λ x.
             IsRaiseFault book.entries (D.told shelf) (D.told x.1) x.0) }
         ensures stopped { IfErr result (λ x. Tells (D.told x.1)
@@ -197,15 +212,19 @@ impl<D: Shelf + Drop> House<D> {
                     return Err((BootFault::Full { entries }, shelf));
                 }
                 let mut house = House {
+                    start,
                     shelf,
                     place,
                     buffer: Vec::new(alloc),
-                    book,
+                    trail: KeptTrail::over(alloc, book),
                     opened: found.opened,
                     tables: found.tables,
                 };
                 match house.note_opening(found.runs, &found.unended) {
-                    Ok(()) => Ok(house),
+                    Ok(()) => {
+                        house.trail.settle();
+                        Ok(house)
+                    }
                     Err(fault) => Err((fault.into(), house.close())),
                 }
             }
@@ -222,6 +241,7 @@ impl<D: Shelf + Drop> House<D> {
     pub fn boot(alloc: Global, shelf: D) -> Result<House<D>, (BootFault, D)>
         ensures ready { IfOk result (IsReady D.told) }
         ensures opened { IfOk result (λ house. Opens (D.told shelf) (entries_of house)) }
+        ensures over { IfOk result (IsOpenedOver shelf) }
         ensures tree { IfOk result (λ house. Moves KeepsTree (D.told shelf) (D.told house.shelf)) }
         ensures bad { IfErr result (λ x. IsBootFault (D.told shelf) (D.told x.1) x.0) }
         ensures stopped { IfErr result (λ x. StopsOpening (D.told shelf) (D.told x.1) x.0) }
@@ -231,9 +251,10 @@ impl<D: Shelf + Drop> House<D> {
         ensures cause { IfErr result (λ x.
             StoreCause (D.faults shelf) (D.faults x.1) (IsBootStore x.0)) }
     {
+        let start = Snapshot::of(&shelf);
         let mut shelf = shelf;
         match read_journal(alloc, &mut shelf, &LIMITS) {
-            Ok((book, place)) => House::raise(alloc, shelf, book, place),
+            Ok((book, place)) => House::raise(alloc, start, shelf, book, place),
             Err(fault) => Err((fault.into(), shelf)),
         }
     }

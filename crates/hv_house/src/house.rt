@@ -1,4 +1,4 @@
-ghost use Rattle.std.specs.Prelude.{◌≡◌, ◌<◌, ◌≤◌, ◌+◌, ◌++◌, ◌∷◌, [], length, None, Some, IfOk, OnOk, IfErr, IsErrOf, option_map, true, false};
+ghost use Rattle.std.specs.Prelude.{◌≡◌, ◌<◌, ◌≤◌, ◌+◌, ◌++◌, ◌∷◌, [], length, map, None, Some, IfOk, OnOk, IfErr, IsErrOf, option_map, true, false};
 ghost use Rattle.std.specs.List.{AllByRecursion};
 ghost use Rattle.hv_history.specs.State.{numbered, changed};
 ghost use Rattle.hv_base.specs.Told.{Moves, StaysTold};
@@ -9,31 +9,40 @@ ghost use Rattle.hv_history.specs.Book.{tree_of_entry};
 ghost use Rattle.hv_grammar.specs.Texts.{tree_of};
 ghost use Rattle.hv_journal.specs.Appending.{Holds, KeepsTree};
 ghost use Rattle.hv_house.specs.declared.fault.HouseFault.TheVariants.{Store};
+ghost use Rattle.hv_trail.specs.Steps.{Step};
+ghost use Rattle.hv_trail.specs.Steps as calls;
 ghost use Rattle.hv_house.specs.Faults.{StoreCause};
 ghost use Rattle.hv_house.specs.House.{entries_of, entry_limit, book_limit, IsSmall, HasNumbers, next_write, with_next, beginning_of, IsKept, AreNoted, IsNoted, AreHalted, IsHalted, IsHaltedGiving};
+ghost use Rattle.hv_house.specs.Steps.{seen_of, outcome_of, KeepsMarks, ClosesBy, StepsGiving};
+ghost use Rattle.hv_trail.specs.Kept.{trail_of};
+ghost use Rattle.hv_trail.specs.declared.trail.TrailItem.TheVariants.{Noted};
 
 use crate::fault::HouseFault;
 use hv_ast::Stmt;
 use hv_base::{List, TableId, Text, Touch, TxnId, WriteId};
-use hv_book::Book;
 use hv_history::{Cause, Entry};
 use hv_journal::{append, records_length};
 use hv_known::Known;
 use hv_logic::TableInfo;
-use hv_shelf::Shelf;
+use hv_shelf::{Shelf, ShelfFault};
+use hv_trail::KeptTrail;
 use std::alloc::Global;
 use std::slice::from_ref;
+use std::snapshot::Snapshot;
 
-/// The warehouse over a store: the store, the place of its journal's closed gate, the journal's
-/// entries, and what is known of the tables without asking them.
+/// The warehouse over a store: the store, the place of its journal's closed gate, what happened to it, and
+/// what is known of the tables without asking them.
 #[derive(Drop)]
 pub struct House<D> {
+    /// The store that it was opened over, for contracts alone.
+    pub start: Snapshot<D>,
     pub shelf: D,
     /// The place of the journal's closed gate.
     pub place: u64,
     /// Where records are spelled.
     pub buffer: Vec<u8>,
-    pub book: Book,
+    /// The journal's entries, and the marks between them.
+    pub trail: KeptTrail,
     /// How many transactions were opened.
     pub opened: u64,
     /// The tables, by number.
@@ -56,26 +65,36 @@ impl<D: Shelf> House<D> {
         ensures place { OnOk result
             (self.new.place ≡ self.old.place + place_of (first.now ∷ more.now)) }
         ensures entries { entries_of self.new ≡ entries_of self.old }
-        ensures spare { OnOk result (length (first.now ∷ more.now) ≤ self.new.book.spare) }
+        ensures spare { OnOk result (length (first.now ∷ more.now) ≤ self.new.trail.spare) }
         ensures opened { self.new.opened ≡ self.old.opened }
         ensures tables { self.new.tables ≡ self.old.tables }
         ensures tree { Moves KeepsTree (D.told self.old.shelf) (D.told self.new.shelf) }
         ensures halted { IfErr result (λ fault.
             AreHalted D.told (first.now ∷ more.now) fault self.old self.new) }
+        ensures marks { KeepsMarks self.old self.new }
+        ensures running { OnOk result (self.new.trail.closed ≡ self.old.trail.closed) }
+        ensures closed { IfErr result (λ fault.
+            ClosesBy fault self.old.trail.closed self.new.trail.closed) }
         ensures cause { StoreCause (D.faults self.old.shelf) (D.faults self.new.shelf)
             (IsErrOf result Store) }
     {
         self.buffer.clear();
         self.buffer.reserve(records_length(first, more))?;
-        self.book.reserve(1 + more.len())?;
-        append(
+        self.trail.reserve(1 + more.len())?;
+        match append(
             &mut self.shelf,
             &mut self.place,
             first,
             more,
             &mut self.buffer,
-        )?;
-        Ok(())
+        ) {
+            Ok(()) => Ok(()),
+            Err(ShelfFault::Failed) => {
+                self.trail.close();
+                Err(HouseFault::Store)
+            }
+            Err(ShelfFault::NoMemory) => Err(HouseFault::NoMemory),
+        }
     }
 
     /// Notes what happened: in the journal, and behind the book. `tree` is that of the entry's text.
@@ -91,12 +110,15 @@ impl<D: Shelf> House<D> {
         ensures tree { Moves KeepsTree (D.told self.old.shelf) (D.told self.new.shelf) }
         ensures tells { StaysTold (D.told self.old.shelf) (D.told self.new.shelf) }
         ensures halted { IfErr result (λ fault. IsHalted D.told entry fault self.old self.new) }
+        ensures marks { KeepsMarks self.old self.new }
+        ensures step { Step D.told D.faults (calls.Note entry) (outcome_of result)
+            (seen_of self.old) (seen_of self.new) }
         ensures cause { StoreCause (D.faults self.old.shelf) (D.faults self.new.shelf)
             (IsErrOf result Store) }
     {
         match self.write(&entry, &[]) {
             Ok(()) => {
-                self.book.push(entry, tree)?;
+                self.trail.push(entry, tree)?;
                 Ok(())
             }
             Err(fault) => {
@@ -118,12 +140,16 @@ impl<D: Shelf> House<D> {
         ensures place { OnOk result
             (self.new.place ≡ self.old.place + place_of (entry.now ∷ entries.Start txn 0 ∷ [])) }
         ensures entries { entries_of self.new ≡ entries_of self.old }
-        ensures spare { OnOk result (2 ≤ self.new.book.spare) }
+        ensures spare { OnOk result (2 ≤ self.new.trail.spare) }
         ensures opened { self.new.opened ≡ self.old.opened }
         ensures tables { self.new.tables ≡ self.old.tables }
         ensures tree { Moves KeepsTree (D.told self.old.shelf) (D.told self.new.shelf) }
         ensures halted { IfErr result (λ fault.
             AreHalted D.told (entry.now ∷ entries.Start txn 0 ∷ []) fault self.old self.new) }
+        ensures marks { KeepsMarks self.old self.new }
+        ensures running { OnOk result (self.new.trail.closed ≡ self.old.trail.closed) }
+        ensures closed { IfErr result (λ fault.
+            ClosesBy fault self.old.trail.closed self.new.trail.closed) }
         ensures cause { StoreCause (D.faults self.old.shelf) (D.faults self.new.shelf)
             (IsErrOf result Store) }
     {
@@ -150,13 +176,19 @@ impl<D: Shelf> House<D> {
         ensures tells { StaysTold (D.told self.old.shelf) (D.told self.new.shelf) }
         ensures halted { IfErr result (λ fault.
             AreHalted D.told (entry ∷ entries.Start txn 0 ∷ []) fault self.old self.new) }
+        ensures marks { KeepsMarks self.old self.new }
+        ensures trail { OnOk result (trail_of self.new.trail
+            ≡ trail_of self.old.trail ++ map Noted (entry ∷ entries.Start txn 0 ∷ [])) }
+        ensures running { OnOk result (self.new.trail.closed ≡ self.old.trail.closed) }
+        ensures closed { IfErr result (λ fault.
+            ClosesBy fault self.old.trail.closed self.new.trail.closed) }
         ensures cause { StoreCause (D.faults self.old.shelf) (D.faults self.new.shelf)
             (IsErrOf result Store) }
     {
         match self.write_with_start(&entry, txn) {
             Ok(()) => {
-                self.book.push(entry, tree)?;
-                self.book.push(Entry::Start { txn, statement: 0 }, None)?;
+                self.trail.push(entry, tree)?;
+                self.trail.push(Entry::Start { txn, statement: 0 }, None)?;
                 Ok(())
             }
             Err(fault) => {
@@ -191,6 +223,8 @@ impl<D: Shelf> House<D> {
         ensures tells { StaysTold (D.told self.old.shelf) (D.told self.new.shelf) }
         ensures halted { IfErr result (λ fault. AreHalted D.told
             (beginning_of self.old.opened session number text) fault self.old self.new) }
+        ensures step { Step D.told D.faults (calls.Begin (record { 0 = self.old.opened + 1 }) session number text) (outcome_of result)
+            (seen_of self.old) (seen_of self.new) }
         ensures cause { StoreCause (D.faults self.old.shelf) (D.faults self.new.shelf)
             (IsErrOf result Store) }
     {
@@ -211,7 +245,7 @@ impl<D: Shelf> House<D> {
         ensures room { result ≡ true → length (entries_of self.now) + 4 ≤ book_limit }
         ensures full { result ≡ false → book_limit < length (entries_of self.now) + 4 }
     {
-        self.book.entries().len() + 4 <= MOST_ENTRIES
+        self.trail.book().entries().len() + 4 <= MOST_ENTRIES
     }
 
     /// Takes up a statement as the next transaction, without its snapshot: for a statement that is held or
@@ -236,6 +270,8 @@ impl<D: Shelf> House<D> {
         ensures tables { self.new.tables ≡ self.old.tables }
         ensures tells { StaysTold (D.told self.old.shelf) (D.told self.new.shelf) }
         ensures halted { IfErr result (λ fault. IsHalted D.told (entries.Opened (record { 0 = self.old.opened + 1 }) session number text) fault self.old self.new) }
+        ensures step { Step D.told D.faults (calls.Note (entries.Opened (record { 0 = self.old.opened + 1 }) session number text)) (outcome_of result)
+            (seen_of self.old) (seen_of self.new) }
         ensures cause { StoreCause (D.faults self.old.shelf) (D.faults self.new.shelf)
             (IsErrOf result Store) }
     {
@@ -261,6 +297,8 @@ impl<D: Shelf> House<D> {
         ensures tables { self.new.tables ≡ self.old.tables }
         ensures tells { StaysTold (D.told self.old.shelf) (D.told self.new.shelf) }
         ensures halted { IfErr result (λ fault. IsHalted D.told (entries.Start txn 0) fault self.old self.new) }
+        ensures step { Step D.told D.faults (calls.Note (entries.Start txn 0)) (outcome_of result)
+            (seen_of self.old) (seen_of self.new) }
         ensures cause { StoreCause (D.faults self.old.shelf) (D.faults self.new.shelf)
             (IsErrOf result Store) }
     {
@@ -285,6 +323,7 @@ impl<D: Shelf> House<D> {
         ensures tells { StaysTold (D.told self.old.shelf) (D.told self.new.shelf) }
         ensures halted { IfErr result (λ fault.
             IsHaltedGiving D.told fault txn table self.old self.new) }
+        ensures step { StepsGiving D.told D.faults txn table result self.old self.new }
         ensures cause { StoreCause (D.faults self.old.shelf) (D.faults self.new.shelf)
             (IsErrOf result Store) }
     {
@@ -306,6 +345,8 @@ impl<D: Shelf> House<D> {
         ensures tables { self.new.tables ≡ self.old.tables }
         ensures tells { StaysTold (D.told self.old.shelf) (D.told self.new.shelf) }
         ensures halted { IfErr result (λ fault. IsHalted D.told (entries.Commit txn wrote) fault self.old self.new) }
+        ensures step { Step D.told D.faults (calls.Note (entries.Commit txn wrote)) (outcome_of result)
+            (seen_of self.old) (seen_of self.new) }
         ensures cause { StoreCause (D.faults self.old.shelf) (D.faults self.new.shelf)
             (IsErrOf result Store) }
     {
@@ -322,6 +363,8 @@ impl<D: Shelf> House<D> {
         ensures tables { self.new.tables ≡ self.old.tables }
         ensures tells { StaysTold (D.told self.old.shelf) (D.told self.new.shelf) }
         ensures halted { IfErr result (λ fault. IsHalted D.told (entries.Abort txn cause) fault self.old self.new) }
+        ensures step { Step D.told D.faults (calls.Note (entries.Abort txn cause)) (outcome_of result)
+            (seen_of self.old) (seen_of self.new) }
         ensures cause { StoreCause (D.faults self.old.shelf) (D.faults self.new.shelf)
             (IsErrOf result Store) }
     {
@@ -340,6 +383,8 @@ impl<D: Shelf> House<D> {
             ≡ self.old.tables.items ++ record { info = info; given = 0; lost = [] } ∷ []) }
         ensures tells { StaysTold (D.told self.old.shelf) (D.told self.new.shelf) }
         ensures halted { IfErr result (λ fault. IsHalted D.told (entries.Create txn info.table) fault self.old self.new) }
+        ensures step { Step D.told D.faults (calls.Note (entries.Create txn info.table)) (outcome_of result)
+            (seen_of self.old) (seen_of self.new) }
         ensures cause { StoreCause (D.faults self.old.shelf) (D.faults self.new.shelf)
             (IsErrOf result Store) }
     {

@@ -20,5 +20,6 @@ returns-in_err-note-clause-halted g c =
       tables = c.loop-i.invariant.tables;
       tree = c.loop-i.invariant.tree;
       later = c.loop-i.invariant.later;
+      marks = c.loop-i.invariant.marks;
     })
     c.loop-i-test.true (index-same c.args.unended.now c.loop-i.i 0 _ c.loop-i-test.true) c.in_err-note.ensures.halted

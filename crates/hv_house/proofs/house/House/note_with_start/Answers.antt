@@ -1,7 +1,10 @@
 use Rattle.std.proofs.Common.{[], ◌∷◌, ◌++◌, ap, ◌∙◌, append_assoc, arith}
 use Rattle.hv_history.specs.declared.entry.Entry.TheVariants.{Start}
 use Rattle.hv_house.specs.House.{entries_of}
+use Rattle.hv_trail.specs.declared.trail.TrailItem.TheVariants.{Noted}
+use Rattle.hv_trail.specs.Kept.{trail_of}
 use Rattle.hv_house.proofs.Journals.{noted}
+use Rattle.hv_house.proofs.Steps.{same-trail}
 use Rattle.hv_house.proofs.Lengths.{short_start}
 use Rattle.hv_house.proofs.house.House.note_with_start.Goals as goal
 
@@ -10,10 +13,11 @@ returns-in_ok-push-in-Ok-2-clause-noted g c =
     let start = Start c.args.txn 0 in
     noted g.D.Shelf.told (c.args.entry ∷ start ∷ []) c.args.self.now
     (record {
+      start = c.write_with_start.new.self.start;
       shelf = c.write_with_start.new.self.shelf;
       place = c.write_with_start.new.self.place;
       buffer = c.write_with_start.new.self.buffer;
-      book = c.push-in-Ok.new.self;
+      trail = c.push-in-Ok.new.self;
       opened = c.write_with_start.new.self.opened;
       tables = c.write_with_start.new.self.tables;
     })
@@ -21,4 +25,13 @@ returns-in_ok-push-in-Ok-2-clause-noted g c =
     (c.in_ok-push-in-Ok-2.ensures.ok
     ∙ ap (λ b. b ++ start ∷ []) (c.in_ok-push-in-Ok.ensures.ok ∙ ap (λ b. b ++ c.args.entry ∷ []) c.in-Ok.ensures.entries)
     ∙ append_assoc (entries_of c.args.self.now) (c.args.entry ∷ []) (start ∷ []))
-    c.in-Ok.ensures.place c.in-Ok.ensures.journal c.in-Ok.ensures.opened c.in-Ok.ensures.tree
+    c.in-Ok.ensures.place c.in-Ok.ensures.journal c.in-Ok.ensures.opened (c.push-in-Ok.ensures.closed ∙ c.push.ensures.closed ∙ c.in-Ok.ensures.running) c.in-Ok.ensures.tree
+
+pub returns-in_ok-push-in-Ok-2-clause-trail : goal.returns-in_ok-push-in-Ok-2-clause-trail
+returns-in_ok-push-in-Ok-2-clause-trail g c =
+    let start = Start c.args.txn 0 in
+    c.in_ok-push-in-Ok-2.ensures.trail
+    ∙ ap (λ items. items ++ Noted start ∷ [])
+    (c.in_ok-push-in-Ok.ensures.trail
+    ∙ ap (λ items. items ++ Noted c.args.entry ∷ []) (same-trail c.args.self.now c.write_with_start.new.self c.in-Ok.ensures.entries c.in-Ok.ensures.marks.marks))
+    ∙ append_assoc (trail_of c.args.self.now.trail) (Noted c.args.entry ∷ []) (Noted start ∷ [])

@@ -17,4 +17,4 @@ append-requires-clause-below g c =
 
 pub append-requires-clause-reached : goal.append-requires-clause-reached
 append-requires-clause-reached g c =
-    reached (g.D.Shelf.told c.args.self.now.shelf) c.args.self.now.book.entries c.args.self.now.place c.requires.kept.reads c.requires.kept.place
+    reached (g.D.Shelf.told c.args.self.now.shelf) c.args.self.now.trail.entries c.args.self.now.place c.requires.kept.reads c.requires.kept.place
