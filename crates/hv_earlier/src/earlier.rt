@@ -1,4 +1,4 @@
-ghost use Rattle.std.specs.Prelude.{◌≡◌, ◌≤◌, ℕ, IfOk, OnOk, length, take};
+ghost use Rattle.std.specs.Prelude.{◌≡◌, ◌≤◌, ℕ, IfOk, OnOk, length, map, take};
 ghost use Rattle.std.specs.List.{AllByRecursion};
 ghost use Rattle.std.specs.List.Sorted.{IsNonDecreasingBy};
 ghost use Rattle.hv_wids.specs.declared.list.Exception.{Exception};
@@ -56,6 +56,17 @@ fn sort_ids(exceptions: &mut Vec<Exception>) -> Result<(), NoMemory>
     Ok(())
 }
 
+/// The exceptions of a list, rising.
+fn rising_at(alloc: Global, book: &Book, spot: Spot) -> Result<Vec<Exception>, NoMemory>
+    requires spot { IsSpot book.now.entries spot }
+    ensures exceptions { IfOk result (λ exceptions. exceptions.items
+        ≡ (list_at book.now.entries spot.position spot.table).exceptions) }
+{
+    let mut exceptions = exceptions_at(alloc, book, spot)?;
+    sort_ids(&mut exceptions)?;
+    Ok(exceptions)
+}
+
 /// The write id list of a table at a place of the book, from 0: the entries before it count. It walks
 /// the ids that have not committed, those that committed from that place on, and the entries there.
 pub fn list_at(
@@ -67,7 +78,45 @@ pub fn list_at(
     ensures list { IfOk result (λ list. list ≡ list_at book.now.entries position table.0) }
 {
     let spot = spot_at(book, position, table.0);
-    let mut exceptions = exceptions_at(alloc, book, spot)?;
-    sort_ids(&mut exceptions)?;
+    let exceptions = rising_at(alloc, book, spot)?;
     Ok(WriteIdList::new(WriteId(spot.high), exceptions))
+}
+
+/// The write ids of a table at a place of the book: how many were given, and those, rising, that a reader
+/// there passes over.
+#[derive(Drop)]
+pub struct PastIds {
+    pub given: u64,
+    pub lost: Vec<u64>,
+}
+
+/// The ids of these exceptions.
+fn writes_of(alloc: Global, exceptions: &[Exception]) -> Result<Vec<u64>, NoMemory>
+    ensures { IfOk result (λ writes. writes.items ≡ map write_of exceptions.now) }
+{
+    let mut writes = Vec::new(alloc);
+    for exception in exceptions {
+        writes.push(exception.write.0)?;
+    }
+    Ok(writes)
+}
+
+/// The list of a table at a place of the book, as `list_at` gives it, in numbers.
+pub fn ids_at(
+    alloc: Global,
+    book: &Book,
+    position: usize,
+    table: TableId,
+) -> Result<PastIds, NoMemory>
+    ensures given { IfOk result (λ ids. ids.given ≡ (list_at book.now.entries position table.0).high.0) }
+    ensures lost { IfOk result (λ ids. ids.lost.items
+        ≡ map write_of (list_at book.now.entries position table.0).exceptions) }
+{
+    let spot = spot_at(book, position, table.0);
+    let exceptions = rising_at(alloc, book, spot)?;
+    let lost = writes_of(alloc, &exceptions)?;
+    Ok(PastIds {
+        given: spot.high,
+        lost,
+    })
 }

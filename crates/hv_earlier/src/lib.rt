@@ -8,4 +8,4 @@ mod exceptions;
 mod fates;
 
 pub use catalogs::catalog_at;
-pub use earlier::list_at;
+pub use earlier::{PastIds, ids_at, list_at};

@@ -6,5 +6,5 @@ mod locks;
 mod requests;
 
 pub use fitting::fits;
-pub use locks::{blocked_fits, start_fits};
+pub use locks::{blocked_fits, first_holder, start_fits};
 pub use requests::request_fits;

@@ -23,7 +23,7 @@ fn holds(book: &Book, txn: u64, tree: &Stmt) -> bool
 }
 
 /// The first transaction that holds locks that conflict with those of a statement.
-fn first_holder(book: &Book, tree: &Stmt) -> Option<u64>
+pub fn first_holder(book: &Book, tree: &Stmt) -> Option<u64>
     requires texts { TextsRun (state_of book.now.entries) }
     ensures holder { result ≡ first_holder (names_in tree.now) 1 (state_of book.now.entries).transactions }
 {

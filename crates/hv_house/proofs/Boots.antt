@@ -1,26 +1,26 @@
 -- What an opening notes, and what it leaves where it stops.
-use Rattle.std.proofs.Common.{refl, ◌≡◌, ℕ, zero, suc, ◌+◌, ◌^◌, ◌<◌, ◌≤◌, Option, Some, None, Result, Ok, Err, List, [], ◌∷◌, ◌++◌, length, map, fold, take, drop, sym, ap, ◌∙◌, subst, arith, append_assoc, append-nil, length-append, inl, inr}
-use Rattle.std.specs.Prelude.{IfErr, slice_index_or, sum_by, Bool, true, false}
+use Rattle.std.proofs.Common.{refl, ◌≡◌, ℕ, zero, suc, ◌+◌, ◌<◌, ◌≤◌, Option, Some, None, Result, Ok, Err, List, [], ◌∷◌, ◌++◌, length, map, fold, take, drop, sym, ap, ◌∙◌, subst, arith, append_assoc, append-nil, length-append, inl, inr}
+use Rattle.std.specs.Option.{option_map}
+use Rattle.std.specs.Prelude.{IfErr, slice_index_or, sum_by, is_none, Bool, true, false}
 use Rattle.std.proofs.lemmas.List.Sums.{sum_by-cons}
 use Rattle.hv_history.specs.declared.state.Transaction.{Transaction}
-use Rattle.hv_stands.specs.Sound.{IsIdle}
+use Rattle.hv_stands.specs.Statements.{AllFitting}
 use Rattle.hv_stands.proofs.Keeping.{sound-all, nothing-sound}
-use Rattle.hv_house.proofs.Openings.{opened-book}
+use Rattle.hv_house.proofs.Openings.{opened-fits}
 use Rattle.std.proofs.lemmas.List.{length-map}
 use Rattle.hv_base.specs.Told.{Tells, Moves}
 use Rattle.hv_shelf.specs.Disk.{Store}
 use Rattle.hv_history.specs.declared.entry.Entry.{Entry}
 use Rattle.hv_history.specs.declared.entry.Entry.TheVariants.{Boot}
 use Rattle.hv_history.specs.Journal.{record_of, place_of, Reads, IsJournal}
-use Rattle.hv_history.specs.State.{State, nothing_yet, after, state_of, opening_tree}
-use Rattle.hv_history.specs.Book.{tree_at}
+use Rattle.hv_history.specs.declared.state.Ending.{Ending}
+use Rattle.hv_history.specs.State.{State, Openings, nothing_yet, after, state_of}
 use Rattle.hv_history.specs.Legal.{is_open, one_if, open_one, working_one, load, AllFit, profile}
 use Rattle.hv_journal.specs.Appending.{Holds, KeepsTree, StaysShort}
 use Rattle.hv_journal.proofs.Lengths.{length-record}
-use Rattle.hv_known.specs.declared.tally.Tally.{Tally}
-use Rattle.hv_known.specs.Known.{number_next, marked_from}
-use Rattle.hv_known.specs.Tally.{items_of, view_of, nothing_seen, all_stepped, IsTally, known_from}
-use Rattle.hv_known.proofs.Tallies.{tally-of, known-all}
+use Rattle.hv_book.specs.declared.openings.OpeningNotes.{OpeningNotes}
+use Rattle.hv_book.specs.Briefs.{brief, end_of, open_next, open_from}
+use Rattle.hv_book.specs.Index.{openings_in}
 use Rattle.hv_trail.specs.declared.trail.TrailItem.TheVariants.{Noted}
 use Rattle.hv_trail.specs.Trail.{woven_from}
 use Rattle.hv_trail.specs.Kept.{trail_of}
@@ -29,30 +29,33 @@ use Rattle.hv_house.specs.declared.house.House.{House}
 use Rattle.hv_house.specs.declared.fault.HouseFault.{HouseFault}
 use Rattle.hv_house.specs.declared.fault.HouseFault.TheVariants as house
 use Rattle.hv_house.specs.declared.boot.BootFault.TheVariants as fault
-use Rattle.hv_house.specs.House.{entries_of, IsKept, Knows, IsReady, IsNoted, IsBeside, IsHalted, Leaves}
+use Rattle.hv_house.specs.House.{entries_of, IsKept, IsReady, IsHalted, Leaves}
 use Rattle.hv_house.specs.Steps.{KeepsMarks, IsOpenedOver}
-use Rattle.hv_house.specs.Booting.{open_numbers, lost_entry, opening_entries, opening_of, boot_fault, LeavesFront, IsCutOpening, CutsOpening, LosesSome, IsLearned}
+use Rattle.hv_house.specs.Booting.{number_next, marked_from, open_numbers, lost_entry, opening_entries, opening_of, boot_fault, LeavesFront, IsCutOpening, CutsOpening, LosesSome, IsLearned}
 
 -- ---- what is learned of a book
 
-texts-counted : (book : List Entry) (state : State) (texts : List ℕ) → map (tree_at book) texts ≡ map opening_tree state.transactions → length texts ≡ length state.transactions
-texts-counted book state texts same =
-    sym (length-map texts (tree_at book)) ∙ ap length same ∙ length-map state.transactions opening_tree
+open-same : (number : ℕ) (ts : List Transaction) → open_from number (map brief ts) ≡ marked_from number (map is_open ts)
+open-same number [] = refl
+open-same number (t ∷ ts) = by t.ending refl (open-same (number + 1) ts)
+  where
+    by : (o : Option Ending) → t.ending ≡ o → open_from (number + 1) (map brief ts) ≡ marked_from (number + 1) (map is_open ts)
+        → open_from number (map brief (t ∷ ts)) ≡ marked_from number (map is_open (t ∷ ts))
+    by None is rest =
+        ap (λ (e : Option Ending). open_next (is_none (option_map end_of e)) number (open_from (number + 1) (map brief ts))) is
+        ∙ ap (λ xs. number ∷ xs) rest
+        ∙ sym (ap (λ (e : Option Ending). number_next (is_none e) number (marked_from (number + 1) (map is_open ts))) is)
+    by (Some ending) is rest =
+        ap (λ (e : Option Ending). open_next (is_none (option_map end_of e)) number (open_from (number + 1) (map brief ts))) is
+        ∙ rest
+        ∙ sym (ap (λ (e : Option Ending). number_next (is_none e) number (marked_from (number + 1) (map is_open ts))) is)
 
-pub learned : (book : List Entry) (tally : Tally) (left : Left) → AllFit profile nothing_yet book → view_of tally ≡ all_stepped book 0 book nothing_seen
-    → length tally.texts.items ≤ length book → left.runs ≡ tally.runs → left.opened ≡ length tally.texts.items
-    → left.unended.items ≡ marked_from 1 tally.unended.items → left.tables.items ≡ known_from tally.undone.items tally.infos.items (map items_of tally.owners.items)
-    → IsLearned book left
-learned book tally left fit view few runs opened open_are tables =
-    let whole : IsTally book (state_of book) (view_of tally) = subst (IsTally book (state_of book)) (sym view) (tally-of profile book fit) in
-    let count = texts-counted book (state_of book) tally.texts.items whole.trees in
-    record {
-      runs = runs ∙ whole.runs;
-      opened = opened ∙ count;
-      few = omega (arith, opened, few);
-      open_are = open_are ∙ ap (marked_from 1) whole.open_are;
-      tables = tables ∙ known-all book (state_of book) (view_of tally) whole;
-    }
+pub learned : (book : List Entry) (notes : OpeningNotes) (left : Left) → openings_in notes ≡ (state_of book).openings → left.runs ≡ notes.count
+    → left.unended.items ≡ open_from 1 (map brief (state_of book).transactions) → IsLearned book left
+learned book notes left same runs open_are = record {
+  runs = runs ∙ ap (λ (o : Openings). o.count) same;
+  open_are = open_are ∙ open-same 1 (state_of book).transactions;
+}
 
 -- ---- journals that are empty, and those that aren't
 
@@ -123,6 +126,7 @@ left-by : (why : HouseFault) (event : Entry) (told : Option Store) (book : List 
     → Tells told (λ s. LeavesFront (boot_fault why) book (event ∷ more) s.journal)
 left-by house.NoMemory event None book more leaves = tt
 left-by house.NoMemory event (Some s) book more leaves = reads-journal book s.journal leaves
+left-by (house.Failed count) event told book more leaves = absurd leaves
 left-by house.Store event None book more leaves = tt
 left-by house.Store event (Some s) book more (inl reads) = inl (reads-journal book s.journal reads)
 left-by house.Store event (Some s) book more (inr reads) = inr (event, more, refl, reads-journal (book ++ event ∷ []) s.journal reads)
@@ -142,6 +146,7 @@ cut-at why event told book front rest opening now parts is leaves =
 leave-front : (why : HouseFault) (book more : List Entry) (bytes : List ℕ) → IsJournal book bytes → LeavesFront (boot_fault why) book more bytes
 leave-front house.NoMemory book more bytes is = is
 leave-front house.Store book more bytes is = inl is
+leave-front (house.Failed count) book more bytes is = inl is
 
 -- before its first entry
 pub cut-none : (why : HouseFault) (told : Option Store) (book opening : List Entry) → Tells told (λ s. IsJournal book s.journal) → CutsOpening why book opening told
@@ -191,8 +196,6 @@ module _ {D : Type 0} (told : D → Option Store) where
 pub record IsLosing {D : Type 0} (told : D → Option Store) (faults : D → ℕ) (first now : House D) (unended : List ℕ) (i : ℕ) : Type 0 where
   pub kept : IsKept told now
   pub entries : entries_of now ≡ entries_of first ++ map lost_entry (take i unended)
-  pub opened : now.opened ≡ first.opened
-  pub tables : now.tables ≡ first.tables
   pub marks : KeepsMarks first now
   pub tree : Moves KeepsTree (told first.shelf) (told now.shelf)
   pub later : faults first.shelf ≤ faults now.shelf
@@ -283,37 +286,29 @@ load-full book fit unended is full = omega (arith, load-is book fit, ap length i
 
 pub raised-ready : {D : Type 0} (told : D → Option Store) (book : List Entry) (left : Left) (now : House D) → AllFit profile nothing_yet book → IsLearned book left
     → length book + length left.unended.items + 1 ≤ 131072 → IsKept told now → entries_of now ≡ book ++ Boot left.runs ∷ map lost_entry left.unended.items
-    → now.opened ≡ left.opened → now.tables.items ≡ left.tables.items → (entries_of now ≡ opening_of book) × IsReady told now
-raised-ready told book left now fit is room kept entries opened tables =
+    → (entries_of now ≡ opening_of book) × IsReady told now
+raised-ready told book left now fit is room kept entries =
     let whole : entries_of now ≡ opening_of book =
-    entries ∙ (λ i. book ++ Boot (is.runs i) ∷ map lost_entry (is.open_are i)) in
-    let behind = opened-book book fit (load-small book fit left.unended.items is.open_are room) in (
+    entries ∙ (λ i. book ++ Boot (is.runs i) ∷ map lost_entry (is.open_are i)) in (
       whole,
       record {
         kept = kept;
-        knows = subst (λ b. Knows (state_of b) now) (sym whole) (record {
-          opened = opened ∙ is.opened ∙ sym behind.count;
-          tables = tables ∙ is.tables ∙ sym behind.tables;
-        });
-        idle = subst (λ b. IsIdle (state_of b)) (sym whole) behind.idle;
+        fit = subst AllFitting (sym whole) (opened-fits book fit (load-small book fit left.unended.items is.open_are room));
       },
     )
 
 -- the items that stand are taken as those of the opening
 pub settled-ready : {D : Type 0} (told : D → Option Store) (before now : House D) → now.shelf ≡ before.shelf → now.place ≡ before.place
-    → now.opened ≡ before.opened → now.tables.items ≡ before.tables.items → entries_of now ≡ entries_of before → now.trail.closed ≡ before.trail.closed
-    → IsReady told before → IsReady told now
-settled-ready told before now shelf place opened tables entries closed ready = record {
+    → entries_of now ≡ entries_of before → now.trail.closed ≡ before.trail.closed → IsReady told before → IsReady told now
+settled-ready told before now shelf place entries closed ready = record {
   kept = record {
     place = place ∙ ready.kept.place ∙ ap place_of (sym entries);
     near = omega (arith, place, ready.kept.near, ap length entries);
     few = omega (arith, ready.kept.few, ap length entries);
-    opened = omega (arith, opened, ready.kept.opened, ap length entries);
     reads = subst (λ d. Holds (told d) (entries_of now)) (sym shelf) (subst (Holds (told before.shelf)) (sym entries) ready.kept.reads);
     running = closed ∙ ready.kept.running;
   };
-  knows = subst (λ b. Knows (state_of b) now) (sym entries) (record { opened = opened ∙ ready.knows.opened; tables = tables ∙ ready.knows.tables });
-  idle = subst (λ b. IsIdle (state_of b)) (sym entries) ready.idle;
+  fit = subst AllFitting (sym entries) ready.fit;
 }
 
 -- a trail without marks is its book, and all of it was left by the opening

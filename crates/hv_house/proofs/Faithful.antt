@@ -4,20 +4,16 @@ use Rattle.hv_shelf.specs.Disk.{Store}
 use Rattle.hv_history.specs.declared.entry.Entry.{Entry}
 use Rattle.hv_history.specs.State.{State, nothing_yet, after, state_of}
 use Rattle.hv_history.specs.Journal.{IsJournal}
-use Rattle.hv_history.specs.Legal.{HasRoom, AllFit, AllTruthful, profile}
+use Rattle.hv_history.specs.Legal.{HasRoom, AllTruthful, profile}
 use Rattle.hv_journal.proofs.Books.{reads_once}
 use Rattle.hv_house.specs.House.{IsFaithful}
 use Rattle.hv_house.specs.Booting.{opening_of, opening_entries}
-use Rattle.hv_house.proofs.Openings.{opened-book, stands-opened}
+use Rattle.hv_house.proofs.Openings.{opened-book, opened-fits, stands-opened}
 
 -- the book of an opened store, and the one before it
 pub record Opening (book now : List Entry) : Type 0 where
   pub room : HasRoom profile (state_of book) 1
   pub now_is : now ≡ opening_of book
-
-fit-from : (s : State) (book more : List Entry) → AllFit profile s book → AllFit profile (fold after s book) more → AllFit profile s (book ++ more)
-fit-from s [] more fit next = next
-fit-from s (e ∷ book) more fit next = (fit.0, fit-from (after s e) book more fit.1 next)
 
 truthful-from : (s : State) (book more : List Entry) → AllTruthful s book → AllTruthful (fold after s book) more → AllTruthful s (book ++ more)
 truthful-from s [] more truthful next = next
@@ -25,12 +21,11 @@ truthful-from s (e ∷ book) more truthful next = (truthful.0, truthful-from (af
 
 pub opened-faithful : (book : List Entry) (store : Store) → HasRoom profile (state_of book) 1 → IsFaithful book store → IsFaithful (opening_of book) store
 opened-faithful book store room faithful =
-    let opened = opened-book book faithful.legal.fit room in
     record {
       stands = stands-opened book store.tree faithful.legal.fit room faithful.stands;
       legal = record {
-        fit = fit-from nothing_yet book (opening_entries (state_of book)) faithful.legal.fit opened.legal.fit;
-        truthful = truthful-from nothing_yet book (opening_entries (state_of book)) faithful.legal.truthful opened.legal.truthful;
+        fit = opened-fits book faithful.legal.fit room;
+        truthful = truthful-from nothing_yet book (opening_entries (state_of book)) faithful.legal.truthful (opened-book book room).truthful;
       };
     }
 

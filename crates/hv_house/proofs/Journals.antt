@@ -40,17 +40,15 @@ pub noted : {D : Type 0} (told : D → Option Store) (events : List Entry) (befo
     → entries_of now ≡ entries_of before ++ events
     → now.place ≡ before.place + place_of events
     → Holds (told now.shelf) (entries_of before ++ events)
-    → now.opened ≡ before.opened
     → now.trail.closed ≡ before.trail.closed
     → Moves KeepsTree (told before.shelf) (told now.shelf)
     → AreNoted told events before now
-noted told events before now kept small room entries place holds opened closed tree = record {
+noted told events before now kept small room entries place holds closed tree = record {
   kept = record {
     place = omega (arith, place, kept.place, place_join (entries_of before) events) ∙ ap place_of (sym entries);
     near = subst (λ (b : List Entry). now.place ≤ 2 ^ 62 + length b * 65541) (sym entries)
         (noted_near (entries_of before) events before.place now.place kept.near small place);
     few = omega (arith, ap length entries, length-append (entries_of before) events, room);
-    opened = omega (arith, ap length entries, length-append (entries_of before) events, kept.opened, opened);
     reads = subst (Holds (told now.shelf)) (sym entries) holds;
     running = closed ∙ kept.running;
   };

@@ -1,9 +1,12 @@
 pub mod Lengths
 pub mod Journals
-pub mod Gives
 pub mod Stays
 pub mod Openings
 pub mod Boots
 pub mod Faithful
 pub mod Passing
 pub mod Steps
+pub mod Ready
+pub mod Past
+pub mod Seen
+pub mod Beginning

@@ -1,14 +1,19 @@
 -- What is passed on of files that are put and read.
-use Rattle.std.proofs.Common.{◌≡◌, ℕ, Option, Some, None, Result, Ok, Err, List}
+use Rattle.std.proofs.Common.{◌≡◌, ℕ, ◌≤◌, Option, Some, None, Result, Ok, Err, List, sym, subst, arith}
 use Rattle.std.specs.Prelude.{IfErr}
-use Rattle.hv_base.specs.Told.{Tells, Moves}
+use Rattle.hv_base.specs.Told.{Moves}
+use Rattle.hv_base.specs.Faults.{Rose}
 use Rattle.hv_shelf.specs.Disk.{Store}
 use Rattle.hv_route.specs.declared.files.OutFile.{OutFile}
-use Rattle.hv_known.specs.declared.known.Known.{Known}
 use Rattle.hv_tables.specs.Putting.{KeepsOthers}
-use Rattle.hv_tables.specs.Reading.{IsSpoiled as IsSpoiledOf}
-use Rattle.hv_house.specs.House.{KeepsJournal, known_of_name}
-use Rattle.hv_house.specs.Seeing.{IsSpoiled}
+use Rattle.hv_tables.specs.declared.fault.RowFault.{RowFault as ReadFault}
+use Rattle.hv_tables.specs.declared.fault.RowFault.TheVariants as read
+use Rattle.hv_tables.specs.Faults.{IsShortDamage as IsShortRead, IsDamage as IsDamageRead}
+use Rattle.hv_house.specs.declared.fault.HouseFault.{HouseFault}
+use Rattle.hv_house.specs.declared.fault.HouseFault.TheVariants as fault
+use Rattle.hv_house.specs.Faults.{read_fault, HasRisen, FileCause, IsShortDamage, IsDamage}
+use Rattle.hv_house.specs.Booting.{boot_fault, IsBootStore}
+use Rattle.hv_house.specs.House.{KeepsJournal}
 
 pub keeps-journal : (a b : Option Store) (table write : ℕ) (files : List OutFile) → Moves (KeepsOthers table write files) a b → Moves KeepsJournal a b
 keeps-journal None None table write files moves = tt
@@ -16,7 +21,39 @@ keeps-journal None (Some y) table write files moves = absurd moves
 keeps-journal (Some x) None table write files moves = absurd moves
 keeps-journal (Some x) (Some y) table write files moves = moves.journal_is
 
--- the table of a name
-pub spoiled : (told : Option Store) (tables : List Known) (name : List ℕ) (known : Known) → known_of_name name tables ≡ Some known
-    → Tells told (λ s. IsSpoiledOf known.info known.given known.lost s.tree) → IsSpoiled told tables
-spoiled told tables name known is none = record { name = name; known = known; named = is; lacks = none }
+-- ---- a fault of reading
+
+pub short-read : (count : ℕ) (why : ReadFault) → IsShortRead why → IsShortDamage (read_fault count why)
+short-read count (read.Damaged place) short = short
+short-read count read.Failed short = tt
+short-read count read.NoMemory short = tt
+
+pub damage-read : (count : ℕ) (why : ReadFault) → IsDamage (read_fault count why) → IsDamageRead why
+damage-read count (read.Damaged place) damage = tt
+damage-read count read.Failed damage = absurd damage
+damage-read count read.NoMemory damage = absurd damage
+
+-- ---- what a call passes up
+
+pub risen-later : (first before now : ℕ) (why : HouseFault) → first ≤ before → HasRisen before now why → HasRisen first now why
+risen-later first before now fault.Store low rose = omega (arith, low, rose)
+risen-later first before now fault.NoMemory low rose = tt
+risen-later first before now (fault.Failed count) low rose = (rose.0, omega (arith, low, rose.1))
+
+pub cause-passed : {T : Type 0} (result : Result T HouseFault) (why same : HouseFault) (first before now : ℕ) → result ≡ Err same → same ≡ why
+    → first ≤ before → before ≤ now → HasRisen before now why → FileCause first now result
+cause-passed {T = T} result why same first before now is e low later rose = record {
+  later = omega (arith, low, later);
+  failed = subst (λ (r : Result T HouseFault). IfErr r (HasRisen first now)) (sym is) (subst (HasRisen first now) (sym e) (risen-later first before now why low rose));
+}
+
+-- the fault of the last call
+pub cause-last : {T : Type 0} (result : Result T HouseFault) (first before now : ℕ) → first ≤ before → FileCause before now result → FileCause first now result
+cause-last (Ok x) first before now low cause = record { later = omega (arith, low, cause.later); failed = tt }
+cause-last (Err why) first before now low cause = record { later = omega (arith, low, cause.later); failed = risen-later first before now why low cause.failed }
+
+-- an opening that stopped since the store failed
+pub boot-cause : (before now : ℕ) (why : HouseFault) → HasRisen before now why → IsBootStore (boot_fault why) → Rose before now
+boot-cause before now fault.Store rose store = rose
+boot-cause before now fault.NoMemory rose store = absurd store
+boot-cause before now (fault.Failed count) rose store = omega (arith, rose.1)

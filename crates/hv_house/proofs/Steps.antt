@@ -1,12 +1,8 @@
 -- What a call that notes entries is as a step.
-use Rattle.std.proofs.Common.{arith, ◌≡◌, ◌⊎◌, inl, inr, ℕ, ◌≤◌, Bool, true, false, true≢false, Option, Some, None, Result, Ok, Err, List, [], ◌∷◌, ◌++◌, map, refl, sym, ap, ◌∙◌, subst, append-nil}
+use Rattle.std.proofs.Common.{arith, ◌≡◌, ◌⊎◌, inl, inr, ℕ, ◌≤◌, Bool, true, false, true≢false, Option, Some, None, Result, Err, List, [], ◌∷◌, ◌++◌, map, refl, sym, ap, ◌∙◌, subst, append-nil}
 use Rattle.std.specs.Prelude.{◌||◌}
 use Rattle.hv_base.specs.Told.{Moves}
-use Rattle.std.specs.Option.{option_map}
 use Rattle.hv_base.specs.declared.ids.TxnId.{TxnId}
-use Rattle.hv_base.specs.declared.ids.TableId.{TableId}
-use Rattle.hv_base.specs.declared.ids.WriteId.{WriteId}
-use Rattle.hv_history.specs.State.{numbered}
 use Rattle.hv_shelf.specs.Disk.{Store}
 use Rattle.hv_history.specs.declared.entry.Entry.{Entry}
 use Rattle.hv_history.specs.declared.entry.Entry.TheVariants as entry
@@ -14,14 +10,14 @@ use Rattle.hv_history.specs.Journal.{IsJournal}
 use Rattle.hv_journal.specs.Appending.{Holds, KeepsTree, ReadsMore}
 use Rattle.hv_trail.specs.declared.trail.TrailItem.TheVariants.{Noted}
 use Rattle.hv_trail.specs.Trail.{woven_from}
-use Rattle.hv_trail.specs.Kept.{TrailKept, trail_of}
-use Rattle.hv_trail.specs.Steps.{HouseSeen, Call, Note, Begin, Outcome, Done, Closed, Refused, Notes, NotesOrNot, NotesNone, begun, gains, locks_behind, locks_after, MayEnd, Changes, IsShutOut, Step, shuts}
+use Rattle.hv_trail.specs.Kept.{trail_of}
+use Rattle.hv_trail.specs.Steps.{Call, Note, Begin, Done, Closed, Refused, Notes, NotesOrNot, NotesNone, begun, gains, locks_behind, locks_after, MayEnd, Changes, Step}
 use Rattle.hv_trail.proofs.KeptLaws.{trail-book}
 use Rattle.hv_house.specs.declared.fault.HouseFault.{HouseFault}
 use Rattle.hv_house.specs.declared.fault.HouseFault.TheVariants as fault
 use Rattle.hv_house.specs.declared.house.House.{House}
-use Rattle.hv_house.specs.House.{entries_of, next_write, IsKept, Leaves, AreNoted}
-use Rattle.hv_house.specs.Steps.{seen_of, fault_outcome, outcome_of, ClosesBy, KeepsMarks, StepsGiving}
+use Rattle.hv_house.specs.House.{entries_of, IsKept, Leaves, AreNoted}
+use Rattle.hv_house.specs.Steps.{seen_of, fault_outcome, outcome_of, ClosesBy, KeepsMarks}
 use Rattle.hv_house.proofs.Boots.{reads-journal}
 
 -- nobody holds a lock that an entry could let go
@@ -185,6 +181,7 @@ module _ {D : Type 0} (told : D → Option Store) (faults : D → ℕ) (call : C
     counts = later;
     rest = record { start = ap (λ s. s.value) start; opened = left; limits = refl };
   }
+  step-halted (fault.Failed count) trail closed leaves = absurd leaves
 
 -- what is passed up is the callee's fault
 pub step-passed : {D T : Type 0} (told : D → Option Store) (faults : D → ℕ) (call : Call) (result : Result T HouseFault) (why same : HouseFault) (before now : House D)
@@ -214,16 +211,3 @@ pub step-refused : {D T : Type 0} (told : D → Option Store) (faults : D → �
 step-refused {T = T} told faults call events noting result before is kept =
     subst (λ (r : Result T HouseFault). Step told faults call (outcome_of r) (seen_of before) (seen_of before)) (sym is)
     (step-halted told faults call events noting before before kept.running refl refl (keeps_same (told before.shelf)) (omega arith) fault.NoMemory refl refl kept.reads)
-
--- the next write id of a table wasn't noted
-pub giving-passed : {D : Type 0} (told : D → Option Store) (faults : D → ℕ) (txn : TxnId) (table : TableId) (write : WriteId) (result : Result WriteId HouseFault)
-    (why same : HouseFault) (before now : House D) → option_map next_write (numbered before.tables.items table.0) ≡ Some write.0 → result ≡ Err same → same ≡ why
-    → Step told faults (Note (entry.Given txn table write)) (fault_outcome why) (seen_of before) (seen_of now)
-    → StepsGiving told faults txn table result before now
-giving-passed told faults txn table write result why same before now next is e step =
-    subst (λ (r : Result WriteId HouseFault). StepsGiving told faults txn table r before now) (sym is) (record {
-      write = write;
-      next = next;
-      answer = tt;
-      step = subst (λ (w : HouseFault). Step told faults (Note (entry.Given txn table write)) (fault_outcome w) (seen_of before) (seen_of now)) (sym e) step;
-    })

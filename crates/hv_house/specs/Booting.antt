@@ -1,5 +1,5 @@
 -- How a store is opened.
-use Rattle.std.specs.Prelude.{◌≡◌, ◌⊎◌, ℕ, ◌+◌, ◌≤◌, ◌<◌, Option, List, [], ◌∷◌, ◌++◌, length, map}
+use Rattle.std.specs.Prelude.{◌≡◌, ◌⊎◌, ℕ, Bool, true, false, ◌+◌, ◌<◌, Option, List, [], ◌∷◌, ◌++◌, length, map}
 use Rattle.hv_base.specs.Told.{Tells, Moves}
 use Rattle.hv_shelf.specs.Disk.{Store}
 use Rattle.hv_history.specs.declared.entry.Entry.{Entry}
@@ -9,7 +9,6 @@ use Rattle.hv_history.specs.State.{State, nothing_yet, state_of}
 use Rattle.hv_history.specs.Journal.{IsJournal}
 use Rattle.hv_history.specs.Legal.{is_open, load, HasRoom, profile, AllFit}
 use Rattle.hv_recovery.specs.Recovery.{IsJournalOf, IsBadJournalAt}
-use Rattle.hv_known.specs.Known.{marked_from}
 use Rattle.hv_recovery.specs.declared.fault.OpenFault.{OpenFault}
 use Rattle.hv_recovery.specs.declared.fault.OpenFault.TheVariants as opening
 use Rattle.hv_house.specs.declared.fault.HouseFault.{HouseFault}
@@ -18,10 +17,18 @@ use Rattle.hv_house.specs.declared.boot.BootFault.{BootFault}
 use Rattle.hv_house.specs.declared.boot.BootFault.TheVariants as fault
 use Rattle.hv_house.specs.declared.house.House.{House}
 use Rattle.hv_house.specs.declared.boot.Left.{Left}
-use Rattle.hv_known.specs.Known.{all_known}
 use Rattle.hv_house.specs.House.{entries_of, IsFaithful, Leaves}
 
 -- ---- the opening of a book
+
+abbrev pub number_next : Bool → ℕ → List ℕ → List ℕ
+number_next true number more = number ∷ more
+number_next false number more = more
+
+-- the numbers of those that are marked, where the first one's is given
+abbrev pub marked_from : ℕ → List Bool → List ℕ
+marked_from number [] = []
+marked_from number (mark ∷ marks) = number_next mark number (marked_from (number + 1) marks)
 
 -- the numbers of the transactions that are open
 abbrev pub open_numbers : State → List ℕ
@@ -47,6 +54,7 @@ pub record OpensTo (book : List Entry) (store : Store) : Type 0 where
 
 abbrev pub boot_fault : HouseFault → BootFault
 boot_fault house.Store = fault.Store
+boot_fault (house.Failed count) = fault.Store
 boot_fault house.NoMemory = fault.NoMemory
 
 abbrev pub open_fault : OpenFault → BootFault
@@ -128,10 +136,7 @@ IsRaiseFault book before now _ = Unit {0}
 -- what is learned of a book
 pub record IsLearned (book : List Entry) (found : Left) : Type 0 where
   pub runs : found.runs ≡ (state_of book).openings.count
-  pub opened : found.opened ≡ length (state_of book).transactions
-  pub few : found.opened ≤ length book
   pub open_are : found.unended.items ≡ open_numbers (state_of book)
-  pub tables : found.tables.items ≡ all_known (state_of book)
 
 -- the book of an opened store is one that its journal read to, with its opening
 pub record IsOpening (told : Option Store) (book now : List Entry) : Type 0 where

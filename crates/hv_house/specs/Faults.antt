@@ -1,5 +1,5 @@
 -- How a store's fault is passed on.
-use Rattle.std.specs.Prelude.{ℕ, ◌≤◌, Result, Ok, Err}
+use Rattle.std.specs.Prelude.{◌≡◌, ℕ, ◌-◌, ◌^◌, ◌<◌, ◌≤◌, nat_lt, if◌then◌else◌, Result, IfErr}
 use Rattle.hv_base.specs.Faults.{Rose}
 use Rattle.hv_shelf.specs.declared.fault.ShelfFault.{ShelfFault}
 use Rattle.hv_shelf.specs.declared.fault.ShelfFault.TheVariants as shelf
@@ -11,28 +11,47 @@ use Rattle.hv_house.specs.declared.fault.HouseFault.TheVariants as fault
 use Rattle.hv_house.specs.declared.fault.RowFault.{RowFault}
 use Rattle.hv_house.specs.declared.fault.RowFault.TheVariants as row_fault
 
-abbrev pub house_fault : ShelfFault → HouseFault
-house_fault shelf.Failed = fault.Store
-house_fault shelf.NoMemory = fault.NoMemory
+-- a fault of a call on files, by the store's count of faults behind it: at its last value it counts as one of the journal
+abbrev pub failed_with : ℕ → HouseFault
+failed_with count = if nat_lt count (2 ^ 64 - 1) then fault.Failed count else fault.Store
 
-abbrev pub read_fault : ReadFault → RowFault
-read_fault (read.Damaged place) = row_fault.Damaged place
-read_fault read.Failed = row_fault.House fault.Store
-read_fault read.NoMemory = row_fault.House fault.NoMemory
+abbrev pub house_fault : ℕ → ShelfFault → HouseFault
+house_fault count shelf.Failed = failed_with count
+house_fault count shelf.NoMemory = fault.NoMemory
+
+abbrev pub read_fault : ℕ → ReadFault → RowFault
+read_fault count (read.Damaged place) = row_fault.Damaged place
+read_fault count read.Failed = row_fault.House (failed_with count)
+read_fault count read.NoMemory = row_fault.House fault.NoMemory
 
 -- the store failed only where its count of faults rose
 pub record StoreCause (faults faults' : ℕ) (Fails : Type 0) : Type 0 where
   pub later : faults ≤ faults'
   pub failed : Fails → Rose faults faults'
 
-abbrev pub IsStoreFault : RowFault → Type 0
-IsStoreFault (row_fault.House fault.Store) = Unit {0}
-IsStoreFault _ = ⊥
+-- A fault of the store has its cause: its count of faults rose in this call. One that a statement keeps has the count as it is now.
+abbrev pub HasRisen : ℕ → ℕ → HouseFault → Type 0
+HasRisen faults faults' fault.Store = Rose faults faults'
+HasRisen faults faults' fault.NoMemory = Unit {0}
+HasRisen faults faults' (fault.Failed count) = (count ≡ faults') × (faults < faults')
 
--- the answer is that the store failed
-abbrev pub StoreFails : {T : Type 0} → Result T RowFault → Type 0
-StoreFails (Ok x) = ⊥
-StoreFails (Err e) = IsStoreFault e
+abbrev pub HasRisenReading : ℕ → ℕ → RowFault → Type 0
+HasRisenReading faults faults' (row_fault.Damaged place) = Unit {0}
+HasRisenReading faults faults' (row_fault.House why) = HasRisen faults faults' why
+
+-- the counts of a call that may fail by its files
+pub record FileCause {T : Type 0} (faults faults' : ℕ) (result : Result T HouseFault) : Type 0 where
+  pub later : faults ≤ faults'
+  pub failed : IfErr result (HasRisen faults faults')
+
+pub record ReadCause {T : Type 0} (faults faults' : ℕ) (result : Result T RowFault) : Type 0 where
+  pub later : faults ≤ faults'
+  pub failed : IfErr result (HasRisenReading faults faults')
+
+-- the fault ends the run: the journal failed, or memory lacks; no fault of a file does
+abbrev pub EndsRun : HouseFault → Type 0
+EndsRun (fault.Failed count) = ⊥
+EndsRun _ = Unit {0}
 
 abbrev pub IsShortDamage : RowFault → Type 0
 IsShortDamage (row_fault.Damaged place) = IsShort place.partition place.dir

@@ -7,22 +7,19 @@ ghost use Rattle.hv_history.specs.State.{state_of, nothing_yet};
 ghost use Rattle.hv_history.specs.Legal.{profile, AllFit, HasRoom};
 ghost use Rattle.hv_journal.specs.Appending.{Holds, KeepsTree};
 ghost use Rattle.hv_recovery.specs.Recovery.{IsJournalOf};
-ghost use Rattle.hv_house.specs.Faults.{StoreCause};
-ghost use Rattle.hv_house.specs.declared.fault.HouseFault.TheVariants.{Store};
-ghost use Rattle.hv_known.specs.Known.{all_known};
+ghost use Rattle.hv_house.specs.Faults.{StoreCause, FileCause};
 ghost use Rattle.hv_house.specs.House.{entries_of, book_limit, IsKept, IsReady, IsBeside};
 ghost use Rattle.hv_house.specs.Steps.{KeepsMarks, IsOpenedOver};
 ghost use Rattle.hv_house.specs.Booting.{boot_fault, lost_entry, opening_of, IsLearned, LosesSome, CutsOpening, IsCutOpening, IsRaiseFault, Opens, IsBootFault, IsBootStore, StopsOpening};
 
 use crate::fault::HouseFault;
-use crate::house::House;
-use hv_base::{Limits, NoMemory, TxnId};
+use crate::house::{House, LIMITS};
+use hv_base::{NoMemory, TxnId};
 use hv_book::Book;
 use hv_history::{Cause, Entry};
 use hv_journal::open_empty;
-use hv_known::{Known, Tally};
 use hv_recovery::{OpenFault, read_journal};
-use hv_shelf::Shelf;
+use hv_shelf::{Shelf, ShelfFault};
 use hv_trail::KeptTrail;
 use std::alloc::Global;
 use std::snapshot::Snapshot;
@@ -49,7 +46,7 @@ impl From<HouseFault> for BootFault {
 
     fn from(fault: HouseFault) -> BootFault {
         match fault {
-            HouseFault::Store => BootFault::Store,
+            HouseFault::Store | HouseFault::Failed { .. } => BootFault::Store,
             HouseFault::NoMemory => BootFault::NoMemory,
         }
     }
@@ -70,32 +67,22 @@ impl From<OpenFault> for BootFault {
     }
 }
 
-/// The limits of this project's profile.
-const LIMITS: Limits = Limits { entries: 131_072 };
-
 /// More bytes than any journal has that was read into memory.
 const MOST_BYTES: u64 = 1 << 62;
 
-/// What is learned of a book that was left: how often it was opened, which transactions are open, and
-/// what is known of its tables.
+/// What is learned of a book that was left: how often it was opened, and which transactions are open.
 #[derive(Drop)]
 struct Left {
     runs: u64,
-    opened: u64,
     unended: Vec<u64>,
-    tables: Vec<Known>,
 }
 
 fn learn(alloc: Global, book: &Book) -> Result<Left, NoMemory>
-    requires fit { AllFit profile nothing_yet book.now.entries }
     ensures learned { IfOk result (IsLearned book.now.entries) }
 {
-    let tally = Tally::of(alloc, book)?;
     Ok(Left {
-        runs: tally.runs,
-        opened: tally.texts.len() as u64,
-        unended: tally.open_transactions(alloc)?,
-        tables: tally.known(alloc)?,
+        runs: book.openings().count,
+        unended: Vec::from_slice(alloc, book.ongoing())?,
     })
 }
 
@@ -111,14 +98,17 @@ impl<D: Shelf + Drop> House<D> {
             (λ s. IsJournal (entries_of self.old) s.journal)) }
         ensures tree { Moves KeepsTree (D.told self.old.shelf) (D.told self.new.shelf) }
         ensures marks { KeepsMarks self.old self.new }
-        ensures cause { StoreCause (D.faults self.old.shelf) (D.faults self.new.shelf)
-            (IsErrOf result Store) }
+        ensures cause { FileCause (D.faults self.old.shelf) (D.faults self.new.shelf) result }
     {
         let Ok(length) = self.shelf.journal_len() else {
             return Err(HouseFault::Store);
         };
         if length <= 1 {
-            open_empty(&mut self.shelf)?;
+            return match open_empty(&mut self.shelf) {
+                Ok(()) => Ok(()),
+                Err(ShelfFault::Failed) => Err(HouseFault::Store),
+                Err(ShelfFault::NoMemory) => Err(HouseFault::NoMemory),
+            };
         }
         Ok(())
     }
@@ -130,17 +120,14 @@ impl<D: Shelf + Drop> House<D> {
         ensures kept { OnOk result (IsKept D.told self.new) }
         ensures entries { OnOk result
             (entries_of self.new ≡ entries_of self.old ++ map lost_entry unended.now) }
-        ensures opened { self.new.opened ≡ self.old.opened }
-        ensures tables { self.new.tables ≡ self.old.tables }
         ensures tree { Moves KeepsTree (D.told self.old.shelf) (D.told self.new.shelf) }
         ensures halted { IfErr result (λ fault.
             LosesSome D.told fault unended.now self.old self.new) }
         ensures marks { KeepsMarks self.old self.new }
-        ensures cause { StoreCause (D.faults self.old.shelf) (D.faults self.new.shelf)
-            (IsErrOf result Store) }
+        ensures cause { FileCause (D.faults self.old.shelf) (D.faults self.new.shelf) result }
     {
         for i in 0..unended.len() {
-            self.note(
+            self.add(
                 Entry::Abort {
                     txn: TxnId(unended[i]),
                     cause: Cause::Lost,
@@ -156,24 +143,20 @@ impl<D: Shelf + Drop> House<D> {
         requires running { self.old.trail.closed ≡ false }
         requires near { self.old.place ≤ 2 ^ 62 }
         requires place { self.old.place ≡ place_of (entries_of self.old) }
-        requires opened { self.old.opened ≤ length (entries_of self.old) }
         requires journal { Tells (D.told self.old.shelf)
             (λ s. IsJournal (entries_of self.old) s.journal) }
         requires room { length (entries_of self.old) + length unended.now + 1 ≤ book_limit }
         ensures kept { OnOk result (IsKept D.told self.new) }
         ensures entries { OnOk result (entries_of self.new
             ≡ entries_of self.old ++ Boot runs ∷ map lost_entry unended.now) }
-        ensures opened { self.new.opened ≡ self.old.opened }
-        ensures tables { self.new.tables ≡ self.old.tables }
         ensures tree { Moves KeepsTree (D.told self.old.shelf) (D.told self.new.shelf) }
         ensures halted { IfErr result (λ fault. CutsOpening fault
             (entries_of self.old) (Boot runs ∷ map lost_entry unended.now) (D.told self.new.shelf)) }
         ensures marks { KeepsMarks self.old self.new }
-        ensures cause { StoreCause (D.faults self.old.shelf) (D.faults self.new.shelf)
-            (IsErrOf result Store) }
+        ensures cause { FileCause (D.faults self.old.shelf) (D.faults self.new.shelf) result }
     {
         self.make_journal()?;
-        self.note(Entry::Boot { run: runs }, None)?;
+        self.add(Entry::Boot { run: runs }, None)?;
         self.lose(unended)
     }
 
@@ -217,8 +200,6 @@ impl<D: Shelf + Drop> House<D> {
                     place,
                     buffer: Vec::new(alloc),
                     trail: KeptTrail::over(alloc, book),
-                    opened: found.opened,
-                    tables: found.tables,
                 };
                 match house.note_opening(found.runs, &found.unended) {
                     Ok(()) => {

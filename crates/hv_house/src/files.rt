@@ -1,14 +1,13 @@
-ghost use Rattle.std.specs.Prelude.{◌≡◌, ◌<◌, ◌≤◌, OnOk, IsErrOf};
+ghost use Rattle.std.specs.Prelude.{◌≡◌, ◌<◌, ◌≤◌, OnOk};
 ghost use Rattle.std.specs.List.{AllByRecursion};
 ghost use Rattle.hv_base.specs.Told.{Moves, StaysTold};
 ghost use Rattle.hv_dirs.specs.Names.{write_end};
 ghost use Rattle.hv_stands.specs.Laws.{HasFile};
 ghost use Rattle.hv_tables.specs.Putting.{CanPut, PutsFiles, KeepsOthers};
-ghost use Rattle.hv_house.specs.Faults.{StoreCause};
+ghost use Rattle.hv_house.specs.Faults.{FileCause};
 ghost use Rattle.hv_house.specs.House.{IsBeside, KeepsJournal};
-ghost use Rattle.hv_house.specs.declared.fault.HouseFault.TheVariants.{Store};
 
-use crate::fault::HouseFault;
+use crate::fault::{HouseFault, house_fault};
 use crate::house::House;
 use hv_base::{TableId, WriteId};
 use hv_route::OutFile;
@@ -36,10 +35,11 @@ impl<D: Shelf> House<D> {
         ensures others { Moves (KeepsOthers table.0 write.0 files.now)
             (D.told self.old.shelf) (D.told self.new.shelf) }
         ensures journal { Moves KeepsJournal (D.told self.old.shelf) (D.told self.new.shelf) }
-        ensures cause { StoreCause (D.faults self.old.shelf) (D.faults self.new.shelf)
-            (IsErrOf result Store) }
+        ensures cause { FileCause (D.faults self.old.shelf) (D.faults self.new.shelf) result }
     {
-        put_files(alloc, &mut self.shelf, table, write, files)?;
-        Ok(())
+        match put_files(alloc, &mut self.shelf, table, write, files) {
+            Ok(()) => Ok(()),
+            Err(fault) => Err(house_fault(self.shelf.fault_count(), fault)),
+        }
     }
 }

@@ -1,13 +1,16 @@
-//! The warehouse over one store, for one thread of statements: its journal, its book, and its files.
+//! The warehouse over one store: its journal, its book, and its files, whatever transactions are open.
 #![tactic(auto)]
 
+mod asking;
 mod boot;
 mod fault;
 mod files;
 mod house;
-mod known;
+mod laws;
+mod noting;
 mod seeing;
 
 pub use boot::BootFault;
 pub use fault::{HouseFault, RowFault};
 pub use house::House;
+pub use laws::seen_is_content;

@@ -4,9 +4,10 @@ use Rattle.std.proofs.lemmas.Bool.{eqb-true}
 use Rattle.hv_base.specs.Faults.{Rose}
 use Rattle.hv_shelf.specs.Disk.{Store}
 use Rattle.hv_script.specs.Words.{command_of}
-use Rattle.hv_script.specs.Script.{refused_line}
+use Rattle.hv_directives.specs.Actions.{refused_at}
 use Rattle.hv_script.specs.declared.words.Command.{Command}
 use Rattle.hv_house.specs.Booting.{IsBootStore, CanOpen}
+use Rattle.hv_house.specs.Faults.{EndsRun, HasRisen}
 use Rattle.hv_house.specs.declared.boot.BootFault.{BootFault}
 use Rattle.hv_house.specs.declared.boot.BootFault.TheVariants as boot
 use Rattle.hv_program.specs.declared.stop.Stop.{Stop}
@@ -28,20 +29,27 @@ Rose-later a b c le rose = omega (arith, le, rose)
 pub Rose-stays : (a b c : ℕ) → Rose a b → b ≤ c → Rose a c
 Rose-stays a b c rose le = omega (arith, le, rose)
 
--- ---- the statements of a script
+-- ---- the actions of a script
 
 passed_up : {T E : Type 0} (r : Result T E) (e : E) (P : E → Type 0) → IsErrAnd r (λ y. y ≡ e) → P e → IfErr r P
 passed_up (Ok x) e P is p = tt
 passed_up (Err d) e P is p = subst P (sym is) p
 
-blamed : (why : HouseFault) (sink sink' store store' : ℕ) → (why ≡ fault.Store → Rose store store') → Blames (stop_of why) sink sink' store store'
-blamed fault.Store sink sink' store store' rose = rose refl
-blamed fault.NoMemory sink sink' store store' rose = tt
+blamed : (why : HouseFault) (sink sink' store store' : ℕ) → EndsRun why → HasRisen store store' why → Blames (stop_of why) sink sink' store store'
+blamed fault.Store sink sink' store store' ends rose = rose
+blamed (fault.Failed count) sink sink' store store' ends rose = absurd ends
+blamed fault.NoMemory sink sink' store store' ends rose = tt
+
+later-blame : (why : HouseFault) (sink sink' first store store' : ℕ) → first ≤ store → Blames (stop_of why) sink sink' store store' → Blames (stop_of why) sink sink' first store'
+later-blame fault.Store sink sink' first store store' le rose = Rose-later first store store' le rose
+later-blame (fault.Failed count) sink sink' first store store' le rose = Rose-later first store store' le rose
+later-blame fault.NoMemory sink sink' first store store' le rose = tt
 
 pub Blames-stopped : (result : Result Bool Stop) (why : HouseFault) (sink sink' first store store' : ℕ) → IsErrAnd result (λ e. e ≡ stop_of why)
-    → first ≤ store → (why ≡ fault.Store → Rose store store') → IfErr result (λ e. Blames e sink sink' first store')
-Blames-stopped result why sink sink' first store store' err le rose =
-    passed_up result (stop_of why) (λ e. Blames e sink sink' first store') err (blamed why sink sink' first store' (λ e. Rose-later first store store' le (rose e)))
+    → first ≤ store → EndsRun why → HasRisen store store' why → IfErr result (λ e. Blames e sink sink' first store')
+Blames-stopped result why sink sink' first store store' err le ends rose =
+    passed_up result (stop_of why) (λ e. Blames e sink sink' first store') err
+    (later-blame why sink sink' first store store' le (blamed why sink sink' store store' ends rose))
 
 pub Blames-cut : (result : Result Bool Stop) (first sink sink' store store' : ℕ) → IsErrAnd result (λ e. e ≡ stop.Sink)
     → first ≤ sink → Rose sink sink' → IfErr result (λ e. Blames e first sink' store store')
@@ -157,11 +165,11 @@ not-both o line none some = let wrong : None ≡ Some line = sym none ∙ some i
 
 completes-told : (words : List (List ℕ)) (script : List ℕ) (sink : Option (List ℕ)) (s : Store) (after : Outside) (counts counts' : Counts) (status : ℕ)
     → Refuses words (record { source = Some script; sink = sink; store = Some s }) after status → HasCauses counts counts' status
-    → IsSome (command_of words) → IsFaultless counts counts' → refused_line script ≡ None → CanOpen s
+    → IsSome (command_of words) → IsFaultless counts counts' → refused_at script ≡ None → CanOpen s
     → IsTrue (is_one_of (0 ∷ 1 ∷ 7 ∷ []) status)
 completes-told words script sink s after counts counts' status h causes some ok fine small =
     the-rest status (λ e. some-none (command_of words) some (h.bad_words e).words_are) (λ e. ok.source (causes.source e)) (λ e. ok.sink (causes.sink e)) (λ e. ok.store (causes.store e))
-    (λ e. (h.bad_journal e).shut small.0 small.1.reads) (λ e. not-both (refused_line script) (h.refused_script e).line fine (h.refused_script e).refused)
+    (λ e. (h.bad_journal e).shut small.0 small.1.reads) (λ e. not-both (refused_at script) (h.refused_script e).line fine (h.refused_script e).refused)
     (λ e. omega (arith, (h.full_journal e).shut small.0 small.1.reads, small.1.room)) h.only
 
 pub completes : (words : List (List ℕ)) (source sink : Option (List ℕ)) (told : Option Store) (after : Outside) (counts counts' : Counts) (status : ℕ)

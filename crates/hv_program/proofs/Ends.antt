@@ -1,5 +1,5 @@
--- What serving a script's statements leaves, by its status.
-use Rattle.std.proofs.Common.{◌≡◌, ℕ, length, Bool, true, false, Result, Ok, Err, IfOk, IfErr, Option, Some, None, List, [], ◌∷◌, ◌++◌, refl, sym, ap, ◌∙◌, subst, arith, ◌⊎◌, ◌+◌, ◌<◌, inl, inr}
+-- What serving a script's actions leaves, by its status.
+use Rattle.std.proofs.Common.{◌≡◌, ℕ, length, Bool, true, false, Result, Ok, Err, IfOk, IfErr, Option, Some, None, List, [], ◌∷◌, ◌++◌, refl, sym, ap, ◌∙◌, subst, arith, ◌⊎◌, ◌+◌, ◌<◌, ◌≤◌, inl, inr}
 use Rattle.hv_base.specs.Told.{Tells, Moves, StaysTold}
 use Rattle.hv_shelf.specs.Disk.{Store}
 use Rattle.hv_history.specs.declared.entry.Entry.{Entry}
@@ -9,6 +9,7 @@ use Rattle.hv_history.specs.Journal.{Reads, IsJournal}
 use Rattle.hv_base.specs.Sink.{Gains, GainsPart}
 use Rattle.hv_journal.specs.Appending.{Holds, KeepsTree}
 use Rattle.hv_stands.specs.Files.{Stands}
+use Rattle.hv_directives.specs.declared.actions.Action.{Action}
 use Rattle.hv_house.specs.House.{IsFaithful}
 use Rattle.hv_house.specs.declared.fault.HouseFault.{HouseFault}
 use Rattle.hv_house.specs.declared.fault.HouseFault.TheVariants as fault
@@ -21,8 +22,10 @@ use Rattle.hv_recovery.specs.Recovery.{IsJournalOf}
 use Rattle.hv_program.specs.declared.stop.Stop.{Stop}
 use Rattle.hv_program.specs.declared.stop.Stop.TheVariants as stop
 use Rattle.hv_program.specs.Lines.{full_line}
-use Rattle.hv_program.specs.Statements.{GoesOneByOne}
-use Rattle.hv_program.specs.Running.{Prints, CutsOff, StopsIn, Halts, HasAll}
+use Rattle.hv_program.specs.Doing.{Standing}
+use Rattle.hv_program.specs.Own.{Grows}
+use Rattle.hv_program.specs.Running.{PrintsAll, CutsOff, StopsIn, Halts, HasAll}
+use Rattle.hv_program.proofs.OwnEntries.{grows-wider}
 use Rattle.hv_program.specs.Results.{IsBookOf, HasBook, IsServed, IsCutOff, IsStopped, IsUnopened, OpensLater, ReadsFurther, StopsForMemory, StopsForStore}
 use Rattle.hv_program.specs.Serving.{ran_status, IsCutFull, ServedOf, Serves, IsSaid}
 
@@ -41,68 +44,68 @@ opening-faithful start book store begun is same opens =
 
 -- ---- what is left by a result
 
-book-of : (start book : List Entry) (texts : List (List ℕ)) → IsLegal profile book → (more : List Entry) → book ≡ start ++ more
-    → GoesOneByOne start book 1 texts → IsBookOf start texts book
-book-of start book texts legal more grown one = record { legal = legal; begins = (more, grown); one_by_one = one }
+book-of : (low high : ℕ) (start book : List Entry) → IsLegal profile book → Grows low high start book → IsBookOf low high start book
+book-of low high start book legal grows = record { legal = legal; grows = grows }
 
 has-book : (book : List Entry) (store : Store) → Reads book store.journal → IsFaithful book store → HasBook book store
 has-book book store reads faithful = record { reads = reads; stands = faithful.stands }
 
-all-served : (texts : List (List ℕ)) (refused : Bool) (written now : List ℕ) (store : Store) (start book : List Entry)
-    → IsFaithful book store → Reads book store.journal → Prints start book texts (Some written) (Some now) refused
-    → IsServed start texts written now store refused
-all-served texts refused written now store start book faithful reads h = record {
-  book = book;
-  is_book = book-of start book texts faithful.legal h.grows.0 h.grows.1 h.one_by_one;
+all-served : (low high : ℕ) (actions : List Action) (refused : Bool) (written now : List ℕ) (store : Store) (start book : List Entry)
+    → IsFaithful book store → Reads book store.journal → PrintsAll low high start book actions (Some written) (Some now) refused
+    → IsServed low high start actions written now store refused
+all-served low high actions refused written now store start book faithful reads h = record {
+  last = record { book = book; waiting = h.0 };
+  is_book = book-of low high start book faithful.legal h.1.grows;
   has_book = has-book book store reads faithful;
-  output = h.output;
-  wrote = h.written;
-  is_output = h.is_output;
+  output = h.1.output;
+  wrote = h.1.written;
+  are_done = h.1.are_done;
 }
 
-cut-off : (texts : List (List ℕ)) (written now : List ℕ) (store : Store) (start book : List Entry)
-    → HasAll book store → CutsOff start book texts (Some written) (Some now)
-    → IsCutOff start texts written now store
-cut-off texts written now store start book has h = record {
+cut-off : (low high : ℕ) (actions : List Action) (written now : List ℕ) (store : Store) (start book : List Entry)
+    → HasAll book store → CutsOff low high start book actions (Some written) (Some now)
+    → IsCutOff low high start actions written now store
+cut-off low high actions written now store start book has h = record {
   front = h.front;
-  text = h.text;
+  action = h.action;
   behind = h.behind;
-  texts_are = h.texts_are;
-  book = book;
-  is_book = book-of start book (h.front ++ h.text ∷ []) has.1.legal h.grows.0 h.grows.1 h.one_by_one;
+  actions_are = h.actions_are;
+  before = h.before;
+  last = record { book = book; waiting = h.waiting };
+  is_book = book-of low high start book has.1.legal h.grows;
   has_book = has-book book store has.0 has.1;
   output = h.output;
   refused = h.refused;
-  is_output = h.is_output;
+  are_done = h.are_done;
   reply = h.reply;
   this = h.this;
-  is_reply = h.is_reply;
+  is_done = h.is_done;
   wrote = h.written;
 }
 
-stopped : (why : HouseFault) (told : Option Store) (texts : List (List ℕ)) (written now : List ℕ) (start book : List Entry) (Keeps : List Entry → ℕ → List ℕ → List Entry → Type 0)
-    → (h : StopsIn why told start book texts (Some written) (Some now)) → Keeps h.done (length h.front + 1) h.text book
-    → IsStopped start texts written now Keeps
-stopped why told texts written now start book Keeps h keeps = record {
+stopped : (why : HouseFault) (told : Option Store) (low high : ℕ) (actions : List Action) (written now : List ℕ) (start book : List Entry) (Keeps : Standing → Action → List Entry → Type 0)
+    → (h : StopsIn why told low high start book actions (Some written) (Some now)) → Keeps h.before h.action book
+    → IsStopped low high start actions written now Keeps
+stopped why told low high actions written now start book Keeps h keeps = record {
   front = h.front;
-  text = h.text;
+  action = h.action;
   behind = h.behind;
-  texts_are = h.texts_are;
-  done = h.done;
-  is_done = book-of start h.done h.front h.legal h.grows.0 h.grows.1 h.one_by_one;
+  actions_are = h.actions_are;
+  before = h.before;
+  is_before = book-of low high start h.before.book h.legal h.grows;
   book = book;
-  halfway = h.halfway;
+  halfway = h.stops.halfway;
   output = h.output;
   refused = h.refused;
-  is_output = h.is_output;
+  are_done = h.are_done;
   wrote = h.written;
   keeps = keeps;
 }
 
 -- ---- by the status
 
-served-zero : (opened : List Entry) (texts : List (List ℕ)) (written now : List ℕ) (before after : Store) → IsServed (opening_of opened) texts written now after false → ServedOf 0 opened texts written now before after
-served-zero opened texts written now before after h = record {
+served-zero : (low high : ℕ) (opened : List Entry) (actions : List Action) (written now : List ℕ) (before after : Store) → IsServed low high (opening_of opened) actions written now after false → ServedOf 0 low high opened actions written now before after
+served-zero low high opened actions written now before after h = record {
   accepted = λ e. h;
   refused = λ e. absurd (omega (arith, e));
   source = λ e. omega (arith, e);
@@ -111,8 +114,8 @@ served-zero opened texts written now before after h = record {
   memory = λ e. absurd (omega (arith, e));
 }
 
-served-one : (opened : List Entry) (texts : List (List ℕ)) (written now : List ℕ) (before after : Store) → IsServed (opening_of opened) texts written now after true → ServedOf 1 opened texts written now before after
-served-one opened texts written now before after h = record {
+served-one : (low high : ℕ) (opened : List Entry) (actions : List Action) (written now : List ℕ) (before after : Store) → IsServed low high (opening_of opened) actions written now after true → ServedOf 1 low high opened actions written now before after
+served-one low high opened actions written now before after h = record {
   accepted = λ e. absurd (omega (arith, e));
   refused = λ e. h;
   source = λ e. omega (arith, e);
@@ -121,9 +124,9 @@ served-one opened texts written now before after h = record {
   memory = λ e. absurd (omega (arith, e));
 }
 
-served-cut : (opened : List Entry) (texts : List (List ℕ)) (written now : List ℕ) (before after : Store)
-    → IsCutOff (opening_of opened) texts written now after ⊎ IsCutFull opened written now before after → ServedOf 4 opened texts written now before after
-served-cut opened texts written now before after h = record {
+served-cut : (low high : ℕ) (opened : List Entry) (actions : List Action) (written now : List ℕ) (before after : Store)
+    → IsCutOff low high (opening_of opened) actions written now after ⊎ IsCutFull opened written now before after → ServedOf 4 low high opened actions written now before after
+served-cut low high opened actions written now before after h = record {
   accepted = λ e. absurd (omega (arith, e));
   refused = λ e. absurd (omega (arith, e));
   source = λ e. omega (arith, e);
@@ -132,11 +135,11 @@ served-cut opened texts written now before after h = record {
   memory = λ e. absurd (omega (arith, e));
 }
 
-served-four : (opened : List Entry) (texts : List (List ℕ)) (written now : List ℕ) (before after : Store) → IsCutOff (opening_of opened) texts written now after → ServedOf 4 opened texts written now before after
-served-four opened texts written now before after h = served-cut opened texts written now before after (inl h)
+served-four : (low high : ℕ) (opened : List Entry) (actions : List Action) (written now : List ℕ) (before after : Store) → IsCutOff low high (opening_of opened) actions written now after → ServedOf 4 low high opened actions written now before after
+served-four low high opened actions written now before after h = served-cut low high opened actions written now before after (inl h)
 
-served-five : (opened : List Entry) (texts : List (List ℕ)) (written now : List ℕ) (before after : Store) → StopsForStore opened texts written now before after → ServedOf 5 opened texts written now before after
-served-five opened texts written now before after h = record {
+served-five : (low high : ℕ) (opened : List Entry) (actions : List Action) (written now : List ℕ) (before after : Store) → StopsForStore low high opened actions written now before after → ServedOf 5 low high opened actions written now before after
+served-five low high opened actions written now before after h = record {
   accepted = λ e. absurd (omega (arith, e));
   refused = λ e. absurd (omega (arith, e));
   source = λ e. omega (arith, e);
@@ -145,8 +148,8 @@ served-five opened texts written now before after h = record {
   memory = λ e. absurd (omega (arith, e));
 }
 
-served-seven : (opened : List Entry) (texts : List (List ℕ)) (written now : List ℕ) (before after : Store) → StopsForMemory opened texts written now before after → ServedOf 7 opened texts written now before after
-served-seven opened texts written now before after h = record {
+served-seven : (low high : ℕ) (opened : List Entry) (actions : List Action) (written now : List ℕ) (before after : Store) → StopsForMemory low high opened actions written now before after → ServedOf 7 low high opened actions written now before after
+served-seven low high opened actions written now before after h = record {
   accepted = λ e. absurd (omega (arith, e));
   refused = λ e. absurd (omega (arith, e));
   source = λ e. omega (arith, e);
@@ -155,22 +158,22 @@ served-seven opened texts written now before after h = record {
   memory = λ e. h;
 }
 
-served-by : (opened : List Entry) (texts : List (List ℕ)) (ran : Result Bool Stop) (written now : List ℕ) (before after : Store) (book : List Entry)
+served-by : (low high : ℕ) (opened : List Entry) (actions : List Action) (ran : Result Bool Stop) (written now : List ℕ) (before after : Store) (book : List Entry)
     → IfOk ran (λ _. Reads book after.journal) → IfOk ran (λ _. IsFaithful book after)
-    → IfOk ran (λ refused. Prints (opening_of opened) book texts (Some written) (Some now) refused)
-    → IfErr ran (λ why. Halts why (opening_of opened) book texts (Some written) (Some now) (Some after))
-    → ServedOf (ran_status ran) opened texts written now before after
-served-by opened texts (Ok false) written now before after book reads shows prints halts =
-    served-zero opened texts written now before after (all-served texts false written now after (opening_of opened) book shows reads prints)
-served-by opened texts (Ok true) written now before after book reads shows prints halts =
-    served-one opened texts written now before after (all-served texts true written now after (opening_of opened) book shows reads prints)
-served-by opened texts (Err stop.Source) written now before after book reads shows prints halts = absurd halts
-served-by opened texts (Err stop.Sink) written now before after book reads shows prints halts =
-    served-four opened texts written now before after (cut-off texts written now after (opening_of opened) book halts.1 halts.0)
-served-by opened texts (Err stop.Store) written now before after book reads shows prints halts =
-    served-five opened texts written now before after (inl (stopped fault.Store (Some after) texts written now (opening_of opened) book (ReadsFurther after.journal) halts halts.leaves))
-served-by opened texts (Err stop.NoMemory) written now before after book reads shows prints halts =
-    served-seven opened texts written now before after (inl (stopped fault.NoMemory (Some after) texts written now (opening_of opened) book (λ done number text b. Reads b after.journal) halts halts.leaves.2))
+    → IfOk ran (λ refused. PrintsAll low high (opening_of opened) book actions (Some written) (Some now) refused)
+    → IfErr ran (λ why. Halts why low high (opening_of opened) book actions (Some written) (Some now) (Some after))
+    → ServedOf (ran_status ran) low high opened actions written now before after
+served-by low high opened actions (Ok false) written now before after book reads shows prints halts =
+    served-zero low high opened actions written now before after (all-served low high actions false written now after (opening_of opened) book shows reads prints)
+served-by low high opened actions (Ok true) written now before after book reads shows prints halts =
+    served-one low high opened actions written now before after (all-served low high actions true written now after (opening_of opened) book shows reads prints)
+served-by low high opened actions (Err stop.Source) written now before after book reads shows prints halts = absurd halts
+served-by low high opened actions (Err stop.Sink) written now before after book reads shows prints halts =
+    served-four low high opened actions written now before after (cut-off low high actions written now after (opening_of opened) book halts.1 halts.0)
+served-by low high opened actions (Err stop.Store) written now before after book reads shows prints halts =
+    served-five low high opened actions written now before after (inl (stopped fault.Store (Some after) low high actions written now (opening_of opened) book (ReadsFurther after.journal) halts halts.stops.leaves))
+served-by low high opened actions (Err stop.NoMemory) written now before after book reads shows prints halts =
+    served-seven low high opened actions written now before after (inl (stopped fault.NoMemory (Some after) low high actions written now (opening_of opened) book (λ standing act b. Reads b after.journal) halts halts.stops.leaves.2))
 
 -- ---- with what the outside tells
 
@@ -181,12 +184,12 @@ ok_tells : {A B : Type 0} (ran : Result B Stop) (P : B → A → Type 0) (x : A)
 ok_tells (Ok b) P x h = h
 ok_tells (Err why) P x h = tt
 
-record IsDone (status : ℕ) (opened : List Entry) (texts : List (List ℕ)) (written : List ℕ) (before : Store) (sink : Option (List ℕ)) (told : Option Store) : Type 0 where
+record IsDone (status low high : ℕ) (opened : List Entry) (actions : List Action) (written : List ℕ) (before : Store) (sink : Option (List ℕ)) (told : Option Store) : Type 0 where
   now : List ℕ
   store : Store
   sink_tells : sink ≡ Some now
   store_tells : told ≡ Some store
-  served : ServedOf status opened texts written now before store
+  served : ServedOf status low high opened actions written now before store
 
 -- the book that was opened is the one to which the store opens
 same-opened : (told : Option Store) (store : Store) (opened start : List Entry) → told ≡ Some store → OpensTo opened store → Opens told start → Opening opened start
@@ -197,18 +200,18 @@ same-opened told store opened start at opens is =
     record { room = subst (λ b. HasRoom profile (state_of b) 1) same is.1.room; now_is = is.1.now_is ∙ ap opening_of same }
 
 -- what the store told, and what it tells
-ended-told : (opened : List Entry) (texts : List (List ℕ)) (ran : Result Bool Stop) (w n : List ℕ) (s b s' : Store) (start book : List Entry)
+ended-told : (low high : ℕ) (opened : List Entry) (actions : List Action) (ran : Result Bool Stop) (w n : List ℕ) (s b s' : Store) (start book : List Entry)
     → Opening opened start → b.tree ≡ s.tree → OpensTo opened s
     → IfOk ran (λ _. Reads book s'.journal)
     → (IsFaithful start b → IfOk ran (λ _. IsFaithful book s'))
-    → (IsFaithful start b → IfOk ran (λ refused. Prints start book texts (Some w) (Some n) refused))
-    → (IsFaithful start b → IfErr ran (λ why. Halts why start book texts (Some w) (Some n) (Some s')))
-    → ServedOf (ran_status ran) opened texts w n s s'
-ended-told opened texts ran w n s b s' start book is same opens reads shows prints halts =
+    → (IsFaithful start b → IfOk ran (λ refused. PrintsAll low high start book actions (Some w) (Some n) refused))
+    → (IsFaithful start b → IfErr ran (λ why. Halts why low high start book actions (Some w) (Some n) (Some s')))
+    → ServedOf (ran_status ran) low high opened actions w n s s'
+ended-told low high opened actions ran w n s b s' start book is same opens reads shows prints halts =
     let begins = opening-faithful start opened s b is same opens in
-    served-by opened texts ran w n s s' book reads (shows begins)
-    (subst (λ x. IfOk ran (λ refused. Prints x book texts (Some w) (Some n) refused)) is.now_is (prints begins))
-    (subst (λ x. IfErr ran (λ why. Halts why x book texts (Some w) (Some n) (Some s'))) is.now_is (halts begins))
+    served-by low high opened actions ran w n s s' book reads (shows begins)
+    (subst (λ x. IfOk ran (λ refused. PrintsAll low high x book actions (Some w) (Some n) refused)) is.now_is (prints begins))
+    (subst (λ x. IfErr ran (λ why. Halts why low high x book actions (Some w) (Some n) (Some s'))) is.now_is (halts begins))
 
 none-some : {A : Type 0} (x : A) (o : Option A) → o ≡ None → o ≡ Some x → ⊥
 none-some x o none some = let wrong : None ≡ Some x = sym none ∙ some in cc
@@ -249,47 +252,47 @@ are-told sink sink' told begun told' written store heard moves stays at_sink at_
     }
 
 -- what a run was promised, by what is told
-record Promised (ran : Result Bool Stop) (texts : List (List ℕ)) (start book : List Entry) (sink sink' : Option (List ℕ)) (told begun told' : Option Store) : Type 0 where
+record Promised (low high : ℕ) (ran : Result Bool Stop) (actions : List Action) (start book : List Entry) (sink sink' : Option (List ℕ)) (told begun told' : Option Store) : Type 0 where
   is : Opens told start
   reads : IfOk ran (λ _. Holds told' book)
   shows : Tells begun (IsFaithful start) → IfOk ran (λ _. Tells told' (IsFaithful book))
-  prints : Tells begun (IsFaithful start) → IfOk ran (λ refused. Tells begun (λ _. Prints start book texts sink sink' refused))
-  halts : Tells begun (IsFaithful start) → IfErr ran (λ why. Tells begun (λ _. Halts why start book texts sink sink' told'))
+  prints : Tells begun (IsFaithful start) → IfOk ran (λ refused. Tells begun (λ _. PrintsAll low high start book actions sink sink' refused))
+  halts : Tells begun (IsFaithful start) → IfErr ran (λ why. Tells begun (λ _. Halts why low high start book actions sink sink' told'))
 
-promised-some : (opened : List Entry) (texts : List (List ℕ)) (ran : Result Bool Stop) (w n : List ℕ) (s b s' : Store) (start book : List Entry)
-    → Promised ran texts start book (Some w) (Some n) (Some s) (Some b) (Some s') → b.tree ≡ s.tree → OpensTo opened s → ServedOf (ran_status ran) opened texts w n s s'
-promised-some opened texts ran w n s b s' start book h same opens =
-    ended-told opened texts ran w n s b s' start book (same-opened (Some s) s opened start refl opens h.is) same opens h.reads h.shows h.prints h.halts
+promised-some : (low high : ℕ) (opened : List Entry) (actions : List Action) (ran : Result Bool Stop) (w n : List ℕ) (s b s' : Store) (start book : List Entry)
+    → Promised low high ran actions start book (Some w) (Some n) (Some s) (Some b) (Some s') → b.tree ≡ s.tree → OpensTo opened s → ServedOf (ran_status ran) low high opened actions w n s s'
+promised-some low high opened actions ran w n s b s' start book h same opens =
+    ended-told low high opened actions ran w n s b s' start book (same-opened (Some s) s opened start refl opens h.is) same opens h.reads h.shows h.prints h.halts
 
-promised-told : (opened : List Entry) (texts : List (List ℕ)) (ran : Result Bool Stop) (sink sink' : Option (List ℕ)) (told begun told' : Option Store) (start book : List Entry)
-    (written : List ℕ) (store : Store) → Promised ran texts start book sink sink' told begun told' → OpensTo opened store
-    → (are : AreTold sink sink' told begun told' written store) → ServedOf (ran_status ran) opened texts written are.n store are.s'
-promised-told opened texts ran sink sink' told begun told' start book written store h opens are =
-    promised-some opened texts ran written are.n store are.b are.s' start book
-    (subst (λ x. Promised ran texts start book x (Some are.n) (Some store) (Some are.b) (Some are.s')) (sym are.sink_is)
-    (subst (λ x. Promised ran texts start book sink x (Some store) (Some are.b) (Some are.s')) (sym are.sink_now)
-    (subst (λ x. Promised ran texts start book sink sink' x (Some are.b) (Some are.s')) (sym are.told_is)
-    (subst (λ x. Promised ran texts start book sink sink' told x (Some are.s')) (sym are.begun_is)
-    (subst (λ x. Promised ran texts start book sink sink' told begun x) (sym are.told_now) h)))))
+promised-told : (low high : ℕ) (opened : List Entry) (actions : List Action) (ran : Result Bool Stop) (sink sink' : Option (List ℕ)) (told begun told' : Option Store) (start book : List Entry)
+    (written : List ℕ) (store : Store) → Promised low high ran actions start book sink sink' told begun told' → OpensTo opened store
+    → (are : AreTold sink sink' told begun told' written store) → ServedOf (ran_status ran) low high opened actions written are.n store are.s'
+promised-told low high opened actions ran sink sink' told begun told' start book written store h opens are =
+    promised-some low high opened actions ran written are.n store are.b are.s' start book
+    (subst (λ x. Promised low high ran actions start book x (Some are.n) (Some store) (Some are.b) (Some are.s')) (sym are.sink_is)
+    (subst (λ x. Promised low high ran actions start book sink x (Some store) (Some are.b) (Some are.s')) (sym are.sink_now)
+    (subst (λ x. Promised low high ran actions start book sink sink' x (Some are.b) (Some are.s')) (sym are.told_is)
+    (subst (λ x. Promised low high ran actions start book sink sink' told x (Some are.s')) (sym are.begun_is)
+    (subst (λ x. Promised low high ran actions start book sink sink' told begun x) (sym are.told_now) h)))))
     are.tree opens
 
-ended : (opened : List Entry) (texts : List (List ℕ)) (ran : Result Bool Stop) (sink sink' : Option (List ℕ)) (told begun told' : Option Store) (start book : List Entry)
+ended : (low high : ℕ) (opened : List Entry) (actions : List Action) (ran : Result Bool Stop) (sink sink' : Option (List ℕ)) (told begun told' : Option Store) (start book : List Entry)
     → Opens told start → Moves KeepsTree told begun
     → IfOk ran (λ _. Holds told' book)
     → (Tells begun (IsFaithful start) → IfOk ran (λ _. Tells told' (IsFaithful book)))
-    → (Tells begun (IsFaithful start) → IfOk ran (λ refused. Tells begun (λ _. Prints start book texts sink sink' refused)))
-    → (Tells begun (IsFaithful start) → IfErr ran (λ why. Tells begun (λ _. Halts why start book texts sink sink' told')))
+    → (Tells begun (IsFaithful start) → IfOk ran (λ refused. Tells begun (λ _. PrintsAll low high start book actions sink sink' refused)))
+    → (Tells begun (IsFaithful start) → IfErr ran (λ why. Tells begun (λ _. Halts why low high start book actions sink sink' told')))
     → StaysTold begun told' → StaysTold sink sink'
     → (written : List ℕ) (store : Store) → sink ≡ Some written → told ≡ Some store → OpensTo opened store
-    → IsDone (ran_status ran) opened texts written store sink' told'
-ended opened texts ran sink sink' told begun told' start book is same reads shows prints halts stays heard written store at_sink at_told opens =
+    → IsDone (ran_status ran) low high opened actions written store sink' told'
+ended low high opened actions ran sink sink' told begun told' start book is same reads shows prints halts stays heard written store at_sink at_told opens =
     let are : AreTold sink sink' told begun told' written store = are-told sink sink' told begun told' written store heard same stays at_sink at_told in
     record {
       now = are.n;
       store = are.s';
       sink_tells = sym are.sink_now;
       store_tells = sym are.told_now;
-      served = promised-told opened texts ran sink sink' told begun told' start book written store
+      served = promised-told low high opened actions ran sink sink' told begun told' start book written store
           (record { is = is; reads = reads; shows = shows; prints = prints; halts = halts }) opens are;
     }
 
@@ -297,34 +300,108 @@ ok_then : (ran : Result Bool Stop) (A B : Type 0) → (A → B) → IfOk ran (λ
 ok_then (Ok b) A B f a = f a
 ok_then (Err why) A B f a = tt
 
-Serves-ran : (texts : List (List ℕ)) (ran : Result Bool Stop) (sink sink' : Option (List ℕ)) (told begun told' : Option Store) (start book : List Entry) (IsReadyNow : Type 0)
+Serves-ran : (low high : ℕ) (actions : List Action) (ran : Result Bool Stop) (sink sink' : Option (List ℕ)) (told begun told' : Option Store) (start book : List Entry) (IsReadyNow : Type 0)
     → Opens told start → Moves KeepsTree told begun
     → (IsReadyNow → Holds told' book) → IfOk ran (λ _. IsReadyNow)
     → (Tells begun (IsFaithful start) → IfOk ran (λ _. Tells told' (IsFaithful book)))
-    → (Tells begun (IsFaithful start) → IfOk ran (λ refused. Tells begun (λ _. Prints start book texts sink sink' refused)))
-    → (Tells begun (IsFaithful start) → IfErr ran (λ why. Tells begun (λ _. Halts why start book texts sink sink' told')))
+    → (Tells begun (IsFaithful start) → IfOk ran (λ refused. Tells begun (λ _. PrintsAll low high start book actions sink sink' refused)))
+    → (Tells begun (IsFaithful start) → IfErr ran (λ why. Tells begun (λ _. Halts why low high start book actions sink sink' told')))
     → StaysTold begun told' → StaysTold sink sink'
-    → Serves (ran_status ran) texts sink sink' told told'
-Serves-ran texts ran sink sink' told begun told' start book R is same holds ready shows prints halts stays heard = λ written store opened at_sink at_told opens.
-    let done = ended opened texts ran sink sink' told begun told' start book is same (ok_then ran R (Holds told' book) holds ready) shows prints halts stays heard written store at_sink at_told opens in
+    → Serves (ran_status ran) low high actions sink sink' told told'
+Serves-ran low high actions ran sink sink' told begun told' start book R is same holds ready shows prints halts stays heard = λ written store opened at_sink at_told opens.
+    let done = ended low high opened actions ran sink sink' told begun told' start book is same (ok_then ran R (Holds told' book) holds ready) shows prints halts stays heard written store at_sink at_told opens in
     record { now = done.now; store = done.store; sink_tells = done.sink_tells; store_tells = done.store_tells; served = done.served }
 
-pub Serves-run : (status : ℕ) (texts given : List (List ℕ)) (ran : Result Bool Stop) (sink sink' : Option (List ℕ)) (told begun told' closed : Option Store)
+-- the counts may lie further apart
+prints-wider : (first low high : ℕ) (start book : List Entry) (actions : List Action) (sink sink' : Option (List ℕ)) (refused : Bool) → first ≤ low
+    → PrintsAll low high start book actions sink sink' refused → PrintsAll first high start book actions sink sink' refused
+prints-wider first low high start book actions sink sink' refused below h = (
+  h.0,
+  record {
+    grows = grows-wider low high first high start book below (omega arith) h.1.grows;
+    later = h.1.later;
+    output = h.1.output;
+    written = h.1.written;
+    are_done = h.1.are_done;
+  },
+)
+
+stops-wider : (why : HouseFault) (told : Option Store) (first low high : ℕ) (start book : List Entry) (actions : List Action) (sink sink' : Option (List ℕ)) → first ≤ low
+    → StopsIn why told low high start book actions sink sink' → StopsIn why told first high start book actions sink sink'
+stops-wider why told first low high start book actions sink sink' below h = record {
+  front = h.front;
+  action = h.action;
+  behind = h.behind;
+  actions_are = h.actions_are;
+  before = h.before;
+  grows = grows-wider low high first high start h.before.book below (omega arith) h.grows;
+  legal = h.legal;
+  stops = h.stops;
+  output = h.output;
+  refused = h.refused;
+  are_done = h.are_done;
+  written = h.written;
+}
+
+cuts-wider : (first low high : ℕ) (start book : List Entry) (actions : List Action) (sink sink' : Option (List ℕ)) → first ≤ low
+    → CutsOff low high start book actions sink sink' → CutsOff first high start book actions sink sink'
+cuts-wider first low high start book actions sink sink' below h = record {
+  front = h.front;
+  action = h.action;
+  behind = h.behind;
+  actions_are = h.actions_are;
+  before = h.before;
+  waiting = h.waiting;
+  grows = grows-wider low high first high start book below (omega arith) h.grows;
+  output = h.output;
+  refused = h.refused;
+  are_done = h.are_done;
+  reply = h.reply;
+  this = h.this;
+  is_done = h.is_done;
+  written = h.written;
+}
+
+halts-wider : (why : Stop) (told : Option Store) (first low high : ℕ) (start book : List Entry) (actions : List Action) (sink sink' : Option (List ℕ)) → first ≤ low
+    → Halts why low high start book actions sink sink' told → Halts why first high start book actions sink sink' told
+halts-wider stop.Source told first low high start book actions sink sink' below h = h
+halts-wider stop.Sink told first low high start book actions sink sink' below h = (cuts-wider first low high start book actions sink sink' below h.0, h.1)
+halts-wider stop.Store told first low high start book actions sink sink' below h = stops-wider fault.Store told first low high start book actions sink sink' below h
+halts-wider stop.NoMemory told first low high start book actions sink sink' below h = stops-wider fault.NoMemory told first low high start book actions sink sink' below h
+
+prints-widened : (ran : Result Bool Stop) (begun : Option Store) (first low high : ℕ) (start book : List Entry) (actions : List Action) (sink sink' : Option (List ℕ)) → first ≤ low
+    → IfOk ran (λ refused. Tells begun (λ _. PrintsAll low high start book actions sink sink' refused))
+    → IfOk ran (λ refused. Tells begun (λ _. PrintsAll first high start book actions sink sink' refused))
+prints-widened (Ok refused) None first low high start book actions sink sink' below h = tt
+prints-widened (Ok refused) (Some s) first low high start book actions sink sink' below h = prints-wider first low high start book actions sink sink' refused below h
+prints-widened (Err why) begun first low high start book actions sink sink' below h = tt
+
+halts-widened : (ran : Result Bool Stop) (begun told : Option Store) (first low high : ℕ) (start book : List Entry) (actions : List Action) (sink sink' : Option (List ℕ)) → first ≤ low
+    → IfErr ran (λ why. Tells begun (λ _. Halts why low high start book actions sink sink' told))
+    → IfErr ran (λ why. Tells begun (λ _. Halts why first high start book actions sink sink' told))
+halts-widened (Ok refused) begun told first low high start book actions sink sink' below h = tt
+halts-widened (Err why) None told first low high start book actions sink sink' below h = tt
+halts-widened (Err why) (Some s) told first low high start book actions sink sink' below h = halts-wider why told first low high start book actions sink sink' below h
+
+pub Serves-run : (status first low high last : ℕ) (actions given : List Action) (ran : Result Bool Stop) (sink sink' : Option (List ℕ)) (told begun told' closed : Option Store)
     (start book : List Entry) (IsReadyNow : Type 0)
-    → status ≡ ran_status ran → given ≡ texts → closed ≡ told'
+    → status ≡ ran_status ran → first ≤ low → last ≡ high → given ≡ actions → closed ≡ told'
     → Opens told start → Moves KeepsTree told begun
     → (IsReadyNow → Holds told' book) → IfOk ran (λ _. IsReadyNow)
     → (Tells begun (IsFaithful start) → IfOk ran (λ _. Tells told' (IsFaithful book)))
-    → (Tells begun (IsFaithful start) → IfOk ran (λ refused. Tells begun (λ _. Prints start book given sink sink' refused)))
-    → (Tells begun (IsFaithful start) → IfErr ran (λ why. Tells begun (λ _. Halts why start book given sink sink' told')))
+    → (Tells begun (IsFaithful start) → IfOk ran (λ refused. Tells begun (λ _. PrintsAll low high start book given sink sink' refused)))
+    → (Tells begun (IsFaithful start) → IfErr ran (λ why. Tells begun (λ _. Halts why low high start book given sink sink' told')))
     → StaysTold begun told' → StaysTold sink sink'
-    → Serves status texts sink sink' told closed
-Serves-run status texts given ran sink sink' told begun told' closed start book R status_is texts_are closed_is is same holds ready shows prints halts stays heard =
-    let there : Serves (ran_status ran) given sink sink' told told' =
-    Serves-ran given ran sink sink' told begun told' start book R is same holds ready shows prints halts stays heard in
-    let by_texts : Serves (ran_status ran) texts sink sink' told told' = subst (λ t. Serves (ran_status ran) t sink sink' told told') texts_are there in
-    let by_close : Serves (ran_status ran) texts sink sink' told closed = subst (λ w. Serves (ran_status ran) texts sink sink' told w) (sym closed_is) by_texts in
-    subst (λ n. Serves n texts sink sink' told closed) (sym status_is) by_close
+    → Serves status first last actions sink sink' told closed
+Serves-run status first low high last actions given ran sink sink' told begun told' closed start book R status_is below last_is actions_are closed_is is same holds ready shows prints halts stays heard =
+    let there : Serves (ran_status ran) first high given sink sink' told told' =
+    Serves-ran first high given ran sink sink' told begun told' start book R is same holds ready shows
+    (λ s. prints-widened ran begun first low high start book given sink sink' below (prints s))
+    (λ s. halts-widened ran begun told' first low high start book given sink sink' below (halts s)) stays heard in
+    let by_actions : Serves (ran_status ran) first high actions sink sink' told told' = subst (λ t. Serves (ran_status ran) first high t sink sink' told told') actions_are there in
+    let by_close : Serves (ran_status ran) first high actions sink sink' told closed = subst (λ w. Serves (ran_status ran) first high actions sink sink' told w) (sym closed_is) by_actions in
+    let by_count : Serves (ran_status ran) first last actions sink sink' told closed = subst (λ n. Serves (ran_status ran) first n actions sink sink' told closed) (sym last_is) by_close in
+    subst (λ n. Serves n first last actions sink sink' told closed) (sym status_is) by_count
 
 -- ---- an opening that stopped
 
@@ -343,29 +420,29 @@ unopened written before (Some s) None Keeps e tree keeps = absurd tree
 unopened written before (Some s) (Some s') Keeps e tree keeps =
     (s', refl, record { wrote = refl; files = tree ∙ ap (λ (x : Store). x.tree) (same_some s before e); keeps = keeps })
 
-Serves-five : (texts : List (List ℕ)) (sink : Option (List ℕ)) (told told' : Option Store) → Moves KeepsTree told told'
-    → StopsOpening told told' boot.Store → Serves 5 texts sink sink told told'
-Serves-five texts sink told told' tree stops = λ written store opened at_sink at_told opens.
+Serves-five : (low high : ℕ) (actions : List Action) (sink : Option (List ℕ)) (told told' : Option Store) → Moves KeepsTree told told'
+    → StopsOpening told told' boot.Store → Serves 5 low high actions sink sink told told'
+Serves-five low high actions sink told told' tree stops = λ written store opened at_sink at_told opens.
     let there = unopened written store told told' _ at_told tree (cut-opening boot.Store told told' store opened at_told opens stops) in
-    record { now = written; store = there.0; sink_tells = at_sink; store_tells = there.1; served = served-five opened texts written written store there.0 (inr there.2) }
+    record { now = written; store = there.0; sink_tells = at_sink; store_tells = there.1; served = served-five low high opened actions written written store there.0 (inr there.2) }
 
-Serves-seven : (texts : List (List ℕ)) (sink : Option (List ℕ)) (told told' : Option Store) → Moves KeepsTree told told'
-    → StopsOpening told told' boot.NoMemory → Serves 7 texts sink sink told told'
-Serves-seven texts sink told told' tree stops = λ written store opened at_sink at_told opens.
+Serves-seven : (low high : ℕ) (actions : List Action) (sink : Option (List ℕ)) (told told' : Option Store) → Moves KeepsTree told told'
+    → StopsOpening told told' boot.NoMemory → Serves 7 low high actions sink sink told told'
+Serves-seven low high actions sink told told' tree stops = λ written store opened at_sink at_told opens.
     let there = unopened written store told told' _ at_told tree (cut-opening boot.NoMemory told told' store opened at_told opens stops) in
-    record { now = written; store = there.0; sink_tells = at_sink; store_tells = there.1; served = served-seven opened texts written written store there.0 (inr there.2) }
+    record { now = written; store = there.0; sink_tells = at_sink; store_tells = there.1; served = served-seven low high opened actions written written store there.0 (inr there.2) }
 
-pub Serves-store : (status : ℕ) (texts : List (List ℕ)) (sink : Option (List ℕ)) (told told' : Option Store) (why : BootFault) → status ≡ 5 → why ≡ boot.Store → Moves KeepsTree told told'
-    → StopsOpening told told' why → Serves status texts sink sink told told'
-Serves-store status texts sink told told' why e is tree stops =
-    subst (λ n. Serves n texts sink sink told told') (sym e)
-    (Serves-five texts sink told told' tree (subst (StopsOpening told told') is stops))
+pub Serves-store : (status low high : ℕ) (actions : List Action) (sink : Option (List ℕ)) (told told' : Option Store) (why : BootFault) → status ≡ 5 → why ≡ boot.Store → Moves KeepsTree told told'
+    → StopsOpening told told' why → Serves status low high actions sink sink told told'
+Serves-store status low high actions sink told told' why e is tree stops =
+    subst (λ n. Serves n low high actions sink sink told told') (sym e)
+    (Serves-five low high actions sink told told' tree (subst (StopsOpening told told') is stops))
 
-pub Serves-memory : (status : ℕ) (texts : List (List ℕ)) (sink : Option (List ℕ)) (told told' : Option Store) (why : BootFault) → status ≡ 7 → why ≡ boot.NoMemory → Moves KeepsTree told told'
-    → StopsOpening told told' why → Serves status texts sink sink told told'
-Serves-memory status texts sink told told' why e is tree stops =
-    subst (λ n. Serves n texts sink sink told told') (sym e)
-    (Serves-seven texts sink told told' tree (subst (StopsOpening told told') is stops))
+pub Serves-memory : (status low high : ℕ) (actions : List Action) (sink : Option (List ℕ)) (told told' : Option Store) (why : BootFault) → status ≡ 7 → why ≡ boot.NoMemory → Moves KeepsTree told told'
+    → StopsOpening told told' why → Serves status low high actions sink sink told told'
+Serves-memory status low high actions sink told told' why e is tree stops =
+    subst (λ n. Serves n low high actions sink sink told told') (sym e)
+    (Serves-seven low high actions sink told told' tree (subst (StopsOpening told told') is stops))
 
 -- ---- a journal that isn't opened
 
@@ -374,12 +451,12 @@ never-opens told store opened at opens shut =
     let here : HasNoBook store = subst (λ (o : Option Store). Tells o HasNoBook) at shut in
     here opened (record { journal = opens.journal; fit = opens.faithful.legal.fit })
 
-pub Serves-bad : (status : ℕ) (texts : List (List ℕ)) (sink sink' : Option (List ℕ)) (told told' : Option Store) → Tells told HasNoBook
-    → Serves status texts sink sink' told told'
-Serves-bad status texts sink sink' told told' shut = λ written store opened at_sink at_told opens. absurd (never-opens told store opened at_told opens shut)
+pub Serves-bad : (status low high : ℕ) (actions : List Action) (sink sink' : Option (List ℕ)) (told told' : Option Store) → Tells told HasNoBook
+    → Serves status low high actions sink sink' told told'
+Serves-bad status low high actions sink sink' told told' shut = λ written store opened at_sink at_told opens. absurd (never-opens told store opened at_told opens shut)
 
-served-nine : (opened : List Entry) (texts : List (List ℕ)) (written now : List ℕ) (before after : Store) → ServedOf 9 opened texts written now before after
-served-nine opened texts written now before after = record {
+served-nine : (low high : ℕ) (opened : List Entry) (actions : List Action) (written now : List ℕ) (before after : Store) → ServedOf 9 low high opened actions written now before after
+served-nine low high opened actions written now before after = record {
   accepted = λ e. absurd (omega (arith, e));
   refused = λ e. absurd (omega (arith, e));
   source = λ e. omega (arith, e);
@@ -400,44 +477,44 @@ moved P None b x e m = cc
 moved P (Some z) None x e m = absurd m
 moved P (Some z) (Some y) x e m = (y, refl, subst (λ w. P w y) (same_some z x e) m)
 
-pub Serves-full : (status : ℕ) (texts : List (List ℕ)) (sink sink' : Option (List ℕ)) (told told' : Option Store) (faults faults' : ℕ) → told' ≡ told → Tells told HasFullBook
-    → IsSaid 9 full_line sink sink' faults faults' status → Serves status texts sink sink' told told'
-Serves-full status texts sink sink' told told' faults faults' same full (inl said) = λ written store opened at_sink at_told opens.
+pub Serves-full : (status low high : ℕ) (actions : List Action) (sink sink' : Option (List ℕ)) (told told' : Option Store) (faults faults' : ℕ) → told' ≡ told → Tells told HasFullBook
+    → IsSaid 9 full_line sink sink' faults faults' status → Serves status low high actions sink sink' told told'
+Serves-full status low high actions sink sink' told told' faults faults' same full (inl said) = λ written store opened at_sink at_told opens.
     let there = moved (Gains full_line) sink sink' written at_sink said.1.wrote in
     record {
       now = there.0;
       store = store;
       sink_tells = there.1;
       store_tells = same ∙ at_told;
-      served = subst (λ n. ServedOf n opened texts written there.0 store store) (sym said.0) (served-nine opened texts written there.0 store store);
+      served = subst (λ n. ServedOf n low high opened actions written there.0 store store) (sym said.0) (served-nine low high opened actions written there.0 store store);
     }
-Serves-full status texts sink sink' told told' faults faults' same full (inr cut) = λ written store opened at_sink at_told opens.
+Serves-full status low high actions sink sink' told told' faults faults' same full (inr cut) = λ written store opened at_sink at_told opens.
     let there = moved (GainsPart full_line) sink sink' written at_sink cut.1.wrote in
     record {
       now = there.0;
       store = store;
       sink_tells = there.1;
       store_tells = same ∙ at_told;
-      served = subst (λ n. ServedOf n opened texts written there.0 store store) (sym cut.0)
-          (served-cut opened texts written there.0 store store
+      served = subst (λ n. ServedOf n low high opened actions written there.0 store store) (sym cut.0)
+          (served-cut low high opened actions written there.0 store store
           (inr (record { full = full-book told store opened at_told opens full; wrote = there.2; store_same = refl })));
     }
 
 -- ---- what is left opens again
 
-opens-later : (start : List Entry) (texts : List (List ℕ)) (book : List Entry) (store : Store) → IsBookOf start texts book → HasBook book store → OpensLater start store
-opens-later start texts book store is has = record {
+opens-later : (low high : ℕ) (start book : List Entry) (store : Store) → IsBookOf low high start book → HasBook book store → OpensLater start store
+opens-later low high start book store is has = record {
   book = book;
   opens = record {
     journal = reads-journal book store.journal has.reads;
     faithful = record { stands = has.stands; legal = is.legal };
   };
-  begins = is.begins;
+  begins = (is.grows.more, is.grows.book_is);
 }
 
-pub done-opens : (start : List Entry) (texts : List (List ℕ)) (written now : List ℕ) (store : Store) (refused : Bool)
-    → IsServed start texts written now store refused → OpensLater start store
-done-opens start texts written now store refused is = opens-later start texts is.book store is.is_book is.has_book
+pub done-opens : (low high : ℕ) (start : List Entry) (actions : List Action) (written now : List ℕ) (store : Store) (refused : Bool)
+    → IsServed low high start actions written now store refused → OpensLater start store
+done-opens low high start actions written now store refused is = opens-later low high start is.last.book store is.is_book is.has_book
 
-pub cut-opens : (start : List Entry) (texts : List (List ℕ)) (written now : List ℕ) (store : Store) → IsCutOff start texts written now store → OpensLater start store
-cut-opens start texts written now store is = opens-later start (is.front ++ is.text ∷ []) is.book store is.is_book is.has_book
+pub cut-opens : (low high : ℕ) (start : List Entry) (actions : List Action) (written now : List ℕ) (store : Store) → IsCutOff low high start actions written now store → OpensLater start store
+cut-opens low high start actions written now store is = opens-later low high start is.last.book store is.is_book is.has_book

@@ -1,7 +1,14 @@
-pub mod Ends
-pub mod Fronts
-pub mod Replies
+pub mod HeldStay
+pub mod Doings
+pub mod HeldLists
+pub mod Counted
+pub mod OwnEntries
+pub mod Acting
 pub mod Turns
+pub mod Ends
 pub mod Whole
 pub mod Refusing
 pub mod Blaming
+pub mod Fronts
+pub mod Fine
+pub mod Settled

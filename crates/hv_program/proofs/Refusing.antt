@@ -10,7 +10,10 @@ use Rattle.hv_script.specs.declared.words.Command.{Command}
 use Rattle.hv_script.specs.Items.{items_of}
 use Rattle.hv_script.specs.declared.script.ScriptFault.{ScriptFault}
 use Rattle.hv_script.specs.declared.script.ScriptFault.TheVariants.{Refused}
-use Rattle.hv_script.specs.Script.{IsReading, broken_line, earlier, front, item_line, limit_line, line_at, refused_line}
+use Rattle.hv_script.specs.Script.{broken_line, bytes_line, earlier, front, limit_line, line_at}
+use Rattle.hv_directives.specs.declared.actions.Action.{Action}
+use Rattle.hv_directives.specs.Actions.{IsReading, least, refused_at}
+use Rattle.hv_directives.specs.Standing.{fault_lines, first_standing}
 use Rattle.hv_program.specs.declared.stop.Stop.{Stop}
 use Rattle.hv_program.specs.declared.stop.Stop.TheVariants as stop
 use Rattle.hv_program.specs.Stops.{status_of_stop}
@@ -197,7 +200,7 @@ module _ (words : List (List ℕ)) (before after : Outside) where
 
   -- a device failed, or memory ran out, before the store was opened
   all-lines : (n : ℕ) → IsTrue (is_one_of (3 ∷ 4 ∷ 7 ∷ 8 ∷ []) n) → (source : Option (List ℕ))
-      → Tells source (λ script. (line : ℕ) → refused_line script ≡ Some line → IsTrue (is_one_of (3 ∷ 4 ∷ 7 ∷ 8 ∷ []) n))
+      → Tells source (λ script. (line : ℕ) → refused_at script ≡ Some line → IsTrue (is_one_of (3 ∷ 4 ∷ 7 ∷ 8 ∷ []) n))
   all-lines n h None = tt
   all-lines n h (Some script) = λ line e. h
 
@@ -247,7 +250,7 @@ module _ (words : List (List ℕ)) (before after : Outside) where
     only = refl;
   }
 
-  pub refuses-script : (status line : ℕ) → IsSome (command_of words) → Tells before.source (λ script. refused_line script ≡ Some line)
+  pub refuses-script : (status line : ℕ) → IsSome (command_of words) → Tells before.source (λ script. refused_at script ≡ Some line)
       → after.store ≡ before.store → (faults faults' : ℕ) → IsSaidOrNot 8 (script_line line) before.sink after.sink faults faults' status → Refuses words before after status
   refuses-script status line some refused store faults faults' (inl (inl said)) =
       subst (Refuses words before after) (sym said.0)
@@ -259,7 +262,7 @@ module _ (words : List (List ℕ)) (before after : Outside) where
   wider : (n : ℕ) → IsTrue (is_one_of (0 ∷ 1 ∷ 4 ∷ 5 ∷ 6 ∷ 7 ∷ 9 ∷ []) n) → IsTrue (is_one_of (0 ∷ 1 ∷ 2 ∷ 3 ∷ 4 ∷ 5 ∷ 6 ∷ 7 ∷ 8 ∷ 9 ∷ []) n)
   wider n h = keep (0 == n) (is_one_of (1 ∷ 4 ∷ 5 ∷ 6 ∷ 7 ∷ 9 ∷ []) n) (is_one_of (1 ∷ 2 ∷ 3 ∷ 4 ∷ 5 ∷ 6 ∷ 7 ∷ 8 ∷ 9 ∷ []) n) (λ h0. keep (1 == n) (is_one_of (4 ∷ 5 ∷ 6 ∷ 7 ∷ 9 ∷ []) n) (is_one_of (2 ∷ 3 ∷ 4 ∷ 5 ∷ 6 ∷ 7 ∷ 8 ∷ 9 ∷ []) n) (λ h1. more (2 == n) (is_one_of (3 ∷ 4 ∷ 5 ∷ 6 ∷ 7 ∷ 8 ∷ 9 ∷ []) n) (more (3 == n) (is_one_of (4 ∷ 5 ∷ 6 ∷ 7 ∷ 8 ∷ 9 ∷ []) n) (keep (4 == n) (is_one_of (5 ∷ 6 ∷ 7 ∷ 9 ∷ []) n) (is_one_of (5 ∷ 6 ∷ 7 ∷ 8 ∷ 9 ∷ []) n) (λ h4. keep (5 == n) (is_one_of (6 ∷ 7 ∷ 9 ∷ []) n) (is_one_of (6 ∷ 7 ∷ 8 ∷ 9 ∷ []) n) (λ h5. keep (6 == n) (is_one_of (7 ∷ 9 ∷ []) n) (is_one_of (7 ∷ 8 ∷ 9 ∷ []) n) (λ h6. keep (7 == n) (is_one_of (9 ∷ []) n) (is_one_of (8 ∷ 9 ∷ []) n) (λ h7. more (8 == n) (is_one_of (9 ∷ []) n) (keep (9 == n) false false (λ h9. h9) h7)) h6) h5) h4) h1))) h0) h
 
-  pub refuses-served : (status : ℕ) → IsSome (command_of words) → Tells before.source (λ script. refused_line script ≡ None)
+  pub refuses-served : (status : ℕ) → IsSome (command_of words) → Tells before.source (λ script. refused_at script ≡ None)
       → Opens before.sink after.sink before.store after.store status → Refuses words before after status
   refuses-served status some fine opens = record {
     bad_words = λ e. absurd (let wrong : IsTrue (is_one_of (0 ∷ 1 ∷ 4 ∷ 5 ∷ 6 ∷ 7 ∷ 9 ∷ []) 2) = subst (λ (n : ℕ). IsTrue (is_one_of (0 ∷ 1 ∷ 4 ∷ 5 ∷ 6 ∷ 7 ∷ 9 ∷ []) n)) e opens.only in cc);
@@ -273,8 +276,8 @@ module _ (words : List (List ℕ)) (before after : Outside) where
     };
     refused_script = λ e. absurd (let wrong : IsTrue (is_one_of (0 ∷ 1 ∷ 4 ∷ 5 ∷ 6 ∷ 7 ∷ 9 ∷ []) 8) = subst (λ (n : ℕ). IsTrue (is_one_of (0 ∷ 1 ∷ 4 ∷ 5 ∷ 6 ∷ 7 ∷ 9 ∷ []) n)) e opens.only in cc);
     at_words = λ none. some-not-none some none _;
-    at_script = λ is. tells-then (λ script. refused_line script ≡ None)
-        (λ script. (line : ℕ) → refused_line script ≡ Some line → IsTrue (is_one_of (3 ∷ 4 ∷ 7 ∷ 8 ∷ []) status))
+    at_script = λ is. tells-then (λ script. refused_at script ≡ None)
+        (λ script. (line : ℕ) → refused_at script ≡ Some line → IsTrue (is_one_of (3 ∷ 4 ∷ 7 ∷ 8 ∷ []) status))
         before.source (λ script none line e. absurd (let no_line : None ≡ Some line = sym none ∙ e in cc)) fine;
     at_journal = opens.opened;
     full_journal = λ e. let filled = opens.full e in record {
@@ -297,30 +300,30 @@ limit-by false line other e same = cc
 long-limit : (script : List ℕ) → 16777217 ≤ length script → limit_line script ≡ Some (line_at 16777216 script)
 long-limit script long = limit-by (nat_lt 16777216 (length script)) (line_at 16777216 script) (line_at 16777216 script) (lt-ltb 16777216 (length script) (omega arith)) refl
 
-refused-front : (bytes left : List ℕ) → 16777217 ≤ length bytes → refused_line (bytes ++ left) ≡ refused_line bytes
+refused-front : (bytes left : List ℕ) → 16777217 ≤ length bytes → refused_at (bytes ++ left) ≡ refused_at bytes
 refused-front bytes left long =
     let same : front (bytes ++ left) ≡ front bytes = take-append-le 16777216 bytes left (omega arith) in
     let more_long : 16777217 ≤ length (bytes ++ left) = omega (arith, length-append bytes left) in
     let limit : limit_line (bytes ++ left) ≡ limit_line bytes =
     long-limit (bytes ++ left) more_long
     ∙ ap (λ (t : List ℕ). Some (1 + count_by (λ b. b == 10) t)) same ∙ sym (long-limit bytes long) in
-    ap (λ (o : Option ℕ). earlier (earlier (broken_line (front (bytes ++ left))) o) (item_line 0 (items_of (front (bytes ++ left))))) limit
-    ∙ ap (λ (t : List ℕ). earlier (earlier (broken_line t) (limit_line bytes)) (item_line 0 (items_of t))) same
+    ap (λ (o : Option ℕ). earlier (earlier (broken_line (front (bytes ++ left))) o) (least (fault_lines first_standing (items_of (front (bytes ++ left)))))) limit
+    ∙ ap (λ (t : List ℕ). earlier (earlier (broken_line t) (limit_line bytes)) (least (fault_lines first_standing (items_of t)))) same
 
-refused-same : (bytes script left : List ℕ) → TakesUpTo 16777217 bytes script left → refused_line script ≡ refused_line bytes
+refused-same : (bytes script left : List ℕ) → TakesUpTo 16777217 bytes script left → refused_at script ≡ refused_at bytes
 refused-same bytes script left takes = by (nat_lt (length bytes) 16777217) refl
   where
-    by : (b : Bool) → nat_lt (length bytes) 16777217 ≡ b → refused_line script ≡ refused_line bytes
+    by : (b : Bool) → nat_lt (length bytes) 16777217 ≡ b → refused_at script ≡ refused_at bytes
     by true e =
         let at_end : left ≡ [] = takes.ended (ltb-true (length bytes) 16777217 e) in
-        ap refused_line (takes.taken ∙ ap (λ (t : List ℕ). bytes ++ t) at_end ∙ append-nil bytes)
-    by false e = ap refused_line takes.taken ∙ refused-front bytes left (ltb-false (length bytes) 16777217 e)
+        ap refused_at (takes.taken ∙ ap (λ (t : List ℕ). bytes ++ t) at_end ∙ append-nil bytes)
+    by false e = ap refused_at takes.taken ∙ refused-front bytes left (ltb-false (length bytes) 16777217 e)
 
 pub tells-refused : (bytes given : List ℕ) (line : Option ℕ) (source source' : Option (List ℕ)) → given ≡ bytes
-    → Moves (TakesUpTo 16777217 bytes) source source' → refused_line given ≡ line → Tells source (λ script. refused_line script ≡ line)
+    → Moves (TakesUpTo 16777217 bytes) source source' → refused_at given ≡ line → Tells source (λ script. refused_at script ≡ line)
 tells-refused bytes given line None source' same read e = tt
 tells-refused bytes given line (Some script) None same read e = absurd read
-tells-refused bytes given line (Some script) (Some left) same read e = refused-same bytes script left read ∙ ap refused_line (sym same) ∙ e
+tells-refused bytes given line (Some script) (Some left) same read e = refused-same bytes script left read ∙ ap refused_at (sym same) ∙ e
 
 -- ---- the words
 
@@ -337,9 +340,9 @@ pub said-words : (sink sink' : Option (List ℕ)) (faults faults' status : ℕ) 
 unfolding words_line
 said-words sink sink' faults faults' status said = said
 
-pub refused-at : (script : List ℕ) (texts : List (List ℕ)) (fault : ScriptFault) (line : ℕ) → fault ≡ Refused line
-    → IsReading (refused_line script) texts (Err fault) → refused_line script ≡ Some line
-refused-at script texts fault line is reading = subst (λ (f : ScriptFault). IsReading (refused_line script) texts (Err f)) is reading
+pub refused-line : (script : List ℕ) (actions : List Action) (fault : ScriptFault) (line : ℕ) → fault ≡ Refused line
+    → IsReading (refused_at script) actions (Err fault) → refused_at script ≡ Some line
+refused-line script actions fault line is reading = subst (λ (f : ScriptFault). IsReading (refused_at script) actions (Err f)) is reading
 
 pub said-line : (wanted : ℕ) (line written : List ℕ) (sink sink' : Option (List ℕ)) (faults faults' status : ℕ) → written ≡ line
     → IsSaid wanted written sink sink' faults faults' status → IsSaidOrNot wanted line sink sink' faults faults' status

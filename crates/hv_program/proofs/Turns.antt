@@ -1,53 +1,36 @@
--- One statement more.
-use Rattle.std.proofs.Common.{◌≡◌, ℕ, zero, suc, ◌+◌, ◌<◌, Bool, false, ◌||◌, Option, Some, None, Result, Ok, Err, IfErr, IsErrAnd, List, [], ◌∷◌, ◌++◌, length, get_or, take, drop, refl, sym, ap, ◌∙◌, subst, arith, append_assoc, inl, inr}
+-- One action more.
+use Rattle.std.proofs.Common.{◌≡◌, ℕ, zero, suc, ◌+◌, ◌<◌, ◌≤◌, Bool, false, ◌||◌, Option, Some, None, Result, Ok, Err, IfErr, IsErrAnd, List, [], ◌∷◌, ◌++◌, length, get_or, take, drop, refl, sym, ap, ◌∙◌, subst, arith, append_assoc}
+use Rattle.std.specs.List.{AllByRecursion}
 use Rattle.std.proofs.lemmas.List.{append-nil, take_more, length-take-le}
 use Rattle.hv_base.specs.Told.{Tells, Moves, StaysTold}
 use Rattle.hv_base.specs.Sink.{Gains, GainsPart}
 use Rattle.hv_base.proofs.ToldLemmas.{Moves-then, Moves-same}
 use Rattle.hv_shelf.specs.Disk.{Store}
 use Rattle.hv_history.specs.declared.entry.Entry.{Entry}
-use Rattle.hv_program.specs.Output.{IsReply, IsOutput, IsFullIn}
-use Rattle.hv_house.specs.House.{IsFaithful}
+use Rattle.hv_history.specs.Journal.{Reads}
+use Rattle.hv_history.specs.Legal.{IsLegal, profile}
+use Rattle.hv_directives.specs.declared.actions.Action.{Action}
 use Rattle.hv_house.specs.declared.house.House.{House}
 use Rattle.hv_house.specs.declared.fault.HouseFault.{HouseFault}
-use Rattle.hv_house.specs.House.{entries_of}
-use Rattle.hv_session.specs.Halting.{IsHalfway, LeavesFurther, HasStopped}
 use Rattle.hv_house.specs.declared.fault.HouseFault.TheVariants as fault
-use Rattle.hv_history.specs.Journal.{Reads}
-use Rattle.hv_session.proofs.Halfway.{leaves-none}
-use Rattle.hv_journal.specs.Appending.{Holds}
-use Rattle.hv_history.specs.Legal.{IsLegal, profile}
+use Rattle.hv_house.specs.House.{entries_of, IsFaithful}
+use Rattle.hv_house.specs.Faults.{EndsRun}
+use Rattle.hv_program.specs.declared.held.Held.{Held}
 use Rattle.hv_program.specs.declared.stop.Stop.{Stop}
 use Rattle.hv_program.specs.declared.stop.Stop.TheVariants as stop
 use Rattle.hv_program.specs.Stops.{stop_of}
-use Rattle.hv_program.specs.Running.{IsShort, AreShort, Prints, EndsWithin, CutsOff, StopsIn, Halts, HasAll, IsTaken}
-use Rattle.hv_program.specs.Statements.{GoesOn, GoesOneByOne}
-use Rattle.hv_program.proofs.Replies.{IsOutput-more, IsOutput-then, IsReply-answered, grown, GoesOn-answered, GoesOneByOne-then}
-
-pub AreShort-at : (texts : List (List ℕ)) (i : ℕ) (d : List ℕ) → AreShort texts → i < length texts → IsShort (get_or texts i d)
-AreShort-at [] i d h below = absurd (omega arith)
-AreShort-at (text ∷ texts) zero d h below = h.0
-AreShort-at (text ∷ texts) (suc i) d h below = AreShort-at texts i d h.1 (omega arith)
+use Rattle.hv_program.specs.Doing.{Waiting, Standing, IsDone, AreDone}
+use Rattle.hv_program.specs.Own.{Grows}
+use Rattle.hv_program.specs.Keeping.{HasAllOf, standing_of}
+use Rattle.hv_program.specs.Running.{beginning, IsLater, IsBehind, Acts, IsHalfway, Stops, Prints, PrintsAll, EndsWithin, CutsOff, StopsIn, Halts, HasAll}
+use Rattle.hv_program.proofs.Doings.{are-done-more, are-done-then, later-done}
+use Rattle.hv_program.proofs.OwnEntries.{grows-none, grows-then, grows-wider}
+use Rattle.hv_program.proofs.Acting.{faithful-of}
 
 -- ---- what stays told
 
 pub StaysTold-is : {A : Type 0} (a b c : Option A) → StaysTold a b → c ≡ b → StaysTold a c
 StaysTold-is a b c stays same = subst (StaysTold a) (sym same) stays
-
--- ---- what is printed
-
-pub Prints-none : (book : List Entry) (texts : List (List ℕ)) (sink : Option (List ℕ)) → texts ≡ [] → Prints book book texts sink sink false
-Prints-none book texts sink e = record {
-  one_by_one = subst (λ t. GoesOneByOne book book 1 t) (sym e) refl;
-  grows = ([], sym (append-nil book));
-  output = [];
-  written = Moves-same (Gains []) (λ x. sym (append-nil x)) sink;
-  is_output = subst (λ t. IsOutput book book 1 t [] false) (sym e) (refl, refl);
-}
-
-pub Tells-always : (a : Option Store) (P : Type 0) → P → Tells a (λ _. P)
-Tells-always None P p = tt
-Tells-always (Some s) P p = p
 
 Tells-both : (a b : Option Store) (P Q R : Type 0) → StaysTold a b → (P → Q → R) → Tells a (λ _. P) → Tells b (λ _. Q) → Tells a (λ _. R)
 Tells-both None b P Q R stays f p q = tt
@@ -63,156 +46,163 @@ Tells-and : (a : Option Store) (P Q : Store → Type 0) → Tells a P → Tells 
 Tells-and None P Q p q = tt
 Tells-and (Some s) P Q p q = (p, q)
 
+Tells-always : (a : Option Store) (P : Type 0) → P → Tells a (λ _. P)
+Tells-always None P p = tt
+Tells-always (Some s) P p = p
+
+-- nothing is held before the first action
+pub shown-first : (told : Option Store) (book : List Entry) → Tells told (IsFaithful book) → Tells told (HasAllOf book [])
+shown-first None book h = tt
+shown-first (Some store) book h = record { faithful = h; truly = tt }
+
+-- ---- what is printed
+
+pub Prints-none : (told : Option Store) (low : ℕ) (book : List Entry) (actions : List Action) (sink : Option (List ℕ)) → actions ≡ []
+    → Tells told (λ _. Prints low low book (record { book = book; waiting = [] }) actions sink sink false)
+Prints-none told low book actions sink e = Tells-always told _ (record {
+  grows = grows-none low low book;
+  later = tt;
+  output = [];
+  written = Moves-same (Gains []) (λ x. sym (append-nil x)) sink;
+  are_done = subst (λ (acts : List Action). AreDone book book (beginning book) (beginning book) acts [] false) (sym e) (refl, refl, refl);
+})
+
 more_written : (x y z some more : List ℕ) → Gains some x y → Gains more y z → Gains (some ++ more) x z
 more_written x y z some more p q = q ∙ ap (λ w. w ++ more) p ∙ append_assoc x some more
 
-Prints-turn : (start before now : List Entry) (texts : List (List ℕ)) (a b c : Option (List ℕ)) (refused : Bool) (number : ℕ) (text reply : List ℕ) (this : Bool)
-    → number ≡ 1 + length texts → Moves (Gains reply) b c
-    → Prints start before texts a b refused → IsTaken before now number text reply this
-    → Prints start now (texts ++ text ∷ []) a c (refused || this)
-Prints-turn start before now texts a b c refused number text reply this at wrote h said =
-    let more = grown before now number text reply this said in
-    let earlier : IsOutput start now 1 texts h.output refused =
-    subst (λ w. IsOutput start w 1 texts h.output refused) (sym more.1) (IsOutput-more start before more.0 1 texts h.output refused h.is_output) in
-    let reply_is = subst (λ n. IsReply start now n text reply this) at (IsReply-answered start before now number text reply this h.grows.0 h.grows.1 said) in
-    record {
-      one_by_one = GoesOneByOne-then start before now 1 texts text h.one_by_one
-          (subst (λ n. GoesOn before now n text) at (GoesOn-answered before now number text reply this said));
-      grows = (h.grows.0 ++ more.0, more.1 ∙ ap (λ w. w ++ more.0) h.grows.1 ∙ append_assoc start h.grows.0 more.0);
-      output = h.output ++ reply;
-      written = Moves-then (Gains h.output) (Gains reply) (Gains (h.output ++ reply)) (λ x y z p q. more_written x y z h.output reply p q) a b c h.written wrote;
-      is_output = IsOutput-then start now 1 texts h.output refused text reply this earlier reply_is;
-    }
+module _ (low middle high : ℕ) (below : low ≤ middle) (above : middle ≤ high) (start : List Entry) (before now : Standing) where
+  -- where the run stood before the action
+  stood : (actions : List Action) (a b : Option (List ℕ)) (refused : Bool) → Prints low middle start before actions a b refused → IsBehind start before
+  stood actions a b refused h = record { grown = (h.grows.more, h.grows.book_is); later = h.later }
 
-pub Prints-next : (told told' : Option Store) (start before now : List Entry) (texts : List (List ℕ)) (i : ℕ) (text reply : List ℕ) (refused this : Bool) (a b c : Option (List ℕ)) (bytes : List ℕ)
-    → i < length texts → text ≡ get_or texts i text → StaysTold told told' → bytes ≡ reply → Moves (Gains bytes) b c
-    → Tells told (λ _. Prints start before (take i texts) a b refused) → Tells told' (λ _. IsTaken before now (i + 1) text reply this)
-    → Tells told (λ _. Prints start now (take (i + 1) texts) a c (refused || this))
-Prints-next told told' start before now texts i text reply refused this a b c bytes below is stays same wrote_bytes =
-    let wrote : Moves (Gains reply) b c = subst (λ w. Moves (Gains w) b c) same wrote_bytes in
-    let taken : take i texts ++ text ∷ [] ≡ take (i + 1) texts =
-    ap (λ t. take i texts ++ t ∷ []) is ∙ sym (take_more texts i text below) in
-    let number : i + 1 ≡ 1 + length (take i texts) = omega (arith, length-take-le i texts (omega arith)) in
-    Tells-both told told' _ _ _ stays
-    (λ (h : Prints start before (take i texts) a b refused) (said : IsTaken before now (i + 1) text reply this).
-    subst (λ t. Prints start now t a c (refused || this)) taken (Prints-turn start before now (take i texts) a b c refused (i + 1) text reply this number wrote h said))
+  -- what was done before it is done in the book now
+  earlier : (actions : List Action) (output : List ℕ) (refused : Bool) → Grows middle high before.book now.book
+      → AreDone start before.book (beginning start) before actions output refused → AreDone start now.book (beginning start) before actions output refused
+  earlier actions output refused grows h =
+      subst (λ (book : List Entry). AreDone start book (beginning start) before actions output refused) (sym grows.book_is)
+      (are-done-more start before.book grows.more (beginning start) before actions output refused h)
 
--- ---- where the run stops at a statement
+  Prints-turn : (actions : List Action) (a b c : Option (List ℕ)) (refused : Bool) (act : Action) (reply : List ℕ) (this : Bool) → Moves (Gains reply) b c
+      → Prints low middle start before actions a b refused → Acts middle high before now act reply this
+      → Prints low high start now (actions ++ act ∷ []) a c (refused || this)
+  Prints-turn actions a b c refused act reply this wrote h acts =
+      let done = acts.done start (stood actions a b refused h) in
+      record {
+        grows = grows-then low middle high start before.book now.book below above h.grows acts.grows;
+        later = later-done start now.book before now act reply this h.later done;
+        output = h.output ++ reply;
+        written = Moves-then (Gains h.output) (Gains reply) (Gains (h.output ++ reply)) (λ x y z p q. more_written x y z h.output reply p q) a b c h.written wrote;
+        are_done = are-done-then start now.book (beginning start) before now actions h.output refused act reply this
+            (earlier actions h.output refused acts.grows h.are_done) done;
+      }
+
+  pub Prints-next : (told told' : Option Store) (actions : List Action) (i : ℕ) (act : Action) (reply bytes : List ℕ) (refused this : Bool) (a b c : Option (List ℕ))
+      → i < length actions → act ≡ get_or actions i act → StaysTold told told' → bytes ≡ reply → Moves (Gains bytes) b c
+      → Tells told (λ _. Prints low middle start before (take i actions) a b refused) → Tells told' (λ _. Acts middle high before now act reply this)
+      → Tells told (λ _. Prints low high start now (take (i + 1) actions) a c (refused || this))
+  Prints-next told told' actions i act reply bytes refused this a b c inside is stays same wrote_bytes =
+      let wrote : Moves (Gains reply) b c = subst (λ w. Moves (Gains w) b c) same wrote_bytes in
+      let taken : take i actions ++ act ∷ [] ≡ take (i + 1) actions = ap (λ (x : Action). take i actions ++ x ∷ []) is ∙ sym (take_more actions i act inside) in
+      Tells-both told told' _ _ _ stays
+      (λ (h : Prints low middle start before (take i actions) a b refused) (acts : Acts middle high before now act reply this).
+      subst (λ (some : List Action). Prints low high start now some a c (refused || this)) taken (Prints-turn (take i actions) a b c refused act reply this wrote h acts))
+
+  -- ---- the sink failed in a reply
+
+  within : (x y z output reply : List ℕ) → Gains output x y → GainsPart reply y z → EndsWithin output reply x z
+  within x y z output reply p q = record { count = q.count; short = q.short; gained = q.gained ∙ ap (λ w. w ++ take q.count reply) p }
+
+  Prints-cut : (actions front behind : List Action) (a b c : Option (List ℕ)) (refused : Bool) (act : Action) (reply : List ℕ) (this : Bool)
+      → actions ≡ front ++ act ∷ behind → Moves (GainsPart reply) b c
+      → Prints low middle start before front a b refused → Acts middle high before now act reply this → CutsOff low high start now.book actions a c
+  Prints-cut actions front behind a b c refused act reply this are wrote h acts = record {
+    front = front;
+    action = act;
+    behind = behind;
+    actions_are = are;
+    before = before;
+    waiting = now.waiting;
+    grows = grows-then low middle high start before.book now.book below above h.grows acts.grows;
+    output = h.output;
+    refused = refused;
+    are_done = earlier front h.output refused acts.grows h.are_done;
+    reply = reply;
+    this = this;
+    is_done = acts.done start (stood front a b refused h);
+    written = Moves-then (Gains h.output) (GainsPart reply) (EndsWithin h.output reply) (λ x y z p q. within x y z h.output reply p q) a b c h.written wrote;
+  }
+
+-- the actions in front of a place, the one there, and those behind it
+split_at : (actions : List Action) (i : ℕ) (act : Action) → i < length actions → act ≡ get_or actions i act
+    → actions ≡ take i actions ++ act ∷ drop (suc i) actions
+split_at [] i act below is = absurd (omega (arith, below))
+split_at (first ∷ actions) zero act below is = ap (λ (x : Action). x ∷ actions) (sym is)
+split_at (first ∷ actions) (suc i) act below is = ap (λ (xs : List Action). first ∷ xs) (split_at actions i act (omega (arith, below)) is)
 
 passed_up : {T E : Type 0} (r : Result T E) (e : E) (P : E → Type 0) → IsErrAnd r (λ y. y ≡ e) → P e → IfErr r P
 passed_up (Ok x) e P is p = tt
 passed_up (Err d) e P is p = subst P (sym is) p
 
--- the texts in front of a place, the one there, and those behind it
-split_at : (texts : List (List ℕ)) (i : ℕ) (text : List ℕ) → i < length texts → text ≡ get_or texts i text
-    → texts ≡ take i texts ++ text ∷ drop (suc i) texts
-split_at [] i text below is = absurd (omega (arith, below))
-split_at (first ∷ texts) zero text below is = ap (λ t. t ∷ texts) (sym is)
-split_at (first ∷ texts) (suc i) text below is = ap (λ t. first ∷ t) (split_at texts i text (omega (arith, below)) is)
-
-within : (x y z output reply : List ℕ) → Gains output x y → GainsPart reply y z → EndsWithin output reply x z
-within x y z output reply p q = record { count = q.count; short = q.short; gained = q.gained ∙ ap (λ w. w ++ take q.count reply) p }
-
-Prints-cut : (start before now : List Entry) (texts front behind : List (List ℕ)) (a b c : Option (List ℕ)) (refused : Bool) (number : ℕ) (text reply : List ℕ) (this : Bool)
-    → number ≡ 1 + length front → texts ≡ front ++ text ∷ behind → Moves (GainsPart reply) b c
-    → Prints start before front a b refused → IsTaken before now number text reply this
-    → CutsOff start now texts a c
-Prints-cut start before now texts front behind a b c refused number text reply this at are wrote h said =
-    let more = grown before now number text reply this said in
-    let later : length front + 1 ≡ number = omega (arith, at) in
-    record {
-      front = front;
-      text = text;
-      behind = behind;
-      texts_are = are;
-      one_by_one = GoesOneByOne-then start before now 1 front text h.one_by_one
-          (subst (λ n. GoesOn before now n text) at (GoesOn-answered before now number text reply this said));
-      grows = (h.grows.0 ++ more.0, more.1 ∙ ap (λ w. w ++ more.0) h.grows.1 ∙ append_assoc start h.grows.0 more.0);
-      output = h.output;
-      refused = refused;
-      is_output = subst (λ w. IsOutput start w 1 front h.output refused) (sym more.1) (IsOutput-more start before more.0 1 front h.output refused h.is_output);
-      reply = reply;
-      this = this;
-      is_reply = subst (λ n. IsReply start now n text reply this) (sym later) (IsReply-answered start before now number text reply this h.grows.0 h.grows.1 said);
-      written = Moves-then (Gains h.output) (GainsPart reply) (EndsWithin h.output reply) (λ x y z p q. within x y z h.output reply p q) a b c h.written wrote;
-    }
-
-Prints-stopped : {D : Type 0} (told : D → Option Store) (why : HouseFault) (start : List Entry) (before now : House D) (texts front behind : List (List ℕ)) (a b : Option (List ℕ)) (refused : Bool) (number : ℕ) (text : List ℕ)
-    → number ≡ 1 + length front → texts ≡ front ++ text ∷ behind → IsLegal profile (entries_of before)
-    → Prints start (entries_of before) front a b refused → HasStopped told why before now number text
-    → StopsIn why (told now.shelf) start (entries_of now) texts a b
-Prints-stopped told why start before now texts front behind a b refused number text at are legal h stopped =
-    let later : number ≡ length front + 1 = omega (arith, at) in
-    record {
-      front = front;
-      text = text;
-      behind = behind;
-      texts_are = are;
-      done = entries_of before;
-      one_by_one = h.one_by_one;
-      grows = h.grows;
-      legal = legal;
-      halfway = subst (λ n. IsHalfway (entries_of before) (entries_of now) n text) later stopped.halfway;
-      leaves = subst (λ n. LeavesFurther why (told now.shelf) (entries_of before) (entries_of now) n text) later stopped.leaves;
-      output = h.output;
-      refused = refused;
-      is_output = subst (λ w. IsOutput start w 1 front h.output refused) (sym stopped.halfway.book)
-          (IsOutput-more start (entries_of before) stopped.halfway.added 1 front h.output refused h.is_output);
-      written = h.written;
-    }
-
-number_at : (texts : List (List ℕ)) (i : ℕ) → i < length texts → i + 1 ≡ 1 + length (take i texts)
-number_at texts i below = omega (arith, length-take-le i texts (omega arith))
-
--- the sink failed in a reply
-pub Halts-cut : (result : Result Bool Stop) (told told' told_now : Option Store) (start before now : List Entry) (texts : List (List ℕ)) (i : ℕ) (text reply : List ℕ) (refused this : Bool) (a b c : Option (List ℕ)) (bytes : List ℕ)
-    → IsErrAnd result (λ e. e ≡ stop.Sink)
-    → i < length texts → text ≡ get_or texts i text → StaysTold told told' → bytes ≡ reply → Moves (GainsPart bytes) b c
-    → Tells told (λ _. Prints start before (take i texts) a b refused) → Tells told' (λ _. IsTaken before now (i + 1) text reply this)
-    → Tells told_now (λ s. Reads now s.journal) → Tells told_now (IsFaithful now)
-    → IfErr result (λ why. Tells told (λ _. Halts why start now texts a c told_now))
-Halts-cut result told told' told_now start before now texts i text reply refused this a b c bytes err below is stays same wrote_bytes h said reads shows =
+pub Halts-cut : (result : Result Bool Stop) (told told' told_now : Option Store) (low middle high : ℕ) (start : List Entry) (before now : Standing) (helds : List Held) (actions : List Action) (i : ℕ) (act : Action)
+    (reply bytes : List ℕ) (refused this : Bool) (a b c : Option (List ℕ)) → IsErrAnd result (λ e. e ≡ stop.Sink) → low ≤ middle → middle ≤ high
+    → i < length actions → act ≡ get_or actions i act → StaysTold told told' → bytes ≡ reply → Moves (GainsPart bytes) b c
+    → Tells told (λ _. Prints low middle start before (take i actions) a b refused) → Tells told' (λ _. Acts middle high before now act reply this)
+    → Tells told_now (λ s. Reads now.book s.journal) → Tells told_now (HasAllOf now.book helds)
+    → IfErr result (λ why. Tells told (λ _. Halts why low high start now.book actions a c told_now))
+Halts-cut result told told' told_now low middle high start before now helds actions i act reply bytes refused this a b c err below above inside is stays same wrote_bytes h acts reads shown =
     let wrote : Moves (GainsPart reply) b c = subst (λ w. Moves (GainsPart w) b c) same wrote_bytes in
-    let both : Tells told_now (HasAll now) = Tells-and told_now (λ s. Reads now s.journal) (IsFaithful now) reads shows in
-    passed_up result stop.Sink (λ why. Tells told (λ _. Halts why start now texts a c told_now)) err
+    let both : Tells told_now (HasAll now.book) = Tells-and told_now (λ s. Reads now.book s.journal) (IsFaithful now.book) reads (faithful-of told_now now.book helds shown) in
+    passed_up result stop.Sink (λ why. Tells told (λ _. Halts why low high start now.book actions a c told_now)) err
     (Tells-both told told' _ _ _ stays
-    (λ (p : Prints start before (take i texts) a b refused) (q : IsTaken before now (i + 1) text reply this).
-    (Prints-cut start before now texts (take i texts) (drop (suc i) texts) a b c refused (i + 1) text reply this (number_at texts i below) (split_at texts i text below is) wrote p q, both)) h said)
+    (λ (p : Prints low middle start before (take i actions) a b refused) (q : Acts middle high before now act reply this).
+    (Prints-cut low middle high below above start before now actions (take i actions) (drop (suc i) actions) a b c refused act reply this (split_at actions i act inside is) wrote p q, both)) h acts)
 
--- a statement wasn't done to its end
-halts : (why : HouseFault) (told : Option Store) (start now : List Entry) (texts : List (List ℕ)) (a b : Option (List ℕ))
-    → StopsIn why told start now texts a b → Halts (stop_of why) start now texts a b told
-halts fault.Store told start now texts a b stopped = stopped
-halts fault.NoMemory told start now texts a b stopped = stopped
+-- ---- an action wasn't done to its end
 
-pub Halts-stopped : {D : Type 0} (told : D → Option Store) (why : HouseFault) (result : Result Bool Stop) (first : Option Store) (start : List Entry) (before now : House D) (texts : List (List ℕ)) (i : ℕ) (text : List ℕ) (refused : Bool) (a b : Option (List ℕ))
-    → IsErrAnd result (λ e. e ≡ stop_of why)
-    → i < length texts → text ≡ get_or texts i text → StaysTold first (told before.shelf)
-    → Tells first (λ _. Prints start (entries_of before) (take i texts) a b refused) → Tells (told before.shelf) (IsFaithful (entries_of before))
-    → HasStopped told why before now (i + 1) text
-    → IfErr result (λ e. Tells first (λ _. Halts e start (entries_of now) texts a b (told now.shelf)))
-Halts-stopped told why result first start before now texts i text refused a b err below is stays h shows stopped =
-    passed_up result (stop_of why) (λ e. Tells first (λ _. Halts e start (entries_of now) texts a b (told now.shelf))) err
-    (Tells-both' first (told before.shelf) _ (IsFaithful (entries_of before)) _ stays
-    (λ (p : Prints start (entries_of before) (take i texts) a b refused) s (faithful : IsFaithful (entries_of before) s).
-    halts why (told now.shelf) start (entries_of now) texts a b
-    (Prints-stopped told why start before now texts (take i texts) (drop (suc i) texts) a b refused (i + 1) text (number_at texts i below) (split_at texts i text below is) faithful.legal p stopped)) h shows)
-
--- ---- no room for a statement
-
-pub full-taken : (told : Option Store) (book : List Entry) (number : ℕ) (text reply : List ℕ) (refused : Bool) → 131072 < length book + 4 → IsFullIn reply refused
-    → Tells told (λ _. IsTaken book book number text reply refused)
-full-taken told book number text reply refused lacks full = Tells-always told _ (inr (record { book = refl; lacks = lacks; full = full }))
-
-pub full-stopped : {D T : Type 0} (told : D → Option Store) (house : House D) (number : ℕ) (text : List ℕ) (result : Result T HouseFault)
-    → Holds (told house.shelf) (entries_of house) → IfErr result (λ why. HasStopped told why house house number text)
-full-stopped told house number text (Ok x) reads = tt
-full-stopped told house number text (Err why) reads = record {
-  halfway = record {
-    added = [];
-    book = sym (append-nil (entries_of house));
-    beginning = inl refl;
-    legal = record { fit = tt; truthful = tt };
-  };
-  leaves = leaves-none why (told house.shelf) (entries_of house) (entries_of house) number text reads;
+Prints-stopped : (why : HouseFault) (told : Option Store) (low middle high : ℕ) (start : List Entry) (before : Standing) (book : List Entry) (actions front behind : List Action) (a b : Option (List ℕ)) (refused : Bool) (act : Action)
+    → low ≤ middle → middle ≤ high → actions ≡ front ++ act ∷ behind → IsLegal profile before.book
+    → Prints low middle start before front a b refused → Stops why told before act book → StopsIn why told low high start book actions a b
+Prints-stopped why told low middle high start before book actions front behind a b refused act below above are legal h stops = record {
+  front = front;
+  action = act;
+  behind = behind;
+  actions_are = are;
+  before = before;
+  grows = grows-wider low middle low high start before.book (omega arith) above h.grows;
+  legal = legal;
+  stops = stops;
+  output = h.output;
+  refused = refused;
+  are_done = subst (λ (at : List Entry). AreDone start at (beginning start) before front h.output refused) (sym stops.halfway.book)
+      (are-done-more start before.book stops.halfway.added (beginning start) before front h.output refused h.are_done);
+  written = h.written;
 }
+
+halts : (why : HouseFault) (told : Option Store) (low high : ℕ) (start book : List Entry) (actions : List Action) (a b : Option (List ℕ)) → EndsRun why
+    → StopsIn why told low high start book actions a b → Halts (stop_of why) low high start book actions a b told
+halts fault.Store told low high start book actions a b ends stopped = stopped
+halts (fault.Failed count) told low high start book actions a b ends stopped = absurd ends
+halts fault.NoMemory told low high start book actions a b ends stopped = stopped
+
+pub Halts-stopped : {D : Type 0} (told : D → Option Store) (why : HouseFault) (result : Result Bool Stop) (first : Option Store) (low middle high : ℕ) (start : List Entry) (before now : House D) (helds : List Held)
+    (actions : List Action) (i : ℕ) (act : Action) (refused : Bool) (a b : Option (List ℕ)) → IsErrAnd result (λ e. e ≡ stop_of why) → low ≤ middle → middle ≤ high → EndsRun why
+    → i < length actions → act ≡ get_or actions i act → StaysTold first (told before.shelf)
+    → Tells first (λ _. Prints low middle start (standing_of before helds) (take i actions) a b refused) → Tells (told before.shelf) (HasAllOf (entries_of before) helds)
+    → Stops why (told now.shelf) (standing_of before helds) act (entries_of now)
+    → IfErr result (λ e. Tells first (λ _. Halts e low high start (entries_of now) actions a b (told now.shelf)))
+Halts-stopped told why result first low middle high start before now helds actions i act refused a b err below above ends inside is stays h shown stops =
+    passed_up result (stop_of why) (λ e. Tells first (λ _. Halts e low high start (entries_of now) actions a b (told now.shelf))) err
+    (Tells-both' first (told before.shelf) _ (HasAllOf (entries_of before) helds) _ stays
+    (λ (p : Prints low middle start (standing_of before helds) (take i actions) a b refused) s (all : HasAllOf (entries_of before) helds s).
+    halts why (told now.shelf) low high start (entries_of now) actions a b ends
+    (Prints-stopped why (told now.shelf) low middle high start (standing_of before helds) (entries_of now) actions (take i actions) (drop (suc i) actions) a b refused act below above
+    (split_at actions i act inside is) all.faithful.legal p stops)) h shown)
+
+-- ---- all were done
+
+pub Prints-all : (told : Option Store) (low high : ℕ) (start book : List Entry) (waiting : List Waiting) (actions some : List Action) (a b : Option (List ℕ)) (refused : Bool) → some ≡ actions
+    → Tells told (λ _. Prints low high start (record { book = book; waiting = waiting }) some a b refused)
+    → Tells told (λ _. PrintsAll low high start book actions a b refused)
+Prints-all None low high start book waiting actions some a b refused same h = tt
+Prints-all (Some store) low high start book waiting actions some a b refused same h =
+    (waiting, subst (λ (acts : List Action). Prints low high start (record { book = book; waiting = waiting }) acts a b refused) same h)

@@ -1,97 +1,61 @@
--- What the program promises of a script, from what it promises of the statements' texts.
+-- What the program promises of a script, from what it promises of its actions.
 use Rattle.std.proofs.Common.{◌≡◌, ℕ, ◌+◌, ◌<◌, ◌≤◌, Bool, true, false, ◌||◌, cond, nat_lt, nat_le, IsTrue, IsSome, Option, Some, None, List, [], ◌∷◌, ◌++◌, length, map, refl, sym, ap, ◌∙◌, subst, arith, ◌⊎◌, inl, inr}
 use Rattle.std.proofs.lemmas.List.{append-nil}
 use Rattle.std.proofs.lemmas.Bool.{ltb-false, leb-false, or_parts}
 use Rattle.hv_base.proofs.ToldLemmas.{stays_same}
 use Rattle.hv_base.specs.Told.{Moves, StaysTold}
 use Rattle.hv_shelf.specs.Disk.{Store}
-use Rattle.hv_script.specs.declared.items.Item.{Item}
-use Rattle.hv_script.specs.Items.{items_of, first_of}
-use Rattle.hv_script.specs.Script.{begins_directive, broken_line, earlier, front, item_line, is_refused, limit_line, refused_line, texts_of}
+use Rattle.hv_script.specs.Items.{items_of}
+use Rattle.hv_script.specs.Script.{broken_line, bytes_line, earlier, front, limit_line}
+use Rattle.hv_directives.specs.declared.actions.Action.{Action}
+use Rattle.hv_directives.specs.Actions.{actions_of, least, refused_at}
+use Rattle.hv_directives.specs.Standing.{fault_lines, first_standing}
 use Rattle.hv_base.specs.Sink.{GainsPart}
 use Rattle.hv_base.specs.Told.{Tells}
 use Rattle.hv_script.specs.Words.{command_of}
 use Rattle.hv_program.specs.declared.stop.Stop.{Stop}
 use Rattle.hv_program.specs.declared.stop.Stop.TheVariants as stop
 use Rattle.hv_program.specs.Stops.{status_of_stop}
-use Rattle.hv_program.specs.Running.{IsShort, AreShort}
 use Rattle.hv_program.specs.Reading.{TakesUpTo}
 use Rattle.hv_program.specs.Lines.{words_line, script_line, full_line}
 use Rattle.hv_program.specs.Refused.{is_one_of}
 use Rattle.hv_history.specs.declared.entry.Entry.{Entry}
 use Rattle.hv_house.specs.Booting.{OpensTo, opening_of}
-use Rattle.hv_program.specs.Results.{IsCutOff}
-use Rattle.hv_program.specs.Headline.{IsWhole, IsLineOf, IsCutLine, IsUnread, IsAfter, Headline}
+use Rattle.hv_program.specs.Results.{IsServed, IsCutOff}
+use Rattle.hv_program.specs.Headline.{IsWhole, IsAllDone, IsLineOf, IsCutLine, IsUnread, IsAfter, Headline}
 use Rattle.hv_program.specs.Serving.{ServedOf, Serves, IsCutFull, IsSaid, IsSaidOrNot}
 use Rattle.hv_program.proofs.Ends.{tells-still}
+use Rattle.hv_program.proofs.Settled.{settled}
 
 -- ---- a script that isn't refused
-
-unless : (b : Bool) (x : ℕ) (rest : Option ℕ) → cond b (Some x) rest ≡ None → (b ≡ false) × (rest ≡ None)
-unless true x rest e = cc
-unless false x rest e = (refl, e)
 
 earlier-none : (a b : Option ℕ) → earlier a b ≡ None → (a ≡ None) × (b ≡ None)
 earlier-none None b e = (refl, e)
 earlier-none (Some x) None e = cc
 earlier-none (Some x) (Some y) e = cc
 
+unless : (b : Bool) (x : ℕ) → cond b (Some x) None ≡ None → b ≡ false
+unless true x e = cc
+unless false x e = refl
+
 limit : (script : List ℕ) → limit_line script ≡ None → length script ≤ 16777216
-limit script e = ltb-false 16777216 (length script) (unless (nat_lt 16777216 (length script)) _ None e).0
+limit script e = ltb-false 16777216 (length script) (unless (nat_lt 16777216 (length script)) _ e)
 
-record IsItemFine (count : ℕ) (item : Item) : Type 0 where
-  short : IsShort item.bytes
-  few : count < 10000
-
-not-refused : (count : ℕ) (item : Item) → is_refused count item ≡ false → IsItemFine count item
-not-refused count item e =
-    let outer = or_parts (begins_directive (first_of item.bytes) || nat_lt 32768 (length item.bytes)) (nat_le 10000 count) e in
-    let inner = or_parts (begins_directive (first_of item.bytes)) (nat_lt 32768 (length item.bytes)) outer.0 in
-    record { short = ltb-false 32768 (length item.bytes) inner.1; few = leb-false 10000 count outer.1 }
-
-record AreFine (count : ℕ) (texts : List (List ℕ)) : Type 0 where
-  few : count + length texts ≤ 10000
-  short : AreShort texts
-
-items-fine : (count : ℕ) (items : List Item) → item_line count items ≡ None → count ≤ 10000 → AreFine count (map (λ (item : Item). item.bytes) items)
-items-fine count [] e h = record { few = omega arith; short = tt }
-items-fine count (item ∷ items) e h =
-    let parts = unless (is_refused count item) item.line (item_line (count + 1) items) e in
-    let fine = not-refused count item parts.0 in
-    let below : count < 10000 = fine.few in
-    let rest = items-fine (count + 1) items parts.1 (omega arith) in
-    let more : count + 1 + length (map (λ (other : Item). other.bytes) items) ≤ 10000 = rest.few in
-    record { few = omega arith; short = (fine.short, rest.short) }
-
--- a script that isn't refused is short, and so are its texts
-pub record IsTaken (script : List ℕ) : Type 0 where
-  pub whole : length script ≤ 16777216
-  pub few : length (texts_of script) ≤ 10000
-  pub short : AreShort (texts_of script)
-
-pub taken : (script : List ℕ) → refused_line script ≡ None → IsTaken script
-taken script e =
-    let outer = earlier-none (earlier (broken_line (front script)) (limit_line script)) (item_line 0 (items_of (front script))) e in
-    let inner = earlier-none (broken_line (front script)) (limit_line script) outer.0 in
-    let fine = items-fine 0 (items_of (front script)) outer.1 (omega arith) in
-    let few : 0 + length (texts_of script) ≤ 10000 = fine.few in
-    record { whole = limit script inner.1; few = omega arith; short = fine.short }
-
-pub few-texts : (script : List ℕ) (texts : List (List ℕ)) → refused_line script ≡ None → texts ≡ texts_of script → length texts ≤ 10000
-few-texts script texts e same = subst (λ (t : List (List ℕ)). length t ≤ 10000) (sym same) (taken script e).few
-
-pub short-texts : (script : List ℕ) (texts : List (List ℕ)) → refused_line script ≡ None → texts ≡ texts_of script → AreShort texts
-short-texts script texts e same = subst AreShort (sym same) (taken script e).short
+-- it is read whole
+pub short-script : (script : List ℕ) → refused_at script ≡ None → length script ≤ 16777216
+short-script script e =
+    let outer = earlier-none (bytes_line script) (least (fault_lines first_standing (items_of (front script)))) e in
+    limit script (earlier-none (broken_line (front script)) (limit_line script) outer.0).1
 
 -- ---- the whole, from what each device tells
 
-pub Headline-by : (words : List (List ℕ)) (source source' sink sink' : Option (List ℕ)) (told told' : Option Store) (status : ℕ)
+pub Headline-by : (low high : ℕ) (words : List (List ℕ)) (source source' sink sink' : Option (List ℕ)) (told told' : Option Store) (status : ℕ)
     → StaysTold source source' → StaysTold sink sink' → StaysTold told told'
     → ((script left written now : List ℕ) (store store' : Store) (book : List Entry) → source ≡ Some script → source' ≡ Some left
     → sink ≡ Some written → sink' ≡ Some now → told ≡ Some store → told' ≡ Some store' → OpensTo book store
-    → IsAfter words book status script left written now store store')
-    → Headline words (record { source = source; sink = sink; store = told }) (record { source = source'; sink = sink'; store = told' }) status
-Headline-by words source source' sink sink' told told' status read heard stays by = λ script written store book at_source at_sink at_store opens.
+    → IsAfter low high words book status script left written now store store')
+    → Headline words (record { source = source; sink = sink; store = told }) (record { source = source'; sink = sink'; store = told' }) low high status
+Headline-by low high words source source' sink sink' told told' status read heard stays by = λ script written store book at_source at_sink at_store opens.
     let left = tells-still source source' script read at_source in
     let now = tells-still sink sink' written heard at_sink in
     let after = tells-still told told' store stays at_store in
@@ -125,8 +89,8 @@ three-or-seven stop.Sink status h e = cc
 three-or-seven stop.Store status h e = cc
 three-or-seven stop.NoMemory status h e = inr e
 
-module _ (words : List (List ℕ)) (book : List Entry) (script left written now : List ℕ) (before after : Store) where
-  quiet : (n : ℕ) → (n ≡ 0 → ⊥) → (n ≡ 1 → ⊥) → (n ≡ 3 → ⊥) → (n ≡ 4 → ⊥) → (n ≡ 5 → ⊥) → (n ≡ 7 → ⊥) → IsAfter words book n script left written now before after
+module _ (low high : ℕ) (words : List (List ℕ)) (book : List Entry) (script left written now : List ℕ) (before after : Store) where
+  quiet : (n : ℕ) → (n ≡ 0 → ⊥) → (n ≡ 1 → ⊥) → (n ≡ 3 → ⊥) → (n ≡ 4 → ⊥) → (n ≡ 5 → ⊥) → (n ≡ 7 → ⊥) → IsAfter low high words book n script left written now before after
   quiet n zero_ one three four five seven = record {
     accepted = λ e. absurd (zero_ e);
     refused = λ e. absurd (one e);
@@ -136,13 +100,13 @@ module _ (words : List (List ℕ)) (book : List Entry) (script left written now 
     no_memory = λ e. absurd (seven e);
   }
 
-  after-two : IsAfter words book 2 script left written now before after
+  after-two : IsAfter low high words book 2 script left written now before after
   after-two = quiet 2 (λ e. omega (arith, e)) (λ e. omega (arith, e)) (λ e. omega (arith, e)) (λ e. omega (arith, e)) (λ e. omega (arith, e)) (λ e. omega (arith, e))
 
-  after-eight : IsAfter words book 8 script left written now before after
+  after-eight : IsAfter low high words book 8 script left written now before after
   after-eight = quiet 8 (λ e. omega (arith, e)) (λ e. omega (arith, e)) (λ e. omega (arith, e)) (λ e. omega (arith, e)) (λ e. omega (arith, e)) (λ e. omega (arith, e))
 
-  after-three : IsUnread written now before after → IsAfter words book 3 script left written now before after
+  after-three : IsUnread written now before after → IsAfter low high words book 3 script left written now before after
   after-three h = record {
     accepted = λ e. absurd (omega (arith, e));
     refused = λ e. absurd (omega (arith, e));
@@ -152,7 +116,7 @@ module _ (words : List (List ℕ)) (book : List Entry) (script left written now 
     no_memory = λ e. absurd (omega (arith, e));
   }
 
-  after-four : IsCutLine words book script written now before after → IsAfter words book 4 script left written now before after
+  after-four : IsCutLine words book script written now before after → IsAfter low high words book 4 script left written now before after
   after-four h = record {
     accepted = λ e. absurd (omega (arith, e));
     refused = λ e. absurd (omega (arith, e));
@@ -162,7 +126,7 @@ module _ (words : List (List ℕ)) (book : List Entry) (script left written now 
     no_memory = λ e. absurd (omega (arith, e));
   }
 
-  after-seven : IsUnread written now before after → IsAfter words book 7 script left written now before after
+  after-seven : IsUnread written now before after → IsAfter low high words book 7 script left written now before after
   after-seven h = record {
     accepted = λ e. absurd (omega (arith, e));
     refused = λ e. absurd (omega (arith, e));
@@ -172,42 +136,50 @@ module _ (words : List (List ℕ)) (book : List Entry) (script left written now 
     no_memory = λ e. inr h;
   }
 
-  after-line : (status wanted : ℕ) (line : List ℕ) (sink sink' : Option (List ℕ)) (faults faults' : ℕ) → IsLineOf words book script line → IsAfter words book wanted script left written now before after
+  after-line : (status wanted : ℕ) (line : List ℕ) (sink sink' : Option (List ℕ)) (faults faults' : ℕ) → IsLineOf words book script line → IsAfter low high words book wanted script left written now before after
       → after ≡ before → sink ≡ Some written → sink' ≡ Some now → IsSaid wanted line sink sink' faults faults' status
-      → IsAfter words book status script left written now before after
+      → IsAfter low high words book status script left written now before after
   after-line status wanted line sink sink' faults faults' is well same at_sink at_now (inl said) =
-      subst (λ n. IsAfter words book n script left written now before after) (sym said.0) well
+      subst (λ n. IsAfter low high words book n script left written now before after) (sym said.0) well
   after-line status wanted line sink sink' faults faults' is well same at_sink at_now (inr cut) =
-      subst (λ n. IsAfter words book n script left written now before after) (sym cut.0)
+      subst (λ n. IsAfter low high words book n script left written now before after) (sym cut.0)
       (after-four (record { line = line; is_line = is; wrote = between (GainsPart line) sink sink' written now at_sink at_now cut.1.wrote; store_same = same }))
 
-  after-said : (status wanted : ℕ) (line : List ℕ) (sink sink' : Option (List ℕ)) (faults faults' : ℕ) → IsLineOf words book script line → IsAfter words book wanted script left written now before after
+  after-said : (status wanted : ℕ) (line : List ℕ) (sink sink' : Option (List ℕ)) (faults faults' : ℕ) → IsLineOf words book script line → IsAfter low high words book wanted script left written now before after
       → after ≡ before → sink ≡ Some written → sink' ≡ Some now → IsSaidOrNot wanted line sink sink' faults faults' status
-      → IsAfter words book status script left written now before after
+      → IsAfter low high words book status script left written now before after
   after-said status wanted line sink sink' faults faults' is well same at_sink at_now (inl said) = after-line status wanted line sink sink' faults faults' is well same at_sink at_now said
   after-said status wanted line sink sink' faults faults' is well same at_sink at_now (inr unsaid) =
-      subst (λ n. IsAfter words book n script left written now before after) (sym unsaid.0)
+      subst (λ n. IsAfter low high words book n script left written now before after) (sym unsaid.0)
       (after-seven (record { wrote = still sink sink' written now unsaid.1 at_sink at_now; store_same = same }))
 
-  after-unread : (status : ℕ) → (status ≡ 3) ⊎ (status ≡ 7) → IsUnread written now before after → IsAfter words book status script left written now before after
-  after-unread status (inl e) unread = subst (λ n. IsAfter words book n script left written now before after) (sym e) (after-three unread)
-  after-unread status (inr e) unread = subst (λ n. IsAfter words book n script left written now before after) (sym e) (after-seven unread)
+  after-unread : (status : ℕ) → (status ≡ 3) ⊎ (status ≡ 7) → IsUnread written now before after → IsAfter low high words book status script left written now before after
+  after-unread status (inl e) unread = subst (λ n. IsAfter low high words book n script left written now before after) (sym e) (after-three unread)
+  after-unread status (inr e) unread = subst (λ n. IsAfter low high words book n script left written now before after) (sym e) (after-seven unread)
 
-  after-memory : (status : ℕ) → status ≡ 7 → IsUnread written now before after → IsAfter words book status script left written now before after
-  after-memory status e unread = subst (λ n. IsAfter words book n script left written now before after) (sym e) (after-seven unread)
+  after-memory : (status : ℕ) → status ≡ 7 → IsUnread written now before after → IsAfter low high words book status script left written now before after
+  after-memory status e unread = subst (λ n. IsAfter low high words book n script left written now before after) (sym e) (after-seven unread)
 
-  cut-by : IsWhole script left → (IsCutOff (opening_of book) (texts_of script) written now after ⊎ IsCutFull book written now before after)
-      → (IsWhole script left × IsCutOff (opening_of book) (texts_of script) written now after) ⊎ IsCutLine words book script written now before after
+  cut-by : IsWhole script left → (IsCutOff low high (opening_of book) (actions_of script) written now after ⊎ IsCutFull book written now before after)
+      → (IsWhole script left × IsCutOff low high (opening_of book) (actions_of script) written now after) ⊎ IsCutLine words book script written now before after
   cut-by whole (inl cut) = inl (whole, cut)
   cut-by whole (inr full) = inr (record { line = full_line; is_line = inr (inr (whole.unrefused, full.full, refl)); wrote = full.wrote; store_same = full.store_same })
 
-  after-served : (status : ℕ) (texts : List (List ℕ)) → IsWhole script left → texts ≡ texts_of script → ServedOf status book texts written now before after
-      → IsAfter words book status script left written now before after
-  after-served status texts whole same h =
-      let served : ServedOf status book (texts_of script) written now before after = subst (λ t. ServedOf status book t written now before after) same h in
+  all-done : IsWhole script left → (refused : Bool) → IsServed low high (opening_of book) (actions_of script) written now after refused
+      → IsAllDone low high book script left written now after refused
+  all-done whole refused served = record {
+    whole = whole;
+    served = served;
+    settled = settled script (opening_of book) served.last.book served.last served.output refused whole.unrefused served.are_done;
+  }
+
+  after-served : (status : ℕ) (actions : List Action) → IsWhole script left → actions ≡ actions_of script → ServedOf status low high book actions written now before after
+      → IsAfter low high words book status script left written now before after
+  after-served status actions whole same h =
+      let served : ServedOf status low high book (actions_of script) written now before after = subst (λ t. ServedOf status low high book t written now before after) same h in
       record {
-        accepted = λ e. record { whole = whole; served = served.accepted e };
-        refused = λ e. record { whole = whole; served = served.refused e };
+        accepted = λ e. all-done whole false (served.accepted e);
+        refused = λ e. all-done whole true (served.refused e);
         source_failed = λ e. absurd (served.source e);
         sink_failed = λ e. cut-by whole (served.sink e);
         store_failed = λ e. (whole, served.store e);
@@ -216,68 +188,68 @@ module _ (words : List (List ℕ)) (book : List Entry) (script left written now 
 
 -- ---- the cases of a run
 
-pub Headline-words : (words : List (List ℕ)) (source sink sink' : Option (List ℕ)) (told : Option Store) (faults faults' status : ℕ)
+pub Headline-words : (low high : ℕ) (words : List (List ℕ)) (source sink sink' : Option (List ℕ)) (told : Option Store) (faults faults' status : ℕ)
     → command_of words ≡ None → StaysTold sink sink' → IsSaid 2 words_line sink sink' faults faults' status
-    → Headline words (record { source = source; sink = sink; store = told }) (record { source = source; sink = sink'; store = told }) status
-Headline-words words source sink sink' told faults faults' status none heard said =
-    Headline-by words source source sink sink' told told status (stays_same source) heard (stays_same told)
+    → Headline words (record { source = source; sink = sink; store = told }) (record { source = source; sink = sink'; store = told }) low high status
+Headline-words low high words source sink sink' told faults faults' status none heard said =
+    Headline-by low high words source source sink sink' told told status (stays_same source) heard (stays_same told)
     (λ script left written now store store' book at_source at_left at_sink at_now at_store at_after opens.
-    after-line words book script left written now store store' status 2 words_line sink sink' faults faults' (inl (none, refl))
-    (after-two words book script left written now store store') (one_content told store store' at_store at_after) at_sink at_now said)
+    after-line low high words book script left written now store store' status 2 words_line sink sink' faults faults' (inl (none, refl))
+    (after-two low high words book script left written now store store') (one_content told store store' at_store at_after) at_sink at_now said)
 
-pub Headline-unread : (words : List (List ℕ)) (source source' sink : Option (List ℕ)) (told : Option Store) (status : ℕ) (why : Stop)
+pub Headline-unread : (low high : ℕ) (words : List (List ℕ)) (source source' sink : Option (List ℕ)) (told : Option Store) (status : ℕ) (why : Stop)
     → StaysTold source source' → status ≡ status_of_stop why → IsTrue (is_one_of (3 ∷ 7 ∷ []) (status_of_stop why))
-    → Headline words (record { source = source; sink = sink; store = told }) (record { source = source'; sink = sink; store = told }) status
-Headline-unread words source source' sink told status why read e h =
-    Headline-by words source source' sink sink told told status read (stays_same sink) (stays_same told)
+    → Headline words (record { source = source; sink = sink; store = told }) (record { source = source'; sink = sink; store = told }) low high status
+Headline-unread low high words source source' sink told status why read e h =
+    Headline-by low high words source source' sink sink told told status read (stays_same sink) (stays_same told)
     (λ script left written now store store' book at_source at_left at_sink at_now at_store at_after opens.
-    after-unread words book script left written now store store' status (three-or-seven why status h e)
+    after-unread low high words book script left written now store store' status (three-or-seven why status h e)
     (record { wrote = one_content sink written now at_sink at_now; store_same = one_content told store store' at_store at_after }))
 
-pub Headline-memory : (words : List (List ℕ)) (source source' sink : Option (List ℕ)) (told : Option Store) (status : ℕ)
+pub Headline-memory : (low high : ℕ) (words : List (List ℕ)) (source source' sink : Option (List ℕ)) (told : Option Store) (status : ℕ)
     → StaysTold source source' → status ≡ 7
-    → Headline words (record { source = source; sink = sink; store = told }) (record { source = source'; sink = sink; store = told }) status
-Headline-memory words source source' sink told status read e =
-    Headline-by words source source' sink sink told told status read (stays_same sink) (stays_same told)
+    → Headline words (record { source = source; sink = sink; store = told }) (record { source = source'; sink = sink; store = told }) low high status
+Headline-memory low high words source source' sink told status read e =
+    Headline-by low high words source source' sink sink told told status read (stays_same sink) (stays_same told)
     (λ script left written now store store' book at_source at_left at_sink at_now at_store at_after opens.
-    after-memory words book script left written now store store' status e
+    after-memory low high words book script left written now store store' status e
     (record { wrote = one_content sink written now at_sink at_now; store_same = one_content told store store' at_store at_after }))
 
 tells-here : {A : Type 0} (P : A → Type 0) (o : Option A) (x : A) → o ≡ Some x → Tells o P → P x
 tells-here P o x e h = subst (λ w. Tells w P) e h
 
-pub Headline-refused : (words : List (List ℕ)) (source source' sink sink' : Option (List ℕ)) (told : Option Store) (faults faults' status line : ℕ)
-    → IsSome (command_of words) → Tells source (λ script. refused_line script ≡ Some line)
+pub Headline-refused : (low high : ℕ) (words : List (List ℕ)) (source source' sink sink' : Option (List ℕ)) (told : Option Store) (faults faults' status line : ℕ)
+    → IsSome (command_of words) → Tells source (λ script. refused_at script ≡ Some line)
     → StaysTold source source' → StaysTold sink sink' → IsSaidOrNot 8 (script_line line) sink sink' faults faults' status
-    → Headline words (record { source = source; sink = sink; store = told }) (record { source = source'; sink = sink'; store = told }) status
-Headline-refused words source source' sink sink' told faults faults' status line some refused read heard said =
-    Headline-by words source source' sink sink' told told status read heard (stays_same told)
+    → Headline words (record { source = source; sink = sink; store = told }) (record { source = source'; sink = sink'; store = told }) low high status
+Headline-refused low high words source source' sink sink' told faults faults' status line some refused read heard said =
+    Headline-by low high words source source' sink sink' told told status read heard (stays_same told)
     (λ script left written now store store' book at_source at_left at_sink at_now at_store at_after opens.
-    after-said words book script left written now store store' status 8 (script_line line) sink sink' faults faults'
-    (inr (inl (some, (line, tells-here (λ s. refused_line s ≡ Some line) source script at_source refused, refl))))
-    (after-eight words book script left written now store store') (one_content told store store' at_store at_after) at_sink at_now said)
+    after-said low high words book script left written now store store' status 8 (script_line line) sink sink' faults faults'
+    (inr (inl (some, (line, tells-here (λ s. refused_at s ≡ Some line) source script at_source refused, refl))))
+    (after-eight low high words book script left written now store store') (one_content told store store' at_store at_after) at_sink at_now said)
 
-is-whole : (bytes script left : List ℕ) → TakesUpTo 16777217 bytes script left → refused_line bytes ≡ None → (bytes ≡ script) × IsWhole script left
+is-whole : (bytes script left : List ℕ) → TakesUpTo 16777217 bytes script left → refused_at bytes ≡ None → (bytes ≡ script) × IsWhole script left
 is-whole bytes script left read fine =
-    let within : length bytes ≤ 16777216 = (taken bytes fine).whole in
+    let within : length bytes ≤ 16777216 = short-script bytes fine in
     let at_end : left ≡ [] = read.ended (omega arith) in
     let is_script : bytes ≡ script = sym (read.taken ∙ ap (λ t. bytes ++ t) at_end ∙ append-nil bytes) in
-    (is_script, record { unrefused = subst (λ (b : List ℕ). refused_line b ≡ None) is_script fine; at_end = at_end })
+    (is_script, record { unrefused = subst (λ (b : List ℕ). refused_at b ≡ None) is_script fine; at_end = at_end })
 
-pub Headline-served : (words : List (List ℕ)) (bytes given : List ℕ) (texts : List (List ℕ)) (source source' sink sink' : Option (List ℕ)) (told told' : Option Store) (status : ℕ)
-    → given ≡ bytes → Moves (TakesUpTo 16777217 bytes) source source' → refused_line given ≡ None → texts ≡ texts_of given
+pub Headline-served : (low high : ℕ) (words : List (List ℕ)) (bytes given : List ℕ) (actions : List Action) (source source' sink sink' : Option (List ℕ)) (told told' : Option Store) (status : ℕ)
+    → given ≡ bytes → Moves (TakesUpTo 16777217 bytes) source source' → refused_at given ≡ None → actions ≡ actions_of given
     → StaysTold source source' → StaysTold sink sink' → StaysTold told told'
-    → Serves status texts sink sink' told told'
-    → Headline words (record { source = source; sink = sink; store = told }) (record { source = source'; sink = sink'; store = told' }) status
-Headline-served words bytes given texts source source' sink sink' told told' status given_is moves fine same read heard stays serves =
-    Headline-by words source source' sink sink' told told' status read heard stays
+    → Serves status low high actions sink sink' told told'
+    → Headline words (record { source = source; sink = sink; store = told }) (record { source = source'; sink = sink'; store = told' }) low high status
+Headline-served low high words bytes given actions source source' sink sink' told told' status given_is moves fine same read heard stays serves =
+    Headline-by low high words source source' sink sink' told told' status read heard stays
     (λ script left written now store store' book at_source at_left at_sink at_now at_store at_after opens.
     let takes : TakesUpTo 16777217 given script left =
     between (TakesUpTo 16777217 given) source source' script left at_source at_left
     (subst (λ b. Moves (TakesUpTo 16777217 b) source source') (sym given_is) moves) in
     let whole = is-whole given script left takes fine in
     let served = serves written store book at_sink at_store opens in
-    let here : ServedOf status book texts written now store store' =
-    subst (λ x. ServedOf status book texts written now store x) (one_content told' store' served.store at_after served.store_tells)
-    (subst (λ x. ServedOf status book texts written x store served.store) (one_content sink' now served.now at_now served.sink_tells) served.served) in
-    after-served words book script left written now store store' status texts whole.1 (same ∙ ap texts_of whole.0) here)
+    let here : ServedOf status low high book actions written now store store' =
+    subst (λ x. ServedOf status low high book actions written now store x) (one_content told' store' served.store at_after served.store_tells)
+    (subst (λ x. ServedOf status low high book actions written x store served.store) (one_content sink' now served.now at_now served.sink_tells) served.served) in
+    after-served low high words book script left written now store store' status actions whole.1 (same ∙ ap actions_of whole.0) here)

@@ -3,7 +3,7 @@ use Rattle.std.specs.Prelude.{◌≡◌, ℕ, IsTrue, IsSome, None, List, [], �
 use Rattle.hv_base.specs.Faults.{Rose}
 use Rattle.hv_base.specs.Told.{Tells}
 use Rattle.hv_script.specs.Words.{command_of}
-use Rattle.hv_script.specs.Script.{refused_line}
+use Rattle.hv_directives.specs.Actions.{refused_at}
 use Rattle.hv_house.specs.Booting.{CanOpen}
 use Rattle.hv_program.specs.Headline.{Outside}
 use Rattle.hv_program.specs.Refused.{is_one_of}
@@ -31,5 +31,5 @@ pub record IsFaultless (before now : Counts) : Type 0 where
 abbrev pub Completes : List (List ℕ) → Outside → Counts → Counts → ℕ → Type 0
 Completes words before counts counts' status =
     IsSome (command_of words) → IsFaultless counts counts'
-    → Tells before.source (λ script. refused_line script ≡ None
+    → Tells before.source (λ script. refused_at script ≡ None
     → Tells before.store (λ s. CanOpen s → IsTrue (is_one_of (0 ∷ 1 ∷ 7 ∷ []) status)))

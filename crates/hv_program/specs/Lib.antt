@@ -1,11 +1,12 @@
-pub mod Output
-pub mod Statements
+pub mod Doing
+pub mod Own
+pub mod Keeping
+pub mod Running
 pub mod Results
 pub mod Lines
 pub mod Headline
 pub mod Reading
 pub mod Stops
-pub mod Running
 pub mod Serving
 pub mod Refused
 pub mod Causes

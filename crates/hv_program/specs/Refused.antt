@@ -5,7 +5,7 @@ use Rattle.std.specs.List.{list_any}
 use Rattle.hv_base.specs.Told.{Tells, Moves}
 use Rattle.hv_base.specs.Sink.{Gains}
 use Rattle.hv_script.specs.Words.{command_of}
-use Rattle.hv_script.specs.Script.{refused_line}
+use Rattle.hv_directives.specs.Actions.{refused_at}
 use Rattle.hv_history.specs.Legal.{profile}
 use Rattle.hv_recovery.specs.Recovery.{IsBadJournalAt}
 use Rattle.hv_house.specs.Booting.{IsFullAt, HasNoBook, HasFullBook, CanOpen}
@@ -30,12 +30,12 @@ pub record IsBadWords (words : List (List ℕ)) (before after : Outside) : Type 
 pub record IsRefusedScript (words : List (List ℕ)) (before after : Outside) : Type 0 where
   pub words_are : IsSome (command_of words)
   pub line : ℕ
-  pub refused : Tells before.source (λ script. refused_line script ≡ Some line)
+  pub refused : Tells before.source (λ script. refused_at script ≡ Some line)
   pub says : Says (script_line line) before after
 
 pub record IsBadJournal (words : List (List ℕ)) (before after : Outside) : Type 0 where
   pub words_are : IsSome (command_of words)
-  pub unrefused : Tells before.source (λ script. refused_line script ≡ None)
+  pub unrefused : Tells before.source (λ script. refused_at script ≡ None)
   pub at : ℕ
   pub journal : Tells before.store (λ s. IsBadJournalAt profile s.journal at)
   pub shut : Tells before.store HasNoBook
@@ -43,7 +43,7 @@ pub record IsBadJournal (words : List (List ℕ)) (before after : Outside) : Typ
 
 pub record IsFullJournal (words : List (List ℕ)) (before after : Outside) : Type 0 where
   pub words_are : IsSome (command_of words)
-  pub unrefused : Tells before.source (λ script. refused_line script ≡ None)
+  pub unrefused : Tells before.source (λ script. refused_at script ≡ None)
   pub entries : ℕ
   pub journal : Tells before.store (λ s. IsFullAt entries s.journal)
   pub shut : Tells before.store HasFullBook
@@ -57,7 +57,7 @@ pub record Refuses (words : List (List ℕ)) (before after : Outside) (status : 
   pub refused_script : status ≡ 8 → IsRefusedScript words before after
   pub full_journal : status ≡ 9 → IsFullJournal words before after
   pub at_words : command_of words ≡ None → IsTrue (is_one_of (2 ∷ 4 ∷ []) status)
-  pub at_script : IsSome (command_of words) → Tells before.source (λ script. (line : ℕ) → refused_line script ≡ Some line
+  pub at_script : IsSome (command_of words) → Tells before.source (λ script. (line : ℕ) → refused_at script ≡ Some line
       → IsTrue (is_one_of (3 ∷ 4 ∷ 7 ∷ 8 ∷ []) status))
   -- statements are done only where the store could be opened
   pub at_journal : IsTrue (is_one_of (0 ∷ 1 ∷ []) status) → Tells before.store CanOpen

@@ -1,91 +1,150 @@
--- What the statements of a script have done, one after another.
-use Rattle.std.specs.Prelude.{◌≡◌, ◌⊎◌, ℕ, ◌+◌, ◌≤◌, Bool, Option, List, [], ◌∷◌, ◌++◌, length}
+-- What the actions of a script have done, one after another.
+use Rattle.std.specs.Prelude.{◌≡◌, ℕ, ◌<◌, ◌≤◌, Bool, Option, Some, None, List, [], ◌∷◌, ◌++◌, length, option_map}
 use Rattle.std.specs.List.{AllByRecursion}
 use Rattle.hv_base.specs.Told.{Tells, Moves}
 use Rattle.hv_base.specs.Sink.{Gains, GainsPart}
 use Rattle.hv_shelf.specs.Disk.{Store}
 use Rattle.hv_history.specs.declared.entry.Entry.{Entry}
-use Rattle.hv_history.specs.Legal.{IsLegal, profile}
+use Rattle.hv_history.specs.State.{state_of}
+use Rattle.hv_history.specs.Legal.{IsLegal, IsLegalFrom, profile}
 use Rattle.hv_history.specs.Journal.{Reads}
+use Rattle.hv_directives.specs.declared.actions.Action.{Action}
+use Rattle.hv_directives.specs.declared.actions.Action.TheVariants as action
+use Rattle.hv_directives.specs.declared.actions.Statement.{Statement}
+use Rattle.hv_stands.specs.Running.{next_number, AreOf}
 use Rattle.hv_house.specs.declared.fault.HouseFault.{HouseFault}
 use Rattle.hv_house.specs.declared.fault.HouseFault.TheVariants as fault
-use Rattle.hv_house.specs.House.{IsFaithful}
-use Rattle.hv_session.specs.Halting.{IsHalfway, LeavesFurther}
+use Rattle.hv_house.specs.House.{IsFaithful, Leaves}
+use Rattle.hv_ending.specs.Ending.{IsNoEnd}
+use Rattle.hv_session.specs.Taking.{IsHold}
 use Rattle.hv_program.specs.declared.stop.Stop.{Stop}
 use Rattle.hv_program.specs.declared.stop.Stop.TheVariants as stop
-use Rattle.hv_session.specs.Answered.{IsAnswered}
-use Rattle.hv_program.specs.Output.{IsReply, IsOutput, IsFullIn}
-use Rattle.hv_program.specs.Statements.{LacksRoom, GoesOneByOne}
+use Rattle.hv_program.specs.Doing.{Waiting, Standing, waiting_in, IsDone, AreDone}
+use Rattle.hv_program.specs.Own.{Grows}
 
-abbrev pub IsShort : List ℕ → Type 0
-IsShort text = length text ≤ 32768
+-- ---- which actions a session takes
 
--- each text is short
-abbrev pub AreShort : List (List ℕ) → Type 0
-AreShort texts = AllByRecursion IsShort texts
+pub record IsShort (statement : Statement) : Type 0 where
+  pub text : length statement.text ≤ 32768
+  pub session : length statement.session.name ≤ 32
+  pub hold : IsHold statement.hold
 
--- nothing was noted, since there was no room
-pub record IsFullFor (before now : List Entry) (reply : List ℕ) (refused : Bool) : Type 0 where
-  pub book : now ≡ before
-  pub lacks : LacksRoom before
-  pub full : IsFullIn reply refused
+abbrev pub IsFine : Action → Type 0
+IsFine (action.Run statement) = IsShort statement
+IsFine other = Unit {0}
 
--- a statement was taken up, or there was no room for it
-abbrev pub IsTaken : List Entry → List Entry → ℕ → List ℕ → List ℕ → Bool → Type 0
-IsTaken before now number text reply refused =
-    IsAnswered before now number text reply refused ⊎ IsFullFor before now reply refused
+-- ---- one action
 
--- the book went on by these statements, and their replies were written
-pub record Prints (book book' : List Entry) (texts : List (List ℕ)) (before now : Option (List ℕ)) (refused : Bool) : Type 0 where
-  pub one_by_one : GoesOneByOne book book' 1 texts
-  pub grows : (more : List Entry) × (book' ≡ book ++ more)
+-- what the run began with
+abbrev pub beginning : List Entry → Standing
+beginning start = record { book = start; waiting = [] }
+
+-- a transaction behind those of that book
+abbrev pub IsLater : List Entry → Waiting → Type 0
+IsLater start waiting = length (state_of start).transactions < waiting.txn
+
+-- the run stands behind that book
+pub record IsBehind (start : List Entry) (now : Standing) : Type 0 where
+  pub grown : (more : List Entry) × (now.book ≡ start ++ more)
+  pub later : AllByRecursion (IsLater start) now.waiting
+
+-- the action was done, and this is its reply
+pub record Acts (low high : ℕ) (before now : Standing) (action : Action) (reply : List ℕ) (refused : Bool) : Type 0 where
+  pub grows : Grows low high before.book now.book
+  pub done : (start : List Entry) → IsBehind start before → IsDone start now.book before now action reply refused
+
+-- the transaction of an action: of a statement the next one, and of a release that of the statement that waits
+abbrev pub txn_of_waiting : Waiting → ℕ
+txn_of_waiting waiting = waiting.txn
+
+abbrev pub number_of : Standing → Action → Option ℕ
+number_of standing (action.Announce session) = None
+number_of standing (action.Run statement) = Some (next_number standing.book)
+number_of standing (action.Release session) = option_map txn_of_waiting (waiting_in session.name standing.waiting)
+
+-- entries of that transaction alone, and none where there is no transaction
+abbrev pub AreOfSome : Option ℕ → List Entry → Type 0
+AreOfSome None events = events ≡ []
+AreOfSome (Some txn) events = AreOf txn events
+
+-- the run stopped in this action: what was noted of it is legal behind the book, and doesn't end its transaction
+pub record IsHalfway (before : Standing) (action : Action) (now : List Entry) : Type 0 where
+  pub added : List Entry
+  pub book : now ≡ before.book ++ added
+  pub of_it : AreOfSome (number_of before action) added
+  pub legal : IsLegalFrom profile (state_of before.book) added
+  pub unended : AllByRecursion IsNoEnd added
+
+-- the further entries that the journal may have: one, or two
+pub record AreFurther (before : Standing) (action : Action) (further : List Entry) : Type 0 where
+  pub of_it : AreOfSome (number_of before action) further
+  pub few : length further ≤ 2
+
+-- The journal reads to the book, and where the store failed, to the book or to the book and such further entries.
+abbrev pub LeavesFurther : HouseFault → Option Store → Standing → Action → List Entry → Type 0
+LeavesFurther why told before action now = (further : List Entry) × AreFurther before action further × Leaves why further told now
+
+-- the action wasn't done to its end
+pub record Stops (why : HouseFault) (told : Option Store) (before : Standing) (action : Action) (now : List Entry) : Type 0 where
+  pub halfway : IsHalfway before action now
+  pub leaves : LeavesFurther why told before action now
+
+-- ---- several
+
+-- the run stands there by these actions, and their replies were written
+pub record Prints (low high : ℕ) (start : List Entry) (now : Standing) (actions : List Action) (sink sink' : Option (List ℕ)) (refused : Bool) : Type 0 where
+  pub grows : Grows low high start now.book
+  pub later : AllByRecursion (IsLater start) now.waiting
   pub output : List ℕ
-  pub written : Moves (Gains output) before now
-  pub is_output : IsOutput book book' 1 texts output refused
+  pub written : Moves (Gains output) sink sink'
+  pub are_done : AreDone start now.book (beginning start) now actions output refused
+
+abbrev pub PrintsAll : ℕ → ℕ → List Entry → List Entry → List Action → Option (List ℕ) → Option (List ℕ) → Bool → Type 0
+PrintsAll low high start book actions sink sink' refused =
+    (waiting : List Waiting) × Prints low high start (record { book = book; waiting = waiting }) actions sink sink' refused
 
 -- a front of the reply was written behind what was written before
 abbrev pub EndsWithin : List ℕ → List ℕ → List ℕ → List ℕ → Type 0
 EndsWithin output reply before now = GainsPart reply (before ++ output) now
 
--- the sink failed in the reply of this statement
-pub record CutsOff (book book' : List Entry) (texts : List (List ℕ)) (before now : Option (List ℕ)) : Type 0 where
-  pub front : List (List ℕ)
-  pub text : List ℕ
-  pub behind : List (List ℕ)
-  pub texts_are : texts ≡ front ++ text ∷ behind
-  pub one_by_one : GoesOneByOne book book' 1 (front ++ text ∷ [])
-  pub grows : (more : List Entry) × (book' ≡ book ++ more)
+-- the sink failed in the reply of this action
+pub record CutsOff (low high : ℕ) (start book : List Entry) (actions : List Action) (sink sink' : Option (List ℕ)) : Type 0 where
+  pub front : List Action
+  pub action : Action
+  pub behind : List Action
+  pub actions_are : actions ≡ front ++ action ∷ behind
+  pub before : Standing
+  pub waiting : List Waiting
+  pub grows : Grows low high start book
   pub output : List ℕ
   pub refused : Bool
-  pub is_output : IsOutput book book' 1 front output refused
+  pub are_done : AreDone start book (beginning start) before front output refused
   pub reply : List ℕ
   pub this : Bool
-  pub is_reply : IsReply book book' (length front + 1) text reply this
-  pub written : Moves (EndsWithin output reply) before now
+  pub is_done : IsDone start book before (record { book = book; waiting = waiting }) action reply this
+  pub written : Moves (EndsWithin output reply) sink sink'
 
--- the run stopped in this statement, for this reason
-pub record StopsIn (why : HouseFault) (told : Option Store) (book book' : List Entry) (texts : List (List ℕ)) (before now : Option (List ℕ)) : Type 0 where
-  pub front : List (List ℕ)
-  pub text : List ℕ
-  pub behind : List (List ℕ)
-  pub texts_are : texts ≡ front ++ text ∷ behind
-  pub done : List Entry
-  pub one_by_one : GoesOneByOne book done 1 front
-  pub grows : (more : List Entry) × (done ≡ book ++ more)
-  pub legal : IsLegal profile done
-  pub halfway : IsHalfway done book' (length front + 1) text
-  pub leaves : LeavesFurther why told done book' (length front + 1) text
+-- the run stopped in this action, for this reason
+pub record StopsIn (why : HouseFault) (told : Option Store) (low high : ℕ) (start book : List Entry) (actions : List Action) (sink sink' : Option (List ℕ)) : Type 0 where
+  pub front : List Action
+  pub action : Action
+  pub behind : List Action
+  pub actions_are : actions ≡ front ++ action ∷ behind
+  pub before : Standing
+  pub grows : Grows low high start before.book
+  pub legal : IsLegal profile before.book
+  pub stops : Stops why told before action book
   pub output : List ℕ
   pub refused : Bool
-  pub is_output : IsOutput book book' 1 front output refused
-  pub written : Moves (Gains output) before now
+  pub are_done : AreDone start book (beginning start) before front output refused
+  pub written : Moves (Gains output) sink sink'
 
 abbrev pub HasAll : List Entry → Store → Type 0
 HasAll book store = Reads book store.journal × IsFaithful book store
 
--- the reasons for which statements stop, and what each leaves
-abbrev pub Halts : Stop → List Entry → List Entry → List (List ℕ) → Option (List ℕ) → Option (List ℕ) → Option Store → Type 0
-Halts stop.Source book book' texts before now told = ⊥
-Halts stop.Sink book book' texts before now told = CutsOff book book' texts before now × Tells told (HasAll book')
-Halts stop.Store book book' texts before now told = StopsIn fault.Store told book book' texts before now
-Halts stop.NoMemory book book' texts before now told = StopsIn fault.NoMemory told book book' texts before now
+-- the reasons for which a run stops, and what each leaves
+abbrev pub Halts : Stop → ℕ → ℕ → List Entry → List Entry → List Action → Option (List ℕ) → Option (List ℕ) → Option Store → Type 0
+Halts stop.Source low high start book actions sink sink' told = ⊥
+Halts stop.Sink low high start book actions sink sink' told = CutsOff low high start book actions sink sink' × Tells told (HasAll book)
+Halts stop.Store low high start book actions sink sink' told = StopsIn fault.Store told low high start book actions sink sink'
+Halts stop.NoMemory low high start book actions sink sink' told = StopsIn fault.NoMemory told low high start book actions sink sink'

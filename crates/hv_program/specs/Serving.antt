@@ -1,4 +1,4 @@
--- What serving the statements of a script promises, by the status.
+-- What serving the actions of a script promises, by the status.
 use Rattle.std.specs.Prelude.{◌≡◌, ◌⊎◌, ℕ, ◌+◌, ◌<◌, Bool, true, false, IsTrue, Result, Ok, Err, if◌then◌else◌, Option, Some, List, [], ◌∷◌}
 use Rattle.hv_base.specs.Told.{Tells, Moves}
 use Rattle.hv_base.specs.Faults.{Rose}
@@ -10,6 +10,7 @@ use Rattle.hv_history.specs.declared.entry.Entry.{Entry}
 use Rattle.hv_history.specs.State.{state_of}
 use Rattle.hv_history.specs.Legal.{load, profile}
 use Rattle.hv_recovery.specs.Recovery.{IsBadJournalAt}
+use Rattle.hv_directives.specs.declared.actions.Action.{Action}
 use Rattle.hv_house.specs.Booting.{opening_of, OpensTo, IsFullAt, CanOpen, HasNoBook, HasFullBook}
 use Rattle.hv_program.specs.Lines.{journal_line, full_line}
 use Rattle.hv_program.specs.Results.{IsServed, IsCutOff, StopsForMemory, StopsForStore}
@@ -27,27 +28,27 @@ pub record IsCutFull (book : List Entry) (written now : List ℕ) (before after 
   pub store_same : after ≡ before
 
 -- what was written, what the book has, and which files stand, by the status
-pub record ServedOf (status : ℕ) (book : List Entry) (texts : List (List ℕ)) (written now : List ℕ) (before after : Store) : Type 0 where
-  pub accepted : status ≡ 0 → IsServed (opening_of book) texts written now after false
-  pub refused : status ≡ 1 → IsServed (opening_of book) texts written now after true
+pub record ServedOf (status low high : ℕ) (book : List Entry) (actions : List Action) (written now : List ℕ) (before after : Store) : Type 0 where
+  pub accepted : status ≡ 0 → IsServed low high (opening_of book) actions written now after false
+  pub refused : status ≡ 1 → IsServed low high (opening_of book) actions written now after true
   pub source : status ≡ 3 → ⊥
-  pub sink : status ≡ 4 → IsCutOff (opening_of book) texts written now after ⊎ IsCutFull book written now before after
-  pub store : status ≡ 5 → StopsForStore book texts written now before after
-  pub memory : status ≡ 7 → StopsForMemory book texts written now before after
+  pub sink : status ≡ 4 → IsCutOff low high (opening_of book) actions written now after ⊎ IsCutFull book written now before after
+  pub store : status ≡ 5 → StopsForStore low high book actions written now before after
+  pub memory : status ≡ 7 → StopsForMemory low high book actions written now before after
 
 -- what the sink and the store tell then
-pub record IsAfterServing (status : ℕ) (book : List Entry) (texts : List (List ℕ)) (written : List ℕ) (before : Store) (sink : Option (List ℕ)) (told : Option Store) : Type 0 where
+pub record IsAfterServing (status low high : ℕ) (book : List Entry) (actions : List Action) (written : List ℕ) (before : Store) (sink : Option (List ℕ)) (told : Option Store) : Type 0 where
   pub now : List ℕ
   pub store : Store
   pub sink_tells : sink ≡ Some now
   pub store_tells : told ≡ Some store
-  pub served : ServedOf status book texts written now before store
+  pub served : ServedOf status low high book actions written now before store
 
 -- over a store that opens to a book
-abbrev pub Serves : ℕ → List (List ℕ) → Option (List ℕ) → Option (List ℕ) → Option Store → Option Store → Type 0
-Serves status texts sink sink' told told' =
+abbrev pub Serves : ℕ → ℕ → ℕ → List Action → Option (List ℕ) → Option (List ℕ) → Option Store → Option Store → Type 0
+Serves status low high actions sink sink' told told' =
     (written : List ℕ) (store : Store) (book : List Entry) → sink ≡ Some written → told ≡ Some store → OpensTo book store
-    → IsAfterServing status book texts written store sink' told'
+    → IsAfterServing status low high book actions written store sink' told'
 
 -- the sink and the store are blamed only where they failed
 pub record BlamesOf (status sink sink' store store' : ℕ) : Type 0 where

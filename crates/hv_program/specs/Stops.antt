@@ -8,6 +8,7 @@ use Rattle.hv_program.specs.declared.stop.Stop.TheVariants as stop
 
 abbrev pub stop_of : HouseFault → Stop
 stop_of fault.Store = stop.Store
+stop_of (fault.Failed count) = stop.Store
 stop_of fault.NoMemory = stop.NoMemory
 
 abbrev pub status_of_stop : Stop → ℕ

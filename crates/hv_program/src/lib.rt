@@ -1,6 +1,8 @@
-//! The program: its words, its script, and its statements one after another.
+//! The program: its words, its script, and what it asks to be done, one after another.
 #![tactic(auto)]
 
+mod action;
+mod held;
 mod laws;
 mod program;
 mod reading;

@@ -1,19 +1,21 @@
 ghost use Rattle.std.specs.Prelude.{◌≡◌, ◌≤◌, [], ◌∷◌, length, map};
+ghost use Rattle.std.specs.List.{AllByRecursion};
 ghost use Rattle.std.specs.String.{string_bytes};
 ghost use Rattle.hv_base.specs.Told.{StaysTold};
 ghost use Rattle.hv_program.specs.Headline.{Headline};
 ghost use Rattle.hv_program.specs.Lines.{script_line, journal_line, full_line};
 ghost use Rattle.hv_program.specs.Refused.{is_one_of, Refuses};
 ghost use Rattle.hv_program.specs.Causes.{HasCauses, Completes};
-ghost use Rattle.hv_program.specs.Running.{AreShort};
+ghost use Rattle.hv_program.specs.Running.{IsFine};
 ghost use Rattle.hv_program.specs.Serving.{ran_status, Serves, BlamesOf, IsSaid, IsSaidOrNot, Opens};
 
 use crate::reading::read_front;
 use crate::run::run;
 use crate::stop::Stop;
 use hv_base::{Gate, Sink, Source, write_all};
+use hv_directives::{Action, read_actions};
 use hv_house::{BootFault, House};
-use hv_script::{MAX_SCRIPT, Script, ScriptFault, read_script, read_words};
+use hv_script::{MAX_SCRIPT, ScriptFault, read_words};
 use hv_shelf::Shelf;
 use std::alloc::Global;
 use std::sync::Wait;
@@ -86,16 +88,15 @@ fn status_of(ran: Result<bool, Stop>) -> u8
     }
 }
 
-/// Opens the store, does the statements, and closes it.
+/// Opens the store, does what the script asks for, and closes it.
 fn serve<O: Sink, D: Shelf + Drop>(
     alloc: Global,
     sink: &mut O,
     shelf: D,
-    script: &Script,
+    actions: &[Action],
 ) -> Ended<D>
-    requires few { length script.now.texts ≤ 10000 }
-    requires short { AreShort script.now.texts }
-    ensures served { Serves result.status script.now.texts (O.written sink.old)
+    requires fine { AllByRecursion IsFine actions.now }
+    ensures served { Serves result.status (D.faults shelf) (D.faults result.shelf) actions.now (O.written sink.old)
         (O.written sink.new) (D.told shelf) (D.told result.shelf) }
     ensures opened { Opens (O.written sink.old) (O.written sink.new)
         (D.told shelf) (D.told result.shelf) result.status }
@@ -106,7 +107,7 @@ fn serve<O: Sink, D: Shelf + Drop>(
 {
     match House::boot(alloc, shelf) {
         Ok(mut house) => {
-            let ran = run(alloc, &mut house, sink, script.texts.as_slice());
+            let ran = run(alloc, &mut house, sink, actions);
             Ended {
                 status: status_of(ran),
                 shelf: house.close(),
@@ -153,7 +154,7 @@ pub fn hive<R: Threads + Wait + Sync, I: Source, O: Sink, D: Shelf + Send + Drop
           source = I.left source.new;
           sink = O.written sink.new;
           store = D.told result.shelf;
-        }) result.status }
+        }) (D.faults shelf) (D.faults result.shelf) result.status }
     ensures refused { Refuses (map string_bytes words.now)
         (record { source = I.left source.old; sink = O.written sink.old; store = D.told shelf })
         (record {
@@ -192,8 +193,8 @@ pub fn hive<R: Threads + Wait + Sync, I: Source, O: Sink, D: Shelf + Send + Drop
             };
         }
     };
-    match read_script(alloc, &bytes) {
-        Ok(script) => serve(alloc, sink, shelf, &script),
+    match read_actions(alloc, &bytes) {
+        Ok(actions) => serve(alloc, sink, shelf, actions.as_slice()),
         Err(ScriptFault::Refused { line }) => Ended {
             status: refused_script(alloc, sink, line),
             shelf,

@@ -37,7 +37,7 @@ impl From<HouseFault> for Stop {
 
     fn from(fault: HouseFault) -> Stop {
         match fault {
-            HouseFault::Store => Stop::Store,
+            HouseFault::Store | HouseFault::Failed { .. } => Stop::Store,
             HouseFault::NoMemory => Stop::NoMemory,
         }
     }

@@ -10,7 +10,7 @@ use std::test::Fail;
 use std::thread::Threads;
 
 /// Runs a script over this store: the status is this one, and these bytes are printed.
-fn runs<R: Threads + Wait + Sync + Abort>(
+pub(crate) fn runs<R: Threads + Wait + Sync + Abort>(
     rt: &R,
     alloc: Global,
     shelf: MemoryShelf,
@@ -31,7 +31,7 @@ fn empty(alloc: Global) -> Result<MemoryShelf, Fail> {
     Ok(MemoryShelf::new(alloc, Vec::new(alloc))?)
 }
 
-const FIRST: &str =
+pub(crate) const FIRST: &str =
     "CREATE TABLE t (a INT, s STRING); INSERT INTO t VALUES (2,'y'),(1,'x'); SELECT * FROM t;";
 
 /// The file of the two rows.
@@ -343,7 +343,7 @@ const CREATED: &str = "OK\n";
 
 const INSERTED: &str = "OK\nOK inserted 2 deleted 0\n";
 
-const ALL: &str = "OK\nOK inserted 2 deleted 0\na\ts\n1\tx\n2\ty\n";
+pub(crate) const ALL: &str = "OK\nOK inserted 2 deleted 0\na\ts\n1\tx\n2\ty\n";
 
 /// The journal is written and synced once for the opening, and then twice for each append: for the Boot;
 /// for the Opened and Start of CREATE TABLE, and its Create; for those of INSERT, its Given and its Commit;
@@ -364,19 +364,15 @@ fn a_journal_that_fails(rt: HostRuntime) -> Result<(), Fail> {
     Ok(())
 }
 
-/// The journal is read once and its length asked once, INSERT puts one file, and SELECT lists and gets it.
+/// The journal is read once and its length asked once. INSERT puts one file, and SELECT lists and gets it: the
+/// second such call isn't made. What comes where the first fails is said in faults.
 #[test]
 fn a_store_that_fails(rt: HostRuntime) -> Result<(), Fail> {
     let alloc = rt.alloc();
-    let rows = [
-        (Op::JournalRead, ""),
-        (Op::JournalLen, ""),
-        (Op::Put, CREATED),
-        (Op::List, INSERTED),
-        (Op::Get, INSERTED),
-    ];
-    for (op, printed) in rows {
-        fails(&rt, alloc, op, 0, 5, printed)?;
+    for op in [Op::JournalRead, Op::JournalLen] {
+        fails(&rt, alloc, op, 0, 5, "")?;
+    }
+    for op in [Op::JournalRead, Op::JournalLen, Op::Put, Op::List, Op::Get] {
         fails(&rt, alloc, op, 1, 0, ALL)?;
     }
     for op in [Op::Rename, Op::Remove] {
@@ -437,12 +433,10 @@ fn what_a_failed_journal_leaves(rt: HostRuntime) -> Result<(), Fail> {
 }
 
 #[test]
-fn what_a_failed_store_leaves(rt: HostRuntime) -> Result<(), Fail> {
+fn what_a_journal_that_is_not_opened_leaves(rt: HostRuntime) -> Result<(), Fail> {
     let alloc = rt.alloc();
     left(&rt, alloc, Op::JournalLen, 0, (5, ""), NO_TABLE)?;
-    left(&rt, alloc, Op::Put, 0, (5, CREATED), NO_ROWS)?;
-    left(&rt, alloc, Op::List, 0, (5, INSERTED), ROWS_READ)?;
-    left(&rt, alloc, Op::Get, 0, (5, INSERTED), ROWS_READ)?;
+    left(&rt, alloc, Op::JournalRead, 0, (5, ""), NO_TABLE)?;
     Ok(())
 }
 

@@ -1,43 +1,74 @@
--- Books that grow, and the tables that are known of them.
-use Rattle.std.proofs.Common.{◌≡◌, ℕ, zero, suc, ◌+◌, ◌<◌, List, [], ◌∷◌, ◌++◌, length, map, fold, refl, ap, ◌∙◌, arith}
-use Rattle.std.specs.List.{slice_get, AllByRecursion}
-use Rattle.std.specs.Option.{option_map}
-use Rattle.std.specs.Prelude.{◌≤◌, sum_by}
-use Rattle.std.proofs.lemmas.List.Sums.{sum_by-cons}
+-- Entries that follow a book: those of one statement that begin it, and books that fit and are legal.
+use Rattle.std.proofs.Common.{◌≡◌, ℕ, ◌<◌, ◌≤◌, List, [], ◌∷◌, ◌++◌, length, fold, Some, refl, sym, ap, ◌∙◌, subst, arith}
+use Rattle.std.specs.List.{AllByRecursion}
+use Rattle.std.proofs.lemmas.List.Sums.{fold-append}
 use Rattle.hv_history.specs.declared.entry.Entry.{Entry}
-use Rattle.hv_history.specs.declared.state.Table.{Table}
-use Rattle.hv_history.specs.State.{State, after, state_of, nothing_yet, numbered}
-use Rattle.hv_history.specs.declared.state.Transaction.{Transaction}
-use Rattle.hv_history.specs.Legal.{one_if, open_one, working_one, AllFit, AllTruthful, IsLegalFrom, IsLegal, profile}
-use Rattle.hv_dirs.specs.Names.{write_end}
-use Rattle.hv_stands.specs.Sound.{HasEnded, HasFewOwners, IsIdle}
-use Rattle.hv_stands.specs.Endings.{HasSpace}
-use Rattle.hv_known.specs.Known.{known_of}
-use Rattle.hv_house.specs.House.{HasNumbers, book_limit}
+use Rattle.hv_history.specs.declared.entry.Entry.TheVariants as entry
+use Rattle.hv_history.specs.declared.entry.Cause.{Cause}
+use Rattle.hv_history.specs.declared.entry.Cause.TheVariants as cause
+use Rattle.hv_history.specs.State.{State, after, state_of, nothing_yet}
+use Rattle.hv_history.specs.Legal.{AllFit, AllTruthful, IsTruthful, IsLegalFrom, IsLegal, profile}
+use Rattle.hv_stands.specs.Running.{IsOf}
+use Rattle.hv_stands.specs.Statements.{AllFitting}
+use Rattle.hv_ending.specs.Ending.{KeepsCount, IsNoEnd, IsUndamaged}
 
--- ---- entries are counted
+-- ---- facts of each entry
 
-counted-from : (s : State) (book : List Entry) → (fold after s book).entries ≡ s.entries + length book
-counted-from s [] = omega arith
-counted-from s (e ∷ book) = counted-from (after s e) book ∙ omega arith
+pub all-append : {A : Type 0} (P : A → Type 0) (xs ys : List A) → AllByRecursion P xs → AllByRecursion P ys → AllByRecursion P (xs ++ ys)
+all-append P [] ys first then = then
+all-append P (x ∷ xs) ys first then = (first.0, all-append P xs ys first.1 then)
 
-pub entries-counted : (book : List Entry) → (state_of book).entries ≡ length book
-entries-counted book = counted-from nothing_yet book ∙ omega arith
+pub all-map : {A : Type 0} (P Q : A → Type 0) → ((x : A) → P x → Q x) → (xs : List A) → AllByRecursion P xs → AllByRecursion Q xs
+all-map P Q f [] all = tt
+all-map P Q f (x ∷ xs) all = (f x all.0, all-map P Q f xs all.1)
 
--- ---- a book whose transactions have ended has room by its length
+-- ---- entries by which a statement begins
 
-none-open : (ts : List Transaction) → AllByRecursion HasEnded ts → sum_by open_one ts ≡ 0
-none-open [] h = refl
-none-open (t ∷ ts) h =
-    let none : open_one t ≡ 0 = ap one_if h.0 in
-    omega (arith, sum_by-cons open_one t ts, none, none-open ts h.1)
+abbrev pub IsBegun : Entry → Type 0
+IsBegun (entry.Opened txn session number text) = Unit {0}
+IsBegun (entry.Start txn statement) = Unit {0}
+IsBegun (entry.Given txn table write) = Unit {0}
+IsBegun event = ⊥
 
-pub space-left : (book : List Entry) → IsIdle (state_of book) → length book + 4 ≤ book_limit → HasSpace book
-space-left book at_rest few =
-    let idle : sum_by working_one (state_of book).jobs ≡ 0 = ap (sum_by working_one) at_rest.sound.no_jobs in
-    omega (arith, entries-counted book, none-open (state_of book).transactions at_rest.ended, idle, few)
+pub begun-counts : (low high : ℕ) (event : Entry) → IsBegun event → KeepsCount low high event
+begun-counts low high (entry.Opened txn session number text) begun = tt
+begun-counts low high (entry.Start txn statement) begun = tt
+begun-counts low high (entry.Given txn table write) begun = tt
+begun-counts low high event begun = absurd begun
 
--- ---- legal books go on
+pub begun-unended : (event : Entry) → IsBegun event → IsNoEnd event
+begun-unended (entry.Opened txn session number text) begun = tt
+begun-unended (entry.Start txn statement) begun = tt
+begun-unended (entry.Given txn table write) begun = tt
+begun-unended event begun = absurd begun
+
+pub begun-undamaged : (event : Entry) → IsBegun event → IsUndamaged event
+begun-undamaged (entry.Opened txn session number text) begun = tt
+begun-undamaged (entry.Start txn statement) begun = tt
+begun-undamaged (entry.Given txn table write) begun = tt
+begun-undamaged event begun = absurd begun
+
+pub begun-true : (s : State) (event : Entry) → IsBegun event → IsTruthful s event
+begun-true s (entry.Opened txn session number text) begun = tt
+begun-true s (entry.Start txn statement) begun = tt
+begun-true s (entry.Given txn table write) begun = tt
+begun-true s event begun = absurd begun
+
+pub begun-truthful : (s : State) (events : List Entry) → AllByRecursion IsBegun events → AllTruthful s events
+begun-truthful s [] begun = tt
+begun-truthful s (event ∷ events) begun = (begun-true s event begun.0, begun-truthful (after s event) events begun.1)
+
+-- a count that was kept is above a lower one
+pub counts-from : (low mid high : ℕ) → low ≤ mid → (event : Entry) → KeepsCount mid high event → KeepsCount low high event
+counts-from low mid high below (entry.Abort txn (cause.ReadFault count)) keeps = (omega (arith, keeps.0, below), keeps.1)
+counts-from low mid high below (entry.Abort txn (cause.WriteFault count)) keeps = (omega (arith, keeps.0, below), keeps.1)
+counts-from low mid high below event keeps = cc
+
+-- ---- books that fit, and legal ones
+
+pub fit-behind : (s : State) (book more : List Entry) → AllFit profile s (book ++ more) → AllFit profile (fold after s book) more
+fit-behind s [] more fit = fit
+fit-behind s (event ∷ book) more fit = fit-behind (after s event) book more fit.1
 
 fit-from : (s : State) (book more : List Entry) → AllFit profile s book → AllFit profile (fold after s book) more → AllFit profile s (book ++ more)
 fit-from s [] more fit next = next
@@ -47,32 +78,20 @@ truthful-from : (s : State) (book more : List Entry) → AllTruthful s book → 
 truthful-from s [] more truthful next = next
 truthful-from s (e ∷ book) more truthful next = (truthful.0, truthful-from (after s e) book more truthful.1 next)
 
-pub legal-goes-on : (book more : List Entry) → IsLegal profile book → IsLegalFrom profile (state_of book) more → IsLegal profile (book ++ more)
-legal-goes-on book more legal next = record {
-  fit = fit-from nothing_yet book more legal.fit next.fit;
-  truthful = truthful-from nothing_yet book more legal.truthful next.truthful;
+pub legal-from : (s : State) (book more : List Entry) → IsLegalFrom profile s book → IsLegalFrom profile (fold after s book) more → IsLegalFrom profile s (book ++ more)
+legal-from s book more legal next = record {
+  fit = fit-from s book more legal.fit next.fit;
+  truthful = truthful-from s book more legal.truthful next.truthful;
 }
 
--- ---- what is known of tables
+-- what begins a statement behind a book is legal, where it fits
+pub begun-legal : (book more : List Entry) → AllFitting (book ++ more) → AllByRecursion IsBegun more → IsLegalFrom profile (state_of book) more
+begun-legal book more fit begun = record { fit = fit-behind nothing_yet book more fit; truthful = begun-truthful (state_of book) more begun }
 
-pub map-append : {A B : Type 0} (f : A → B) (xs ys : List A) → map f (xs ++ ys) ≡ map f xs ++ map f ys
-map-append f [] ys = refl
-map-append f (x ∷ xs) ys = ap (λ zs. f x ∷ zs) (map-append f xs ys)
+-- and so is one entry more
+pub one-legal : (book : List Entry) (event : Entry) → IsLegal profile book → AllFitting (book ++ event ∷ []) → IsTruthful (state_of book) event → IsLegal profile (book ++ event ∷ [])
+one-legal book event legal fit truthful =
+    legal-from nothing_yet book (event ∷ []) legal (record { fit = fit-behind nothing_yet book (event ∷ []) fit; truthful = (truthful, tt) })
 
-pub length-map : {A B : Type 0} (f : A → B) (xs : List A) → length (map f xs) ≡ length xs
-length-map f [] = refl
-length-map f (x ∷ xs) = omega (arith, length-map f xs)
-
-get-map : {A B : Type 0} (f : A → B) (xs : List A) (n : ℕ) → slice_get (map f xs) n ≡ option_map f (slice_get xs n)
-get-map f [] n = refl
-get-map f (x ∷ xs) zero = refl
-get-map f (x ∷ xs) (suc n) = get-map f xs n
-
-pub numbered-map : {A B : Type 0} (f : A → B) (xs : List A) (n : ℕ) → numbered (map f xs) n ≡ option_map f (numbered xs n)
-numbered-map f xs zero = refl
-numbered-map f xs (suc n) = get-map f xs n
-
-pub numbers-known : (s : State) (most : ℕ) (tables : List Table) → most + 1 < write_end → AllByRecursion (HasFewOwners most) tables
-    → AllByRecursion HasNumbers (map (known_of s) tables)
-numbers-known s most [] small few = tt
-numbers-known s most (table ∷ tables) small few = (omega (arith, few.0, small), numbers-known s most tables small few.1)
+pub state-behind : (book more : List Entry) → state_of (book ++ more) ≡ fold after (state_of book) more
+state-behind book more = fold-append after nothing_yet book more

@@ -1,10 +1,10 @@
-pub mod Shorts
-pub mod Books
-pub mod Stores
-pub mod SeenTables
-pub mod Puttable
-pub mod Idle
-pub mod Halfway
-pub mod Running
-pub mod Finishing
-pub mod Joining
+mod Books
+mod Shorts
+mod Telling
+mod Passing
+mod SeenTables
+mod Cutting
+mod Going
+mod Keeping
+mod Beginning
+mod Held

@@ -1,6 +1,5 @@
 pub mod Faults
-pub mod Ends
+pub mod Lines
+pub mod Taking
 pub mod Seeing
-pub mod Started
-pub mod Halting
-pub mod Answered
+pub mod Ways

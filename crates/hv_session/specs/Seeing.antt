@@ -1,4 +1,4 @@
--- What a started statement sees: the tables that it names and that are known, in the order in which it names them.
+-- What a started statement sees: the tables that it names and that were there at its snapshot, in the order in which it names them.
 use Rattle.std.specs.Prelude.{◌≡◌, ℕ, ◌≤◌, Bool, Option, List, [], ◌∷◌, ◌++◌, length, take}
 use Rattle.std.specs.Option.{option_to_list}
 use Rattle.hv_shelf.specs.Disk.{Store}
@@ -10,32 +10,38 @@ use Rattle.hv_logic.specs.declared.seen.Seen.{Seen}
 use Rattle.hv_logic.specs.Names.{names_in}
 use Rattle.hv_changes.specs.Columns.{columns_of}
 use Rattle.hv_meaning.specs.Laws.{reads_rows}
-use Rattle.hv_known.specs.declared.known.Known.{Known}
+use Rattle.hv_history.specs.declared.entry.Entry.{Entry}
+use Rattle.hv_history.specs.State.{State, state_of}
+use Rattle.hv_stands.specs.Reading.{table_of_name}
 use Rattle.hv_house.specs.declared.house.House.{House}
-use Rattle.hv_house.specs.House.{known_of_name, IsAsked}
+use Rattle.hv_house.specs.House.{entries_of, IsAsked}
 use Rattle.hv_house.specs.Seeing.{IsSeenOf}
 
+-- the state at a place of a book
+abbrev pub state_at : List Entry → ℕ → State
+state_at book place = state_of (take place book)
+
 -- one name more
-pub record AddsSeen (told : Option Store) (tables : List Known) (reads : Bool) (name : List ℕ) (before now : List Seen) : Type 0 where
+pub record AddsSeen (told : Option Store) (state : State) (reads : Bool) (name : List ℕ) (before now : List Seen) : Type 0 where
   pub first : Option Seen
-  pub sees : IsSeenOf told reads (known_of_name name tables) first
+  pub sees : IsSeenOf told reads state (table_of_name name state.tables) first
   pub now_is : now ≡ before ++ option_to_list first
 
 -- of these names each one's table, where there is one
-abbrev pub AreSeen : Option Store → List Known → Bool → List Lock → List Seen → Type 0
-AreSeen told tables reads [] seen = seen ≡ []
-AreSeen told tables reads (lock ∷ locks) seen =
+abbrev pub AreSeen : Option Store → State → Bool → List Lock → List Seen → Type 0
+AreSeen told state reads [] seen = seen ≡ []
+AreSeen told state reads (lock ∷ locks) seen =
     (first : Option Seen) × (rest : List Seen) × (seen ≡ option_to_list first ++ rest)
-    × IsSeenOf told reads (known_of_name lock.name tables) first × AreSeen told tables reads locks rest
+    × IsSeenOf told reads state (table_of_name lock.name state.tables) first × AreSeen told state reads locks rest
 
-abbrev pub IsSeen : Option Store → List Known → Stmt → List Seen → Type 0
-IsSeen told tables tree seen = AreSeen told tables (reads_rows tree) (names_in tree) seen
+abbrev pub IsSeen : Option Store → State → Stmt → List Seen → Type 0
+IsSeen told state tree seen = AreSeen told state (reads_rows tree) (names_in tree) seen
 
 -- of the names the first ones were looked at
-pub record SeesUpTo {D : Type 0} (told : D → Option Store) (faults : D → ℕ) (first now : House D) (reads : Bool) (locks : List Lock) (i : ℕ) (seen : List Seen) : Type 0 where
+pub record SeesUpTo {D : Type 0} (told : D → Option Store) (faults : D → ℕ) (first now : House D) (place : ℕ) (reads : Bool) (locks : List Lock) (i : ℕ) (seen : List Seen) : Type 0 where
   pub asked : IsAsked told first now
   pub later : faults first.shelf ≤ faults now.shelf
-  pub sees : AreSeen (told first.shelf) first.tables.items reads (take i locks) seen
+  pub sees : AreSeen (told first.shelf) (state_at (entries_of first) place) reads (take i locks) seen
 
 -- a row file counts the columns of the table that is changed
 abbrev pub IsNarrow : Meaning → Type 0

@@ -1,10 +1,14 @@
-//! One statement of a session: from its text to its reply.
+//! A statement of a session: taken up, held where it is to be, and ended, beside others that are open.
 #![tactic(auto)]
 
-mod ending;
-mod reply;
+mod ends;
+mod holds;
+mod lines;
+mod opening;
+mod paused;
 mod seeing;
 mod statement;
 
-pub use reply::Reply;
-pub use statement::take_up;
+pub use hv_ending::Reply;
+pub use paused::{Paused, Point, Taken};
+pub use statement::{finish, take_up};

@@ -1,14 +1,17 @@
 //! What a started statement sees, and what it comes to.
 
-ghost use Rattle.std.specs.Prelude.{◌≡◌, ◌≤◌, Some, IfOk, OnOk, IfErr, nat_le, length, true};
-ghost use Rattle.std.specs.List.{AllByRecursion};
+ghost use Rattle.std.specs.Prelude.{◌≡◌, ◌≤◌, ◌++◌, ◌∷◌, [], Some, IfOk, OnOk, IfErr, length, take, true};
+ghost use Rattle.hv_base.specs.Told.{Tells};
+ghost use Rattle.hv_built.specs.Built.{IsBuilt};
 ghost use Rattle.hv_changes.specs.Columns.{columns_of};
 ghost use Rattle.hv_meaning.specs.Meaning.{meaning_in};
 ghost use Rattle.hv_meaning.specs.Laws.{MeansSomething, are_values, reads_rows};
-ghost use Rattle.hv_house.specs.Faults.{StoreCause, StoreFails, IsShortDamage, IsDamage};
-ghost use Rattle.hv_house.specs.House.{HasNumbers, IsAsked};
+ghost use Rattle.hv_stands.specs.Running.{meant};
+ghost use Rattle.hv_house.specs.Faults.{ReadCause, IsShortDamage, IsDamage};
+ghost use Rattle.hv_house.specs.House.{entries_of, IsAsked, IsReady, Shows};
 ghost use Rattle.hv_house.specs.Seeing.{IsSpoiled};
-ghost use Rattle.hv_session.specs.Seeing.{AddsSeen, IsSeen, IsNarrow};
+ghost use Rattle.hv_ending.specs.Ending.{CanEnd};
+ghost use Rattle.hv_session.specs.Seeing.{AddsSeen, IsSeen, IsNarrow, state_at};
 
 use hv_ast::{Rows, Stmt};
 use hv_base::{NoMemory, Text};
@@ -39,51 +42,58 @@ fn reads_rows(tree: &Stmt) -> bool
     }
 }
 
-/// Looks at the table of one more name.
+fn put(table: Seen, seen: &mut Vec<Seen>) -> Result<(), NoMemory>
+    ensures { OnOk result (seen.new.items ≡ seen.old.items ++ table ∷ []) }
+{
+    seen.push(table)?;
+    Ok(())
+}
+
+/// Looks at the table of one more name, as it stood at a place of the book.
 fn see_next<D: Shelf>(
     alloc: Global,
     house: &mut House<D>,
+    place: u64,
     name: &Text,
     reads: bool,
     seen: &mut Vec<Seen>,
 ) -> Result<(), RowFault>
-    requires numbers { AllByRecursion HasNumbers house.old.tables.items }
+    requires ready { IsReady D.told house.old }
     ensures asked { IsAsked D.told house.old house.new }
     ensures short { IfErr result IsShortDamage }
-    ensures seen { OnOk result (AddsSeen (D.told house.old.shelf) house.old.tables.items reads
+    ensures seen { OnOk result (AddsSeen (D.told house.old.shelf) (state_at (entries_of house.old) place) reads
         name.now seen.old.items seen.new.items) }
     ensures damage { IfErr result (λ fault. IsDamage fault
-        → IsSpoiled (D.told house.old.shelf) house.old.tables.items) }
-    ensures cause { StoreCause (D.faults house.old.shelf) (D.faults house.new.shelf)
-        (StoreFails result) }
+        → IsSpoiled (D.told house.old.shelf) (state_at (entries_of house.old) place)) }
+    ensures cause { ReadCause (D.faults house.old.shelf) (D.faults house.new.shelf) result }
 {
-    if let Some(table) = house.see(alloc, name, reads)? {
-        seen.push(table)?;
+    if let Some(table) = house.see(alloc, place, name, reads)? {
+        put(table, seen)?;
     }
     Ok(())
 }
 
-/// The tables that a statement names, each with its rows where the statement reads rows.
-pub fn seen<D: Shelf>(
+/// The tables that a statement names, as they stood at a place of the book, each with its rows where the statement reads rows.
+fn seen<D: Shelf>(
     alloc: Global,
     house: &mut House<D>,
+    place: u64,
     tree: &Stmt,
 ) -> Result<Vec<Seen>, RowFault>
-    requires numbers { AllByRecursion HasNumbers house.old.tables.items }
+    requires ready { IsReady D.told house.old }
     ensures asked { IsAsked D.told house.old house.new }
     ensures short { IfErr result IsShortDamage }
-    ensures seen { IfOk result (λ seen. IsSeen (D.told house.old.shelf) house.old.tables.items
-        tree.now seen.items) }
+    ensures seen { IfOk result (λ seen. IsSeen (D.told house.old.shelf)
+        (state_at (entries_of house.old) place) tree.now seen.items) }
     ensures damage { IfErr result (λ fault. IsDamage fault
-        → IsSpoiled (D.told house.old.shelf) house.old.tables.items) }
-    ensures cause { StoreCause (D.faults house.old.shelf) (D.faults house.new.shelf)
-        (StoreFails result) }
+        → IsSpoiled (D.told house.old.shelf) (state_at (entries_of house.old) place)) }
+    ensures cause { ReadCause (D.faults house.old.shelf) (D.faults house.new.shelf) result }
 {
     let names = names_in(alloc, tree)?;
     let reads = reads_rows(tree);
     let mut seen = Vec::new(alloc);
     for i in 0..names.len() {
-        see_next(alloc, house, &names[i].name, reads, &mut seen)?;
+        see_next(alloc, house, place, &names[i].name, reads, &mut seen)?;
     }
     Ok(seen)
 }
@@ -118,7 +128,7 @@ fn narrow(meaning: Meaning) -> Result<Meaning, NoMemory>
 }
 
 /// What a statement of a form that is built comes to over what was seen.
-pub fn meaning(alloc: Global, tree: &Stmt, seen: Vec<Seen>) -> Result<Meaning, NoMemory>
+fn meaning(alloc: Global, tree: &Stmt, seen: Vec<Seen>) -> Result<Meaning, NoMemory>
     requires means { MeansSomething (meaning_in tree.now seen.items) }
     ensures means { IfOk result (λ meaning. meaning_in tree.now seen.items ≡ Some meaning) }
     ensures narrow { IfOk result IsNarrow }
@@ -127,4 +137,27 @@ pub fn meaning(alloc: Global, tree: &Stmt, seen: Vec<Seen>) -> Result<Meaning, N
         Some(meaning) => narrow(meaning),
         None => unreachable!(),
     }
+}
+
+/// What a statement comes to over the tables that it names, as they stood at a place of the book.
+pub fn see_meaning<D: Shelf>(
+    alloc: Global,
+    house: &mut House<D>,
+    place: u64,
+    tree: &Stmt,
+) -> Result<Meaning, RowFault>
+    requires ready { IsReady D.told house.old }
+    requires built { IsBuilt tree.now }
+    ensures asked { IsAsked D.told house.old house.new }
+    ensures short { IfErr result IsShortDamage }
+    ensures can { IfOk result (CanEnd (entries_of house.old)) }
+    ensures means { Shows D.told house.old (entries_of house.old)
+        → IfOk result (λ meaning. Tells (D.told house.old.shelf)
+        (λ _. meant (take place (entries_of house.old)) tree.now ≡ Some meaning)) }
+    ensures whole { Shows D.told house.old (entries_of house.old)
+        → IfErr result (λ fault. Tells (D.told house.old.shelf) (λ _. IsDamage fault → ⊥)) }
+    ensures cause { ReadCause (D.faults house.old.shelf) (D.faults house.new.shelf) result }
+{
+    let tables = seen(alloc, house, place, tree)?;
+    Ok(meaning(alloc, tree, tables)?)
 }

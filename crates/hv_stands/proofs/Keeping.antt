@@ -1,5 +1,5 @@
 -- What holds of every state: each entry that fits keeps it.
-use Rattle.std.proofs.Common.{refl, ◌≡◌, ℕ, zero, suc, ◌+◌, ◌≤◌, ◌==◌, ◌⊎◌, inl, inr, cond, is_none, Option, Some, None, List, [], ◌∷◌, ◌++◌, length, map, fold, sym, ap, ◌∙◌, subst, arith}
+use Rattle.std.proofs.Common.{refl, ◌≡◌, ℕ, zero, suc, ◌+◌, ◌==◌, ◌⊎◌, inl, inr, cond, is_none, Option, Some, None, List, [], ◌∷◌, ◌++◌, length, map, fold, sym, ap, ◌∙◌, subst, arith}
 use Rattle.std.specs.Prelude.{IsTrue, IsNone}
 use Rattle.std.specs.List.{slice_get, flat_map, AllByRecursion}
 use Rattle.std.specs.Option.{option_map, option_to_list}
@@ -18,12 +18,12 @@ use Rattle.hv_history.specs.declared.state.Written.{Written}
 use Rattle.hv_history.specs.declared.state.Statement.{Statement}
 use Rattle.hv_history.specs.declared.state.Table.{Table}
 use Rattle.hv_history.specs.declared.state.Ending.{Ending}
-use Rattle.hv_history.specs.declared.state.Ending.TheVariants.{Committed, Aborted, Made, Dropped}
+use Rattle.hv_history.specs.declared.state.Ending.TheVariants.{Committed, Aborted, Made}
 use Rattle.hv_history.specs.declared.state.Transaction.{Transaction}
 use Rattle.hv_history.specs.State.{State, nothing_yet, numbered, changed, changed_at, unless_ended, while_open, opened, meant_in, meaning_in, means, first_known, started, given_id, given_in, owned, written_to, committed, ended, did, wrote_as, writes_of, written_by, commits, tables_behind, made_by, acted, after}
 use Rattle.hv_history.specs.Legal.{is_open, Fits, OpenedFits, GivenFits, CommitFits, CreateFits, IsStatement, AllFit}
 use Rattle.hv_stands.specs.Files.{ending_of}
-use Rattle.hv_stands.specs.Sound.{IsRoutedWrite, HasOther, AreApart, AreSound, info_in, IsRoutedChange, ChangesAmong, IsSingle, IsBefore, EndsBefore, given_of, owners_of, given_among, owner_among, AreGiven, IsDone, IsOfCommitted, AreOfCommitted, IsSound}
+use Rattle.hv_stands.specs.Sound.{IsRoutedWrite, HasOther, AreApart, AreSound, info_in, IsRoutedChange, ChangesAmong, IsSingle, given_of, owners_of, given_among, owner_among, AreGiven, IsDone, IsOfCommitted, AreOfCommitted, IsSound}
 use Rattle.hv_stands.proofs.Numbers.{same_one, none_is, found, changed-here, numbered-map, map-changed, map-more, numbered-more}
 use Rattle.hv_stands.proofs.Owning.{opened-given, created-given, gave-given}
 use Rattle.hv_stands.proofs.Written.{changes-among}
@@ -248,44 +248,11 @@ map-same {A} g f same xs (suc n) = slice xs n
     slice (x ∷ xs) zero = ap (λ y. y ∷ map g xs) (same x)
     slice (x ∷ xs) (suc n) = ap (λ ys. g x ∷ ys) (slice xs n)
 
--- ---- where commits stand
-
-before-later : (place later : ℕ) (o : Option Ending) → place ≤ later → IsBefore place o → IsBefore later o
-before-later place later None le h = tt
-before-later place later (Some (Committed at wrote)) le h = omega (arith, le, h)
-before-later place later (Some (Aborted at why)) le h = tt
-before-later place later (Some (Made at table)) le h = tt
-before-later place later (Some (Dropped at table)) le h = tt
-
-ends-later : (place : ℕ) (ts : List Transaction) → AllByRecursion (EndsBefore place) ts → AllByRecursion (EndsBefore (place + 1)) ts
-ends-later place ts h = all-mapped (EndsBefore place) (EndsBefore (place + 1)) (λ t is. before-later place (place + 1) t.ending (omega arith) is) ts h
-
-past-same : (s now : State) → AllByRecursion (EndsBefore s.entries) s.transactions → now.entries ≡ s.entries + 1 → now.transactions ≡ s.transactions
-    → AllByRecursion (EndsBefore now.entries) now.transactions
-past-same s now past entries are =
-    subst (λ ts. AllByRecursion (EndsBefore now.entries) ts) (sym are)
-    (subst (λ n. AllByRecursion (EndsBefore n) s.transactions) (sym entries) (ends-later s.entries s.transactions past))
-
-past-more : (s now : State) (t : Transaction) → AllByRecursion (EndsBefore s.entries) s.transactions → now.entries ≡ s.entries + 1 → now.transactions ≡ s.transactions ++ t ∷ []
-    → EndsBefore (s.entries + 1) t → AllByRecursion (EndsBefore now.entries) now.transactions
-past-more s now t past entries are last =
-    subst (λ ts. AllByRecursion (EndsBefore now.entries) ts) (sym are)
-    (subst (λ n. AllByRecursion (EndsBefore n) (s.transactions ++ t ∷ [])) (sym entries)
-    (all-more (EndsBefore (s.entries + 1)) s.transactions t (ends-later s.entries s.transactions past) last))
-
-past-open : (s now : State) (f : Transaction → Transaction) (n : ℕ) → AllByRecursion (EndsBefore s.entries) s.transactions → now.entries ≡ s.entries + 1
-    → now.transactions ≡ changed (while_open f) s.transactions n → ((t : Transaction) → EndsBefore (s.entries + 1) t → EndsBefore (s.entries + 1) (f t))
-    → AllByRecursion (EndsBefore now.entries) now.transactions
-past-open s now f n past entries are step =
-    subst (λ ts. AllByRecursion (EndsBefore now.entries) ts) (sym are)
-    (subst (λ m. AllByRecursion (EndsBefore m) (changed (while_open f) s.transactions n)) (sym entries)
-    (all-open (EndsBefore (s.entries + 1)) f step s.transactions n (ends-later s.entries s.transactions past)))
-
 -- ---- entry by entry
 
 -- the entries are counted, and nothing else changed
 module _ (s now : State) (sound : IsSound s) (tables : now.tables ≡ s.tables) (jobs : now.jobs ≡ s.jobs) (entries : now.entries ≡ s.entries + 1)
-    (single : AllByRecursion (IsSingle (map info_in s.tables)) now.transactions) (past : AllByRecursion (EndsBefore now.entries) now.transactions) where
+    (single : AllByRecursion (IsSingle (map info_in s.tables)) now.transactions) where
   same-tables : AreSound now.entries now.tables
   same-tables =
       subst (λ ts. AreSound now.entries ts) (sym tables)
@@ -301,17 +268,15 @@ module _ (s now : State) (sound : IsSound s) (tables : now.tables ≡ s.tables) 
     given = subst (λ ts. AreGiven (map given_of now.transactions) (map owners_of ts)) (sym tables) given;
     committed = subst (λ ts. AllByRecursion (AreOfCommitted (map ending_of now.transactions)) ts) (sym tables)
         (committed-later (map ending_of s.transactions) (map ending_of now.transactions) later s.tables sound.committed);
-    past = past;
   }
 
 -- one transaction was changed, and its write ids are as before
 changed-open : (s now : State) (f : Transaction → Transaction) (n : ℕ) → IsSound s → now.tables ≡ s.tables → now.jobs ≡ s.jobs → now.entries ≡ s.entries + 1
     → now.transactions ≡ changed (while_open f) s.transactions n → ((t : Transaction) → IsSingle (map info_in s.tables) t → IsSingle (map info_in s.tables) (f t)) → ((t : Transaction) → (f t).given ≡ t.given)
-    → ((t : Transaction) → EndsBefore (s.entries + 1) t → EndsBefore (s.entries + 1) (f t)) → IsSound now
-changed-open s now f n sound tables jobs entries are single given ends =
+    → IsSound now
+changed-open s now f n sound tables jobs entries are single given =
     with-tables s now sound tables jobs entries
     (subst (AllByRecursion (IsSingle (map info_in s.tables))) (sym are) (all-open (IsSingle (map info_in s.tables)) f single s.transactions n sound.single))
-    (past-open s now f n sound.past entries are ends)
     (subst (λ gs. AreGiven gs (map owners_of s.tables)) (sym (ap (map given_of) are ∙ map-open given_of f given s.transactions n)) sound.given)
     (λ m done. subst (λ ts. IsDone (numbered (map ending_of ts) m)) (sym are) (done-stays f s.transactions n m done))
 
@@ -322,7 +287,6 @@ opened-sound limits s now session number txn text fits sound tables jobs entries
     (subst (AllByRecursion (IsSingle (map info_in s.tables))) (sym are)
     (all-more (IsSingle (map info_in s.tables)) s.transactions (opened session number text) sound.single
     (record { statement = record { number = number; text = text; meaning = None; wrote = [] }; one = refl; text = fits.statement; changes = tt })))
-    (past-more s now (opened session number text) sound.past entries are tt)
     (subst (λ gs. AreGiven gs (map owners_of s.tables)) (sym (ap (map given_of) are ∙ map-more given_of s.transactions (opened session number text)))
     (opened-given (map given_of s.transactions) (map owners_of s.tables) sound.given))
     (λ m done. subst (λ ts. IsDone (numbered (map ending_of ts) m)) (sym are) (done-more s.transactions (opened session number text) m done))
@@ -380,11 +344,10 @@ module _ (limits : Limits) (s now : State) (n k w : ℕ) (t : Transaction) (soun
             (subst (λ es. AllByRecursion (AreOfCommitted es) (changed (owned n) s.tables k)) (sym ends)
             (all-changed (AreOfCommitted (map ending_of s.transactions)) (AreOfCommitted (map ending_of s.transactions)) (owned n) s.tables k table there.1
             (λ t h. h) (more-owners n (map ending_of s.transactions) table) sound.committed));
-        past = past-open s now (given_id k w) n sound.past entries transactions (λ t h. h);
       }
 
 -- a commit
-module _ (s now : State) (n place : ℕ) (here : place ≡ s.entries) (wrote : List Touch) (t : Transaction) (sound : IsSound s) (at : numbered s.transactions n ≡ Some t) (unended : t.ending ≡ None)
+module _ (s now : State) (n place : ℕ) (wrote : List Touch) (t : Transaction) (sound : IsSound s) (at : numbered s.transactions n ≡ Some t) (unended : t.ending ≡ None)
     (transactions : now.transactions ≡ changed (while_open (committed place wrote)) s.transactions n)
     (tables : now.tables ≡ tables_behind (commits (Some t)) s.tables)
     (jobs : now.jobs ≡ s.jobs) (entries : now.entries ≡ s.entries + 1) where
@@ -398,9 +361,6 @@ module _ (s now : State) (n place : ℕ) (here : place ≡ s.entries) (wrote : L
   singles =
       subst (AllByRecursion (IsSingle infos)) (sym transactions)
       (all-open (IsSingle infos) (committed place wrote) (λ t single. single-did infos (Committed place wrote) 0 t single) s.transactions n sound.single)
-
-  past-now : AllByRecursion (EndsBefore now.entries) now.transactions
-  past-now = past-open s now (committed place wrote) n sound.past entries transactions (λ t h. omega (arith, here))
 
   given-same : map given_of now.transactions ≡ map given_of s.transactions
   given-same = ap (map given_of) transactions ∙ map-open given_of (committed place wrote) (λ t. refl) s.transactions n
@@ -430,7 +390,7 @@ module _ (s now : State) (n place : ℕ) (here : place ≡ s.entries) (wrote : L
 
   wrote-none : now.tables ≡ s.tables → IsSound now
   wrote-none same =
-      with-tables s now sound same jobs entries singles past-now
+      with-tables s now sound same jobs entries singles
       (subst (λ gs. AreGiven gs (map owners_of s.tables)) (sym given-same) sound.given) done-later
 
   wrote-one : (x : ℕ × Written) → IsWriteOf infos t x → now.tables ≡ changed (written_to x.1) s.tables x.0 → IsSound now
@@ -461,7 +421,6 @@ module _ (s now : State) (n place : ℕ) (here : place ≡ s.entries) (wrote : L
             (λ t h. h)
             (λ h. all-more (IsOfCommitted (map ending_of now.transactions) table.owners) table.writes x.1 h (n, there.2, done-here))
             later);
-        past = past-now;
       }
 
   committed-sound : IsSound now
@@ -501,7 +460,6 @@ created-sound s now n k place t sound at fits transactions tables jobs entries =
           (λ m done. subst (λ ts. IsDone (numbered (map ending_of ts) m)) (sym transactions) (done-stays (ended (Made place k)) s.transactions n m done))
           s.tables sound.committed)
           tt);
-      past = past-open s now (ended (Made place k)) n sound.past entries transactions (λ t h. tt);
     }
 
 -- ---- the law
@@ -509,23 +467,22 @@ created-sound s now n k place t sound at fits transactions tables jobs entries =
 pub sound-after : (limits : Limits) (s : State) (event : Entry) → Fits limits s event → IsSound s → IsSound (after s event)
 unfolding acted
 sound-after limits s (entry.Boot run) fits sound =
-    with-tables s (after s (entry.Boot run)) sound refl refl refl sound.single
-    (past-same s (after s (entry.Boot run)) sound.past refl refl) sound.given (λ m done. done)
+    with-tables s (after s (entry.Boot run)) sound refl refl refl sound.single sound.given (λ m done. done)
 sound-after limits s (entry.Opened txn session number text) fits sound =
     opened-sound limits s (after s (entry.Opened txn session number text)) session number txn.0 text fits sound refl refl refl refl
 sound-after limits s (entry.Start txn statement) fits sound =
     changed-open s (after s (entry.Start txn statement)) (started s statement) txn.0 sound refl refl refl refl
-    (λ t single. single-started s statement t sound single) (λ t. refl) (λ t h. h)
+    (λ t single. single-started s statement t sound single) (λ t. refl)
 sound-after limits s (entry.Given txn table write) fits sound =
     let here = found (GivenFits limits s table.0 write.0) (numbered s.transactions txn.0) fits in
     gave-sound limits s (after s (entry.Given txn table write)) txn.0 table.0 write.0 here.0 sound here.1 here.2 refl refl refl refl
 sound-after limits s (entry.Commit txn wrote) fits sound =
     let here = found (CommitFits s wrote) (numbered s.transactions txn.0) fits in
-    committed-sound s (after s (entry.Commit txn wrote)) txn.0 s.entries refl wrote here.0 sound here.1 (still-open here.0 here.2.running.unended) refl
+    committed-sound s (after s (entry.Commit txn wrote)) txn.0 s.entries wrote here.0 sound here.1 (still-open here.0 here.2.running.unended) refl
     (ap (λ o. tables_behind (commits o) s.tables) here.1) refl refl
 sound-after limits s (entry.Abort txn cause) fits sound =
     changed-open s (after s (entry.Abort txn cause)) (ended (Aborted s.entries cause)) txn.0 sound refl refl refl refl
-    (λ t single. single-same (map info_in s.tables) t (ended (Aborted s.entries cause) t) refl single) (λ t. refl) (λ t h. tt)
+    (λ t single. single-same (map info_in s.tables) t (ended (Aborted s.entries cause) t) refl single) (λ t. refl)
 sound-after limits s (entry.Create txn table) fits sound =
     let here = found (CreateFits s table.0) (numbered s.transactions txn.0) fits in
     created-sound s (after s (entry.Create txn table)) txn.0 table.0 s.entries here.0 sound here.1 here.2 refl
@@ -544,7 +501,6 @@ nothing-sound = record {
   single = tt;
   given = record { has_owner = λ txn table write e. none-given txn table write e; is_given = λ txn table write e. none-owned txn table write e };
   committed = tt;
-  past = tt;
 }
   where
     nothing-at : {A : Type 0} (n : ℕ) → numbered {A = A} [] n ≡ None

@@ -1,10 +1,5 @@
 pub mod Written
-pub mod Endings
 pub mod Meanings
-pub mod Queries
-pub mod Refusals
-pub mod Creates
-pub mod Changes
 pub mod Soundness
 pub mod Tables
 pub mod StandingFiles
@@ -15,6 +10,15 @@ pub mod SeenTables
 pub mod Numbers
 pub mod Owning
 pub mod Keeping
-pub mod Statements
 pub mod MadeFiles
+pub mod Behind
+pub mod Begun
+pub mod Answered
+pub mod Others
+pub mod Fitting
+pub mod SeeingEnough
+pub mod PutFiles
+pub mod OwnPlaces
+pub mod OwnFiles
+pub mod StatementFiles
 pub mod Worked

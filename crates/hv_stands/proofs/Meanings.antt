@@ -1,18 +1,17 @@
 -- What a statement's meaning says, by the laws of meanings.
-use Rattle.std.proofs.Common.{◌≡◌, ◌⊎◌, true, None, slice_get, inl, inr, ℕ, suc, Bool, IsTrue, IsNone, Option, Some, Result, Ok, Err, List, [], ◌∷◌, length, map, filter, refl, sym, ap, ◌∙◌, subst}
+use Rattle.std.proofs.Common.{◌≡◌, ◌⊎◌, None, slice_get, inl, inr, ℕ, suc, Bool, Option, Some, Result, Ok, Err, List, [], ◌∷◌, length, map, filter, refl, ap, ◌∙◌}
 use Rattle.std.specs.List.{AllByRecursion}
 use Rattle.hv_base.specs.declared.refusal.Refusal.{Refusal}
 use Rattle.hv_ast.specs.declared.statement.Stmt.{Stmt}
 use Rattle.hv_built.specs.Built.{IsBuilt}
 use Rattle.hv_value.specs.declared.value.Value.{Value}
 use Rattle.hv_logic.specs.declared.catalog.Column.{Column}
-use Rattle.hv_logic.specs.declared.catalog.Shape.{Shape}
 use Rattle.hv_logic.specs.declared.catalog.TableInfo.{TableInfo}
 use Rattle.hv_logic.specs.declared.effect.Effect.{Effect}
 use Rattle.hv_logic.specs.declared.effect.Found.{Found}
 use Rattle.hv_logic.specs.declared.seen.Seen.{Seen}
 use Rattle.hv_logic.specs.declared.meaning.Meaning.{Meaning}
-use Rattle.hv_logic.specs.declared.meaning.Meaning.TheVariants.{Listing, Change, Make, RowLimit, PartitionLimit}
+use Rattle.hv_logic.specs.declared.meaning.Meaning.TheVariants.{Listing, Change, RowLimit, PartitionLimit}
 use Rattle.hv_logic.specs.Tables.{named}
 use Rattle.hv_query.specs.Rows.{Tables}
 use Rattle.hv_analysis.specs.declared.logic.Logic.{Logic}
@@ -24,36 +23,12 @@ use Rattle.hv_base.specs.declared.ids.Touch.{Touch}
 use Rattle.hv_route.specs.Touching.{touched}
 use Rattle.hv_route.specs.declared.fault.RouteFault.{RouteFault}
 use Rattle.hv_route.specs.declared.fault.RouteFault.TheVariants as route_fault
-use Rattle.hv_route.specs.Back.{AreFlat}
 use Rattle.hv_meaning.specs.Meaning.{info_of, found_in, tables_of, or_none, change_effect, changed_in, unless_limited, meant, meaning_over, meaning_in, meaning_of}
 use Rattle.hv_meaning.specs.Laws.{MeansSomething, AreOf, IsRowOf, FitsTable}
 use Rattle.hv_stands.specs.Sound.{HasAllValues}
 use Rattle.hv_stands.proofs.Soundness.{all-mapped}
 use Rattle.hv_meaning.proofs.Forms.{forms-mean}
-use Rattle.hv_meaning.proofs.Meanings.{tables-new, changes-named}
-use Rattle.hv_history.specs.State.{created_shape}
-use Rattle.hv_history.specs.Legal.{is_create, made_name}
-
--- ---- only a CREATE TABLE of a new name makes a table
-
--- the name is new, and the table's shape is that of its text
-pub record IsNew (tree : Stmt) (tables : List Seen) (shape : Shape) : Type 0 where
-  pub create : IsTrue (is_create (Some tree))
-  pub absent : IsNone (named (made_name (Some tree)) tables)
-  pub shape_is : created_shape (Some tree) ≡ shape
-  pub flat : AreFlat (created_shape (Some tree)).parts
-
-pub makes-new : (tree : Stmt) (tables : List Seen) (shape : Shape) → meaning_of tables tree ≡ Some (Make shape) → IsNew tree tables shape
-makes-new tree tables shape e =
-    let new = tables-new tree tables shape e in
-    let same : created_shape (Some tree) ≡ shape = ap (λ (t : Stmt). created_shape (Some t)) new.tree_is ∙ sym new.shape_is in
-    record {
-      create = subst (λ (t : Stmt). IsTrue (is_create (Some t))) (sym new.tree_is) refl;
-      absent = subst (λ (t : Stmt). IsNone (named (made_name (Some t)) tables)) (sym new.tree_is)
-          (subst (λ (o : Option Seen). IsNone o) (sym new.absent) refl);
-      shape_is = same;
-      flat = subst (λ (s : Shape). AreFlat s.parts) (sym same) new.flat;
-    }
+use Rattle.hv_meaning.proofs.Meanings.{changes-named}
 
 -- ---- a change is of a table that is seen, and deletes rows that stand in it
 

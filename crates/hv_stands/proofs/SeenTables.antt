@@ -7,7 +7,7 @@ use Rattle.hv_locks.specs.declared.table.Lock.{Lock}
 use Rattle.hv_ast.specs.declared.statement.Stmt.{Stmt}
 use Rattle.hv_logic.specs.declared.catalog.TableInfo.{TableInfo}
 use Rattle.hv_logic.specs.Names.{names_in}
-use Rattle.hv_meaning.specs.Meaning.{info_of, named_by, its_tables, meaning_in}
+use Rattle.hv_meaning.specs.Meaning.{info_of, named_by, its_tables, meaning_in, meaning_of}
 use Rattle.hv_value.specs.declared.row.Row.{Row}
 use Rattle.hv_changes.specs.Columns.{columns_of}
 use Rattle.hv_rowfile.specs.Layout.{RowIsTaken}
@@ -20,10 +20,9 @@ use Rattle.hv_history.specs.declared.state.Table.{Table}
 use Rattle.hv_logic.specs.declared.seen.Seen.{Seen}
 use Rattle.hv_logic.specs.declared.effect.Effect.{Effect}
 use Rattle.hv_logic.specs.declared.meaning.Meaning.TheVariants.{Change}
-use Rattle.hv_history.specs.State.{state_of, numbered, seen_table, seen_tables, content_of}
+use Rattle.hv_history.specs.State.{numbered, seen_table, seen_tables, content_of}
 use Rattle.hv_stands.specs.Sound.{IsLive, NumberedFrom}
 use Rattle.hv_stands.specs.Reading.{table_of_name, named_in, tables_named, seen_of, seen_read}
-use Rattle.hv_stands.specs.Laws.{ReadingIsEnough}
 use Rattle.hv_stands.proofs.Numbers.{one_value}
 use Rattle.hv_stands.proofs.Tables.{named-seen, named-numbered, HasTable}
 
@@ -60,11 +59,10 @@ read-alike : (tree : Stmt) (tables : List Table) (b : Bool) → reads_rows tree 
 read-alike tree tables true reads = ap (meaning_in tree) (whole-rows tree tables reads)
 read-alike tree tables false reads = unseen-in tree (map (seen_of tree) tables) (map seen_table tables) reads (same-infos tree tables)
 
-pub reading-enough : ReadingIsEnough
-reading-enough book tree idle =
-    let tables : List Table = (state_of book).tables in
-    read-alike tree (tables_named tree tables) (reads_rows tree) refl
-    ∙ ap (meaning_in tree) (sym (its-seen tree tables idle.sound.tables.live))
+pub reading-enough : (tree : Stmt) (tables : List Table) → AllByRecursion IsLive tables
+    → meaning_in tree (seen_read tree tables) ≡ meaning_of (seen_tables tables) tree
+reading-enough tree tables live =
+    read-alike tree (tables_named tree tables) (reads_rows tree) refl ∙ ap (meaning_in tree) (sym (its-seen tree tables live))
 
 -- what is read has the descriptions of what is seen
 pub read-infos : (tree : Stmt) (tables : List Table) → AllByRecursion IsLive tables
@@ -112,6 +110,7 @@ info-at (one ∷ seen) (suc place) = info-at seen place
 pub record CanChangeTable (tables : List Table) (info : TableInfo) (effect : Effect) : Type 0 where
   pub table : Table
   pub here : numbered tables info.table.0 ≡ Some table
+  pub same : table.info ≡ info
   pub within : touched info effect ≡ Ok (touches_of info effect)
   pub taken : length (columns_of info.shape) ≤ 65535 → AllByRecursion (λ (row : Row). RowIsTaken (stored info.shape row)) effect.inserts
 
@@ -122,4 +121,4 @@ change-of-seen tables live order tree seen info effect same e =
     let at : slice_get (map info_of seen) change.place ≡ Some info =
     info-at seen change.place ∙ ap (option_map info_of) change.here ∙ ap Some (sym change.info_is) in
     let there = seen-place tables live order tree seen change.place info same at in
-    record { table = there.0; here = there.1; within = change.fits.within; taken = change.fits.taken }
+    record { table = there.0; here = there.1; same = there.2; within = change.fits.within; taken = change.fits.taken }

@@ -1,13 +1,11 @@
 -- Tables stay sound: what holds of all tables goes on where one is changed, and where one is added.
-use Rattle.std.proofs.Common.{refl, ◌≡◌, ℕ, zero, suc, ◌+◌, ◌<◌, Some, List, [], ◌∷◌, ◌++◌, length, sym, ap, ◌∙◌, subst, arith, length-append}
+use Rattle.std.proofs.Common.{◌≡◌, ℕ, zero, suc, ◌+◌, ◌<◌, Some, List, [], ◌∷◌, ◌++◌, length, sym, ap, ◌∙◌, subst, arith, length-append}
 use Rattle.std.specs.List.{slice_get, AllByRecursion}
-use Rattle.hv_history.specs.declared.state.Written.{Written}
 use Rattle.hv_history.specs.declared.state.Table.{Table}
-use Rattle.hv_history.specs.State.{numbered, changed, changed_at, written_to, owned}
+use Rattle.hv_history.specs.State.{numbered, changed, changed_at, owned}
 use Rattle.hv_logic.specs.declared.catalog.TableInfo.{TableInfo}
 use Rattle.hv_route.specs.Back.{AreFlat}
 use Rattle.hv_stands.specs.Sound.{IsLive, HasFlatParts, NumberedFrom, HasSoundWrites, HasFewOwners, KeepsAll, AreSound}
-use Rattle.hv_stands.specs.Laws.{tables_changed}
 
 -- ---- what holds of all
 
@@ -43,16 +41,6 @@ module _ {X : Type 0} where
       → ((y : X) → P y → Q y) → (P x → Q (f x)) → AllByRecursion P xs → AllByRecursion Q (changed f xs n)
   all-changed P Q f xs zero x e stay new h = cc
   all-changed P Q f xs (suc n) x e stay new h = all-changed_at P Q f xs n x e stay new h
-
-  -- two changes of one are one change
-  twice_at : (f g : X → X) (xs : List X) (n : ℕ) → changed_at f (changed_at g xs n) n ≡ changed_at (λ x. f (g x)) xs n
-  twice_at f g [] n = refl
-  twice_at f g (x ∷ xs) zero = refl
-  twice_at f g (x ∷ xs) (suc n) = ap (λ ys. x ∷ ys) (twice_at f g xs n)
-
-  pub changed-twice : (f g : X → X) (xs : List X) (n : ℕ) → changed f (changed g xs n) n ≡ changed (λ x. f (g x)) xs n
-  changed-twice f g xs zero = refl
-  changed-twice f g xs (suc n) = twice_at f g xs n
 
 -- ---- numbers
 
@@ -117,11 +105,3 @@ changed-sound most next tables k f table at info alive keeps later few written s
   keeping = all-changed KeepsAll KeepsAll f tables k table at (λ t h. h) (λ h. keeps table ∙ h) sound.keeping;
   written = all-changed HasSoundWrites HasSoundWrites f tables k table at (λ t h. h) written sound.written;
 }
-
--- the table behind a change
-abbrev pub changed_by : ℕ → Written → Table → Table
-changed_by txn written table = written_to written (owned txn table)
-
-pub tables_changed-once : (tables : List Table) (txn number : ℕ) (written : Written)
-    → tables_changed tables txn number written ≡ changed (changed_by txn written) tables number
-tables_changed-once tables txn number written = changed-twice (written_to written) (owned txn) tables number

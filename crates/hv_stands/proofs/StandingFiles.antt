@@ -423,7 +423,7 @@ few-ids s sound k write txn table at owner =
     omega (arith, few, within.1)
 
 -- what is being written isn't made
-being-written-unmade : (s : State) (place : Place) → IsSound s → s.entries < write_end → (txn : ℕ) (own : IsOwn s.tables txn place)
+pub being-written-unmade : (s : State) (place : Place) → IsSound s → s.entries < write_end → (txn : ℕ) (own : IsOwn s.tables txn place)
     → (IsDone (numbered (map ending_of s.transactions) txn) → ⊥) → (bytes : List ℕ) → made_at s.tables place ≡ Some bytes → ⊥
 being-written-unmade s place sound room txn own undone bytes made =
     let here = made-of-table s.tables place bytes made in

@@ -11,10 +11,9 @@ use Rattle.hv_logic.specs.Tables.{named}
 use Rattle.hv_meaning.specs.Meaning.{meaning_of}
 use Rattle.hv_meaning.specs.Laws.{FitsTable}
 use Rattle.hv_history.specs.declared.state.Table.{Table}
-use Rattle.hv_history.specs.State.{state_of, numbered, content_of, seen_table, seen_tables}
+use Rattle.hv_history.specs.State.{numbered, content_of, seen_table, seen_tables}
 use Rattle.hv_stands.specs.Sound.{IsLive, NumberedFrom, HasAllValues}
 use Rattle.hv_stands.specs.Reading.{table_of_name}
-use Rattle.hv_stands.specs.Laws.{ChangedTableStands}
 use Rattle.hv_stands.proofs.Meanings.{ArePicked, ChangesLive, changes-seen}
 
 -- ---- all tables are seen
@@ -113,8 +112,3 @@ module _ (tables : List Table) (live : AllByRecursion IsLive tables) (order : Nu
   changes-table tree e =
       let change = changes-seen tree (seen_tables tables) info effect e in
       found-table (seen_tables tables) change (table_of_name change.name tables) refl (sym (named-seen change.name tables live) ∙ change.here)
-
-pub changed-table : ChangedTableStands
-changed-table book tree info effect idle e =
-    let change = changes-table (state_of book).tables idle.sound.tables.live idle.sound.tables.in_order info effect tree e in
-    (change.table, change.here, change.info_is)

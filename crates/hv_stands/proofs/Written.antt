@@ -1,5 +1,5 @@
 -- What a statement inserts, and what it deletes, can be written as files, and read again.
-use Rattle.std.proofs.Common.{◌≡◌, ℕ, Option, Some, None, List, map, option_map, refl, sym, ap, ◌∙◌, subst}
+use Rattle.std.proofs.Common.{◌≡◌, ℕ, ◌≤◌, length, Option, Some, None, List, map, option_map, refl, sym, ap, ◌∙◌, subst}
 use Rattle.std.specs.List.{AllByRecursion}
 use Rattle.hv_ast.specs.declared.statement.Stmt.{Stmt}
 use Rattle.hv_logic.specs.Rows.{found_cmp}
@@ -8,15 +8,17 @@ use Rattle.hv_logic.specs.declared.effect.Effect.{Effect}
 use Rattle.hv_logic.specs.declared.effect.Found.{Found}
 use Rattle.hv_logic.specs.declared.meaning.Meaning.{Meaning}
 use Rattle.hv_logic.specs.declared.meaning.Meaning.TheVariants.{Refused, Listing, Change, Make, Plain, RowLimit, PartitionLimit}
-use Rattle.hv_route.specs.Back.{AreFlat}
+use Rattle.hv_changes.specs.Columns.{columns_of}
+use Rattle.hv_route.specs.Back.{AreFlat, AreHeld}
+use Rattle.hv_route.specs.Routes.{files_of}
 use Rattle.hv_meaning.specs.Meaning.{meaning_of}
 use Rattle.hv_history.specs.declared.state.Table.{Table}
 use Rattle.hv_history.specs.declared.state.Written.{Written}
 use Rattle.hv_history.specs.declared.state.Ending.{Ending}
-use Rattle.hv_history.specs.State.{State, state_of, numbered, seen_tables, content_of}
-use Rattle.hv_stands.specs.Files.{ending_of}
+use Rattle.hv_history.specs.State.{State, numbered, seen_tables, content_of, written_by}
+use Rattle.hv_stands.specs.Files.{ending_of, IsEncoded}
 use Rattle.hv_stands.specs.Sound.{HasFlatParts, HasSoundWrites, info_in, ChangesAmong, IsOfCommitted, AreOfCommitted, IsSound}
-use Rattle.hv_stands.specs.Laws.{ChangesCanBeWritten, WrittenChangesAreEncoded}
+use Rattle.hv_stands.specs.Laws.{CanBeFile, HasFile}
 use Rattle.hv_stands.proofs.Numbers.{numbered-within, numbered-map}
 use Rattle.hv_stands.proofs.Soundness.{all-mapped, all-numbered}
 use Rattle.hv_stands.proofs.Meanings.{ArePicked}
@@ -78,17 +80,19 @@ changes-among s tree sound = by (meaning_of (seen_tables s.tables) tree) refl
     by (Some RowLimit) is = tt
     by (Some PartitionLimit) is = tt
 
--- ---- the laws
+-- ---- its files can be written, and read again
 
-pub changes-written : ChangesCanBeWritten
-changes-written book tree info effect write idle e some few =
-    let there = of-tables (state_of book) tree info effect idle.sound e in
+pub effect-written : (s : State) (tree : Stmt) (info : TableInfo) (effect : Effect) (write : ℕ) → IsSound s → meaning_of (seen_tables s.tables) tree ≡ Some (Change info effect)
+    → 1 ≤ write → length (columns_of info.shape) ≤ 65535 → AllByRecursion CanBeFile (files_of info.shape write 0 effect)
+effect-written s tree info effect write sound e some few =
+    let there = of-tables s tree info effect sound e in
     files-written info.shape write some effect (there.change.fits.taken few) there.gone
 
-pub changes-encoded : WrittenChangesAreEncoded
-changes-encoded book tree info effect write idle e each held =
-    let there = of-tables (state_of book) tree info effect idle.sound e in
+pub effect-encoded : (s : State) (tree : Stmt) (info : TableInfo) (effect : Effect) (write : ℕ) → IsSound s → meaning_of (seen_tables s.tables) tree ≡ Some (Change info effect)
+    → AllByRecursion HasFile (files_of info.shape write 0 effect) → AreHeld effect.inserts → IsEncoded info.shape (written_by info.shape write 0 effect)
+effect-encoded s tree info effect write sound e each held =
+    let there = of-tables s tree info effect sound e in
     let flat : AreFlat info.shape.parts =
     subst (λ (i : TableInfo). AreFlat i.shape.parts) there.change.info_is
-    (all-numbered HasFlatParts (state_of book).tables info.table.0 there.change.table there.change.here idle.sound.tables.flat) in
+    (all-numbered HasFlatParts s.tables info.table.0 there.change.table there.change.here sound.tables.flat) in
     files-encoded info.shape write effect there.gone.up each (there.change.fits.said flat held)

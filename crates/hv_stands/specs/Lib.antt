@@ -1,6 +1,7 @@
 pub mod Files
 pub mod Sound
-pub mod Endings
 pub mod Reading
 pub mod Laws
+pub mod Running
+pub mod Statements
 pub mod Worked

@@ -1,7 +1,7 @@
 -- What holds of every state whose entries fit, whatever transactions are open: the tables are those that were made, by
 -- their numbers; each write id has the transaction that it was given to, and each write is one of a transaction that has
--- committed. Between two statements of one thread no transaction is open beside.
-use Rattle.std.specs.Prelude.{◌≡◌, ◌≢◌, ℕ, ◌+◌, ◌<◌, ◌≤◌, IsTrue, IsFalse, Option, Some, None, List, [], ◌∷◌, length, map}
+-- committed.
+use Rattle.std.specs.Prelude.{◌≡◌, ◌≢◌, ℕ, ◌+◌, ◌≤◌, IsTrue, Option, Some, None, List, [], ◌∷◌, length, map}
 use Rattle.std.specs.List.{AllByRecursion}
 use Rattle.std.specs.List.Sorted.{IsStrictlySortedBy}
 use Rattle.hv_value.specs.declared.row.Row.{Row}
@@ -21,11 +21,8 @@ use Rattle.hv_history.specs.declared.state.Ending.{Ending}
 use Rattle.hv_history.specs.declared.state.Ending.TheVariants.{Committed}
 use Rattle.hv_history.specs.declared.state.Transaction.{Transaction}
 use Rattle.hv_history.specs.State.{State, numbered, given_in}
-use Rattle.hv_history.specs.Legal.{is_open, IsStatement}
+use Rattle.hv_history.specs.Legal.{IsStatement}
 use Rattle.hv_stands.specs.Files.{ending_of}
-
-abbrev pub HasEnded : Transaction → Type 0
-HasEnded transaction = IsFalse (is_open transaction)
 
 abbrev pub IsLive : Table → Type 0
 IsLive table = IsTrue table.is_live
@@ -105,14 +102,6 @@ pub record IsSingle (infos : List TableInfo) (transaction : Transaction) : Type 
   pub text : IsStatement statement.text
   pub changes : ChangesAmong infos statement.meaning
 
--- a commit stands before this place of the book
-abbrev pub IsBefore : ℕ → Option Ending → Type 0
-IsBefore place (Some (Committed at wrote)) = at < place
-IsBefore place _ = Unit {0}
-
-abbrev pub EndsBefore : ℕ → Transaction → Type 0
-EndsBefore place transaction = IsBefore place transaction.ending
-
 abbrev pub given_of : Transaction → List (ℕ × ℕ)
 given_of transaction = transaction.given
 
@@ -153,9 +142,3 @@ pub record IsSound (state : State) : Type 0 where
   pub single : AllByRecursion (IsSingle (map info_in state.tables)) state.transactions
   pub given : AreGiven (map given_of state.transactions) (map owners_of state.tables)
   pub committed : AllByRecursion (AreOfCommitted (map ending_of state.transactions)) state.tables
-  pub past : AllByRecursion (EndsBefore state.entries) state.transactions
-
--- no transaction is open beside
-pub record IsIdle (state : State) : Type 0 where
-  pub sound : IsSound state
-  pub ended : AllByRecursion HasEnded state.transactions

@@ -1,49 +1,8 @@
 ghost use Rattle.std.specs.Prelude.{◌≡◌, [], ◌∷◌, true, false, None};
 ghost use Rattle.hv_stands.specs.Files.{records_of, commit_file};
 ghost use Rattle.hv_stands.specs.Worked.{shape_by_hand, part_one, part_two, id_by_hand, write_by_hand, record_by_hand, delete_by_hand};
-ghost use Rattle.hv_stands.specs.Laws.{QueriesEnd, PlainsEnd, RefusalsEnd, TablesAreMade, RowsAreChanged, NothingIsChanged, ChangesCanBeWritten, WrittenChangesAreEncoded, ChangedTableStands, ReadingIsEnough, SoundnessGoesOn, StandingGoesOn, PutsAreLoose, FilesAreOfTables, NewIdsHaveNoFile, CommitsHaveFiles, QuietStatementsStand, ChangedFilesStand};
-
-/// A query commits without rows, and its answer is its listing; what asks for nothing commits too.
-pub fn queries_end()
-    ensures law { QueriesEnd }
-    ensures plain { PlainsEnd }
-{}
-
-/// A refused statement is aborted, and its answer is the cause's line.
-pub fn refusals_end()
-    ensures law { RefusalsEnd }
-{}
-
-/// A new table stands behind the others.
-pub fn tables_are_made()
-    ensures law { TablesAreMade }
-{}
-
-/// A change takes the table's next write id, and what it writes stands behind the other writes.
-pub fn rows_are_changed()
-    ensures law { RowsAreChanged }
-{}
-
-/// A change of no row takes no write id.
-pub fn nothing_is_changed()
-    ensures law { NothingIsChanged }
-{}
-
-/// The rows that a statement inserts fit row files, and so do those that it deletes; what was written so can be read again.
-pub fn changes_can_be_written()
-    ensures law { ChangesCanBeWritten }
-    ensures encoded { WrittenChangesAreEncoded }
-{}
-
-/// A statement changes a table that stands.
-pub fn changed_tables_stand()
-    ensures law { ChangedTableStands }
-{}
-
-/// The tables that a statement names, with the rows that stand in them, are all that it has to see.
-pub fn reading_is_enough()
-    ensures law { ReadingIsEnough }
-{}
+ghost use Rattle.hv_stands.specs.Laws.{SoundnessGoesOn, StandingGoesOn, PutsAreLoose, FilesAreOfTables, NewIdsHaveNoFile, CommitsHaveFiles};
+ghost use Rattle.hv_stands.specs.Statements.{Opens, Starts, Begins, IdsAreGiven, CommitsAnswer, CreatesAnswer, AbortsAnswer, WaitingAbortsAnswer, AnswersStay, OthersLeaveIt, FittingIsSound, FrontsFit, OneMoreFits, FittingHasRoom, SeeingIsEnough, ChangedTableStood, TablesStay, EffectsCanBeWritten, FilesArePut, PutsStand, QuietEntriesStand, OtherEntriesStand, CommitsStand, PutFilesStay, NewIdsAreOthers, EarlierIdsAreKept};
 
 /// What holds of every state holds behind each entry that fits.
 pub fn soundness_goes_on()
@@ -71,10 +30,59 @@ pub fn commits_have_files()
     ensures law { CommitsHaveFiles }
 {}
 
-/// The files stand behind a statement that writes none, and behind a change with its files.
-pub fn statements_stand()
-    ensures quiet { QuietStatementsStand }
-    ensures changed { ChangedFilesStand }
+/// A statement waits behind its Opened, and is under way behind its Start: its snapshot is of the book there.
+pub fn begins()
+    ensures opens { Opens }
+    ensures starts { Starts }
+    ensures both { Begins }
+{}
+
+/// A write id stands behind those that the statement's transaction was given.
+pub fn ids_are_given()
+    ensures law { IdsAreGiven }
+{}
+
+/// What a statement's last entry is gives its answer, and the answer stays.
+pub fn answers()
+    ensures commits { CommitsAnswer }
+    ensures creates { CreatesAnswer }
+    ensures aborts { AbortsAnswer }
+    ensures waiting { WaitingAbortsAnswer }
+    ensures stay { AnswersStay }
+{}
+
+/// Entries of other transactions leave a statement that is under way as it is.
+pub fn others_leave_it()
+    ensures law { OthersLeaveIt }
+{}
+
+/// A book whose entries fit is sound, and so is each front of it; an entry more that fits has room.
+pub fn fitting_books()
+    ensures sound { FittingIsSound }
+    ensures fronts { FrontsFit }
+    ensures more { OneMoreFits }
+    ensures room { FittingHasRoom }
+{}
+
+/// The tables that a statement names, with their rows where it reads rows, are all that it has to see. What it changes is a
+/// table of its snapshot, which stays, and the rows of the change fit row files.
+pub fn seeing_is_enough()
+    ensures seeing { SeeingIsEnough }
+    ensures changed { ChangedTableStood }
+    ensures tables { TablesStay }
+    ensures written { EffectsCanBeWritten }
+{}
+
+/// The files of a statement, from its put to its commit, beside those of others.
+pub fn statement_files_stand()
+    ensures put { FilesArePut }
+    ensures puts { PutsStand }
+    ensures quiet { QuietEntriesStand }
+    ensures others { OtherEntriesStand }
+    ensures commits { CommitsStand }
+    ensures stay { PutFilesStay }
+    ensures new { NewIdsAreOthers }
+    ensures earlier { EarlierIdsAreKept }
 {}
 
 /// A commit worked out by hand: the records of two partitions and two buckets, and where it makes no file.

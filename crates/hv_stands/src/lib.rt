@@ -1,11 +1,10 @@
-//! What statements leave, one after another: the entries of each, and the files that stand.
+//! What entries leave of transactions, tables and files, and a statement on its way through the book.
 #![tactic(auto)]
 
 mod laws;
 
 pub use laws::{
-    changed_tables_stand, changes_can_be_written, commits_have_files, files_are_of_tables,
-    nothing_is_changed, puts_are_loose, queries_end, reading_is_enough, refusals_end,
-    rows_are_changed, soundness_goes_on, standing_goes_on, statements_stand, tables_are_made,
-    worked_by_hand,
+    answers, begins, commits_have_files, files_are_of_tables, fitting_books, ids_are_given,
+    others_leave_it, puts_are_loose, seeing_is_enough, soundness_goes_on, standing_goes_on,
+    statement_files_stand, worked_by_hand,
 };

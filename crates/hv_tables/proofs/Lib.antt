@@ -6,4 +6,5 @@ pub mod Members
 pub mod KeyPlaces
 pub mod Shown
 pub mod ReadContent
+pub mod Earlier
 pub mod StoredRows

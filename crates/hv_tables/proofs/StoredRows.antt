@@ -1,5 +1,6 @@
--- What is known of a table's commits and its files, of a history whose files stand.
-use Rattle.std.proofs.Common.{◌≡◌, ℕ, ◌<◌, ◌≤◌, Bool, true, false, Option, Some, None, List, length, map, refl, sym, ap, ◌∙◌, subst, arith}
+-- What is known of a table's commits and its files as they stood at a place of a book whose files stand.
+use Rattle.std.proofs.Common.{◌≡◌, ℕ, ◌+◌, ◌<◌, ◌≤◌, Bool, true, false, Option, Some, None, List, [], ◌∷◌, ◌++◌, length, map, fold, take, drop, option_map, refl, sym, ap, ◌∙◌, subst, arith}
+use Rattle.std.proofs.lemmas.List.{take-append-drop}
 use Rattle.std.specs.FinMap as tree
 use Rattle.std.specs.List.{AllByRecursion}
 use Rattle.std.specs.List.Sorted.{IsStrictlySortedBy}
@@ -14,46 +15,93 @@ use Rattle.hv_route.proofs.NumberedLemmas.{rows-are-numbered}
 use Rattle.hv_dirs.specs.Names.{write_end}
 use Rattle.hv_history.specs.declared.state.Written.{Written}
 use Rattle.hv_history.specs.declared.state.Table.{Table}
-use Rattle.hv_history.specs.State.{State, numbered}
-use Rattle.hv_stands.specs.Files.{own_place, made_at, file_in, ending_of}
-use Rattle.hv_stands.specs.Sound.{IsRoutedWrite, HasSoundWrites, HasFewOwners, IsOfCommitted, AreOfCommitted}
-use Rattle.hv_stands.proofs.Numbers.{same_one, numbered-within}
+use Rattle.hv_base.specs.declared.ids.Limits.{Limits}
+use Rattle.hv_history.specs.declared.entry.Entry.{Entry}
+use Rattle.hv_history.specs.declared.state.Transaction.{Transaction}
+use Rattle.hv_history.specs.State.{State, nothing_yet, state_of, after, numbered}
+use Rattle.hv_history.specs.Legal.{AllFit, profile}
+use Rattle.hv_history.specs.Lasting.{TableLater, GoesOn}
+use Rattle.hv_history.proofs.LastingLaws.{goes-on-all}
+use Rattle.hv_stands.specs.Files.{own_place, made_at, file_in, ending_of, IsUndone}
+use Rattle.hv_stands.specs.Laws.{HasItsFiles}
+use Rattle.hv_stands.specs.Sound.{given_of, owners_of, given_among, owner_among, IsDone, IsSound, IsRoutedWrite, HasSoundWrites, HasFewOwners, IsOfCommitted, AreOfCommitted}
+use Rattle.hv_stands.proofs.Numbers.{same_one, none_is, found, numbered-map, numbered-within}
+use Rattle.std.proofs.lemmas.List.Sums.{fold-append}
 use Rattle.hv_stands.proofs.Soundness.{all-numbered}
 use Rattle.hv_stands.proofs.MadeFiles.{own_dir-same, file-write}
 use Rattle.hv_stands.proofs.StandingFiles.{made-of-table, commits-have-files}
 use Rattle.hv_stands.proofs.StandingRows.{IsCounted, content-stands}
 use Rattle.hv_tables.specs.Keys.{is_among}
-use Rattle.hv_tables.specs.Laws.{IsStored, RowsAreContent, NoneIsSpoiled}
-use Rattle.hv_tables.proofs.Members.{In, all-in, in-all}
+use Rattle.hv_tables.specs.Laws.{StoodAt, RowsStood, NoneWasSpoiled}
+use Rattle.hv_tables.proofs.Members.{In, in-left, all-in, in-all}
+use Rattle.hv_tables.proofs.Earlier.{numbered-front, numbered-there, length-append, entries-are, undone-before, done-before, kept-all}
 use Rattle.hv_tables.proofs.Shown.{IsOf, IsReadable, Shows}
 use Rattle.hv_tables.proofs.ReadContent.{rows-content, never-spoiled}
 
 row-of : (shape : Shape) (written : Written) (found : Found) → IsNumbered shape written.write written.statement found → IsOf shape written found
 row-of shape written found is = record { write = is.write_is; statement = is.statement_is; partition = is.partition_is }
 
-module _ (state : State) (files : Tree) (table : Table) (lost : List ℕ) (stored : IsStored state files table lost) where
-  number : ℕ
+fit-behind : (limits : Limits) (s : State) (front more : List Entry) → AllFit limits s (front ++ more) → AllFit limits (fold after s front) more
+fit-behind limits s [] more fit = fit
+fit-behind limits s (event ∷ front) more fit = fit-behind limits (after s event) front more fit.1
+
+module _ (book : List Entry) (place : ℕ) (files : Tree) (table : Table) (lost : List ℕ) (stored : StoodAt book place files table lost) where
+  abbrev before : State
+  before = state_of (take place book)
+
+  abbrev now : State
+  now = state_of book
+
+  abbrev more : List Entry
+  more = drop place book
+
+  abbrev number : ℕ
   number = table.info.table.0
 
-  few-owners : length table.owners ≤ state.entries
-  few-owners = all-numbered (HasFewOwners state.entries) state.tables table.info.table.0 table stored.here stored.sound.tables.few
+  -- ---- from that place on
 
-  committed : AreOfCommitted (map ending_of state.transactions) table
-  committed = all-numbered (AreOfCommitted (map ending_of state.transactions)) state.tables table.info.table.0 table stored.here stored.sound.committed
+  split : now ≡ fold after before more
+  split = ap state_of (sym (take-append-drop place book)) ∙ fold-append after nothing_yet (take place book) more
+
+  more-fit : AllFit profile before more
+  more-fit = fit-behind profile nothing_yet (take place book) more (subst (AllFit profile nothing_yet) (sym (take-append-drop place book)) stored.fit)
+
+  goes : GoesOn before now
+  goes = subst (GoesOn before) (sym split) (goes-on-all more before)
+
+  later : (u : Table) × (numbered now.tables number ≡ Some u) × TableLater table u
+  later = found (TableLater table) (numbered now.tables number) (goes.tables number table stored.here)
+
+  few-now : length later.0.owners < write_end
+  few-now =
+      let few = all-numbered (HasFewOwners now.entries) now.tables number later.0 later.1 stored.sound.tables.few in
+      let count = entries-are book in
+      omega (arith, few, count, stored.few)
+
+  owners-few : length table.owners ≤ length later.0.owners
+  owners-few =
+      let is : length later.0.owners ≡ length (table.owners ++ later.2.owners.more) = ap length later.2.owners.is in
+      let parts = length-append table.owners later.2.owners.more in
+      omega (arith, is, parts)
+
+  -- ---- its commits
+
+  committed : AreOfCommitted (map ending_of before.transactions) table
+  committed = all-numbered (AreOfCommitted (map ending_of before.transactions)) before.tables number table stored.here stored.sound_then.committed
 
   writes-sound : HasSoundWrites table
-  writes-sound = all-numbered HasSoundWrites state.tables table.info.table.0 table stored.here stored.sound.tables.written
+  writes-sound = all-numbered HasSoundWrites before.tables number table stored.here stored.sound_then.tables.written
 
   counted : AllByRecursion IsCounted table.writes
   counted =
       in-all IsCounted table.writes
       (λ written h.
-      let is = all-in (IsOfCommitted (map ending_of state.transactions) table.owners) table.writes committed written h in
+      let is = all-in (IsOfCommitted (map ending_of before.transactions) table.owners) table.writes committed written h in
       let within = numbered-within table.owners written.write is.0 is.1 in within.0)
 
   readable : (written : Written) → In written table.writes → IsReadable table.info.shape (length table.owners) lost written
   readable written h =
-      let is = all-in (IsOfCommitted (map ending_of state.transactions) table.owners) table.writes committed written h in
+      let is = all-in (IsOfCommitted (map ending_of before.transactions) table.owners) table.writes committed written h in
       let within = numbered-within table.owners written.write is.0 is.1 in
       let routed = all-in (IsRoutedWrite table.info.shape) table.writes writes-sound.each written h in
       let numbers = rows-are-numbered table.info.shape written.write written.statement routed.rows in record {
@@ -68,54 +116,115 @@ module _ (state : State) (files : Tree) (table : Table) (lost : List ℕ) (store
         up = subst (IsStrictlySortedBy found_cmp) (sym routed.numbered) numbers.rise;
       }
 
-  small : (write txn : ℕ) → numbered table.owners write ≡ Some txn → write < write_end
-  small write txn owner =
-      let within = numbered-within table.owners write txn owner in
-      let few = few-owners in
-      omega (arith, within.1, few, stored.few)
+  -- ---- their files, as they stand now
 
-  -- a file of a write id that was given and isn't lost is one that a commit made
-  only : (deletes : Bool) (partition : List ℕ) (write bucket : ℕ) (bytes : List ℕ) → 1 ≤ write → write ≤ length table.owners → is_among lost write ≡ false
-      → tree.get files (own_place table.info.table.0 partition deletes write bucket) ≡ Some bytes → (written : Written) × In written table.writes × (written.write ≡ write)
-  only deletes partition write bucket bytes first last kept is = by (made_at state.tables place) refl
+  filed : AllByRecursion (HasItsFiles files number table.info.shape) table.writes
+  filed =
+      let all = commits-have-files now files number later.0 stored.sound few-entries stored.stands later.1 in
+      let same : AllByRecursion (HasItsFiles files number table.info.shape) later.0.writes =
+      subst (λ info. AllByRecursion (HasItsFiles files number info.shape) later.0.writes) later.2.info all in
+      in-all (HasItsFiles files number table.info.shape) table.writes
+      (λ written h.
+      all-in (HasItsFiles files number table.info.shape) later.0.writes same written
+      (subst (In written) (sym later.2.writes.is) (in-left written table.writes later.2.writes.more h)))
     where
-      place : Place
-      place = own_place table.info.table.0 partition deletes write bucket
+      few-entries : now.entries < write_end
+      few-entries = let count = entries-are book in omega (arith, count, stored.few)
+
+  -- an id that the table had then has the same transaction now
+  owner-then : (write txn : ℕ) → write ≤ length table.owners → numbered later.0.owners write ≡ Some txn → numbered table.owners write ≡ Some txn
+  owner-then write txn last owner = by (numbered table.owners write) refl
+    where
+      by : (o : Option ℕ) → numbered table.owners write ≡ o → numbered table.owners write ≡ Some txn
+      by (Some other) at =
+          at ∙ ap (λ n. Some n) (same_one (numbered later.0.owners write) other txn
+          (ap (λ os. numbered os write) later.2.owners.is ∙ numbered-front table.owners later.2.owners.more write other at) owner)
+      by None at =
+          let within = numbered-within later.0.owners write txn owner in
+          absurd (numbered-there table.owners write within.0 last at)
+
+  -- an id's transaction was there then
+  transaction-then : (write txn : ℕ) → numbered table.owners write ≡ Some txn → (t : Transaction) × (numbered before.transactions txn ≡ Some t)
+  transaction-then write txn owner = by (numbered before.transactions txn) refl
+    where
+      given : given_among (numbered (map given_of before.transactions) txn) number ≡ Some write
+      given =
+          stored.sound_then.given.is_given txn number write
+          (ap (λ o. owner_among o write) (numbered-map owners_of before.tables number ∙ ap (option_map owners_of) stored.here) ∙ owner)
+
+      by : (o : Option Transaction) → numbered before.transactions txn ≡ o → (t : Transaction) × (numbered before.transactions txn ≡ Some t)
+      by (Some t) at = (t, at)
+      by None at =
+          let none : given_among (numbered (map given_of before.transactions) txn) number ≡ None =
+          ap (λ o. given_among o number) (numbered-map given_of before.transactions txn ∙ ap (option_map given_of) at) in
+          absurd (none_is (given_among (numbered (map given_of before.transactions) txn) number) write none given)
+
+  -- and had committed then, where the id isn't lost
+  done-then : (write txn : ℕ) → numbered table.owners write ≡ Some txn → is_among lost write ≡ false → IsDone (numbered (map ending_of now.transactions) txn)
+      → IsDone (numbered (map ending_of before.transactions) txn)
+  done-then write txn owner kept done =
+      let there = transaction-then write txn owner in
+      done-before before now goes txn there.0 there.1 done
+      (λ undone. let never : true ≡ false = sym (stored.known.undone write txn owner undone) ∙ kept in cc)
+
+  -- a file of a write id that it had then and that wasn't lost is one that a commit made which stood then
+  only : (deletes : Bool) (partition : List ℕ) (write bucket : ℕ) (bytes : List ℕ) → 1 ≤ write → write ≤ length table.owners → is_among lost write ≡ false
+      → tree.get files (own_place number partition deletes write bucket) ≡ Some bytes → (written : Written) × In written table.writes × (written.write ≡ write)
+  only deletes partition write bucket bytes first last kept is = by (made_at now.tables there) refl
+    where
+      there : Place
+      there = own_place number partition deletes write bucket
 
       tiny : write < write_end
-      tiny = let few = few-owners in omega (arith, last, few, stored.few)
+      tiny = let few = few-now in let less = owners-few in omega (arith, last, few, less)
 
-      by : (o : Option (List ℕ)) → made_at state.tables place ≡ o → (written : Written) × In written table.writes × (written.write ≡ write)
+      small : (other txn : ℕ) → numbered later.0.owners other ≡ Some txn → other < write_end
+      small other txn owner =
+          let within = numbered-within later.0.owners other txn owner in
+          let few = few-now in
+          omega (arith, within.1, few)
+
+      by : (o : Option (List ℕ)) → made_at now.tables there ≡ o → (written : Written) × In written table.writes × (written.write ≡ write)
       by None unmade =
-          let loose = stored.stands.other place bytes is unmade in
-          let same : loose.own.table ≡ table = same_one (numbered state.tables table.info.table.0) loose.own.table table loose.own.is stored.here in
-          let owner : numbered table.owners loose.own.write ≡ Some loose.txn = subst (λ (t : Table). numbered t.owners loose.own.write ≡ Some loose.txn) same loose.own.owner in
+          let loose = stored.stands.other there bytes is unmade in
+          let same : loose.own.table ≡ later.0 = same_one (numbered now.tables number) loose.own.table later.0 loose.own.is later.1 in
+          let owner : numbered later.0.owners loose.own.write ≡ Some loose.txn = subst (λ (t : Table). numbered t.owners loose.own.write ≡ Some loose.txn) same loose.own.owner in
           let names = own_dir-same loose.own.deletes deletes loose.own.write loose.own.statement write 0 (small loose.own.write loose.txn owner) tiny (sym loose.own.dir) in
-          let gone : is_among lost loose.own.write ≡ true = stored.known.undone loose.own.write loose.txn owner loose.undone in
-          let never : true ≡ false = sym gone ∙ ap (is_among lost) names.1 ∙ kept in cc
+          let here : numbered later.0.owners write ≡ Some loose.txn = ap (numbered later.0.owners) (sym names.1) ∙ owner in
+          let old = owner-then write loose.txn last here in
+          let at = transaction-then write loose.txn old in
+          let gone : is_among lost write ≡ true = stored.known.undone write loose.txn old (undone-before before now goes loose.txn at.0 at.1 loose.undone) in
+          let never : true ≡ false = sym gone ∙ kept in cc
       by (Some made) some =
-          let at = made-of-table state.tables place made some in
-          let same : at.0 ≡ table = same_one (numbered state.tables table.info.table.0) at.0 table at.1 stored.here in
-          let found = file-write table.info.shape (λ written. In written table.writes) table.writes place made
-          (subst (λ (t : Table). file_in t.info.shape t.writes place ≡ Some made) same at.2) (in-all (λ written. In written table.writes) table.writes (λ written h. h)) in
-          let is_done = all-in (IsOfCommitted (map ending_of state.transactions) table.owners) table.writes committed found.0 found.2 in
-          let names = own_dir-same found.1.deletes deletes found.0.write 0 write 0 (small found.0.write is_done.0 is_done.1) tiny (sym found.1.dir_is) in
-          (found.0, found.2, names.1)
+          let at = made-of-table now.tables there made some in
+          let same : at.0 ≡ later.0 = same_one (numbered now.tables number) at.0 later.0 at.1 later.1 in
+          let of = file-write later.0.info.shape (λ written. In written later.0.writes) later.0.writes there made
+          (subst (λ (t : Table). file_in t.info.shape t.writes there ≡ Some made) same at.2) (in-all (λ written. In written later.0.writes) later.0.writes (λ written h. h)) in
+          let is_done = all-in (IsOfCommitted (map ending_of now.transactions) later.0.owners) later.0.writes
+          (all-numbered (AreOfCommitted (map ending_of now.transactions)) now.tables number later.0 later.1 stored.sound.committed) of.0 of.2 in
+          let names = own_dir-same of.1.deletes deletes of.0.write 0 write 0 (small of.0.write is_done.0 is_done.1) tiny (sym of.1.dir_is) in
+          let owner : numbered later.0.owners write ≡ Some is_done.0 = ap (numbered later.0.owners) (sym names.1) ∙ is_done.1 in
+          let old = owner-then write is_done.0 last owner in
+          let stood = kept-all profile more before more-fit stored.sound_then number table later.0 of.0 is_done.0 stored.here
+          (subst (λ s. numbered s.tables number ≡ Some later.0) split later.1) of.2 is_done.1
+          (done-then write is_done.0 old kept is_done.2) in
+          (of.0, stood, names.1)
 
   shows : Shows table.info (length table.owners) lost files table.writes
   shows = record {
-    few = let few = few-owners in omega (arith, few, stored.few);
-    filed = commits-have-files state files table.info.table.0 table stored.sound stored.few stored.stands stored.here;
+    few = let few = few-now in let less = owners-few in omega (arith, few, less);
+    filed = filed;
     apart = writes-sound.apart;
     readable = in-all (IsReadable table.info.shape (length table.owners) lost) table.writes readable;
     only = only;
   }
 
-pub rows-are-content : RowsAreContent
-rows-are-content state files table lost rows stored are =
-    let up = content-stands table.info.shape table.writes (writes-sound state files table lost stored).each (writes-sound state files table lost stored).apart (counted state files table lost stored) in
-    rows-content table.info (length table.owners) lost files table.writes (shows state files table lost stored) rows are up.up
+pub rows-stood : RowsStood
+rows-stood book place files table lost rows stored are =
+    let up = content-stands table.info.shape table.writes (writes-sound book place files table lost stored).each (writes-sound book place files table lost stored).apart
+    (counted book place files table lost stored) in
+    rows-content table.info (length table.owners) lost files table.writes (shows book place files table lost stored) rows are up.up
 
-pub none-is-spoiled : NoneIsSpoiled
-none-is-spoiled state files table lost stored spoiled =
-    never-spoiled table.info (length table.owners) lost files table.writes (shows state files table lost stored) spoiled
+pub none-was-spoiled : NoneWasSpoiled
+none-was-spoiled book place files table lost stored spoiled =
+    never-spoiled table.info (length table.owners) lost files table.writes (shows book place files table lost stored) spoiled

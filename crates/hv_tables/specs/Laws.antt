@@ -1,10 +1,12 @@
--- Over the files that a history makes, what is read of a table is what stands in it.
-use Rattle.std.specs.Prelude.{◌≡◌, ℕ, ◌<◌, true, false, Some, List, length, map}
+-- Over the files that a book makes, what is read of a table is what stood in it at the place of the book at which it is read.
+use Rattle.std.specs.Prelude.{◌≡◌, ℕ, ◌<◌, true, false, Some, List, length, map, take}
 use Rattle.hv_shelf.specs.Disk.{Tree}
 use Rattle.hv_logic.specs.declared.effect.Found.{Found}
 use Rattle.hv_dirs.specs.Names.{write_end}
 use Rattle.hv_history.specs.declared.state.Table.{Table}
-use Rattle.hv_history.specs.State.{State, numbered, content_of}
+use Rattle.hv_history.specs.declared.entry.Entry.{Entry}
+use Rattle.hv_history.specs.State.{State, nothing_yet, state_of, numbered, content_of}
+use Rattle.hv_history.specs.Legal.{AllFit, profile}
 use Rattle.hv_stands.specs.Files.{ending_of, IsUndone, Stands}
 use Rattle.hv_stands.specs.Sound.{IsDone, IsSound}
 use Rattle.hv_tables.specs.Keys.{is_among}
@@ -17,20 +19,24 @@ pub record AreLost (state : State) (table : Table) (lost : List ℕ) : Type 0 wh
   pub done : (write txn : ℕ) → numbered table.owners write ≡ Some txn → IsDone (numbered (map ending_of state.transactions) txn)
       → is_among lost write ≡ false
 
--- the files that stand are a history's, and this is one of its tables
-pub record IsStored (state : State) (files : Tree) (table : Table) (lost : List ℕ) : Type 0 where
-  pub sound : IsSound state
-  pub few : state.entries < write_end
-  pub stands : Stands state files
-  pub here : numbered state.tables table.info.table.0 ≡ Some table
-  pub known : AreLost state table lost
+-- The files that stand are those of a book, and this is one of its tables as it stood at an earlier place: these of the write ids
+-- that it had there were lost there.
+pub record StoodAt (book : List Entry) (place : ℕ) (files : Tree) (table : Table) (lost : List ℕ) : Type 0 where
+  pub fit : AllFit profile nothing_yet book
+  pub sound : IsSound (state_of book)
+  pub sound_then : IsSound (state_of (take place book))
+  pub few : length book < write_end
+  pub stands : Stands (state_of book) files
+  pub here : numbered (state_of (take place book)).tables table.info.table.0 ≡ Some table
+  pub known : AreLost (state_of (take place book)) table lost
 
-abbrev pub RowsAreContent : Type 0
-RowsAreContent =
-    (state : State) (files : Tree) (table : Table) (lost : List ℕ) (rows : List Found) → IsStored state files table lost
+-- What is read of it now, of the write ids that it had then but for those that were lost then, is what stood in it then.
+abbrev pub RowsStood : Type 0
+RowsStood =
+    (book : List Entry) (place : ℕ) (files : Tree) (table : Table) (lost : List ℕ) (rows : List Found) → StoodAt book place files table lost
     → AreRows table.info (length table.owners) lost files rows → rows ≡ content_of table.writes
 
-abbrev pub NoneIsSpoiled : Type 0
-NoneIsSpoiled =
-    (state : State) (files : Tree) (table : Table) (lost : List ℕ) → IsStored state files table lost
+abbrev pub NoneWasSpoiled : Type 0
+NoneWasSpoiled =
+    (book : List Entry) (place : ℕ) (files : Tree) (table : Table) (lost : List ℕ) → StoodAt book place files table lost
     → IsSpoiled table.info (length table.owners) lost files → ⊥

@@ -11,6 +11,6 @@ mod row_at;
 mod rows;
 
 pub use fault::RowFault;
-pub use laws::rows_are_content;
+pub use laws::rows_stood;
 pub use putting::{put_file, put_files};
 pub use reading::read_rows;

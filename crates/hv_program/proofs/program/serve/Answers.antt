@@ -1,6 +1,6 @@
 use Rattle.hv_base.proofs.ToldLemmas.{stays_same, stays_stays, stays_by}
 use Rattle.hv_house.specs.House.{entries_of, IsReady}
-use Rattle.std.proofs.Common.{ap}
+use Rattle.std.proofs.Common.{ap, refl}
 use Rattle.hv_program.proofs.Ends.{Serves-run, Serves-store, Serves-memory, Serves-full}
 use Rattle.hv_program.proofs.Turns.{StaysTold-is}
 use Rattle.hv_program.proofs.Refusing.{opens-run, opens-store, opens-memory, full-found}
@@ -9,8 +9,8 @@ use Rattle.hv_program.proofs.program.serve.Goals as goal
 
 pub returns-in-Ok : goal.returns-in-Ok
 returns-in-Ok g c = record {
-  served = Serves-run _ _ _ c.run-ran.result _ _ _ _ _ _ (entries_of c.in-Ok.house) (entries_of c.run-ran.new.house) (IsReady g.D.Shelf.told c.run-ran.new.house)
-      c.status_of.ensures.value c.as_slice.ensures (ap g.D.Shelf.told c.close.ensures)
+  served = Serves-run _ _ _ _ _ _ _ c.run-ran.result _ _ _ _ _ _ (entries_of c.in-Ok.house) (entries_of c.run-ran.new.house) (IsReady g.D.Shelf.told c.run-ran.new.house)
+      c.status_of.ensures.value c.in-Ok.ensures.later (ap g.D.Shelf.faults c.close.ensures) refl (ap g.D.Shelf.told c.close.ensures)
       c.in-Ok.ensures.opened c.in-Ok.ensures.tree (λ r. r.kept.reads) c.run-ran.ensures.ready c.run-ran.ensures.shows c.run-ran.ensures.prints c.run-ran.ensures.halts
       c.run-ran.ensures.tells c.run-ran.ensures.heard;
   opened = opens-run c.run-ran.result _ _ _ _ _ (entries_of c.in-Ok.house) c.status_of.ensures.value c.in-Ok.ensures.opened c.run-ran.ensures.why;
@@ -21,7 +21,7 @@ returns-in-Ok g c = record {
 
 pub returns-in-Err-Store-default : goal.returns-in-Err-Store-default
 returns-in-Err-Store-default g c = record {
-  served = Serves-store _ _ _ _ _ _ c.status.ensures c.in-Err-Store-default.field-0-0-is c.in-Err-Store-default.ensures.same_tree c.in-Err-Store-default.ensures.stopped;
+  served = Serves-store _ _ _ _ _ _ _ _ c.status.ensures c.in-Err-Store-default.field-0-0-is c.in-Err-Store-default.ensures.same_tree c.in-Err-Store-default.ensures.stopped;
   opened = opens-store _ _ _ _ _ c.status.ensures;
   blames = blames-store _ _ _ _ _ c.status.ensures c.in-Err-Store-default.field-0-0-is c.in-Err-Store-default.ensures.cause.failed;
   heard = stays_same _;
@@ -30,7 +30,7 @@ returns-in-Err-Store-default g c = record {
 
 pub returns-in-Err-NoMemory-default : goal.returns-in-Err-NoMemory-default
 returns-in-Err-NoMemory-default g c = record {
-  served = Serves-memory _ _ _ _ _ _ c.status-in-Err-NoMemory-default.ensures c.in-Err-NoMemory-default.field-0-0-is c.in-Err-NoMemory-default.ensures.same_tree c.in-Err-NoMemory-default.ensures.stopped;
+  served = Serves-memory _ _ _ _ _ _ _ _ c.status-in-Err-NoMemory-default.ensures c.in-Err-NoMemory-default.field-0-0-is c.in-Err-NoMemory-default.ensures.same_tree c.in-Err-NoMemory-default.ensures.stopped;
   opened = opens-memory _ _ _ _ _ c.status-in-Err-NoMemory-default.ensures;
   blames = blames-memory _ _ _ _ c.status-in-Err-NoMemory-default.ensures;
   heard = stays_same _;
@@ -40,4 +40,4 @@ returns-in-Err-NoMemory-default g c = record {
 pub returns-in-Err-Full-default-clause-served : goal.returns-in-Err-Full-default-clause-served
 returns-in-Err-Full-default-clause-served g c =
     let full = full-found _ _ _ _ c.in-Err-Full-default.field-0-0-is c.in-Err-Full-default.ensures.bad in
-    Serves-full _ _ _ _ _ _ _ _ full.0 full.2 c.full_journal.ensures.said
+    Serves-full _ _ _ _ _ _ _ _ _ _ full.0 full.2 c.full_journal.ensures.said

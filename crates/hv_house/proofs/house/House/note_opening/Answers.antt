@@ -14,18 +14,18 @@ returns-in_err-make_journal-clause-halted g c =
     stops-unmade c.in_err-make_journal.field-0.0 left.0 c.from_residual.result left.1 same (g.D.Shelf.told c.make_journal.new.self.shelf) (entries_of c.args.self.now) _
     c.in_err-make_journal.ensures.journal
 
-pub note-requires-clause-short : goal.note-requires-clause-short
-note-requires-clause-short g c = short_boot c.args.runs
+pub add-requires-clause-short : goal.add-requires-clause-short
+add-requires-clause-short g c = short_boot c.args.runs
 
-pub returns-in_err-note-clause-halted : goal.returns-in_err-note-clause-halted
-returns-in_err-note-clause-halted g c =
-    let left = err_from_is_err_and c.from_residual-in_err-note.result c.from_residual-in_err-note.ensures.1 in
-    let same : left.0 ≡ c.in_err-note.field-0.0 = cc (left.2) in
-    stops-boot c.in_err-note.field-0.0 left.0 c.from_residual-in_err-note.result left.1 same g.D.Shelf.told c.make_journal.new.self c.note.new.self
-    (entries_of c.args.self.now) c.args.runs (map lost_entry c.args.unended.now) (ap (λ b. b.entries) c.in_ok-make_journal.ensures.beside.book) c.in_err-note.ensures.halted
+pub returns-in_err-add-clause-halted : goal.returns-in_err-add-clause-halted
+returns-in_err-add-clause-halted g c =
+    let left = err_from_is_err_and c.from_residual-in_err-add.result c.from_residual-in_err-add.ensures.1 in
+    let same : left.0 ≡ c.in_err-add.field-0.0 = cc (left.2) in
+    stops-boot c.in_err-add.field-0.0 left.0 c.from_residual-in_err-add.result left.1 same g.D.Shelf.told c.make_journal.new.self c.add.new.self
+    (entries_of c.args.self.now) c.args.runs (map lost_entry c.args.unended.now) (ap (λ b. b.entries) c.in_ok-make_journal.ensures.beside.book) c.in_err-add.ensures.halted
 
 pub returns-clause-halted : goal.returns-clause-halted
 returns-clause-halted g c =
-    stops-lost g.D.Shelf.told c.lose.result (entries_of c.args.self.now) c.args.runs c.args.unended.now c.note.new.self c.lose.new.self
-    (c.in_ok-note.ensures.noted.entries ∙ ap (λ b. b.entries ++ Boot c.args.runs ∷ []) c.in_ok-make_journal.ensures.beside.book)
+    stops-lost g.D.Shelf.told c.lose.result (entries_of c.args.self.now) c.args.runs c.args.unended.now c.add.new.self c.lose.new.self
+    (c.in_ok-add.ensures.noted.entries ∙ ap (λ b. b.entries ++ Boot c.args.runs ∷ []) c.in_ok-make_journal.ensures.beside.book)
     c.lose.ensures.halted

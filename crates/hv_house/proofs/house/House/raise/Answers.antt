@@ -1,4 +1,4 @@
-use Rattle.std.proofs.Common.{◌≡◌, ◌≤◌, ◌<◌, ◌+◌, ◌++◌, ◌∷◌, List, length, map, arith, refl, ap, ◌∙◌}
+use Rattle.std.proofs.Common.{◌≤◌, ◌<◌, ◌+◌, ◌++◌, ◌∷◌, List, length, map, arith, refl, ap, ◌∙◌}
 use Rattle.hv_history.specs.declared.entry.Entry.{Entry}
 use Rattle.hv_history.specs.declared.entry.Entry.TheVariants.{Boot}
 use Rattle.hv_house.specs.Booting.{lost_entry}
@@ -22,12 +22,11 @@ pub returns-in-Ok-note_opening-clause-ready : goal.returns-in-Ok-note_opening-cl
 returns-in-Ok-note_opening-clause-ready g c =
     let room : length c.args.book.entries + length c.in-Ok.found.unended.items + 1 ≤ 131072 =
     omega (arith, c.if-entries-len.false, c.len.ensures, ap length c.entries.ensures.entries) in
-    settled-ready g.D.Shelf.told c.note_opening.new.self _ refl refl refl refl c.settle.ensures.entries c.settle.ensures.closed
+    settled-ready g.D.Shelf.told c.note_opening.new.self _ refl refl c.settle.ensures.entries c.settle.ensures.closed
     (raised-ready g.D.Shelf.told c.args.book.entries c.in-Ok.found c.note_opening.new.self c.requires.fit c.in-Ok.ensures.learned room c.in-Ok-note_opening.ensures.kept
     (c.in-Ok-note_opening.ensures.entries
     ∙ ap (λ (es : List Entry). es ++ Boot c.in-Ok.found.runs ∷ map lost_entry c.deref.result.now) c.over.ensures.entries
-    ∙ ap (λ xs. c.args.book.entries ++ Boot c.in-Ok.found.runs ∷ map lost_entry xs) c.deref.ensures.value)
-    c.in-Ok-note_opening.ensures.opened (ap (λ v. v.items) c.in-Ok-note_opening.ensures.tables)).1
+    ∙ ap (λ xs. c.args.book.entries ++ Boot c.in-Ok.found.runs ∷ map lost_entry xs) c.deref.ensures.value)).1
 
 pub returns-in-Ok-note_opening-clause-opened : goal.returns-in-Ok-note_opening-clause-opened
 returns-in-Ok-note_opening-clause-opened g c =
@@ -37,8 +36,7 @@ returns-in-Ok-note_opening-clause-opened g c =
           ∙ (raised-ready g.D.Shelf.told c.args.book.entries c.in-Ok.found c.note_opening.new.self c.requires.fit c.in-Ok.ensures.learned room c.in-Ok-note_opening.ensures.kept
           (c.in-Ok-note_opening.ensures.entries
           ∙ ap (λ (es : List Entry). es ++ Boot c.in-Ok.found.runs ∷ map lost_entry c.deref.result.now) c.over.ensures.entries
-          ∙ ap (λ xs. c.args.book.entries ++ Boot c.in-Ok.found.runs ∷ map lost_entry xs) c.deref.ensures.value)
-          c.in-Ok-note_opening.ensures.opened (ap (λ v. v.items) c.in-Ok-note_opening.ensures.tables)).0,
+          ∙ ap (λ xs. c.args.book.entries ++ Boot c.in-Ok.found.runs ∷ map lost_entry xs) c.deref.ensures.value)).0,
       load-small c.args.book.entries c.requires.fit c.in-Ok.found.unended.items c.in-Ok.ensures.learned.open_are room,
     )
 

@@ -1,0 +1,2 @@
+pub mod CommitterLaws
+pub mod ClashLemmas

@@ -1,0 +1,126 @@
+-- What one entry more of a statement says, and that the book stays faithful with it.
+use Rattle.std.proofs.Common.{◌≡◌, ℕ, ◌≤◌, inr, true, Option, Some, None, IsSomeAnd, List, [], ◌∷◌, ◌++◌, take, fold, refl, sym, ap, subst, arith}
+use Rattle.std.proofs.lemmas.List.{take-append-le}
+use Rattle.hv_base.specs.declared.ids.Limits.{Limits}
+use Rattle.hv_base.specs.declared.ids.Touch.{Touch}
+use Rattle.hv_ast.specs.declared.statement.Stmt.{Stmt}
+use Rattle.hv_history.specs.declared.entry.Entry.{Entry}
+use Rattle.hv_history.specs.declared.entry.Entry.TheVariants as entry
+use Rattle.hv_history.specs.declared.entry.Cause.{Cause}
+use Rattle.hv_history.specs.declared.entry.Cause.TheVariants as cause
+use Rattle.hv_history.specs.declared.state.Snapshot.{Snapshot}
+use Rattle.hv_history.specs.declared.state.Transaction.{Transaction}
+use Rattle.hv_history.specs.State.{State, nothing_yet, after, state_of, numbered, meaning}
+use Rattle.hv_history.specs.Legal.{Of, IsRunning, Fits, CauseFits, CauseIsTrue, IsTruthful, TouchesAreMeant, AllFit, AllTruthful, IsLegal, profile}
+use Rattle.hv_history.specs.Answers.{cause_text}
+use Rattle.hv_stands.specs.Running.{Asking, meant, snapshot_at, running, IsWaiting, IsUnderWay, HasAnswered}
+use Rattle.hv_stands.proofs.Answered.{aborts-answer, waiting-aborts-answer}
+use Rattle.hv_ending.specs.Ending.{KeepsCount, aborting, EndsUncommitted}
+use Rattle.hv_ending.specs.Steps.{CauseIsMeant}
+
+-- ---- a legal book and one entry more
+
+fit-next : (limits : Limits) (book : List Entry) (s : State) (event : Entry) → AllFit limits s book → Fits limits (fold after s book) event
+    → AllFit limits s (book ++ event ∷ [])
+fit-next limits [] s event fit fits = (fits, tt)
+fit-next limits (first ∷ book) s event fit fits = (fit.0, fit-next limits book (after s first) event fit.1 fits)
+
+truthful-next : (book : List Entry) (s : State) (event : Entry) → AllTruthful s book → IsTruthful (fold after s book) event
+    → AllTruthful s (book ++ event ∷ [])
+truthful-next [] s event truthful says = (says, tt)
+truthful-next (first ∷ book) s event truthful says = (truthful.0, truthful-next book (after s first) event truthful.1 says)
+
+pub legal-next : (book : List Entry) (event : Entry) → IsLegal profile book → Fits profile (state_of book) event → IsTruthful (state_of book) event
+    → IsLegal profile (book ++ event ∷ [])
+legal-next book event legal fits says = record {
+  fit = fit-next profile book nothing_yet event legal.fit fits;
+  truthful = truthful-next book nothing_yet event legal.truthful says;
+}
+
+-- ---- a transaction that is there
+
+pub of-here : (P : Transaction → Type 0) (s : State) (txn : ℕ) (t : Transaction) → numbered s.transactions txn ≡ Some t → P t → Of s txn P
+of-here P s txn t here holds = subst (λ (o : Option Transaction). IsSomeAnd o P) (sym here) holds
+
+pub some-more : {A : Type 0} (P Q : A → Type 0) (o : Option A) → ((x : A) → P x → Q x) → IsSomeAnd o P → IsSomeAnd o Q
+some-more P Q None more holds = absurd holds
+some-more P Q (Some x) more holds = more x holds
+
+-- the line of a cause that is no conflict names no table
+one-line : (snapshot : Option Snapshot) (why : Cause) → EndsUncommitted why → cause_text snapshot why ≡ cause_text None why
+unfolding cause_text
+one-line snapshot (cause.Refused number) uncommitted = refl
+one-line snapshot (cause.Conflict other table partition) uncommitted = absurd uncommitted
+one-line snapshot (cause.Request other) uncommitted = refl
+one-line snapshot cause.Full uncommitted = refl
+one-line snapshot (cause.Twice partition row) uncommitted = refl
+one-line snapshot (cause.Blocked holder) uncommitted = refl
+one-line snapshot (cause.ReadFault count) uncommitted = refl
+one-line snapshot (cause.WriteFault count) uncommitted = refl
+one-line snapshot (cause.Damaged at) uncommitted = refl
+one-line snapshot cause.RowLimit uncommitted = refl
+one-line snapshot cause.PartitionLimit uncommitted = refl
+one-line snapshot cause.Memory uncommitted = refl
+one-line snapshot cause.Lost uncommitted = refl
+
+-- ---- a statement that is under way
+
+module _ (book : List Entry) (asking : Asking) (txn place : ℕ) (said : Stmt) (given : List (ℕ × ℕ)) (way : IsUnderWay book asking txn place said given) where
+  pub memory-fits : Fits profile (state_of book) (aborting txn cause.Memory)
+  memory-fits = of-here (CauseFits profile (state_of book) txn cause.Memory) (state_of book) txn _ way.here refl
+
+  pub runs-on : Of (state_of book) txn IsRunning
+  runs-on = of-here IsRunning (state_of book) txn _ way.here (record { unended = refl; started = refl })
+
+  pub means-still : (more : List Entry) → meant (take place (book ++ more)) said ≡ meant (take place book) said
+  means-still more = ap (λ (front : List Entry). meant front said) (take-append-le place book more (omega (arith, way.early)))
+
+  -- its abort for a cause that is so
+  pub abort-true : (why : Cause) → CauseIsMeant given (meant (take place book) said) why → IsTruthful (state_of book) (aborting txn why)
+  abort-true why is_so = of-here (CauseIsTrue (state_of book) why) (state_of book) txn _ way.here (by why is_so)
+    where
+      by : (why : Cause) → CauseIsMeant given (meant (take place book) said) why
+          → CauseIsTrue (state_of book) why (running asking (meant (take place book) said) (snapshot_at book place) given)
+      by (cause.Refused number) is_so = is_so
+      by (cause.Conflict other table partition) is_so = absurd is_so
+      by (cause.Request other) is_so = tt
+      by cause.Full is_so = inr is_so
+      by (cause.Twice partition row) is_so = absurd is_so
+      by (cause.Blocked holder) is_so = tt
+      by (cause.ReadFault count) is_so = tt
+      by (cause.WriteFault count) is_so = tt
+      by (cause.Damaged at) is_so = absurd is_so
+      by cause.RowLimit is_so = is_so
+      by cause.PartitionLimit is_so = is_so
+      by cause.Memory is_so = tt
+      by cause.Lost is_so = tt
+
+  pub commit-true : (wrote : List Touch) → TouchesAreMeant wrote (meant (take place book) said) → IsTruthful (state_of book) (entry.Commit (record { 0 = txn }) wrote)
+  commit-true wrote are = of-here (λ (t : Transaction). TouchesAreMeant wrote (meaning t)) (state_of book) txn _ way.here are
+
+  -- and its answer
+  pub abort-answered : (why : Cause) → EndsUncommitted why → HasAnswered (book ++ aborting txn why ∷ []) txn (cause_text None why) true
+  abort-answered why uncommitted =
+      subst (λ (text : List ℕ). HasAnswered (book ++ aborting txn why ∷ []) txn text true) (one-line (Some (snapshot_at book place)) why uncommitted)
+      (aborts-answer book asking txn place said given why way)
+
+pub waiting-abort-answered : (book : List Entry) (asking : Asking) (txn : ℕ) (said : Stmt) (why : Cause) → IsWaiting book asking txn said
+    → HasAnswered (book ++ aborting txn why ∷ []) txn (cause_text None why) true
+waiting-abort-answered book asking txn said why waiting = waiting-aborts-answer book asking txn said why waiting
+
+-- ---- a count that is kept was risen to behind an earlier one too
+
+pub counts-earlier : (low first high txn : ℕ) (why : Cause) → first ≤ low → KeepsCount low high (aborting txn why) → KeepsCount first high (aborting txn why)
+counts-earlier low first high txn (cause.ReadFault count) le kept = (omega (arith, le, kept.0), kept.1)
+counts-earlier low first high txn (cause.WriteFault count) le kept = (omega (arith, le, kept.0), kept.1)
+counts-earlier low first high txn (cause.Refused number) le kept = tt
+counts-earlier low first high txn (cause.Conflict other table partition) le kept = tt
+counts-earlier low first high txn (cause.Request other) le kept = tt
+counts-earlier low first high txn cause.Full le kept = tt
+counts-earlier low first high txn (cause.Twice partition row) le kept = tt
+counts-earlier low first high txn (cause.Blocked holder) le kept = tt
+counts-earlier low first high txn (cause.Damaged at) le kept = tt
+counts-earlier low first high txn cause.RowLimit le kept = tt
+counts-earlier low first high txn cause.PartitionLimit le kept = tt
+counts-earlier low first high txn cause.Memory le kept = tt
+counts-earlier low first high txn cause.Lost le kept = tt

@@ -1,0 +1,273 @@
+-- A statement that is ready ends: by its commit or its Create, by the abort for a conflict, or for want of memory.
+use Rattle.std.proofs.Common.{◌≡◌, ℕ, ◌<◌, ◌⊎◌, inl, inr, Bool, true, false, Option, Some, None, IsSomeAnd, Result, Ok, Err, IfOk, List, [], ◌∷◌, ◌++◌, length, take, codes, refl, sym, ap, ◌∙◌, subst, arith}
+use Rattle.std.specs.List.{slice_get}
+use Rattle.std.specs.Fmt.{decimal}
+use Rattle.hv_base.specs.declared.ids.Touch.{Touch}
+use Rattle.hv_base.specs.declared.ids.TableId.{TableId}
+use Rattle.hv_shelf.specs.Disk.{Store, Tree}
+use Rattle.hv_ast.specs.declared.statement.Stmt.{Stmt}
+use Rattle.hv_dirs.specs.Names.{write_end}
+use Rattle.hv_logic.specs.declared.catalog.TableInfo.{TableInfo}
+use Rattle.hv_logic.specs.declared.effect.Effect.{Effect}
+use Rattle.hv_logic.specs.declared.meaning.Meaning.{Meaning}
+use Rattle.hv_route.specs.Touching.{touches_of}
+use Rattle.hv_history.specs.declared.entry.Entry.{Entry}
+use Rattle.hv_history.specs.declared.entry.Cause.TheVariants as cause
+use Rattle.hv_history.specs.declared.state.Snapshot.{Snapshot}
+use Rattle.hv_history.specs.declared.state.Transaction.{Transaction}
+use Rattle.hv_history.specs.State.{state_of, numbered, meaning}
+use Rattle.hv_history.specs.Legal.{Of, Fits, ConflictFits, CauseIsTrue, ConflictIsTrue, IsFirstConflict, IsRunning, IsTruthful, IsMake, TouchesAreMeant, place_of_snapshot, profile}
+use Rattle.hv_history.specs.Answers.{cause_text, committed_text, failed_line, after_space, name_of, name_at, ok_line}
+use Rattle.hv_journal.specs.Appending.{KeepsTree}
+use Rattle.hv_stands.specs.Files.{Stands}
+use Rattle.hv_stands.specs.Running.{Asking, IsOf, meant, snapshot_at, running, IsUnderWay, HasAnswered}
+use Rattle.hv_stands.specs.Statements.{AllFitting}
+use Rattle.hv_stands.proofs.Answered.{commits-answer, creates-answer, aborts-answer}
+use Rattle.hv_stands.proofs.Fitting.{fronts-fit}
+use Rattle.hv_stands.proofs.SeeingEnough.{changed-table-stood}
+use Rattle.hv_stands.proofs.StatementFiles.{quiet-entries-stand, other-entries-stand, commits-stand}
+use Rattle.hv_conflicts.specs.declared.meeting.Clash.{Clash}
+use Rattle.hv_conflicts.specs.Clashes.{IsClash}
+use Rattle.hv_conflicts.proofs.ClashLemmas.{clash-fits}
+use Rattle.hv_house.specs.declared.fault.HouseFault.{HouseFault}
+use Rattle.hv_house.specs.declared.house.House.{House}
+use Rattle.hv_house.specs.House.{entries_of, IsReady, IsFaithful}
+use Rattle.hv_ending.specs.declared.ready.Reply.{Reply}
+use Rattle.hv_ending.specs.declared.ready.Way.{Way}
+use Rattle.hv_ending.specs.declared.ready.End.TheVariants as end
+use Rattle.hv_ending.specs.declared.ready.Ready.{Ready}
+use Rattle.hv_ending.specs.Ending.{KeepsCount, IsUndamaged, aborting, committing, creating, IsChangeReady, IsTrulyReady}
+use Rattle.hv_ending.specs.Steps.{Goes, LacksMemory, AbortedOrLacks, DoneOrLacks, conflict_cause, conflict_text, Conclusion}
+use Rattle.hv_ending.proofs.Books.{of-here, legal-next, abort-true, commit-true, abort-answered}
+use Rattle.hv_ending.proofs.Touched.{touch-of-table}
+use Rattle.hv_ending.proofs.Readying.{told-on, same-stands}
+
+-- ---- what fits
+
+pub conflict-fits : (book : List Entry) (txn : ℕ) (wrote : List Touch) (clash : Clash) (touch : Touch) → Of (state_of book) txn IsRunning
+    → IsClash (state_of book) txn wrote clash → slice_get wrote clash.at ≡ Some touch → Fits profile (state_of book) (aborting txn (conflict_cause clash.by touch))
+conflict-fits book txn wrote clash touch runs met found =
+    of-here (λ (t : Transaction). ConflictFits (state_of book) clash.by.0 touch.table.0 touch.partition t) (state_of book) txn met.t met.is
+    (clash-fits (state_of book) txn met.t wrote clash touch met.is
+    (subst (λ (o : Option Transaction). IsSomeAnd o IsRunning) met.is runs) met found)
+
+-- ---- what an entry that ends it says
+
+module _ (book : List Entry) (files : Tree) (asking : Asking) (txn place : ℕ) (said : Stmt) (wrote : List Touch) (name text : List ℕ)
+    (truly : IsTrulyReady book files asking txn place said (record { end = end.Commit wrote name; text = text })) where
+  abbrev given : List (ℕ × ℕ)
+  given = truly.to_end.given
+
+  abbrev under : IsUnderWay book asking txn place said given
+  under = truly.to_end.under_way
+
+  pub commit-says : IsTruthful (state_of book) (committing txn wrote)
+  commit-says = commit-true book asking txn place said given under wrote truly.truly.meant
+
+  pub commit-stands : AllFitting book → length book < write_end → Fits profile (state_of book) (committing txn wrote) → Stands (state_of book) files
+      → Stands (state_of (book ++ committing txn wrote ∷ [])) files
+  commit-stands fit near fits stands = by truly.truly.files_are
+    where
+      by : ((given ≡ []) × (wrote ≡ [])) ⊎ IsChangeReady files (meant (take place book) said) given name → Stands (state_of (book ++ committing txn wrote ∷ [])) files
+      by (inl none) = quiet-entries-stand book asking txn place said given (committing txn wrote) files fit fits under (refl, none.0) stands
+      by (inr change) =
+          commits-stand book asking txn place said change.info change.effect change.write wrote files fit near fits
+          (subst (λ (ids : List (ℕ × ℕ)). IsUnderWay book asking txn place said ids) change.id under) change.is_change change.put stands
+
+  pub commit-answered : (reply : Reply) → reply.text ≡ text → reply.refused ≡ false → HasAnswered (book ++ committing txn wrote ∷ []) txn reply.text reply.refused
+  commit-answered reply text_is accepted =
+      subst (λ (line : List ℕ). HasAnswered (book ++ committing txn wrote ∷ []) txn line reply.refused) (sym (text_is ∙ truly.truly.reply))
+      (subst (λ (b : Bool). HasAnswered (book ++ committing txn wrote ∷ []) txn (committed_text (meant (take place book) said) wrote) b) (sym accepted)
+      (commits-answer book asking txn place said given wrote under))
+
+  -- ---- a conflict
+
+  module _ (clash : Clash) (touch : Touch) (met : IsClash (state_of book) txn wrote clash) (found : slice_get wrote clash.at ≡ Some touch) where
+    -- a change alone conflicts
+    pub conflict-change : IsChangeReady files (meant (take place book) said) given name
+    conflict-change = by truly.truly.files_are
+      where
+        by : ((given ≡ []) × (wrote ≡ [])) ⊎ IsChangeReady files (meant (take place book) said) given name → IsChangeReady files (meant (take place book) said) given name
+        by (inl none) =
+            let never : None ≡ Some touch = sym (ap (λ (ts : List Touch). slice_get ts clash.at) none.1) ∙ found in cc
+        by (inr change) = change
+
+    abbrev info : TableInfo
+    info = conflict-change.info
+
+    abbrev effect : Effect
+    effect = conflict-change.effect
+
+    conflict-wrote : wrote ≡ touches_of info effect
+    conflict-wrote = subst (TouchesAreMeant wrote) conflict-change.is_change truly.truly.meant
+
+    first-conflict : IsFirstConflict (state_of book) place (touches_of info effect) clash.by.0 touch.table.0 touch.partition
+    first-conflict =
+        let whose : Some met.t ≡ Some (running asking (meant (take place book) said) (snapshot_at book place) given) = sym met.is ∙ under.here in
+        let same : met.t ≡ running asking (meant (take place book) said) (snapshot_at book place) given = cc in
+        let which : Some met.touch ≡ Some touch = sym met.found ∙ found in
+        let one : met.touch ≡ touch = cc in
+        subst (λ (ts : List Touch). IsFirstConflict (state_of book) place ts clash.by.0 touch.table.0 touch.partition) conflict-wrote
+        (subst (λ (x : Touch). IsFirstConflict (state_of book) place wrote clash.by.0 x.table.0 x.partition) one
+        (subst (λ (t : Transaction). IsFirstConflict (state_of book) (place_of_snapshot t.snapshot) wrote clash.by.0 met.touch.table.0 met.touch.partition) same
+        met.conflict))
+
+    pub conflict-says : IsTruthful (state_of book) (aborting txn (conflict_cause clash.by touch))
+    conflict-says =
+        of-here (CauseIsTrue (state_of book) (conflict_cause clash.by touch)) (state_of book) txn _ under.here
+        (subst (λ (m : Option Meaning). ConflictIsTrue (state_of book) clash.by.0 touch.table.0 touch.partition
+        (running asking (meant (take place book) said) (snapshot_at book place) given) m) (sym conflict-change.is_change) first-conflict)
+
+    -- its table is named
+    named : AllFitting book → name_at (Some (snapshot_at book place)) touch.table.0 ≡ name
+    named fit =
+        let stood = changed-table-stood (take place book) said info effect (fronts-fit book place fit) conflict-change.is_change in
+        let here : touch.table.0 ≡ info.table.0 =
+        touch-of-table info effect clash.at touch (subst (λ (ts : List Touch). slice_get ts clash.at ≡ Some touch) conflict-wrote found) in
+        ap (λ (n : ℕ). name_of (numbered (state_of (take place book)).tables n)) here ∙ ap name_of stood.1
+        ∙ ap (λ (i : TableInfo). i.shape.name) stood.2 ∙ sym conflict-change.named
+
+    line-is : (snapshot : Option Snapshot) → name_at snapshot touch.table.0 ≡ name
+        → cause_text snapshot (conflict_cause clash.by touch) ≡ conflict_text clash.by.0 name touch.partition
+    unfolding cause_text conflict_text
+    line-is snapshot is =
+        ap (λ (n : List ℕ). failed_line 30 (codes "Conflict with " ++ decimal clash.by.0 ++ codes " on " ++ n ++ after_space touch.partition)) is
+
+    pub conflict-answered : AllFitting book → (reply : Reply) → reply.text ≡ conflict_text clash.by.0 name touch.partition → reply.refused ≡ true
+        → HasAnswered (book ++ aborting txn (conflict_cause clash.by touch) ∷ []) txn reply.text reply.refused
+    conflict-answered fit reply text_is refusal =
+        subst (λ (line : List ℕ). HasAnswered (book ++ aborting txn (conflict_cause clash.by touch) ∷ []) txn line reply.refused)
+        (line-is (Some (snapshot_at book place)) (named fit) ∙ sym text_is)
+        (subst (λ (b : Bool). HasAnswered (book ++ aborting txn (conflict_cause clash.by touch) ∷ []) txn (cause_text (Some (snapshot_at book place)) (conflict_cause clash.by touch)) b)
+        (sym refusal) (aborts-answer book asking txn place said given (conflict_cause clash.by touch) under))
+
+-- ---- one entry ended it
+
+-- the entry is true, the files stand behind it, and the reply is its answer, where it is truly ready
+pub record EndsWell (way : Way) (ready : Ready) (book : List Entry) (event : Entry) (reply : Reply) : Type 0 where
+  pub fits : Fits profile (state_of book) event
+  pub of_it : IsOf way.txn.0 event
+  pub undamaged : IsUndamaged event
+  pub says : (files : Tree) (asking : Asking) (said : Stmt) → IsTrulyReady book files asking way.txn.0 way.place said ready → IsTruthful (state_of book) event
+  pub stands : (files : Tree) (asking : Asking) (said : Stmt) → IsTrulyReady book files asking way.txn.0 way.place said ready
+      → Stands (state_of book) files → Stands (state_of (book ++ event ∷ [])) files
+  pub answered : (files : Tree) (asking : Asking) (said : Stmt) → IsTrulyReady book files asking way.txn.0 way.place said ready
+      → HasAnswered (book ++ event ∷ []) way.txn.0 reply.text reply.refused
+
+module _ {D : Type 0} (told : D → Option Store) (faults : D → ℕ) (way : Way) (ready : Ready) (before now : House D) where
+  ended-conclusion : (event : Entry) (reply : Reply) → Goes told faults KeepsTree way.txn.0 before now (Ok reply)
+      → entries_of now ≡ entries_of before ++ event ∷ [] → KeepsCount (faults before.shelf) (faults now.shelf) event
+      → EndsWell way ready (entries_of before) event reply → Conclusion told faults way ready before now (Ok reply)
+  ended-conclusion event reply goes book counts well = record {
+    goes = goes;
+    added = record { added = event ∷ []; book = book; of_it = (well.of_it, tt); counts = (counts, tt); undamaged = (well.undamaged, tt) };
+    shows = λ asking said truly shows.
+        told-on KeepsTree (λ s. IsTrulyReady (entries_of before) s.tree asking way.txn.0 way.place said ready) (IsFaithful (entries_of before)) (IsFaithful (entries_of now))
+        (told before.shelf) (told now.shelf) goes.moves
+        (λ x y same is faithful. subst (λ (b : List Entry). IsFaithful b y) (sym book) (record {
+          stands = same-stands (entries_of before ++ event ∷ []) x y same (well.stands x.tree asking said is faithful.stands);
+          legal = legal-next (entries_of before) event faithful.legal well.fits (well.says x.tree asking said is);
+        }))
+        truly shows;
+    answered = λ asking said truly shows.
+        told-on KeepsTree (λ s. IsTrulyReady (entries_of before) s.tree asking way.txn.0 way.place said ready) (IsFaithful (entries_of before))
+        (λ _. HasAnswered (entries_of now) way.txn.0 reply.text reply.refused)
+        (told before.shelf) (told now.shelf) goes.moves
+        (λ x y same is faithful. subst (λ (b : List Entry). HasAnswered b way.txn.0 reply.text reply.refused) (sym book) (well.answered x.tree asking said is))
+        truly shows;
+  }
+
+  pub stopped-conclusion : (why : HouseFault) → Goes {T = Reply} told faults KeepsTree way.txn.0 before now (Err why) → Conclusion told faults way ready before now (Err why)
+  stopped-conclusion why goes = record {
+    goes = goes;
+    added = tt;
+    shows = λ asking said truly shows. tt;
+    answered = λ asking said truly shows. tt;
+  }
+
+  -- memory lacked
+  lacking-well : (reply : Reply) → IsReady told before → LacksMemory way.txn.0 (entries_of before) (entries_of now) reply
+      → EndsWell way ready (entries_of before) (aborting way.txn.0 cause.Memory) reply
+  lacking-well reply go lacks = record {
+    fits = lacks.fits;
+    of_it = refl;
+    undamaged = tt;
+    says = λ files asking said truly. abort-true (entries_of before) asking way.txn.0 way.place said truly.to_end.given truly.to_end.under_way cause.Memory tt;
+    stands = λ files asking said truly stands. other-entries-stand (entries_of before) (aborting way.txn.0 cause.Memory) files go.fit lacks.fits tt stands;
+    answered = λ files asking said truly.
+        subst (λ (line : List ℕ). HasAnswered (entries_of before ++ aborting way.txn.0 cause.Memory ∷ []) way.txn.0 line reply.refused) (sym lacks.text_is)
+        (subst (λ (b : Bool). HasAnswered (entries_of before ++ aborting way.txn.0 cause.Memory ∷ []) way.txn.0 (cause_text None cause.Memory) b) (sym lacks.refusal)
+        (abort-answered (entries_of before) asking way.txn.0 way.place said truly.to_end.given truly.to_end.under_way cause.Memory tt));
+  }
+
+  lacking : (reply : Reply) → IsReady told before → Goes told faults KeepsTree way.txn.0 before now (Ok reply)
+      → LacksMemory way.txn.0 (entries_of before) (entries_of now) reply → Conclusion told faults way ready before now (Ok reply)
+  lacking reply go goes lacks = ended-conclusion (aborting way.txn.0 cause.Memory) reply goes lacks.book tt (lacking-well reply go lacks)
+
+  pub lacking-conclusion : (result : Result Reply HouseFault) → IsReady told before → Goes told faults KeepsTree way.txn.0 before now result
+      → IfOk result (LacksMemory way.txn.0 (entries_of before) (entries_of now)) → Conclusion told faults way ready before now result
+  lacking-conclusion (Ok reply) go goes lacks = lacking reply go goes lacks
+  lacking-conclusion (Err why) go goes lacks = stopped-conclusion why goes
+
+-- ---- its commit, its conflict, its Create
+
+module _ {D : Type 0} (told : D → Option Store) (faults : D → ℕ) (way : Way) (text : List ℕ) (before now : House D) (go : IsReady told before) where
+  near : length (entries_of before) < write_end
+  near = omega (arith, go.kept.few)
+
+  pub commit-conclusion : (wrote : List Touch) (name : List ℕ) (result : Result Reply HouseFault) → Goes told faults KeepsTree way.txn.0 before now result
+      → IfOk result (DoneOrLacks way.txn.0 (committing way.txn.0 wrote) text (entries_of before) (entries_of now))
+      → Conclusion told faults way (record { end = end.Commit wrote name; text = text }) before now result
+  commit-conclusion wrote name (Err why) goes done = stopped-conclusion told faults way (record { end = end.Commit wrote name; text = text }) before now why goes
+  commit-conclusion wrote name (Ok reply) goes (inr lacks) = lacking told faults way (record { end = end.Commit wrote name; text = text }) before now reply go goes lacks
+  commit-conclusion wrote name (Ok reply) goes (inl done) =
+      ended-conclusion told faults way (record { end = end.Commit wrote name; text = text }) before now (committing way.txn.0 wrote) reply goes done.book tt (record {
+        fits = done.fits;
+        of_it = refl;
+        undamaged = tt;
+        says = λ files asking said truly. commit-says (entries_of before) files asking way.txn.0 way.place said wrote name text truly;
+        stands = λ files asking said truly stands. commit-stands (entries_of before) files asking way.txn.0 way.place said wrote name text truly go.fit near done.fits stands;
+        answered = λ files asking said truly. commit-answered (entries_of before) files asking way.txn.0 way.place said wrote name text truly reply done.text_is done.accepted;
+      })
+
+  pub conflict-conclusion : (wrote : List Touch) (name : List ℕ) (clash : Clash) (touch : Touch) (result : Result Reply HouseFault)
+      → IsClash (state_of (entries_of before)) way.txn.0 wrote clash → slice_get wrote clash.at ≡ Some touch
+      → Goes told faults KeepsTree way.txn.0 before now result
+      → IfOk result (AbortedOrLacks way.txn.0 (conflict_cause clash.by touch) (conflict_text clash.by.0 name touch.partition) (entries_of before) (entries_of now))
+      → Conclusion told faults way (record { end = end.Commit wrote name; text = text }) before now result
+  conflict-conclusion wrote name clash touch (Err why) met found goes done =
+      stopped-conclusion told faults way (record { end = end.Commit wrote name; text = text }) before now why goes
+  conflict-conclusion wrote name clash touch (Ok reply) met found goes (inr lacks) =
+      lacking told faults way (record { end = end.Commit wrote name; text = text }) before now reply go goes lacks
+  conflict-conclusion wrote name clash touch (Ok reply) met found goes (inl done) =
+      ended-conclusion told faults way (record { end = end.Commit wrote name; text = text }) before now (aborting way.txn.0 (conflict_cause clash.by touch)) reply goes done.book tt (record {
+        fits = done.fits;
+        of_it = refl;
+        undamaged = tt;
+        says = λ files asking said truly. conflict-says (entries_of before) files asking way.txn.0 way.place said wrote name text truly clash touch met found;
+        stands = λ files asking said truly stands.
+            other-entries-stand (entries_of before) (aborting way.txn.0 (conflict_cause clash.by touch)) files go.fit done.fits tt stands;
+        answered = λ files asking said truly.
+            conflict-answered (entries_of before) files asking way.txn.0 way.place said wrote name text truly clash touch met found go.fit reply done.text_is done.refusal;
+      })
+
+  pub create-conclusion : (table : TableId) (result : Result Reply HouseFault) → Goes told faults KeepsTree way.txn.0 before now result
+      → IfOk result (DoneOrLacks way.txn.0 (creating way.txn.0 table) text (entries_of before) (entries_of now))
+      → Conclusion told faults way (record { end = end.Create; text = text }) before now result
+  create-conclusion table (Err why) goes done = stopped-conclusion told faults way (record { end = end.Create; text = text }) before now why goes
+  create-conclusion table (Ok reply) goes (inr lacks) = lacking told faults way (record { end = end.Create; text = text }) before now reply go goes lacks
+  create-conclusion table (Ok reply) goes (inl done) =
+      ended-conclusion told faults way (record { end = end.Create; text = text }) before now (creating way.txn.0 table) reply goes done.book tt (record {
+        fits = done.fits;
+        of_it = refl;
+        undamaged = tt;
+        says = λ files asking said truly.
+            of-here (λ (t : Transaction). IsMake (meaning t)) (state_of (entries_of before)) way.txn.0 _ truly.to_end.under_way.here truly.truly.makes;
+        stands = λ files asking said truly stands.
+            quiet-entries-stand (entries_of before) asking way.txn.0 way.place said truly.to_end.given (creating way.txn.0 table) files go.fit done.fits
+            truly.to_end.under_way (refl, truly.truly.none) stands;
+        answered = λ files asking said truly.
+            subst (λ (line : List ℕ). HasAnswered (entries_of before ++ creating way.txn.0 table ∷ []) way.txn.0 line reply.refused) (sym (done.text_is ∙ truly.truly.reply))
+            (subst (λ (b : Bool). HasAnswered (entries_of before ++ creating way.txn.0 table ∷ []) way.txn.0 ok_line b) (sym done.accepted)
+            (creates-answer (entries_of before) asking way.txn.0 way.place said truly.to_end.given table truly.to_end.under_way));
+      })

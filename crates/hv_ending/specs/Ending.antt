@@ -1,0 +1,203 @@
+-- How a started statement ends, beside others that are open: what is noted for it, which files it puts, and what it replies.
+-- Source: Hive Transactions (first committer wins); the replies are this project's profile.
+use Rattle.std.specs.Prelude.{◌≡◌, ◌⊎◌, ℕ, ◌+◌, ◌<◌, ◌≤◌, IsTrue, IsSome, Option, Some, Ok, List, [], ◌∷◌, ◌++◌, length, take}
+use Rattle.std.specs.List.{AllByRecursion}
+use Rattle.hv_base.specs.declared.ids.TableId.{TableId}
+use Rattle.hv_base.specs.declared.ids.WriteId.{WriteId}
+use Rattle.hv_base.specs.declared.ids.Touch.{Touch}
+use Rattle.hv_shelf.specs.Disk.{Store, Tree}
+use Rattle.hv_ast.specs.declared.statement.Stmt.{Stmt}
+use Rattle.hv_logic.specs.declared.catalog.TableInfo.{TableInfo}
+use Rattle.hv_logic.specs.declared.effect.Effect.{Effect}
+use Rattle.hv_logic.specs.declared.meaning.Meaning.{Meaning}
+use Rattle.hv_logic.specs.declared.meaning.Meaning.TheVariants.{Change}
+use Rattle.hv_route.specs.Routes.{files_of}
+use Rattle.hv_route.specs.Touching.{touches_of, touched}
+use Rattle.hv_tables.specs.Putting.{CanPut}
+use Rattle.hv_history.specs.declared.entry.Entry.{Entry}
+use Rattle.hv_history.specs.declared.entry.Entry.TheVariants as entry
+use Rattle.hv_history.specs.declared.entry.Cause.{Cause}
+use Rattle.hv_history.specs.declared.entry.Cause.TheVariants as cause
+use Rattle.hv_history.specs.declared.state.Table.{Table}
+use Rattle.hv_history.specs.State.{state_of, numbered, given_in}
+use Rattle.hv_history.specs.Legal.{TouchesAreMeant, IsMake, IsLegalFrom, Rise, is_touched, profile}
+use Rattle.hv_history.specs.Answers.{committed_text, ok_line}
+use Rattle.hv_stands.specs.Running.{Asking, AreOf, meant, IsUnderWay, HasAnswered, HasPut}
+use Rattle.hv_house.specs.declared.fault.HouseFault.{HouseFault}
+use Rattle.hv_house.specs.declared.house.House.{House}
+use Rattle.hv_house.specs.House.{entries_of, IsSmall, Leaves}
+use Rattle.hv_ending.specs.declared.ready.Ready.{Ready}
+use Rattle.hv_ending.specs.declared.ready.End.{End}
+use Rattle.hv_ending.specs.declared.ready.End.TheVariants as end
+use Rattle.hv_ending.specs.declared.ready.Prepared.{Prepared}
+use Rattle.hv_ending.specs.declared.ready.Prepared.TheVariants as prepared
+
+-- ---- entries of one statement
+
+-- a count that an entry keeps of a failed call is one by which the store's count rose meanwhile
+abbrev pub KeepsCount : ℕ → ℕ → Entry → Type 0
+KeepsCount low high (entry.Abort txn (cause.ReadFault count)) = (low < count) × (count ≤ high)
+KeepsCount low high (entry.Abort txn (cause.WriteFault count)) = (low < count) × (count ≤ high)
+KeepsCount low high event = Unit {0}
+
+-- no entry says that a file is damaged
+abbrev pub IsUndamaged : Entry → Type 0
+IsUndamaged (entry.Abort txn (cause.Damaged place)) = ⊥
+IsUndamaged event = Unit {0}
+
+-- the entry doesn't end its transaction
+abbrev pub IsNoEnd : Entry → Type 0
+IsNoEnd (entry.Commit txn wrote) = ⊥
+IsNoEnd (entry.Create txn table) = ⊥
+IsNoEnd (entry.Drop txn table) = ⊥
+IsNoEnd (entry.Abort txn why) = ⊥
+IsNoEnd event = Unit {0}
+
+-- the book went on by entries of this transaction alone
+pub record AddsOf (txn low high : ℕ) (before now : List Entry) : Type 0 where
+  pub added : List Entry
+  pub book : now ≡ before ++ added
+  pub of_it : AreOf txn added
+  pub counts : AllByRecursion (KeepsCount low high) added
+
+abbrev pub giving : ℕ → TableId → WriteId → Entry
+giving txn table write = entry.Given (record { 0 = txn }) table write
+
+abbrev pub aborting : ℕ → Cause → Entry
+aborting txn why = entry.Abort (record { 0 = txn }) why
+
+abbrev pub creating : ℕ → TableId → Entry
+creating txn table = entry.Create (record { 0 = txn }) table
+
+abbrev pub committing : ℕ → List Touch → Entry
+committing txn wrote = entry.Commit (record { 0 = txn }) wrote
+
+-- ---- what a meaning rests on where it is to be ended
+
+-- a change of these rows: its table is there, it is within its limits, and the rows fit their files
+pub record CanChange (book : List Entry) (info : TableInfo) (effect : Effect) : Type 0 where
+  pub table : Table
+  pub here : numbered (state_of book).tables info.table.0 ≡ Some table
+  pub same : table.info ≡ info
+  pub within : touched info effect ≡ Ok (touches_of info effect)
+  pub fit : (write : ℕ) → 1 ≤ write → AllByRecursion CanPut (files_of info.shape write 0 effect)
+
+abbrev pub CanEnd : List Entry → Meaning → Type 0
+CanEnd book (Change info effect) = CanChange book info effect
+CanEnd book _ = Unit {0}
+
+-- the touches of a commit rise, and are of the table in which its transaction has a write id
+pub record IsWellTouched (given : List (ℕ × ℕ)) (wrote : List Touch) : Type 0 where
+  pub rise : Rise wrote
+  pub own : AllByRecursion (λ touch. (0 < touch.inserted + touch.deleted) × IsSome (given_in touch.table.0 given)) wrote
+  pub used : AllByRecursion (λ id. IsTrue (is_touched wrote id)) given
+
+-- its commit can be noted where it meets no conflict
+pub record CommitCanEnd (txn : ℕ) (given : List (ℕ × ℕ)) (wrote : List Touch) : Type 0 where
+  pub small : IsSmall (committing txn wrote)
+  pub touched : IsWellTouched given wrote
+
+abbrev pub EndCanBeNoted : ℕ → List (ℕ × ℕ) → End → Type 0
+EndCanBeNoted txn given (end.Commit wrote name) = CommitCanEnd txn given wrote
+EndCanBeNoted txn given end.Create = Unit {0}
+
+-- ---- a statement of which all is done but its end
+
+-- its files stand
+pub record IsChangeReady (files : Tree) (meaning : Option Meaning) (given : List (ℕ × ℕ)) (name : List ℕ) : Type 0 where
+  pub info : TableInfo
+  pub effect : Effect
+  pub write : ℕ
+  pub is_change : meaning ≡ Some (Change info effect)
+  pub named : name ≡ info.shape.name
+  pub id : given ≡ (info.table.0, write) ∷ []
+  pub put : HasPut files info write effect
+
+-- the touches are those that it means, the reply is theirs, and where it has a write id its files stand; without one it touches nothing
+pub record CommitIsReady (files : Tree) (meaning : Option Meaning) (given : List (ℕ × ℕ)) (wrote : List Touch) (name text : List ℕ) : Type 0 where
+  pub meant : TouchesAreMeant wrote meaning
+  pub reply : text ≡ committed_text meaning wrote
+  pub files_are : ((given ≡ []) × (wrote ≡ [])) ⊎ IsChangeReady files meaning given name
+
+pub record CreateIsReady (meaning : Option Meaning) (given : List (ℕ × ℕ)) (text : List ℕ) : Type 0 where
+  pub makes : IsMake meaning
+  pub reply : text ≡ ok_line
+  pub none : given ≡ []
+
+abbrev pub EndIsTrue : Tree → Option Meaning → List (ℕ × ℕ) → End → List ℕ → Type 0
+EndIsTrue files meaning given (end.Commit wrote name) text = CommitIsReady files meaning given wrote name text
+EndIsTrue files meaning given end.Create text = CreateIsReady meaning given text
+
+-- ---- what preparing it adds to the book
+
+-- an abort by which it ends before its commit
+abbrev pub EndsUncommitted : Cause → Type 0
+EndsUncommitted (cause.Conflict by table partition) = ⊥
+EndsUncommitted why = Unit {0}
+
+abbrev pub AddsNoneOrId : ℕ → List Entry → Type 0
+AddsNoneOrId txn added = (added ≡ []) ⊎ ((table : TableId) × (write : WriteId) × (added ≡ giving txn table write ∷ []))
+
+abbrev pub AddsAbort : ℕ → List Entry → Type 0
+AddsAbort txn added =
+    (first : List Entry) × (why : Cause) × AddsNoneOrId txn first × EndsUncommitted why × (added ≡ first ++ aborting txn why ∷ [])
+
+-- it was aborted for this cause, or since memory lacked for that
+pub record IsAborted (txn : ℕ) (why : Cause) (before now : List Entry) : Type 0 where
+  pub of : Cause
+  pub is : (of ≡ why) ⊎ (of ≡ cause.Memory)
+  pub book : now ≡ before ++ aborting txn of ∷ []
+
+abbrev pub PreparesBy : ℕ → Prepared → List Entry → Type 0
+PreparesBy txn (prepared.Ready ready) added = AddsNoneOrId txn added
+PreparesBy txn (prepared.Ended reply) added = AddsAbort txn added
+
+pub record Prepares (txn low high : ℕ) (before now : List Entry) (found : Prepared) : Type 0 where
+  pub added : List Entry
+  pub book : now ≡ before ++ added
+  pub shape : PreparesBy txn found added
+  pub of_it : AreOf txn added
+  pub counts : AllByRecursion (KeepsCount low high) added
+  pub undamaged : AllByRecursion IsUndamaged added
+
+-- ending it adds entries of it alone, none of which says that a file is damaged
+pub record Concludes (txn low high : ℕ) (before now : List Entry) : Type 0 where
+  pub added : List Entry
+  pub book : now ≡ before ++ added
+  pub of_it : AreOf txn added
+  pub counts : AllByRecursion (KeepsCount low high) added
+  pub undamaged : AllByRecursion IsUndamaged added
+
+-- what stands of it then, whatever is told: it is under way, and its end can be noted
+pub record IsReadyToEnd (book : List Entry) (asking : Asking) (txn place : ℕ) (said : Stmt) (ready : Ready) : Type 0 where
+  pub given : List (ℕ × ℕ)
+  pub under_way : IsUnderWay book asking txn place said given
+  pub can : EndCanBeNoted txn given ready.end
+
+abbrev pub IsPreparedIn : List Entry → Asking → ℕ → ℕ → Stmt → Prepared → Type 0
+IsPreparedIn book asking txn place said (prepared.Ready ready) = IsReadyToEnd book asking txn place said ready
+IsPreparedIn book asking txn place said (prepared.Ended reply) = Unit {0}
+
+-- and where all is told: it will end as it means, or it has ended
+pub record IsTrulyReady (book : List Entry) (files : Tree) (asking : Asking) (txn place : ℕ) (said : Stmt) (ready : Ready) : Type 0 where
+  pub to_end : IsReadyToEnd book asking txn place said ready
+  pub truly : EndIsTrue files (meant (take place book) said) to_end.given ready.end ready.text
+
+abbrev pub IsTrulyPrepared : List Entry → Tree → Asking → ℕ → ℕ → Stmt → Prepared → Type 0
+IsTrulyPrepared book files asking txn place said (prepared.Ready ready) = IsTrulyReady book files asking txn place said ready
+IsTrulyPrepared book files asking txn place said (prepared.Ended reply) = HasAnswered book txn reply.text reply.refused
+
+-- ---- the run stopped in a statement
+
+-- Its entries so far are legal behind the book, and none ends it. The journal reads to the book, or where the store failed, to the
+-- book or to the book and further entries of it.
+pub record HasStopped {D : Type 0} (told : D → Option Store) (txn : ℕ) (why : HouseFault) (before now : House D) : Type 0 where
+  pub added : List Entry
+  pub book : entries_of now ≡ entries_of before ++ added
+  pub of_it : AreOf txn added
+  pub legal : IsLegalFrom profile (state_of (entries_of before)) added
+  pub unended : AllByRecursion IsNoEnd added
+  pub further : List Entry
+  pub further_of_it : AreOf txn further
+  pub few : length further ≤ 2
+  pub leaves : Leaves why further (told now.shelf) (entries_of now)

@@ -1,0 +1,222 @@
+-- What each step of ending a statement leaves.
+use Rattle.std.specs.Prelude.{◌≡◌, ◌⊎◌, ℕ, ◌≤◌, true, false, Option, Some, None, Ok, Err, Result, IfOk, IfErr, ◌+◌, List, [], ◌∷◌, ◌++◌, length, take, codes}
+use Rattle.std.specs.List.{AllByRecursion}
+use Rattle.hv_base.specs.Told.{Tells, Moves, StaysTold}
+use Rattle.hv_base.specs.declared.ids.Touch.{Touch}
+use Rattle.hv_base.specs.declared.ids.TxnId.{TxnId}
+use Rattle.hv_ending.specs.declared.concluding.Conflict.{Conflict}
+use Rattle.std.specs.FinMap as tree
+use Rattle.hv_shelf.specs.declared.place.Place.{Place}
+use Rattle.hv_shelf.specs.Disk.{Store}
+use Rattle.hv_journal.specs.Appending.{KeepsTree}
+use Rattle.hv_ast.specs.declared.statement.Stmt.{Stmt}
+use Rattle.hv_logic.specs.declared.catalog.TableInfo.{TableInfo}
+use Rattle.hv_logic.specs.declared.effect.Effect.{Effect}
+use Rattle.hv_logic.specs.declared.meaning.Meaning.{Meaning}
+use Rattle.hv_logic.specs.declared.meaning.Meaning.TheVariants.{RowLimit, PartitionLimit}
+use Rattle.hv_route.specs.Back.{AreHeld}
+use Rattle.hv_route.specs.Routes.{files_of}
+use Rattle.hv_tables.specs.Putting.{PutsFiles, KeepsOthers}
+use Rattle.hv_history.specs.declared.entry.Entry.{Entry}
+use Rattle.hv_history.specs.declared.entry.Cause.{Cause}
+use Rattle.hv_history.specs.declared.entry.Cause.TheVariants as cause
+use Rattle.hv_history.specs.declared.state.Table.{Table}
+use Rattle.hv_history.specs.State.{state_of}
+use Rattle.hv_history.specs.Legal.{Fits, IsRefusedAs, NeedsId, profile}
+use Rattle.std.specs.Fmt.{decimal}
+use Rattle.hv_history.specs.Answers.{cause_text, failed_line, after_space}
+use Rattle.hv_stands.specs.Laws.{HasFile}
+use Rattle.hv_stands.specs.Running.{Asking, meant, IsUnderWay, HasAnswered, IsOfId, KeepsGiven}
+use Rattle.hv_house.specs.declared.fault.HouseFault.{HouseFault}
+use Rattle.hv_house.specs.declared.house.House.{House}
+use Rattle.hv_house.specs.Faults.{FileCause, EndsRun, HasRisen}
+use Rattle.hv_house.specs.House.{entries_of, IsReady, StaysReady, IsHalted, IsBeside, KeepsJournal, Shows}
+use Rattle.hv_ending.specs.declared.ready.Reply.{Reply}
+use Rattle.hv_ending.specs.declared.ready.Way.{Way}
+use Rattle.hv_ending.specs.declared.ready.End.{End}
+use Rattle.hv_ending.specs.declared.ready.End.TheVariants as end
+use Rattle.hv_ending.specs.declared.ready.Prepared.{Prepared}
+use Rattle.hv_ending.specs.declared.ready.Prepared.TheVariants as prepared
+use Rattle.hv_ending.specs.declared.ready.Ready.{Ready}
+use Rattle.hv_ending.specs.Ending.{KeepsCount, IsUndamaged, aborting, EndsUncommitted, Prepares, Concludes, IsPreparedIn, IsTrulyPrepared, IsTrulyReady, HasStopped}
+
+-- ---- whatever comes of a call
+
+-- The house goes on or the run has stopped; the store made this step. One that lacked memory can go on.
+pub record Goes {D T : Type 0} (told : D → Option Store) (faults : D → ℕ) (step : Store → Store → Type 0) (txn : ℕ) (before now : House D) (result : Result T HouseFault) : Type 0 where
+  pub ready : IfOk result (λ _. IsReady told now)
+  pub moves : Moves step (told before.shelf) (told now.shelf)
+  pub stopped : IfErr result (λ why. HasStopped told txn why before now)
+  pub ends : IfErr result EndsRun
+  pub cause : FileCause (faults before.shelf) (faults now.shelf) result
+
+-- ---- one entry is to be noted
+
+-- it was
+pub record IsAdded {D : Type 0} (told : D → Option Store) (faults : D → ℕ) (event : Entry) (before now : House D) : Type 0 where
+  pub ready : IsReady told now
+  pub book : entries_of now ≡ entries_of before ++ event ∷ []
+  pub tree : Moves KeepsTree (told before.shelf) (told now.shelf)
+  pub later : faults before.shelf ≤ faults now.shelf
+
+-- it wasn't: the house and its files are as they were, and where memory lacked the house is ready
+pub record IsLeftOut {D : Type 0} (told : D → Option Store) (faults : D → ℕ) (event : Entry) (why : HouseFault) (before now : House D) : Type 0 where
+  pub stays : StaysReady told why now
+  pub halted : IsHalted told event why before now
+  pub ends : EndsRun why
+  pub later : faults before.shelf ≤ faults now.shelf
+  pub risen : HasRisen (faults before.shelf) (faults now.shelf) why
+
+-- ---- aborts
+
+-- one abort for this cause was noted, and its line is the reply
+pub record HasAborted (txn : ℕ) (why : Cause) (text : List ℕ) (before now : List Entry) (reply : Reply) : Type 0 where
+  pub book : now ≡ before ++ aborting txn why ∷ []
+  pub fits : Fits profile (state_of before) (aborting txn why)
+  pub text_is : reply.text ≡ text
+  pub refusal : reply.refused ≡ true
+
+abbrev pub LacksMemory : ℕ → List Entry → List Entry → Reply → Type 0
+LacksMemory txn before now reply = HasAborted txn cause.Memory (cause_text None cause.Memory) before now reply
+
+-- for this cause, or since memory lacked for that
+abbrev pub AbortedOrLacks : ℕ → Cause → List ℕ → List Entry → List Entry → Reply → Type 0
+AbortedOrLacks txn why text before now reply = HasAborted txn why text before now reply ⊎ LacksMemory txn before now reply
+
+-- the same of a cause whose line names no table
+pub record IsWithdrawn (txn : ℕ) (why : Cause) (before now : List Entry) (reply : Reply) : Type 0 where
+  pub of : Cause
+  pub is : (of ≡ why) ⊎ (of ≡ cause.Memory)
+  pub done : HasAborted txn of (cause_text None of) before now reply
+
+-- what an abort says of a statement of this meaning, which was given these write ids, is so
+abbrev pub CauseIsMeant : List (ℕ × ℕ) → Option Meaning → Cause → Type 0
+CauseIsMeant given meaning (cause.Refused number) = IsRefusedAs number meaning
+CauseIsMeant given meaning (cause.Conflict by table partition) = ⊥
+CauseIsMeant given meaning cause.Full = NeedsId given meaning
+CauseIsMeant given meaning (cause.Twice partition row) = ⊥
+CauseIsMeant given meaning (cause.Damaged place) = ⊥
+CauseIsMeant given meaning cause.RowLimit = meaning ≡ Some RowLimit
+CauseIsMeant given meaning cause.PartitionLimit = meaning ≡ Some PartitionLimit
+CauseIsMeant given meaning why = Unit {0}
+
+-- so whatever it means
+abbrev pub IsAnyway : Cause → Type 0
+IsAnyway why = (given : List (ℕ × ℕ)) (meaning : Option Meaning) → CauseIsMeant given meaning why
+
+-- it was aborted for a cause of this kind, which is none of a conflict or of damage
+pub record EndsBy (P : Cause → Type 0) (txn low high : ℕ) (before now : List Entry) (reply : Reply) : Type 0 where
+  pub why : Cause
+  pub meant : P why
+  pub done : HasAborted txn why (cause_text None why) before now reply
+  pub uncommitted : EndsUncommitted why
+  pub undamaged : IsUndamaged (aborting txn why)
+  pub counts : KeepsCount low high (aborting txn why)
+
+-- it has ended with this reply, or the run has stopped
+abbrev pub ended : Result Reply HouseFault → Result Prepared HouseFault
+ended (Ok reply) = Ok (prepared.Ended reply)
+ended (Err why) = Err why
+
+-- the write id that a table gives next
+abbrev pub IsNextOf : Option Table → ℕ → Type 0
+IsNextOf None write = ⊥
+IsNextOf (Some table) write = write ≡ length table.owners + 1
+
+-- ---- nothing is noted before its end
+
+abbrev pub IsMadeReady : ℕ → End → List ℕ → List Entry → List Entry → Prepared → Type 0
+IsMadeReady txn last text before now (prepared.Ready ready) = (now ≡ before) × (ready.end ≡ last) × (ready.text ≡ text)
+IsMadeReady txn last text before now (prepared.Ended reply) = IsWithdrawn txn cause.Memory before now reply
+
+-- ---- its files are put
+
+-- files outside the own directories of this write id are as they were
+abbrev pub KeepsOutside : ℕ → ℕ → Store → Store → Type 0
+KeepsOutside table write before now = (place : Place) → (IsOfId table write place → ⊥) → tree.get now.tree place ≡ tree.get before.tree place
+
+-- its files were to be put: nothing else was done, and where they weren't, some of them may stand
+pub record Puts {D T : Type 0} (told : D → Option Store) (info : TableInfo) (effect : Effect) (write : ℕ) (before now : House D) (result : Result T HouseFault) : Type 0 where
+  pub beside : IsBeside before now
+  pub tells : StaysTold (told before.shelf) (told now.shelf)
+  pub journal : Moves KeepsJournal (told before.shelf) (told now.shelf)
+  pub others : Moves (KeepsOthers info.table.0 write (files_of info.shape write 0 effect)) (told before.shelf) (told now.shelf)
+  pub held : AreHeld effect.inserts
+  pub files : IfOk result (λ _. AllByRecursion HasFile (files_of info.shape write 0 effect))
+  pub put : IfOk result (λ _. Moves (PutsFiles info.table.0 write (files_of info.shape write 0 effect)) (told before.shelf) (told now.shelf))
+
+-- it ended for a fault of its files, which the store counted behind `low`, or the run has stopped for that
+pub record BreaksOff {D : Type 0} (told : D → Option Store) (faults : D → ℕ) (txn low : ℕ) (before now : House D) (result : Result Reply HouseFault) : Type 0 where
+  pub ended : IfOk result (EndsBy IsAnyway txn low (faults now.shelf) (entries_of before) (entries_of now))
+  pub ready : IfOk result (λ _. IsReady told now)
+  pub tree : Moves KeepsTree (told before.shelf) (told now.shelf)
+  pub stopped : IfErr result (λ why. HasStopped told txn why before now)
+  pub ends : IfErr result EndsRun
+  pub cause : FileCause low (faults now.shelf) result
+
+-- the files of a change were put under its write id, and its commit is all that is left
+pub record IsWritten {D : Type 0} (told : D → Option Store) (info : TableInfo) (effect : Effect) (write : ℕ) (wrote : List Touch) (text : List ℕ) (before now : House D) (ready : Ready) : Type 0 where
+  pub book : entries_of now ≡ entries_of before
+  pub end_is : ready.end ≡ end.Commit wrote info.shape.name
+  pub text_is : ready.text ≡ text
+  pub held : AreHeld effect.inserts
+  pub files : AllByRecursion HasFile (files_of info.shape write 0 effect)
+  pub put : Moves (PutsFiles info.table.0 write (files_of info.shape write 0 effect)) (told before.shelf) (told now.shelf)
+
+abbrev pub WritesBy : {D : Type 0} → (D → Option Store) → (D → ℕ) → ℕ → TableInfo → Effect → ℕ → List Touch → List ℕ → House D → House D → Prepared → Type 0
+WritesBy told faults txn info effect write wrote text before now (prepared.Ready ready) = IsWritten told info effect write wrote text before now ready
+WritesBy told faults txn info effect write wrote text before now (prepared.Ended reply) =
+    EndsBy IsAnyway txn (faults before.shelf) (faults now.shelf) (entries_of before) (entries_of now) reply
+
+pub record Writing {D : Type 0} (told : D → Option Store) (faults : D → ℕ) (txn : ℕ) (info : TableInfo) (effect : Effect) (write : ℕ) (wrote : List Touch) (text : List ℕ) (before now : House D) (result : Result Prepared HouseFault) : Type 0 where
+  pub goes : Goes told faults (KeepsOutside info.table.0 write) txn before now result
+  pub writes : IfOk result (WritesBy told faults txn info effect write wrote text before now)
+
+-- ---- its end
+
+-- one entry was noted that ends it as committed, and this is the reply
+pub record HasDone (event : Entry) (text : List ℕ) (before now : List Entry) (reply : Reply) : Type 0 where
+  pub book : now ≡ before ++ event ∷ []
+  pub fits : Fits profile (state_of before) event
+  pub text_is : reply.text ≡ text
+  pub accepted : reply.refused ≡ false
+
+abbrev pub DoneOrLacks : ℕ → Entry → List ℕ → List Entry → List Entry → Reply → Type 0
+DoneOrLacks txn event text before now reply = HasDone event text before now reply ⊎ LacksMemory txn before now reply
+
+abbrev pub conflict_cause : TxnId → Touch → Cause
+conflict_cause by touch = cause.Conflict by touch.table touch.partition
+
+-- what is printed for a conflict with this transaction, in a partition of the table of that name
+unfoldable pub conflict_text : ℕ → List ℕ → List ℕ → List ℕ
+conflict_text by name partition = failed_line 30 (codes "Conflict with " ++ decimal by ++ codes " on " ++ name ++ after_space partition)
+
+pub record IsConflictOf (by : TxnId) (touch : Touch) (name : List ℕ) (found : Conflict) : Type 0 where
+  pub cause_is : found.cause ≡ conflict_cause by touch
+  pub text_is : found.text.items ≡ conflict_text by.0 name touch.partition
+
+-- ---- all that is promised of preparing, and of ending
+
+pub record Preparation {D : Type 0} (told : D → Option Store) (faults : D → ℕ) (way : Way) (meaning : Meaning) (before now : House D) (result : Result Prepared HouseFault) : Type 0 where
+  pub goes : Goes told faults (KeepsGiven (state_of (entries_of before)).tables) way.txn.0 before now result
+  pub prepares : IfOk result (Prepares way.txn.0 (faults before.shelf) (faults now.shelf) (entries_of before) (entries_of now))
+  pub stands : (asking : Asking) (said : Stmt) → IsUnderWay (entries_of before) asking way.txn.0 way.place said []
+      → IfOk result (IsPreparedIn (entries_of now) asking way.txn.0 way.place said)
+  pub shows : (asking : Asking) (said : Stmt) → IsUnderWay (entries_of before) asking way.txn.0 way.place said []
+      → Tells (told before.shelf) (λ _. meant (take way.place (entries_of before)) said ≡ Some meaning)
+      → Shows told before (entries_of before) → IfOk result (λ _. Shows told now (entries_of now))
+  pub truly : (asking : Asking) (said : Stmt) → IsUnderWay (entries_of before) asking way.txn.0 way.place said []
+      → Tells (told before.shelf) (λ _. meant (take way.place (entries_of before)) said ≡ Some meaning)
+      → Shows told before (entries_of before)
+      → IfOk result (λ found. Tells (told now.shelf) (λ s. IsTrulyPrepared (entries_of now) s.tree asking way.txn.0 way.place said found))
+
+pub record Conclusion {D : Type 0} (told : D → Option Store) (faults : D → ℕ) (way : Way) (ready : Ready) (before now : House D) (result : Result Reply HouseFault) : Type 0 where
+  pub goes : Goes told faults KeepsTree way.txn.0 before now result
+  pub added : IfOk result (λ _. Concludes way.txn.0 (faults before.shelf) (faults now.shelf) (entries_of before) (entries_of now))
+  pub shows : (asking : Asking) (said : Stmt)
+      → Tells (told before.shelf) (λ s. IsTrulyReady (entries_of before) s.tree asking way.txn.0 way.place said ready)
+      → Shows told before (entries_of before) → IfOk result (λ _. Shows told now (entries_of now))
+  pub answered : (asking : Asking) (said : Stmt)
+      → Tells (told before.shelf) (λ s. IsTrulyReady (entries_of before) s.tree asking way.txn.0 way.place said ready)
+      → Shows told before (entries_of before)
+      → IfOk result (λ reply. Tells (told now.shelf) (λ _. HasAnswered (entries_of now) way.txn.0 reply.text reply.refused))

@@ -1,0 +1,302 @@
+ghost use Rattle.std.specs.Prelude.{◌≡◌, ◌↔◌, ◌+◌, ◌<◌, IsTrue, IfOk, IfErr, None, Some, length};
+ghost use Rattle.std.specs.String.{string_bytes};
+ghost use Rattle.std.specs.List.{slice_get};
+ghost use Rattle.hv_base.specs.Told.{Tells, Moves, StaysTold};
+ghost use Rattle.hv_ast.specs.declared.statement.Stmt.{Stmt};
+ghost use Rattle.hv_history.specs.State.{state_of};
+ghost use Rattle.hv_history.specs.Answers.{failed_line, after_space};
+ghost use Rattle.hv_history.specs.Legal.{Fits, Of, IsRunning, profile};
+ghost use Rattle.hv_history.specs.declared.entry.Cause.TheVariants.{Memory};
+ghost use Rattle.hv_journal.specs.Appending.{KeepsTree};
+ghost use Rattle.hv_base.specs.declared.ids.Touch.{Touch};
+ghost use Rattle.hv_history.specs.Book.{tree_of_entry};
+ghost use Rattle.hv_stands.specs.Running.{Asking, IsOf, HasAnswered};
+ghost use Rattle.hv_conflicts.specs.Clashes.{IsClash};
+ghost use Rattle.hv_house.specs.Faults.{FileCause, EndsRun};
+ghost use Rattle.hv_house.specs.House.{entries_of, IsSmall, IsReady, Shows};
+ghost use Rattle.hv_ending.specs.declared.ready.End.TheVariants as last;
+ghost use Rattle.hv_ending.specs.Ending.{aborting, committing, creating, Concludes, IsReadyToEnd, IsTrulyReady, HasStopped};
+ghost use Rattle.hv_ending.specs.Steps.{Goes, IsAdded, IsLeftOut, HasDone, DoneOrLacks, AbortedOrLacks, IsConflictOf, conflict_cause, conflict_text, Conclusion};
+
+use crate::ready::{End, Ready, Reply, Way};
+use crate::refusing::{abort_with, end_without, lack_memory, note};
+use hv_base::{Duplicate, List, NoMemory, TableId, Text, Touch, TxnId};
+use hv_book::Book;
+use hv_conflicts::{Clash, clash};
+use hv_history::{Cause, Entry};
+use hv_house::{House, HouseFault};
+use hv_shelf::Shelf;
+use std::alloc::Global;
+
+/// Notes the last entry of a statement, with this text as its reply.
+fn note_last<D: Shelf>(
+    house: &mut House<D>,
+    entry: Entry,
+    text: List<u8>,
+) -> Result<Reply, HouseFault>
+    requires ready { IsReady D.told house.old }
+    requires tree { tree_of_entry entry ≡ None }
+    requires small { IsSmall entry }
+    requires fits { Fits profile (state_of (entries_of house.old)) entry }
+    ensures done { IfOk result (HasDone entry text (entries_of house.old) (entries_of house.new)) }
+    ensures added { IfOk result (λ _. IsAdded D.told D.faults entry house.old house.new) }
+    ensures left { IfErr result (λ why. IsLeftOut D.told D.faults entry why house.old house.new) }
+{
+    match note(house, entry) {
+        Ok(()) => Ok(Reply {
+            text,
+            refused: false,
+        }),
+        Err(fault) => Err(fault),
+    }
+}
+
+/// Notes the last entry of a statement; or its abort, where memory lacks for that.
+fn note_end<D: Shelf>(
+    alloc: Global,
+    house: &mut House<D>,
+    txn: TxnId,
+    entry: Entry,
+    text: List<u8>,
+) -> Result<Reply, HouseFault>
+    requires ready { IsReady D.told house.old }
+    requires tree { tree_of_entry entry ≡ None }
+    requires small { IsSmall entry }
+    requires of_it { IsOf txn.0 entry }
+    requires fits { Fits profile (state_of (entries_of house.old)) entry }
+    requires memory { Fits profile (state_of (entries_of house.old)) (aborting txn.0 Memory) }
+    ensures done { IfOk result (DoneOrLacks txn.0 entry text
+        (entries_of house.old) (entries_of house.new)) }
+    ensures goes { Goes D.told D.faults KeepsTree txn.0 house.old house.new result }
+{
+    match note_last(house, entry, text) {
+        Ok(reply) => Ok(reply),
+        Err(fault) => end_without(alloc, house, txn, fault),
+    }
+}
+
+/// A space and the text, where there is one.
+fn after_space(alloc: Global, text: &Text) -> Result<String, NoMemory>
+    ensures { IfOk result (λ spaced. string_bytes spaced ≡ after_space text.now) }
+{
+    if text.is_empty() {
+        Ok(String::new(alloc))
+    } else {
+        Ok(format!(in alloc; " {text}")?)
+    }
+}
+
+/// The line of a refusal of this number, and what it names.
+#[tactic(auto, unfolding(hv_history::specs::Answers::failed_line))]
+fn failed_line(alloc: Global, number: u32, text: &str) -> Result<Vec<u8>, NoMemory>
+    ensures { IfOk result (λ line. line.items ≡ failed_line number text.now) }
+{
+    let line = format!(in alloc; "FAILED {number} {text}\n")?;
+    Ok(line.into_bytes())
+}
+
+/// What is printed for a conflict with this transaction, in a partition of the table of that name.
+fn conflict_line(alloc: Global, by: u64, name: &str, partition: &Text) -> Result<Vec<u8>, NoMemory>
+    ensures { IfOk result (λ line. line.items ≡ conflict_text by name.now partition.now) }
+{
+    let place = after_space(alloc, partition)?;
+    let text = format!(in alloc; "Conflict with {by} on {name}{place}")?;
+    failed_line(alloc, 30, text.as_str())
+}
+
+/// Why a commit is refused, and what is printed for that.
+#[derive(Drop)]
+struct Conflict {
+    cause: Cause,
+    text: Vec<u8>,
+}
+
+/// The conflict of the touch at that place, in the table of that name.
+fn conflict_at(
+    alloc: Global,
+    found: Clash,
+    wrote: &[Touch],
+    name: &Text,
+) -> Result<Conflict, NoMemory>
+    requires within { found.at < length wrote.now }
+    ensures conflict { (touch : Touch) → slice_get wrote.now found.at ≡ Some touch
+        → IfOk result (IsConflictOf found.by touch name.now) }
+{
+    let touch = &wrote[found.at];
+    let text = conflict_line(alloc, found.by.0, name.as_str(), &touch.partition)?;
+    let partition = touch.partition.duplicate(alloc)?;
+    Ok(Conflict {
+        cause: Cause::Conflict {
+            with: found.by,
+            table: touch.table,
+            partition,
+        },
+        text,
+    })
+}
+
+/// Aborts a statement for this conflict; or where memory lacks for that, since memory lacks.
+fn note_conflict<D: Shelf>(
+    alloc: Global,
+    house: &mut House<D>,
+    txn: TxnId,
+    conflict: Conflict,
+) -> Result<Reply, HouseFault>
+    requires ready { IsReady D.told house.old }
+    requires small { IsSmall (aborting txn.0 conflict.cause) }
+    requires fits { Fits profile (state_of (entries_of house.old)) (aborting txn.0 conflict.cause) }
+    requires memory { Fits profile (state_of (entries_of house.old)) (aborting txn.0 Memory) }
+    ensures aborted { IfOk result (AbortedOrLacks txn.0 conflict.cause conflict.text.items
+        (entries_of house.old) (entries_of house.new)) }
+    ensures goes { Goes D.told D.faults KeepsTree txn.0 house.old house.new result }
+{
+    let Conflict { cause, text } = conflict;
+    match abort_with(house, txn, cause, text) {
+        Ok(reply) => Ok(reply),
+        Err(fault) => end_without(alloc, house, txn, fault),
+    }
+}
+
+/// Aborts a statement whose touches conflict.
+fn end_by_conflict<D: Shelf>(
+    alloc: Global,
+    house: &mut House<D>,
+    way: Way,
+    found: Clash,
+    wrote: &[Touch],
+    name: &Text,
+) -> Result<Reply, HouseFault>
+    requires ready { IsReady D.told house.old }
+    requires running { Of (state_of (entries_of house.old)) way.txn.0 IsRunning }
+    requires small { IsSmall (committing way.txn.0 wrote.now) }
+    requires clash { IsClash (state_of (entries_of house.old)) way.txn.0 wrote.now found }
+    ensures conflicts { (touch : Touch) → slice_get wrote.now found.at ≡ Some touch
+        → IfOk result (AbortedOrLacks way.txn.0 (conflict_cause found.by touch)
+        (conflict_text found.by.0 name.now touch.partition)
+        (entries_of house.old) (entries_of house.new)) }
+    ensures goes { Goes D.told D.faults KeepsTree way.txn.0 house.old house.new result }
+{
+    match conflict_at(alloc, found, wrote, name) {
+        Ok(conflict) => note_conflict(alloc, house, way.txn, conflict),
+        Err(NoMemory) => lack_memory(alloc, house, way.txn),
+    }
+}
+
+/// Commits a statement; or aborts it, where its touches conflict.
+fn end_by_commit<D: Shelf>(
+    alloc: Global,
+    house: &mut House<D>,
+    way: Way,
+    wrote: List<Touch>,
+    name: Text,
+    text: List<u8>,
+) -> Result<Reply, HouseFault>
+    requires ready { IsReady D.told house.old }
+    requires way { (asking : Asking) × (said : Stmt) × IsReadyToEnd (entries_of house.old)
+        asking way.txn.0 way.place said (record { end = last.Commit wrote name; text = text }) }
+    ensures whole { Conclusion D.told D.faults way
+        (record { end = last.Commit wrote name; text = text }) house.old house.new result }
+{
+    match clash(house.book(), way.txn, wrote.as_slice()) {
+        Some(found) => end_by_conflict(alloc, house, way, found, wrote.as_slice(), &name),
+        None => {
+            let txn = way.txn;
+            note_end(alloc, house, txn, Entry::Commit { txn, wrote }, text)
+        }
+    }
+}
+
+/// The number of the table that is made next.
+fn next_table(book: &Book) -> TableId
+    ensures next { result.0 ≡ length (state_of book.now.entries).tables + 1 }
+{
+    TableId(book.tables().len() as u64 + 1)
+}
+
+/// Whether the Create of that table fits as the transaction's.
+fn create_fits<D: Shelf>(house: &House<D>, txn: TxnId, table: TableId) -> bool
+    requires ready { IsReady D.told house.now }
+    ensures fits { IsTrue result
+        ↔ Fits profile (state_of (entries_of house.now)) (creating txn.0 table) }
+{
+    house.fits(&Entry::Create { txn, table }, None)
+}
+
+/// Ends a statement by the table that it makes.
+fn end_by_create<D: Shelf>(
+    alloc: Global,
+    house: &mut House<D>,
+    way: Way,
+    text: List<u8>,
+) -> Result<Reply, HouseFault>
+    requires ready { IsReady D.told house.old }
+    requires way { (asking : Asking) × (said : Stmt) × IsReadyToEnd (entries_of house.old)
+        asking way.txn.0 way.place said (record { end = last.Create; text = text }) }
+    ensures whole { Conclusion D.told D.faults way
+        (record { end = last.Create; text = text }) house.old house.new result }
+{
+    let txn = way.txn;
+    let table = next_table(house.book());
+    if create_fits(house, txn, table) {
+        note_end(alloc, house, txn, Entry::Create { txn, table }, text)
+    } else {
+        lack_memory(alloc, house, txn)
+    }
+}
+
+/// Ends a statement that is ready.
+fn end_ready<D: Shelf>(
+    alloc: Global,
+    house: &mut House<D>,
+    way: Way,
+    ready: Ready,
+) -> Result<Reply, HouseFault>
+    requires ready { IsReady D.told house.old }
+    requires way { (asking : Asking) × (said : Stmt)
+        × IsReadyToEnd (entries_of house.old) asking way.txn.0 way.place said ready }
+    ensures whole { Conclusion D.told D.faults way ready house.old house.new result }
+{
+    let Ready { end, text } = ready;
+    match end {
+        End::Commit(wrote, name) => end_by_commit(alloc, house, way, wrote, name, text),
+        End::Create => end_by_create(alloc, house, way, text),
+    }
+}
+
+/// Ends a statement that is ready: by its commit or its Create, by the abort for a conflict, or by one for want of memory.
+///
+/// # Errors
+/// `Store` where the journal failed, and `NoMemory` where memory lacked even for an abort.
+pub fn conclude<D: Shelf>(
+    alloc: Global,
+    house: &mut House<D>,
+    way: Way,
+    ready: Ready,
+) -> Result<Reply, HouseFault>
+    requires ready { IsReady D.told house.old }
+    requires way { (asking : Asking) × (said : Stmt)
+        × IsReadyToEnd (entries_of house.old) asking way.txn.0 way.place said ready }
+    ensures ready { IfOk result (λ _. IsReady D.told house.new) }
+    ensures added { IfOk result (λ _. Concludes way.txn.0
+        (D.faults house.old.shelf) (D.faults house.new.shelf)
+        (entries_of house.old) (entries_of house.new)) }
+    ensures shows { (asking : Asking) (said : Stmt)
+        → Tells (D.told house.old.shelf) (λ s. IsTrulyReady
+        (entries_of house.old) s.tree asking way.txn.0 way.place said ready)
+        → Shows D.told house.old (entries_of house.old)
+        → IfOk result (λ _. Shows D.told house.new (entries_of house.new)) }
+    ensures answered { (asking : Asking) (said : Stmt)
+        → Tells (D.told house.old.shelf) (λ s. IsTrulyReady
+        (entries_of house.old) s.tree asking way.txn.0 way.place said ready)
+        → Shows D.told house.old (entries_of house.old)
+        → IfOk result (λ reply. Tells (D.told house.new.shelf) (λ _. HasAnswered
+        (entries_of house.new) way.txn.0 reply.text reply.refused)) }
+    ensures tree { Moves KeepsTree (D.told house.old.shelf) (D.told house.new.shelf) }
+    ensures tells { StaysTold (D.told house.old.shelf) (D.told house.new.shelf) }
+    ensures stopped { IfErr result (λ why.
+        HasStopped D.told way.txn.0 why house.old house.new) }
+    ensures ends { IfErr result EndsRun }
+    ensures cause { FileCause (D.faults house.old.shelf) (D.faults house.new.shelf) result }
+{
+    end_ready(alloc, house, way, ready)
+}

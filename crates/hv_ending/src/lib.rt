@@ -1,0 +1,12 @@
+//! How a started statement ends: what is noted for it, which files it puts, and what it replies.
+#![tactic(auto)]
+
+mod concluding;
+mod preparing;
+mod ready;
+mod refusing;
+
+pub use concluding::conclude;
+pub use preparing::prepare;
+pub use ready::{End, Prepared, Ready, Reply, Way};
+pub use refusing::refuse;

@@ -1,0 +1,38 @@
+use hv_base::{List, Text, Touch, TxnId};
+
+/// What is printed for a statement, and whether it was refused.
+#[derive(Debug, Drop)]
+pub struct Reply {
+    pub text: List<u8>,
+    pub refused: bool,
+}
+
+/// A started statement: its transaction, and the place of its Start in the book.
+#[derive(Clone, Copy, Debug)]
+pub struct Way {
+    pub txn: TxnId,
+    pub place: u64,
+}
+
+/// What is noted where a statement ends.
+#[derive(Drop)]
+pub enum End {
+    /// A commit with these touches, in the table of that name.
+    Commit(List<Touch>, Text),
+    /// The table that it makes.
+    Create,
+}
+
+/// A statement of which all is done but its end: what is to be noted, and its reply then.
+#[derive(Drop)]
+pub struct Ready {
+    pub end: End,
+    pub text: List<u8>,
+}
+
+/// A statement that was prepared: it is ready to end, or it has ended on the way.
+#[derive(Drop)]
+pub enum Prepared {
+    Ready(Ready),
+    Ended(Reply),
+}

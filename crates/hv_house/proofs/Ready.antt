@@ -1,0 +1,105 @@
+-- A house between two calls.
+use Rattle.std.proofs.Common.{◌≡◌, ◌+◌, ◌<◌, ◌≤◌, Option, Some, None, Result, Ok, Err, OnOk, List, [], ◌∷◌, ◌++◌, length, sym, ap, ◌∙◌, subst, arith, append_assoc, length-append}
+use Rattle.hv_base.specs.Told.{Moves}
+use Rattle.hv_shelf.specs.Disk.{Store}
+use Rattle.hv_history.specs.declared.entry.Entry.{Entry}
+use Rattle.hv_history.specs.State.{state_of}
+use Rattle.hv_history.specs.Journal.{place_of, Reads}
+use Rattle.hv_history.specs.Legal.{Fits, profile}
+use Rattle.hv_journal.specs.Appending.{Holds}
+use Rattle.hv_stands.specs.Running.{Asking, opening, starting, next_number}
+use Rattle.hv_stands.specs.Statements.{AllFitting}
+use Rattle.hv_stands.proofs.Fitting.{one-more-fits, fitting-room}
+use Rattle.hv_house.specs.declared.fault.HouseFault.{HouseFault}
+use Rattle.hv_house.specs.declared.fault.HouseFault.TheVariants as fault
+use Rattle.hv_house.specs.declared.house.House.{House}
+use Rattle.hv_house.specs.Steps.{ClosesBy}
+use Rattle.hv_house.specs.House.{entries_of, IsKept, IsReady, AreNoted, AreHalted, StaysReady, IsAsked, IsBeside, KeepsJournal, BeginFits, beginning_of}
+
+-- ---- it was only asked, or files were put
+
+module _ {D : Type 0} (told : D → Option Store) (before now : House D) where
+  same-kept : now.place ≡ before.place → now.trail ≡ before.trail → Holds (told now.shelf) (entries_of before) → IsKept told before → IsKept told now
+  same-kept place book holds kept =
+      let entries : entries_of now ≡ entries_of before = ap (λ t. t.entries) book in
+      record {
+        place = place ∙ kept.place ∙ ap place_of (sym entries);
+        near = omega (arith, place, kept.near, ap length entries);
+        few = omega (arith, kept.few, ap length entries);
+        reads = subst (Holds (told now.shelf)) (sym entries) holds;
+        running = ap (λ t. t.closed) book ∙ kept.running;
+      }
+
+  pub asked-ready : IsAsked told before now → IsReady told before → IsReady told now
+  asked-ready asked ready = record {
+    kept = same-kept asked.place asked.book (subst (λ o. Holds o (entries_of before)) (sym asked.store) ready.kept.reads) ready.kept;
+    fit = subst AllFitting (sym (ap (λ t. t.entries) asked.book)) ready.fit;
+  }
+
+  pub beside-ready : IsBeside before now → Moves KeepsJournal (told before.shelf) (told now.shelf) → IsReady told before → IsReady told now
+  beside-ready beside keeps ready = record {
+    kept = same-kept beside.place beside.book (holds-still (told before.shelf) (told now.shelf) keeps ready.kept.reads) ready.kept;
+    fit = subst AllFitting (sym (ap (λ t. t.entries) beside.book)) ready.fit;
+  }
+    where
+      holds-still : (a b : Option Store) → Moves KeepsJournal a b → Holds a (entries_of before) → Holds b (entries_of before)
+      holds-still None None keeps holds = tt
+      holds-still None (Some t) keeps holds = absurd keeps
+      holds-still (Some s) None keeps holds = absurd keeps
+      holds-still (Some s) (Some t) keeps holds = subst (Reads (entries_of before)) (sym keeps) holds
+
+  -- nothing was noted for want of memory
+  pub halted-ready : (why : HouseFault) (events : List Entry) → AreHalted told events why before now → now.place ≡ before.place
+      → ClosesBy why before.trail.closed now.trail.closed → IsReady told before → StaysReady told why now
+  halted-ready fault.Store events halted place closed ready = record { ready = λ none. cc }
+  halted-ready (fault.Failed count) events halted place closed ready = record { ready = λ none. cc }
+  halted-ready fault.NoMemory events halted place closed ready = record {
+    ready = λ _. record {
+      kept = record {
+        place = place ∙ ready.kept.place ∙ ap place_of (sym halted.entries);
+        near = omega (arith, place, ready.kept.near, ap length halted.entries);
+        few = omega (arith, ready.kept.few, ap length halted.entries);
+        reads = subst (Holds (told now.shelf)) (sym halted.entries) halted.leaves;
+        running = closed ∙ ready.kept.running;
+      };
+      fit = subst AllFitting (sym halted.entries) ready.fit;
+    };
+  }
+
+  -- an entry was noted that fits
+  pub noted-ready : (event : Entry) → AreNoted told (event ∷ []) before now → Fits profile (state_of (entries_of before)) event → IsReady told before
+      → IsReady told now
+  noted-ready event noted fits ready = record {
+    kept = noted.kept;
+    fit = subst AllFitting (sym noted.entries) (one-more-fits (entries_of before) event ready.fit fits);
+  }
+
+  -- and both that begin a statement
+  pub begun-ready : (asking : Asking) → AreNoted told (beginning_of (entries_of before) asking) before now → BeginFits (entries_of before) asking
+      → IsReady told before → IsReady told now
+  begun-ready asking noted fits ready =
+      let book : List Entry = entries_of before in
+      let first : AllFitting (book ++ opening book asking ∷ []) = one-more-fits book (opening book asking) ready.fit fits.0 in
+      let both : AllFitting ((book ++ opening book asking ∷ []) ++ starting (next_number book) ∷ []) =
+      one-more-fits (book ++ opening book asking ∷ []) (starting (next_number book)) first fits.1 in
+      record {
+        kept = noted.kept;
+        fit = subst AllFitting (append_assoc book (opening book asking ∷ []) (starting (next_number book) ∷ []) ∙ sym noted.entries) both;
+      }
+
+-- ---- of a result
+
+pub on-ok : {T E : Type 0} (result : Result T E) (P Q : Type 0) → (P → Q) → OnOk result P → OnOk result Q
+on-ok (Ok x) P Q f h = f h
+on-ok (Err why) P Q f h = tt
+
+-- ---- there is room for what fits
+
+pub room-for : (book : List Entry) (event : Entry) → AllFitting book → Fits profile (state_of book) event → length book < 131072
+room-for book event fit fits = fitting-room book event fit fits
+
+pub room-begin : (book : List Entry) (asking : Asking) → AllFitting book → BeginFits book asking → length book + 2 ≤ 131072
+room-begin book asking fit fits =
+    let first : AllFitting (book ++ opening book asking ∷ []) = one-more-fits book (opening book asking) fit fits.0 in
+    let room : length (book ++ opening book asking ∷ []) < 131072 = fitting-room (book ++ opening book asking ∷ []) (starting (next_number book)) first fits.1 in
+    omega (arith, room, length-append book (opening book asking ∷ []))

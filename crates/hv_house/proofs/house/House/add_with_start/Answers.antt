@@ -1,0 +1,35 @@
+use Rattle.std.proofs.Common.{[], ◌∷◌, ◌++◌, ap, ◌∙◌, append_assoc, arith}
+use Rattle.hv_history.specs.declared.entry.Entry.TheVariants.{Start}
+use Rattle.hv_house.specs.House.{entries_of}
+use Rattle.hv_trail.specs.declared.trail.TrailItem.TheVariants.{Noted}
+use Rattle.hv_trail.specs.Kept.{trail_of}
+use Rattle.hv_house.proofs.Journals.{noted}
+use Rattle.hv_house.proofs.Steps.{same-trail}
+use Rattle.hv_house.proofs.Lengths.{short_start}
+use Rattle.hv_house.proofs.house.House.add_with_start.Goals as goal
+
+pub returns-in_ok-push-in-Ok-2-clause-noted : goal.returns-in_ok-push-in-Ok-2-clause-noted
+returns-in_ok-push-in-Ok-2-clause-noted g c =
+    let start = Start c.args.txn 0 in
+    noted g.D.Shelf.told (c.args.entry ∷ start ∷ []) c.args.self.now
+    (record {
+      start = c.write_with_start.new.self.start;
+      shelf = c.write_with_start.new.self.shelf;
+      place = c.write_with_start.new.self.place;
+      buffer = c.write_with_start.new.self.buffer;
+      trail = c.push-in-Ok.new.self;
+    })
+    c.requires.kept (c.requires.short, (short_start c.args.txn 0, tt)) (omega (arith, c.requires.room))
+    (c.in_ok-push-in-Ok-2.ensures.ok
+    ∙ ap (λ b. b ++ start ∷ []) (c.in_ok-push-in-Ok.ensures.ok ∙ ap (λ b. b ++ c.args.entry ∷ []) c.in-Ok.ensures.entries)
+    ∙ append_assoc (entries_of c.args.self.now) (c.args.entry ∷ []) (start ∷ []))
+    c.in-Ok.ensures.place c.in-Ok.ensures.journal (c.push-in-Ok.ensures.closed ∙ c.push.ensures.closed ∙ c.in-Ok.ensures.running) c.in-Ok.ensures.tree
+
+pub returns-in_ok-push-in-Ok-2-clause-trail : goal.returns-in_ok-push-in-Ok-2-clause-trail
+returns-in_ok-push-in-Ok-2-clause-trail g c =
+    let start = Start c.args.txn 0 in
+    c.in_ok-push-in-Ok-2.ensures.trail
+    ∙ ap (λ items. items ++ Noted start ∷ [])
+    (c.in_ok-push-in-Ok.ensures.trail
+    ∙ ap (λ items. items ++ Noted c.args.entry ∷ []) (same-trail c.args.self.now c.write_with_start.new.self c.in-Ok.ensures.entries c.in-Ok.ensures.marks.marks))
+    ∙ append_assoc (trail_of c.args.self.now.trail) (Noted c.args.entry ∷ []) (Noted start ∷ [])

@@ -1,7 +1,0 @@
-use Rattle.std.proofs.Common.{◌+◌}
-use Rattle.hv_house.proofs.Lengths.{short_opened}
-use Rattle.hv_house.proofs.house.House.open.Goals as goal
-
-pub note-requires-clause-short : goal.note-requires-clause-short
-note-requires-clause-short g c =
-    short_opened (record { 0 = c.args.self.now.opened + 1 }) c.args.session c.args.number c.args.text c.requires.named c.requires.short

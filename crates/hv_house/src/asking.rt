@@ -1,0 +1,96 @@
+ghost use Rattle.std.specs.Prelude.{◌≡◌, ◌↔◌, ◌+◌, ◌≤◌, true, IsTrue, length, option_map};
+ghost use Rattle.std.specs.Option.{option_copied};
+ghost use Rattle.hv_logic.specs.Names.{names_in};
+ghost use Rattle.hv_history.specs.State.{state_of, numbered};
+ghost use Rattle.hv_history.specs.Legal.{Fits, profile, first_holder};
+ghost use Rattle.hv_built.specs.Running.{Runs};
+ghost use Rattle.hv_stands.specs.Running.{Asking, next_number};
+ghost use Rattle.hv_fits.specs.Texts.{IsHanded};
+ghost use Rattle.hv_house.specs.House.{entries_of, IsReady, BeginFits};
+
+use crate::house::{House, LIMITS};
+use hv_ast::Stmt;
+use hv_base::{TableId, TxnId, WriteId};
+use hv_book::Book;
+use hv_fits::first_holder;
+use hv_history::{Entry, numbered};
+use hv_meta::{has_room, next_txn};
+use hv_shelf::Shelf;
+
+/// The write id behind so many, of which there are no more than entries.
+fn next_id(given: u64, entries: &[Entry]) -> WriteId
+    requires few { given ≤ length entries.now }
+    ensures next { result.0 ≡ given + 1 }
+{
+    // The entries are in memory, so that one more than their number is no more than a u64 holds.
+    let _most = entries.len() as u64 + 1;
+    WriteId(given + 1)
+}
+
+impl<D: Shelf> House<D> {
+    /// The book of its journal.
+    pub fn book(&self) -> &Book
+        ensures entries { result.now.entries ≡ entries_of self.now }
+    {
+        self.trail.book()
+    }
+
+    /// Whether an entry fits its book. `tree` is that of the entry's text.
+    pub fn fits(&self, entry: &Entry, tree: Option<&Stmt>) -> bool
+        requires ready { IsReady D.told self.now }
+        requires tree { IsHanded entry.now (option_copied tree) }
+        ensures fits { IsTrue result ↔ Fits profile (state_of (entries_of self.now)) entry.now }
+    {
+        hv_fits::fits(self.trail.book(), &LIMITS, entry, tree)
+    }
+
+    /// Whether a statement of this tree could be opened and started at once: there is room for both, and no
+    /// lock stands against it.
+    pub fn can_begin(&self, tree: &Stmt) -> bool
+        requires ready { IsReady D.told self.now }
+        ensures can { result ≡ true
+            → (asking : Asking) → Runs asking.text tree.now → BeginFits (entries_of self.now) asking }
+    {
+        let room = has_room(self.trail.book(), &LIMITS, 3);
+        let free = self.blocker(tree).is_none();
+        room && free
+    }
+
+    /// The lowest open started transaction whose locks stand against a statement of this tree.
+    pub fn blocker(&self, tree: &Stmt) -> Option<TxnId>
+        requires ready { IsReady D.told self.now }
+        ensures blocker { option_map (λ txn. txn.0) result
+            ≡ first_holder (names_in tree.now) 1 (state_of (entries_of self.now)).transactions }
+    {
+        match first_holder(self.trail.book(), tree) {
+            Some(txn) => Some(TxnId(txn)),
+            None => None,
+        }
+    }
+
+    /// The write id that a table gives next.
+    pub fn next_write(&self, table: TableId) -> Option<WriteId>
+        ensures next { option_map (λ write. write.0) result ≡ option_map (λ t. length t.owners + 1)
+            (numbered (state_of (entries_of self.now)).tables table.0) }
+    {
+        let book = self.trail.book();
+        match numbered(book.tables(), table.0) {
+            Some(note) => Some(next_id(note.high, book.entries())),
+            None => None,
+        }
+    }
+
+    /// The number of the transaction that is opened next.
+    pub fn next_txn(&self) -> TxnId
+        ensures next { result.0 ≡ next_number (entries_of self.now) }
+    {
+        next_txn(self.trail.book())
+    }
+
+    /// How many tables were made.
+    pub fn tables(&self) -> u64
+        ensures tables { result ≡ length (state_of (entries_of self.now)).tables }
+    {
+        self.trail.book().tables().len() as u64
+    }
+}

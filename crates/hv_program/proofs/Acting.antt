@@ -1,0 +1,583 @@
+-- One action, from what a session answers.
+use Rattle.std.proofs.Common.{◌≡◌, ◌⊎◌, ℕ, zero, suc, ◌+◌, ◌<◌, ◌≤◌, Bool, true, false, cond, Option, Some, None, Result, Ok, Err, IfOk, IfErr, IsErrAnd, List, [], ◌∷◌, ◌++◌, length, map, fold, inl, inr, refl, sym, ap, ◌∙◌, subst, arith}
+use Rattle.std.specs.List.{AllByRecursion, Contains}
+use Rattle.std.specs.Option.{option_map}
+use Rattle.std.proofs.lemmas.List.{append-nil, append_cancel_left, length-append}
+use Rattle.std.proofs.lemmas.List.Elements.{Contains-append_right}
+use Rattle.hv_base.specs.Told.{Tells, Moves}
+use Rattle.hv_base.specs.declared.gate.Stage.{Stage}
+use Rattle.hv_base.specs.declared.gate.Stage.TheVariants as stage
+use Rattle.hv_base.specs.declared.ids.TableId.{TableId}
+use Rattle.hv_base.specs.declared.ids.WriteId.{WriteId}
+use Rattle.hv_shelf.specs.Disk.{Store}
+use Rattle.hv_history.specs.declared.entry.Entry.{Entry}
+use Rattle.hv_history.specs.declared.entry.Entry.TheVariants as entry
+use Rattle.hv_history.specs.State.{State, state_of, after}
+use Rattle.hv_history.specs.Legal.{AllFit, profile}
+use Rattle.hv_journal.specs.Appending.{Holds}
+use Rattle.hv_directives.specs.declared.actions.Action.{Action}
+use Rattle.hv_directives.specs.declared.actions.Action.TheVariants as action
+use Rattle.hv_directives.specs.declared.actions.Session.{Session}
+use Rattle.hv_directives.specs.declared.actions.Statement.{Statement}
+use Rattle.hv_stands.specs.Running.{Asking, next_number, opening, AreOf, KeepsGiven, HasAnswered}
+use Rattle.hv_stands.specs.Statements.{AllFitting}
+use Rattle.hv_stands.proofs.Numbers.{numbered-within}
+use Rattle.hv_house.specs.declared.fault.HouseFault.{HouseFault}
+use Rattle.hv_house.specs.declared.fault.HouseFault.TheVariants as fault
+use Rattle.hv_house.specs.declared.house.House.{House}
+use Rattle.hv_house.specs.House.{entries_of, IsFaithful, IsReady, Shows}
+use Rattle.hv_ending.specs.Ending.{AddsOf, HasStopped, KeepsCount, IsUndamaged}
+use Rattle.hv_ending.specs.declared.ready.Reply.{Reply}
+use Rattle.hv_session.specs.declared.paused.Paused.{Paused}
+use Rattle.hv_session.specs.declared.paused.Taken.{Taken}
+use Rattle.hv_session.specs.declared.paused.Taken.TheVariants as taken
+use Rattle.hv_session.specs.Taking.{IsHeld, IsHeldBySome, IsTrulyHeld, HoldsAt, IsReplied, WentThrough, IsKept, IsKeptIn, IsTakenAs, IsFinished}
+use Rattle.hv_program.specs.declared.held.Held.{Held}
+use Rattle.hv_program.specs.Doing.{Waiting, Standing, is_session, waiting_in, without, asking_of, ReleasesOne, session_line}
+use Rattle.hv_program.specs.Own.{Grows, IsNotLost, IsOfRun}
+use Rattle.hv_program.specs.Keeping.{waiting_of, paused_in, held_without, IsHeldIn, standing_of, AreHeld, IsTrulyHeldIn, HasAllOf, IsShown}
+use Rattle.hv_program.specs.Running.{IsBehind, IsLater, Acts, txn_of_waiting, number_of, AreOfSome, Stops}
+use Rattle.hv_program.proofs.HeldStay.{LeavesAlone, others, all-stay, all-true}
+use Rattle.hv_program.proofs.HeldLists.{WaitsAs, found-waits, none-waits, waits-without, waits-last, none-left, all-without, all-found, all-last, all-map, order-without, order-last, found-apart, IsApart, IsBelow}
+use Rattle.hv_program.proofs.OwnEntries.{unlost-all, unlost-or-none, not-lost, state-of, more-fits, of-run, grows-none}
+use Rattle.hv_program.proofs.Counted.{grown-transactions}
+
+-- ---- the others that are held
+
+apart-next : (before : List Entry) (held : Held) → IsHeldIn before held → IsApart (next_number before) held
+apart-next before held is = λ e.
+    let within = numbered-within (state_of before).transactions held.paused.txn.0 _ is.1.under_way.here in
+    absurd (omega (arith, within.1, e))
+
+below-next : (before : List Entry) (txn : ℕ) → txn ≡ next_number before → (held : Held) → IsHeldIn before held → IsBelow txn held
+below-next before txn at held is =
+    let within = numbered-within (state_of before).transactions held.paused.txn.0 _ is.1.under_way.here in
+    omega (arith, within.1, at)
+
+pub next-apart : (before : List Entry) (helds : List Held) → AreHeld before helds → AllByRecursion (IsApart (next_number before)) helds
+next-apart before helds h = all-map (IsHeldIn before) (IsApart (next_number before)) helds (apart-next before) h.each
+
+leaves-alone : (txn : ℕ) (more : List Entry) (helds : List Held) → AreOf txn more → AllByRecursion (IsApart txn) helds → AllByRecursion (LeavesAlone more) helds
+leaves-alone txn more helds of_it apart = all-map (IsApart txn) (LeavesAlone more) helds (λ held is. others txn held.paused.txn.0 is more of_it) apart
+
+begun-after : (before now : List Entry) (helds : List Held) (txn low high : ℕ) → AddsOf txn low high before now
+    → (helds ≡ []) ⊎ ((state_of before).openings.only_lost ≡ false) → (helds ≡ []) ⊎ ((state_of now).openings.only_lost ≡ false)
+begun-after before now helds txn low high adds (inl none) = inl none
+begun-after before now helds txn low high adds (inr unlost) =
+    inr (ap (λ (s : State). s.openings.only_lost) (state-of before adds.added now adds.book) ∙ unlost-all (state_of before) txn adds.added unlost adds.of_it)
+
+pub held-after : (before now : List Entry) (helds : List Held) (txn low high : ℕ) → AllFitting now → AddsOf txn low high before now
+    → AllByRecursion (IsApart txn) helds → AreHeld before helds → AreHeld now helds
+held-after before now helds txn low high fit adds apart h = record {
+  each = subst (λ (book : List Entry). AllByRecursion (IsHeldIn book) helds) (sym adds.book)
+      (all-stay before adds.added helds (subst AllFitting adds.book fit) (leaves-alone txn adds.added helds adds.of_it apart) h.each);
+  apart = h.apart;
+  begun = begun-after before now helds txn low high adds h.begun;
+}
+
+truly-after : (before now : List Entry) (helds : List Held) (txn low high : ℕ) (store store' : Store) → AllFitting before → AllFitting now
+    → AddsOf txn low high before now → AllByRecursion (IsApart txn) helds → KeepsGiven (state_of before).tables store store'
+    → AllByRecursion (IsTrulyHeldIn before store.tree) helds → AllByRecursion (IsTrulyHeldIn now store'.tree) helds
+truly-after before now helds txn low high store store' fit fits adds apart keeps truly =
+    subst (λ (book : List Entry). AllByRecursion (IsTrulyHeldIn book store'.tree) helds) (sym adds.book)
+    (all-true before adds.added helds store store' fit (subst AllFitting adds.book fits) (leaves-alone txn adds.added helds adds.of_it apart) keeps truly)
+
+pub faithful-of : (told : Option Store) (book : List Entry) (helds : List Held) → Tells told (HasAllOf book helds) → Tells told (IsFaithful book)
+faithful-of None book helds h = tt
+faithful-of (Some store) book helds h = h.faithful
+
+-- what the store shows of those that are held, behind what one of another transaction did
+pub shown-after : (told told' : Option Store) (before now : List Entry) (helds : List Held) (txn low high : ℕ) → AllFitting before → AllFitting now
+    → AddsOf txn low high before now → AllByRecursion (IsApart txn) helds → Moves (KeepsGiven (state_of before).tables) told told'
+    → Tells told' (IsFaithful now) → Tells told (HasAllOf before helds) → Tells told' (HasAllOf now helds)
+shown-after None None before now helds txn low high fit fits adds apart keeps faithful shown = tt
+shown-after None (Some store') before now helds txn low high fit fits adds apart keeps faithful shown = absurd keeps
+shown-after (Some store) None before now helds txn low high fit fits adds apart keeps faithful shown = tt
+shown-after (Some store) (Some store') before now helds txn low high fit fits adds apart keeps faithful shown =
+    record { faithful = faithful; truly = truly-after before now helds txn low high store store' fit fits adds apart keeps shown.truly }
+
+-- ---- one more that is held
+
+begun-here : (before now : List Entry) (asking : Asking) (paused : Paused) (low high : ℕ) → AddsOf (next_number before) low high before now
+    → paused.txn.0 ≡ next_number before → IsHeld now asking paused → (state_of now).openings.only_lost ≡ false
+begun-here before now asking paused low high adds at h =
+    by (unlost-or-none (state_of before) (next_number before) adds.added adds.of_it)
+  where
+    behind : state_of now ≡ fold after (state_of before) adds.added
+    behind = state-of before adds.added now adds.book
+
+    by : ((fold after (state_of before) adds.added).openings.only_lost ≡ false)
+        ⊎ (length (fold after (state_of before) adds.added).transactions ≤ length (state_of before).transactions)
+        → (state_of now).openings.only_lost ≡ false
+    by (inl unlost) = ap (λ (s : State). s.openings.only_lost) behind ∙ unlost
+    by (inr few) =
+        let within = numbered-within (state_of now).transactions paused.txn.0 _ h.under_way.here in
+        absurd (omega (arith, few, within.1, at, ap (λ (s : State). length s.transactions) behind))
+
+pub held-one-more : (before now : List Entry) (helds : List Held) (held : Held) (asking : Asking) (low high : ℕ) → AllFitting now
+    → AddsOf (next_number before) low high before now → AreHeld before helds
+    → (held.paused.txn.0 ≡ next_number before) × IsHeld now asking held.paused → AreHeld now (helds ++ held ∷ [])
+held-one-more before now helds held asking low high fit adds h kept =
+    let all = held-after before now helds (next_number before) low high fit adds (next-apart before helds h) h in
+    record {
+      each = all-last (IsHeldIn now) helds held all.each (asking, kept.1);
+      apart = order-last helds held h.apart
+          (all-map (IsHeldIn before) (IsBelow held.paused.txn.0) helds (below-next before held.paused.txn.0 kept.0) h.each);
+      begun = inr (begun-here before now asking held.paused low high adds kept.0 kept.1);
+    }
+
+pub shown-one-more : (told : Option Store) (book : List Entry) (helds : List Held) (held : Held) → Tells told (HasAllOf book helds)
+    → Tells told (λ s. IsTrulyHeld book s.tree held.paused) → Tells told (HasAllOf book (helds ++ held ∷ []))
+shown-one-more None book helds held shown truly = tt
+shown-one-more (Some store) book helds held shown truly =
+    record { faithful = shown.faithful; truly = all-last (IsTrulyHeldIn book store.tree) helds held shown.truly truly }
+
+-- ---- one that is let go
+
+let-go-begun : (before : List Entry) (name : List ℕ) (helds : List Held) → (helds ≡ []) ⊎ ((state_of before).openings.only_lost ≡ false)
+    → (held_without name helds ≡ []) ⊎ ((state_of before).openings.only_lost ≡ false)
+let-go-begun before name helds (inl none) = inl (ap (held_without name) none)
+let-go-begun before name helds (inr unlost) = inr unlost
+
+pub let-go-held : (before : List Entry) (name : List ℕ) (helds : List Held) → AreHeld before helds → AreHeld before (held_without name helds)
+let-go-held before name helds h = record {
+  each = all-without (IsHeldIn before) name helds h.each;
+  apart = order-without name helds h.apart;
+  begun = let-go-begun before name helds h.begun;
+}
+
+pub let-go-one : (before : List Entry) (name : List ℕ) (helds : List Held) (paused : Paused) → AreHeld before helds → paused_in name helds ≡ Some paused
+    → IsHeldBySome before paused
+let-go-one before name helds paused h found = all-found (IsHeldBySome before) name helds paused h.each found
+
+pub let-go-shown : (told : Option Store) (before : List Entry) (name : List ℕ) (helds : List Held) → Tells told (HasAllOf before helds)
+    → Tells told (HasAllOf before (held_without name helds))
+let-go-shown None before name helds shown = tt
+let-go-shown (Some store) before name helds shown =
+    record { faithful = shown.faithful; truly = all-without (IsTrulyHeldIn before store.tree) name helds shown.truly }
+
+pub let-go-truly : (told : Option Store) (before : List Entry) (name : List ℕ) (helds : List Held) (paused : Paused) → paused_in name helds ≡ Some paused
+    → Tells told (HasAllOf before helds) → Tells told (λ s. IsTrulyHeld before s.tree paused)
+let-go-truly None before name helds paused found shown = tt
+let-go-truly (Some store) before name helds paused found shown = all-found (IsTrulyHeld before store.tree) name helds paused shown.truly found
+
+-- one is held, so that no transaction is lost any more
+some-begun : (before : List Entry) (name : List ℕ) (helds : List Held) (paused : Paused) → paused_in name helds ≡ Some paused
+    → (helds ≡ []) ⊎ ((state_of before).openings.only_lost ≡ false) → (state_of before).openings.only_lost ≡ false
+some-begun before name helds paused found (inl none) =
+    let wrong : None ≡ Some paused = sym (ap (paused_in name) none) ∙ found in cc
+some-begun before name helds paused found (inr unlost) = unlost
+
+-- ---- what was added, twice told
+
+pub same-added : (before now these those : List Entry) → now ≡ before ++ these → now ≡ before ++ those → these ≡ those
+same-added before now these those one other = append_cancel_left before these those (sym one ∙ other)
+
+-- the entries of a statement that was taken up
+opened-of-run : (before now added : List Entry) (asking : Asking) (low high : ℕ) → AllFitting now → AddsOf (next_number before) low high before now
+    → now ≡ before ++ opening before asking ∷ added → AreOf (next_number before) added → AllByRecursion IsUndamaged added
+    → AllByRecursion (IsOfRun low high) (opening before asking ∷ added)
+opened-of-run before now added asking low high fit adds is of_it undamaged =
+    let all = opening before asking ∷ added in
+    let counts : AllByRecursion (KeepsCount low high) all =
+    subst (AllByRecursion (KeepsCount low high)) (same-added before now adds.added all adds.book is) adds.counts in
+    let fits = more-fits before all now is fit in
+    of-run low high all counts (tt, undamaged)
+    (tt, not-lost (after (state_of before) (opening before asking)) (next_number before) added refl of_it fits.1)
+
+opens-it : (before now added : List Entry) (asking : Asking) → now ≡ before ++ opening before asking ∷ added → Contains now (opening before asking)
+opens-it before now added asking is =
+    subst (λ (book : List Entry). Contains book (opening before asking)) (sym is) (Contains-append_right before _ _ (0, omega arith, refl))
+
+same-grows : (low high : ℕ) (before now : List Entry) → now ≡ before → Grows low high before now
+same-grows low high before now same = subst (Grows low high before) (sym same) (grows-none low high before)
+
+-- ---- a statement that was taken up
+
+module _ (low high : ℕ) (before now : List Entry) (waiting : List Waiting) (statement : Statement) where
+  abbrev standing : Standing
+  standing = record { book = before; waiting = waiting }
+
+  abbrev standing-now : Standing
+  standing-now = record { book = now; waiting = waiting }
+
+  went-through : (reply : List ℕ) (refused : Bool) → AllFitting now → AddsOf (next_number before) low high before now
+      → WentThrough before now (asking_of statement) statement.hold reply refused → Acts low high standing standing-now (action.Run statement) reply refused
+  went-through reply refused fit adds w = record {
+    grows = record {
+      more = opening before (asking_of statement) ∷ w.added;
+      book_is = w.book;
+      of_run = opened-of-run before now w.added (asking_of statement) low high fit adds w.book w.of_it w.undamaged;
+    };
+    done = λ start behind. inl (record {
+      goes = inl (record {
+        added = w.added;
+        goes = w.book;
+        of_it = w.of_it;
+        in_time = w.in_time;
+        is_answer = record {
+          own = grown-transactions start before behind.grown.0 behind.grown.1;
+          was_opened = opens-it before now w.added (asking_of statement) w.book;
+          answered = w.answered;
+        };
+      });
+      waiting_same = refl;
+    });
+  }
+
+  pub acts-replied : (reply : List ℕ) (refused : Bool) → AllFitting now → AddsOf (next_number before) low high before now
+      → IsReplied before now (asking_of statement) statement.hold reply refused → Acts low high standing standing-now (action.Run statement) reply refused
+  acts-replied reply refused fit adds (inl w) = went-through reply refused fit adds w
+  acts-replied reply refused fit adds (inr (inl n)) = record {
+    grows = same-grows low high before now n.book;
+    done = λ start behind. inl (record {
+      goes = inr (inl (n.book, (n.fault.fault, n.fault.found), record { fault = n.fault; refusal = n.is_refused }));
+      waiting_same = refl;
+    });
+  }
+  acts-replied reply refused fit adds (inr (inr (inl f))) = record {
+    grows = same-grows low high before now f.book;
+    done = λ start behind. inl (record {
+      goes = inr (inr (inl (f.book, f.lacks, record { line_is = f.line; refusal = f.is_refused })));
+      waiting_same = refl;
+    });
+  }
+  acts-replied reply refused fit adds (inr (inr (inr m))) = record {
+    grows = same-grows low high before now m.book;
+    done = λ start behind. inl (record {
+      goes = inr (inr (inr (m.book, record { line_is = m.line; refusal = m.is_refused })));
+      waiting_same = refl;
+    });
+  }
+
+pub tells-acts : (told : Option Store) (P : Store → Type 0) (Q : Type 0) → ((s : Store) → P s → Q) → Tells told P → Tells told (λ _. Q)
+tells-acts None P Q f p = tt
+tells-acts (Some s) P Q f p = f s p
+
+-- ---- one that is held from then on
+
+-- what stands behind the opening of one that is held
+record IsQuiet (txn : ℕ) (added : List Entry) : Type 0 where
+  of_it : AreOf txn added
+  undamaged : AllByRecursion IsUndamaged added
+
+abbrev started : ℕ → List Entry
+started txn = entry.Start (record { 0 = txn }) 0 ∷ []
+
+abbrev given-id : ℕ → TableId → WriteId → List Entry
+given-id txn table write = entry.Start (record { 0 = txn }) 0 ∷ entry.Given (record { 0 = txn }) table write ∷ []
+
+quiet-start : (txn : ℕ) (added : List Entry) → added ≡ started txn → IsQuiet txn added
+quiet-start txn added is = subst (IsQuiet txn) (sym is) (record { of_it = (refl, tt); undamaged = (tt, tt) })
+
+quiet-id : (txn : ℕ) (added : List Entry) (table : TableId) (write : WriteId) → added ≡ given-id txn table write → IsQuiet txn added
+quiet-id txn added table write is = subst (IsQuiet txn) (sym is) (record { of_it = (refl, (refl, tt)); undamaged = (tt, (tt, tt)) })
+
+quiet : (hold : Option Stage) (txn : ℕ) (added : List Entry) → HoldsAt hold txn added → IsQuiet txn added
+quiet None txn added h = absurd h
+quiet (Some stage.Start) txn added h = quiet-start txn added h
+quiet (Some stage.Read) txn added h = quiet-start txn added h
+quiet (Some stage.Commit) txn added (inl h) = quiet-start txn added h
+quiet (Some stage.Commit) txn added (inr h) = quiet-id txn added h.0 h.1 h.2
+quiet (Some stage.Taken) txn added h = absurd h
+quiet (Some stage.Replied) txn added h = absurd h
+
+pub acts-kept : (low high : ℕ) (before now : List Entry) (helds : List Held) (statement : Statement) (held : Held) (store : Store)
+    → AllFitting now → AddsOf (next_number before) low high before now → held.session ≡ statement.session.name
+    → IsKept before now store.tree (asking_of statement) statement.hold held.paused
+    → Acts low high (record { book = before; waiting = map waiting_of helds }) (record { book = now; waiting = map waiting_of (helds ++ held ∷ []) })
+    (action.Run statement) [] false
+acts-kept low high before now helds statement held store fit adds named k =
+    let is = quiet statement.hold (next_number before) k.added k.at_hold in
+    let one : waiting_of held ≡ record { session = statement.session.name; txn = next_number before } =
+    ap (λ session. record { session = session; txn = held.paused.txn.0 }) named
+    ∙ ap (λ txn. record { session = statement.session.name; txn = txn }) k.txn_is in
+    record {
+      grows = record {
+        more = opening before (asking_of statement) ∷ k.added;
+        book_is = k.book;
+        of_run = opened-of-run before now k.added (asking_of statement) low high fit adds k.book is.of_it is.undamaged;
+      };
+      done = λ start behind. inr (record {
+        goes = record {
+          added = k.added;
+          goes = k.book;
+          at_hold = k.at_hold;
+          own = grown-transactions start before behind.grown.0 behind.grown.1;
+          was_opened = opens-it before now k.added (asking_of statement) k.book;
+        };
+        waits = waits-last helds held ∙ ap (λ (w : Waiting). map waiting_of helds ++ w ∷ []) one;
+        nothing = refl;
+        accepted = refl;
+      });
+    }
+
+-- ---- a release
+
+waiting-same : (x y : Waiting) → Some x ≡ Some y → x ≡ y
+waiting-same x y e = cc
+
+waiting-by : (P : Waiting → Type 0) (b : Bool) (first : Waiting) (rest : Option Waiting) (w : Waiting) → P first → (rest ≡ Some w → P w)
+    → cond b (Some first) rest ≡ Some w → P w
+waiting-by P true first rest w here next e = subst P (waiting-same first w e) here
+waiting-by P false first rest w here next e = next e
+
+all-waiting : (P : Waiting → Type 0) (name : List ℕ) (ws : List Waiting) (w : Waiting) → AllByRecursion P ws → waiting_in name ws ≡ Some w → P w
+all-waiting P name [] w all e = cc
+all-waiting P name (first ∷ ws) w all e = waiting-by P (is_session name first) first (waiting_in name ws) w all.0 (all-waiting P name ws w all.1) e
+
+pub acts-finished : (low high : ℕ) (before now : List Entry) (helds : List Held) (session : Session) (paused : Paused) (reply : List ℕ) (refused : Bool)
+    → AllFitting now → AreHeld before helds → paused_in session.name helds ≡ Some paused → AddsOf paused.txn.0 low high before now
+    → IsFinished before now paused.txn.0 reply refused
+    → Acts low high (record { book = before; waiting = map waiting_of helds }) (record { book = now; waiting = map waiting_of (held_without session.name helds) })
+    (action.Release session) reply refused
+acts-finished low high before now helds session paused reply refused fit h found adds f =
+    let name = session.name in
+    let waits = found-waits name helds paused found in
+    let unlost = some-begun before name helds paused found h.begun in
+    let counts = subst (AllByRecursion (KeepsCount low high)) (same-added before now adds.added f.added adds.book f.book) adds.counts in
+    record {
+      grows = record {
+        more = f.added;
+        book_is = f.book;
+        of_run = of-run low high f.added counts f.undamaged
+            (not-lost (state_of before) paused.txn.0 f.added unlost f.of_it (more-fits before f.added now f.book fit));
+      };
+      done = λ start behind.
+          subst (λ (o : Option Waiting). ReleasesOne start now (record { book = before; waiting = map waiting_of helds })
+          (record { book = now; waiting = map waiting_of (held_without name helds) }) name o reply refused) (sym waits.is) (
+            record {
+              added = f.added;
+              goes = f.book;
+              of_it = subst (λ (txn : ℕ). AreOf txn f.added) (sym waits.txn_is) f.of_it;
+              own = all-waiting (IsLater start) name (map waiting_of helds) waits.waiting behind.later waits.is;
+              answered = subst (λ (txn : ℕ). HasAnswered now txn reply refused) (sym waits.txn_is) f.answered;
+            },
+            waits-without name helds,
+          );
+    }
+
+-- nothing is held there
+pub acts-nothing : (low high : ℕ) (book : List Entry) (helds : List Held) (session : Session) → paused_in session.name helds ≡ None
+    → Acts low high (record { book = book; waiting = map waiting_of helds }) (record { book = book; waiting = map waiting_of (held_without session.name helds) })
+    (action.Release session) [] false
+acts-nothing low high book helds session none = record {
+  grows = grows-none low high book;
+  done = λ start behind.
+      subst (λ (o : Option Waiting). ReleasesOne start book (record { book = book; waiting = map waiting_of helds })
+      (record { book = book; waiting = map waiting_of (held_without session.name helds) }) session.name o [] false) (sym (none-waits session.name helds none))
+      (ap (λ (hs : List Held). record { book = book; waiting = map waiting_of hs }) (none-left session.name helds none), refl, refl);
+}
+
+-- ---- a session's line
+
+pub acts-announced : (low high : ℕ) (standing : Standing) (session : Session) (reply : List ℕ) (refused : Bool) → reply ≡ session_line session.name → refused ≡ false
+    → Acts low high standing standing (action.Announce session) reply refused
+acts-announced low high standing session reply refused line accepted =
+    record { grows = grows-none low high standing.book; done = λ start behind. (refl, line, accepted) }
+
+-- ---- where the run stops
+
+none-of : (number : Option ℕ) → AreOfSome number []
+none-of None = refl
+none-of (Some txn) = tt
+
+-- before anything was done
+pub stops-before : (told : Option Store) (before : Standing) (act : Action) → Holds told before.book → Stops fault.NoMemory told before act before.book
+stops-before told before act holds = record {
+  halfway = record {
+    added = [];
+    book = sym (append-nil before.book);
+    of_it = none-of (number_of before act);
+    legal = record { fit = tt; truthful = tt };
+    unended = tt;
+  };
+  leaves = ([], record { of_it = none-of (number_of before act); few = omega arith }, holds);
+}
+
+some-of : (number : Option ℕ) (txn : ℕ) (events : List Entry) → number ≡ Some txn → AreOf txn events → AreOfSome number events
+some-of number txn events is of_it = subst (λ (o : Option ℕ). AreOfSome o events) (sym is) of_it
+
+-- in a statement
+pub stops-in : {D : Type 0} (told : D → Option Store) (txn : ℕ) (why : HouseFault) (before now : House D) (waiting : List Waiting) (act : Action)
+    → number_of (record { book = entries_of before; waiting = waiting }) act ≡ Some txn → HasStopped told txn why before now
+    → Stops why (told now.shelf) (record { book = entries_of before; waiting = waiting }) act (entries_of now)
+stops-in told txn why before now waiting act is h = record {
+  halfway = record {
+    added = h.added;
+    book = h.book;
+    of_it = some-of _ txn h.added is h.of_it;
+    legal = h.legal;
+    unended = h.unended;
+  };
+  leaves = (h.further, record { of_it = some-of _ txn h.further is h.further_of_it; few = h.few }, h.leaves);
+}
+
+pub number-found : (book : List Entry) (helds : List Held) (session : Session) (paused : Paused) → paused_in session.name helds ≡ Some paused
+    → number_of (record { book = book; waiting = map waiting_of helds }) (action.Release session) ≡ Some paused.txn.0
+number-found book helds session paused found =
+    let waits = found-waits session.name helds paused found in
+    ap (option_map txn_of_waiting) waits.is ∙ ap Some waits.txn_is
+
+-- memory lacked before that
+pub stops-first : {D T : Type 0} (told : D → Option Store) (house : House D) (waiting : List Waiting) (act : Action) (result : Result T HouseFault)
+    → IsErrAnd result (λ e. e ≡ fault.NoMemory) → Holds (told house.shelf) (entries_of house)
+    → IfErr result (λ why. Stops why (told house.shelf) (record { book = entries_of house; waiting = waiting }) act (entries_of house))
+stops-first told house waiting act (Ok x) is holds = tt
+stops-first told house waiting act (Err why) is holds =
+    subst (λ (e : HouseFault). Stops e (told house.shelf) (record { book = entries_of house; waiting = waiting }) act (entries_of house)) (sym is)
+    (stops-before (told house.shelf) (record { book = entries_of house; waiting = waiting }) act holds)
+
+-- ---- what taking up a statement leaves
+
+pub replied-held : (before now : List Entry) (helds helds' : List Held) (low high : ℕ) → helds' ≡ helds → AllFitting now
+    → AddsOf (next_number before) low high before now → AreHeld before helds → AreHeld now helds'
+replied-held before now helds helds' low high same fit adds h =
+    subst (AreHeld now) (sym same) (held-after before now helds (next_number before) low high fit adds (next-apart before helds h) h)
+
+pub replied-shown : (told told' : Option Store) (before now : List Entry) (helds helds' : List Held) (low high : ℕ) → helds' ≡ helds → AllFitting before → AllFitting now
+    → AddsOf (next_number before) low high before now → AreHeld before helds → Moves (KeepsGiven (state_of before).tables) told told'
+    → (Tells told (IsFaithful before) → Tells told' (IsFaithful now)) → Tells told (HasAllOf before helds) → Tells told' (HasAllOf now helds')
+replied-shown told told' before now helds helds' low high same fit fits adds h keeps shows shown =
+    subst (λ (hs : List Held). Tells told' (HasAllOf now hs)) (sym same)
+    (shown-after told told' before now helds (next_number before) low high fit fits adds (next-apart before helds h) keeps (shows (faithful-of told before helds shown)) shown)
+
+pub replied-acts : (told : Option Store) (before now : List Entry) (helds helds' : List Held) (low high : ℕ) (statement : Statement) (found : Taken) (reply : Reply)
+    → helds' ≡ helds → found ≡ taken.Replied reply → AllFitting now → AddsOf (next_number before) low high before now
+    → Tells told (λ s. IsTakenAs before now s.tree (asking_of statement) statement.hold found)
+    → Tells told (λ _. Acts low high (record { book = before; waiting = map waiting_of helds }) (record { book = now; waiting = map waiting_of helds' })
+    (action.Run statement) reply.text reply.refused)
+replied-acts told before now helds helds' low high statement found reply same is fit adds all =
+    tells-acts told (λ s. IsTakenAs before now s.tree (asking_of statement) statement.hold found) _
+    (λ s taken_as.
+    subst (λ (hs : List Held). Acts low high (record { book = before; waiting = map waiting_of helds }) (record { book = now; waiting = map waiting_of hs })
+    (action.Run statement) reply.text reply.refused) (sym same)
+    (acts-replied low high before now (map waiting_of helds) statement reply.text reply.refused fit adds
+    (subst (IsTakenAs before now s.tree (asking_of statement) statement.hold) is taken_as))) all
+
+pub kept-held : (before now : List Entry) (helds helds' helds'' : List Held) (held : Held) (asking : Asking) (low high : ℕ) (found : Taken) → helds' ≡ helds
+    → helds'' ≡ helds' ++ held ∷ [] → found ≡ taken.Kept held.paused → AllFitting now → AddsOf (next_number before) low high before now → AreHeld before helds
+    → IsKeptIn before now asking found → AreHeld now helds''
+kept-held before now helds helds' helds'' held asking low high found same one is fit adds h kept =
+    subst (AreHeld now) (sym (one ∙ ap (λ (hs : List Held). hs ++ held ∷ []) same))
+    (held-one-more before now helds held asking low high fit adds h (subst (IsKeptIn before now asking) is kept))
+
+kept-truly : (told : Option Store) (before now : List Entry) (statement : Statement) (held : Held) (found : Taken) → found ≡ taken.Kept held.paused
+    → Tells told (λ s. IsTakenAs before now s.tree (asking_of statement) statement.hold found) → Tells told (λ s. IsTrulyHeld now s.tree held.paused)
+kept-truly None before now statement held found is all = tt
+kept-truly (Some store) before now statement held found is all = (subst (IsTakenAs before now store.tree (asking_of statement) statement.hold) is all).truly
+
+pub kept-shown : (told told' : Option Store) (before now : List Entry) (helds helds' helds'' : List Held) (held : Held) (low high : ℕ) (statement : Statement) (found : Taken) → helds' ≡ helds
+    → helds'' ≡ helds' ++ held ∷ [] → found ≡ taken.Kept held.paused → AllFitting before → AllFitting now → AddsOf (next_number before) low high before now → AreHeld before helds
+    → Moves (KeepsGiven (state_of before).tables) told told' → (Tells told (IsFaithful before) → Tells told' (IsFaithful now))
+    → (Tells told (IsFaithful before) → Tells told' (λ s. IsTakenAs before now s.tree (asking_of statement) statement.hold found))
+    → Tells told (HasAllOf before helds) → Tells told' (HasAllOf now helds'')
+kept-shown told told' before now helds helds' helds'' held low high statement found same one is fit fits adds h keeps shows takes shown =
+    let faithful = faithful-of told before helds shown in
+    let others = shown-after told told' before now helds (next_number before) low high fit fits adds (next-apart before helds h) keeps (shows faithful) shown in
+    subst (λ (hs : List Held). Tells told' (HasAllOf now hs)) (sym (one ∙ ap (λ (hs : List Held). hs ++ held ∷ []) same))
+    (shown-one-more told' now helds held others (kept-truly told' before now statement held found is (takes faithful)))
+
+pub kept-acts : (told : Option Store) (before now : List Entry) (helds helds' helds'' : List Held) (held : Held) (low high : ℕ) (statement : Statement) (found : Taken) (reply : Reply)
+    → helds' ≡ helds → helds'' ≡ helds' ++ held ∷ [] → found ≡ taken.Kept held.paused → held.session ≡ statement.session.name → reply ≡ record { text = []; refused = false }
+    → AllFitting now → AddsOf (next_number before) low high before now
+    → Tells told (λ s. IsTakenAs before now s.tree (asking_of statement) statement.hold found)
+    → Tells told (λ _. Acts low high (record { book = before; waiting = map waiting_of helds }) (record { book = now; waiting = map waiting_of helds'' })
+    (action.Run statement) reply.text reply.refused)
+kept-acts told before now helds helds' helds'' held low high statement found reply same one is named said fit adds all =
+    tells-acts told (λ s. IsTakenAs before now s.tree (asking_of statement) statement.hold found) _
+    (λ s taken_as.
+    subst (λ (r : Reply). Acts low high (record { book = before; waiting = map waiting_of helds }) (record { book = now; waiting = map waiting_of helds'' })
+    (action.Run statement) r.text r.refused) (sym said)
+    (subst (λ (hs : List Held). Acts low high (record { book = before; waiting = map waiting_of helds }) (record { book = now; waiting = map waiting_of hs })
+    (action.Run statement) [] false) (sym (one ∙ ap (λ (hs : List Held). hs ++ held ∷ []) same))
+    (acts-kept low high before now helds statement held s fit adds named (subst (IsTakenAs before now s.tree (asking_of statement) statement.hold) is taken_as)))) all
+
+-- ---- and what a release leaves
+
+ok-both : {T : Type 0} (r : Result T HouseFault) (P Q : Type 0) (R : T → Type 0) → (P → Q → (x : T) → R x) → IfOk r (λ _. P) → IfOk r (λ _. Q) → IfOk r R
+ok-both (Ok x) P Q R f p q = f p q x
+ok-both (Err why) P Q R f p q = tt
+
+pub released-held : {D : Type 0} (told : D → Option Store) (r : Result Reply HouseFault) (before now : House D) (helds helds' : List Held) (name : List ℕ) (paused : Paused) (low high : ℕ)
+    → paused_in name helds ≡ Some paused → helds' ≡ held_without name helds → AreHeld (entries_of before) helds
+    → IfOk r (λ _. IsReady told now) → IfOk r (λ _. AddsOf paused.txn.0 low high (entries_of before) (entries_of now))
+    → IfOk r (λ _. AreHeld (entries_of now) helds')
+released-held told r before now helds helds' name paused low high found left h ready adds =
+    ok-both r (IsReady told now) (AddsOf paused.txn.0 low high (entries_of before) (entries_of now)) (λ _. AreHeld (entries_of now) helds')
+    (λ is added reply.
+    subst (AreHeld (entries_of now)) (sym left)
+    (held-after (entries_of before) (entries_of now) (held_without name helds) paused.txn.0 low high is.fit added (found-apart name helds paused h.apart found) (let-go-held (entries_of before) name helds h)))
+    ready adds
+
+ok-three : {T : Type 0} (r : Result T HouseFault) (P Q : Type 0) (S R : T → Type 0) → (P → Q → (x : T) → S x → R x) → IfOk r (λ _. P) → IfOk r (λ _. Q) → IfOk r S → IfOk r R
+ok-three (Ok x) P Q S R f p q s = f p q x s
+ok-three (Err why) P Q S R f p q s = tt
+
+pub released-shown : {D : Type 0} (told : D → Option Store) (r : Result Reply HouseFault) (before now : House D) (helds helds' : List Held) (name : List ℕ) (paused : Paused) (low high : ℕ)
+    → paused_in name helds ≡ Some paused → helds' ≡ held_without name helds → AllFitting (entries_of before) → AreHeld (entries_of before) helds
+    → IfOk r (λ _. IsReady told now) → IfOk r (λ _. AddsOf paused.txn.0 low high (entries_of before) (entries_of now))
+    → Moves (KeepsGiven (state_of (entries_of before)).tables) (told before.shelf) (told now.shelf)
+    → (Shows told before (entries_of before) → Tells (told before.shelf) (λ s. IsTrulyHeld (entries_of before) s.tree paused) → IfOk r (λ _. Shows told now (entries_of now)))
+    → IsShown told before helds → IfOk r (λ _. IsShown told now helds')
+released-shown told r before now helds helds' name paused low high found left fit h ready adds keeps shows shown =
+    let faithful = faithful-of (told before.shelf) (entries_of before) helds shown in
+    let truly = let-go-truly (told before.shelf) (entries_of before) name helds paused found shown in
+    ok-three r (IsReady told now) (AddsOf paused.txn.0 low high (entries_of before) (entries_of now)) (λ _. Shows told now (entries_of now)) (λ _. IsShown told now helds')
+    (λ is added reply faithful_now.
+    subst (IsShown told now) (sym left)
+    (shown-after (told before.shelf) (told now.shelf) (entries_of before) (entries_of now) (held_without name helds) paused.txn.0 low high fit is.fit added
+    (found-apart name helds paused h.apart found) keeps faithful_now (let-go-shown (told before.shelf) (entries_of before) name helds shown)))
+    ready adds (shows faithful truly)
+
+pub released-acts : {D : Type 0} (told : D → Option Store) (r : Result Reply HouseFault) (before now : House D) (helds helds' : List Held) (session : Session) (paused : Paused) (low high : ℕ)
+    → paused_in session.name helds ≡ Some paused → helds' ≡ held_without session.name helds → AreHeld (entries_of before) helds
+    → IfOk r (λ _. IsReady told now) → IfOk r (λ _. AddsOf paused.txn.0 low high (entries_of before) (entries_of now))
+    → (Shows told before (entries_of before) → Tells (told before.shelf) (λ s. IsTrulyHeld (entries_of before) s.tree paused)
+    → IfOk r (λ reply. Tells (told now.shelf) (λ _. IsFinished (entries_of before) (entries_of now) paused.txn.0 reply.text reply.refused)))
+    → IsShown told before helds
+    → IfOk r (λ reply. Tells (told now.shelf) (λ _. Acts low high (standing_of before helds) (standing_of now helds') (action.Release session) reply.text reply.refused))
+released-acts told r before now helds helds' session paused low high found left h ready adds finished shown =
+    let faithful = faithful-of (told before.shelf) (entries_of before) helds shown in
+    let truly = let-go-truly (told before.shelf) (entries_of before) session.name helds paused found shown in
+    ok-three r (IsReady told now) (AddsOf paused.txn.0 low high (entries_of before) (entries_of now))
+    (λ reply. Tells (told now.shelf) (λ _. IsFinished (entries_of before) (entries_of now) paused.txn.0 reply.text reply.refused))
+    (λ reply. Tells (told now.shelf) (λ _. Acts low high (standing_of before helds) (standing_of now helds') (action.Release session) reply.text reply.refused))
+    (λ is added reply done.
+    tells-acts (told now.shelf) (λ _. IsFinished (entries_of before) (entries_of now) paused.txn.0 reply.text reply.refused) _
+    (λ s f.
+    subst (λ (hs : List Held). Acts low high (standing_of before helds) (standing_of now hs) (action.Release session) reply.text reply.refused) (sym left)
+    (acts-finished low high (entries_of before) (entries_of now) helds session paused reply.text reply.refused is.fit h found added f)) done)
+    ready adds (finished faithful truly)
+
+err-map : {T : Type 0} (r : Result T HouseFault) (P Q : HouseFault → Type 0) → ((why : HouseFault) → P why → Q why) → IfErr r P → IfErr r Q
+err-map (Ok x) P Q f p = tt
+err-map (Err why) P Q f p = f why p
+
+pub released-stops : {D : Type 0} (told : D → Option Store) (r : Result Reply HouseFault) (before now : House D) (helds : List Held) (session : Session) (paused : Paused)
+    → paused_in session.name helds ≡ Some paused → IfErr r (λ why. HasStopped told paused.txn.0 why before now)
+    → IfErr r (λ why. Stops why (told now.shelf) (standing_of before helds) (action.Release session) (entries_of now))
+released-stops told r before now helds session paused found stopped =
+    err-map r (λ why. HasStopped told paused.txn.0 why before now) (λ why. Stops why (told now.shelf) (standing_of before helds) (action.Release session) (entries_of now))
+    (λ why h. stops-in told paused.txn.0 why before now (map waiting_of helds) (action.Release session) (number-found (entries_of before) helds session paused found) h) stopped
+
+-- ---- where none is held in the session
+
+pub none-held : (book : List Entry) (helds helds' : List Held) (name : List ℕ) → paused_in name helds ≡ None → helds' ≡ held_without name helds
+    → AreHeld book helds → AreHeld book helds'
+none-held book helds helds' name none left h = subst (AreHeld book) (sym (left ∙ none-left name helds none)) h
+
+pub none-shown : (told : Option Store) (book : List Entry) (helds helds' : List Held) (name : List ℕ) → paused_in name helds ≡ None → helds' ≡ held_without name helds
+    → Tells told (HasAllOf book helds) → Tells told (HasAllOf book helds')
+none-shown told book helds helds' name none left h = subst (λ (hs : List Held). Tells told (HasAllOf book hs)) (sym (left ∙ none-left name helds none)) h
+
+pub none-acts : (told : Option Store) (count : ℕ) (book : List Entry) (helds helds' : List Held) (session : Session) (reply : Reply) → paused_in session.name helds ≡ None
+    → helds' ≡ held_without session.name helds → reply ≡ record { text = []; refused = false }
+    → Tells told (λ _. Acts count count (record { book = book; waiting = map waiting_of helds }) (record { book = book; waiting = map waiting_of helds' })
+    (action.Release session) reply.text reply.refused)
+none-acts None count book helds helds' session reply none left said = tt
+none-acts (Some store) count book helds helds' session reply none left said =
+    subst (λ (r : Reply). Acts count count (record { book = book; waiting = map waiting_of helds }) (record { book = book; waiting = map waiting_of helds' })
+    (action.Release session) r.text r.refused) (sym said)
+    (subst (λ (hs : List Held). Acts count count (record { book = book; waiting = map waiting_of helds }) (record { book = book; waiting = map waiting_of hs })
+    (action.Release session) [] false) (sym left) (acts-nothing count count book helds session none))

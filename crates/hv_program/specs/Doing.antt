@@ -1,0 +1,135 @@
+-- What the actions of a script do, one after another: how the book goes on by each, which statements are held behind it, and
+-- what is printed.
+use Rattle.std.specs.Prelude.{◌≡◌, ◌⊎◌, ℕ, ◌+◌, ◌<◌, Bool, true, false, ◌||◌, if◌then◌else◌, nat_eq, Option, Some, None, List, [], ◌∷◌, ◌++◌, length, codes, filter, Contains}
+use Rattle.std.specs.Cmp.Lexicographic.{pointwise}
+use Rattle.hv_base.specs.declared.gate.Stage.{Stage}
+use Rattle.hv_base.specs.declared.ids.TxnId.{TxnId}
+use Rattle.hv_directives.specs.declared.actions.Action.{Action}
+use Rattle.hv_directives.specs.declared.actions.Action.TheVariants as action
+use Rattle.hv_directives.specs.declared.actions.Session.{Session}
+use Rattle.hv_directives.specs.declared.actions.Statement.{Statement}
+use Rattle.hv_built.specs.Running.{IsRefused}
+use Rattle.hv_history.specs.declared.entry.Entry.{Entry}
+use Rattle.hv_history.specs.declared.entry.Entry.TheVariants.{Opened}
+use Rattle.hv_history.specs.declared.entry.Cause.TheVariants as cause
+use Rattle.hv_history.specs.State.{state_of}
+use Rattle.hv_history.specs.Legal.{load, profile}
+use Rattle.hv_history.specs.Answers.{line, cause_text}
+use Rattle.hv_stands.specs.Running.{Asking, next_number, opening, AreOf, HasAnswered}
+use Rattle.hv_session.specs.Faults.{IsFaultLine}
+use Rattle.hv_session.specs.Taking.{EndsBefore, HoldsAt}
+
+-- ---- where a run stands between two actions
+
+-- a statement that is held: its session, and its transaction
+pub record Waiting : Type 0 where
+  pub session : List ℕ
+  pub txn : ℕ
+
+pub record Standing : Type 0 where
+  pub book : List Entry
+  pub waiting : List Waiting
+
+abbrev pub is_session : List ℕ → Waiting → Bool
+is_session name waiting = pointwise nat_eq waiting.session name
+
+-- the first that waits in that session
+abbrev pub waiting_in : List ℕ → List Waiting → Option Waiting
+waiting_in name [] = None
+waiting_in name (first ∷ more) = if is_session name first then Some first else waiting_in name more
+
+-- those that wait without it
+abbrev pub without : List ℕ → List Waiting → List Waiting
+without name [] = []
+without name (first ∷ more) = if is_session name first then more else first ∷ without name more
+
+abbrev pub asking_of : Statement → Asking
+asking_of statement = record { session = statement.session.name; number = statement.number; text = statement.text }
+
+-- ---- replies, by the book that the run leaves
+
+-- the statement was opened as a transaction, behind those of an earlier run, and the reply is its answer: what the text means at its
+-- snapshot, or its refusal
+pub record IsAnswerIn (start book : List Entry) (asking : Asking) (txn : ℕ) (reply : List ℕ) (refused : Bool) : Type 0 where
+  pub own : length (state_of start).transactions < txn
+  pub was_opened : Contains book (Opened (record { 0 = txn }) asking.session asking.number asking.text)
+  pub answered : HasAnswered book txn reply refused
+
+-- the text is refused, and its line is the reply
+pub record IsFaultIn (text reply : List ℕ) (refused : Bool) : Type 0 where
+  pub fault : IsFaultLine text reply
+  pub refusal : refused ≡ true
+
+-- there was no room for it, or no memory, and the reply says so
+pub record IsLineOf (reply wanted : List ℕ) (refused : Bool) : Type 0 where
+  pub line_is : reply ≡ wanted
+  pub refusal : refused ≡ true
+
+-- ---- one action
+
+-- It went on to its end at once: as a transaction that ended before the place where it was to be held.
+pub record WentOn (start book before now : List Entry) (asking : Asking) (hold : Option Stage) (reply : List ℕ) (refused : Bool) : Type 0 where
+  pub added : List Entry
+  pub goes : now ≡ before ++ opening before asking ∷ added
+  pub of_it : AreOf (next_number before) added
+  pub in_time : EndsBefore hold (next_number before) added
+  pub is_answer : IsAnswerIn start book asking (next_number before) reply refused
+
+abbrev pub RepliesAtOnce : List Entry → List Entry → List Entry → List Entry → Asking → Option Stage → List ℕ → Bool → Type 0
+RepliesAtOnce start book before now asking hold reply refused =
+    WentOn start book before now asking hold reply refused
+    ⊎ ((now ≡ before) × IsRefused asking.text × IsFaultIn asking.text reply refused)
+    ⊎ ((now ≡ before) × (profile.entries < load (state_of before) + 2) × IsLineOf reply (cause_text None cause.Full) refused)
+    ⊎ ((now ≡ before) × IsLineOf reply (cause_text None cause.Memory) refused)
+
+-- it is held: its transaction is open, and nothing is printed
+pub record IsHeldNow (start book before now : List Entry) (asking : Asking) (hold : Option Stage) : Type 0 where
+  pub added : List Entry
+  pub goes : now ≡ before ++ opening before asking ∷ added
+  pub at_hold : HoldsAt hold (next_number before) added
+  pub own : length (state_of start).transactions < next_number before
+  pub was_opened : Contains book (opening before asking)
+
+pub record Replies (start book : List Entry) (before now : Standing) (asking : Asking) (hold : Option Stage) (output : List ℕ) (refused : Bool) : Type 0 where
+  pub goes : RepliesAtOnce start book before.book now.book asking hold output refused
+  pub waiting_same : now.waiting ≡ before.waiting
+
+pub record IsPutOff (start book : List Entry) (before now : Standing) (asking : Asking) (hold : Option Stage) (output : List ℕ) (refused : Bool) : Type 0 where
+  pub goes : IsHeldNow start book before.book now.book asking hold
+  pub waits : now.waiting ≡ before.waiting ++ record { session = asking.session; txn = next_number before.book } ∷ []
+  pub nothing : output ≡ []
+  pub accepted : refused ≡ false
+
+-- a statement that was held went on to its end, by entries of its transaction alone
+pub record GoesOnHeld (start book before now : List Entry) (txn : ℕ) (reply : List ℕ) (refused : Bool) : Type 0 where
+  pub added : List Entry
+  pub goes : now ≡ before ++ added
+  pub of_it : AreOf txn added
+  pub own : length (state_of start).transactions < txn
+  pub answered : HasAnswered book txn reply refused
+
+-- the release of a session: its statement that waits goes on; where none does, nothing happens
+abbrev pub ReleasesOne : List Entry → List Entry → Standing → Standing → List ℕ → Option Waiting → List ℕ → Bool → Type 0
+ReleasesOne start book before now name None output refused = (now ≡ before) × (output ≡ []) × (refused ≡ false)
+ReleasesOne start book before now name (Some waiting) output refused =
+    GoesOnHeld start book before.book now.book waiting.txn output refused × (now.waiting ≡ without name before.waiting)
+
+abbrev pub session_line : List ℕ → List ℕ
+session_line name = line (codes "-- session " ++ name)
+
+-- by one action the run stands there, and this is printed
+abbrev pub IsDone : List Entry → List Entry → Standing → Standing → Action → List ℕ → Bool → Type 0
+IsDone start book before now (action.Announce session) output refused = (now ≡ before) × (output ≡ session_line session.name) × (refused ≡ false)
+IsDone start book before now (action.Run statement) output refused =
+    Replies start book before now (asking_of statement) statement.hold output refused
+    ⊎ IsPutOff start book before now (asking_of statement) statement.hold output refused
+IsDone start book before now (action.Release session) output refused =
+    ReleasesOne start book before now session.name (waiting_in session.name before.waiting) output refused
+
+-- and by several, one after another
+abbrev pub AreDone : List Entry → List Entry → Standing → Standing → List Action → List ℕ → Bool → Type 0
+AreDone start book before now [] output refused = (now ≡ before) × (output ≡ []) × (refused ≡ false)
+AreDone start book before now (first ∷ more) output refused =
+    (between : Standing) × (reply : List ℕ) × (rest : List ℕ) × (this : Bool) × (later : Bool)
+    × IsDone start book before between first reply this × AreDone start book between now more rest later
+    × (output ≡ reply ++ rest) × (refused ≡ this || later)

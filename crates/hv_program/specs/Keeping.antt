@@ -1,0 +1,67 @@
+-- The statements that a run holds between two actions.
+use Rattle.std.specs.Prelude.{◌≡◌, ◌⊎◌, ℕ, ◌<◌, Bool, false, if◌then◌else◌, nat_eq, Option, Some, None, List, [], ◌∷◌, map}
+use Rattle.std.specs.Cmp.Lexicographic.{pointwise}
+use Rattle.std.specs.List.{AllByRecursion}
+use Rattle.hv_base.specs.Told.{Tells}
+use Rattle.hv_shelf.specs.Disk.{Store, Tree}
+use Rattle.hv_history.specs.declared.entry.Entry.{Entry}
+use Rattle.hv_history.specs.State.{state_of}
+use Rattle.hv_house.specs.declared.house.House.{House}
+use Rattle.hv_house.specs.House.{entries_of, IsFaithful}
+use Rattle.hv_session.specs.declared.paused.Paused.{Paused}
+use Rattle.hv_session.specs.Taking.{IsHeldBySome, IsTrulyHeld}
+use Rattle.hv_program.specs.declared.held.Held.{Held}
+use Rattle.hv_program.specs.Doing.{Waiting, Standing}
+
+-- ---- the list
+
+abbrev pub waiting_of : Held → Waiting
+waiting_of held = record { session = held.session; txn = held.paused.txn.0 }
+
+abbrev pub is_of_session : List ℕ → Held → Bool
+is_of_session name held = pointwise nat_eq held.session name
+
+-- the first that is held in that session
+abbrev pub paused_in : List ℕ → List Held → Option Paused
+paused_in name [] = None
+paused_in name (first ∷ more) = if is_of_session name first then Some first.paused else paused_in name more
+
+-- those that are held without it
+abbrev pub held_without : List ℕ → List Held → List Held
+held_without name [] = []
+held_without name (first ∷ more) = if is_of_session name first then more else first ∷ held_without name more
+
+-- where the run stands between two actions
+abbrev pub standing_of : {D : Type 0} → House D → List Held → Standing
+standing_of house helds = record { book = entries_of house; waiting = map waiting_of helds }
+
+-- ---- what is known of them
+
+-- its transaction was opened before that one
+abbrev pub ComesBefore : Held → Held → Type 0
+ComesBefore first other = first.paused.txn.0 < other.paused.txn.0
+
+abbrev pub AreInOrder : List Held → Type 0
+AreInOrder [] = Unit {0}
+AreInOrder (first ∷ more) = AllByRecursion (ComesBefore first) more × AreInOrder more
+
+abbrev pub IsHeldIn : List Entry → Held → Type 0
+IsHeldIn book held = IsHeldBySome book held.paused
+
+-- whatever is told: each is held in this book, in the order in which they were opened; and where one is, no Lost fits any more
+pub record AreHeld (book : List Entry) (helds : List Held) : Type 0 where
+  pub each : AllByRecursion (IsHeldIn book) helds
+  pub apart : AreInOrder helds
+  pub begun : (helds ≡ []) ⊎ ((state_of book).openings.only_lost ≡ false)
+
+abbrev pub IsTrulyHeldIn : List Entry → Tree → Held → Type 0
+IsTrulyHeldIn book files held = IsTrulyHeld book files held.paused
+
+-- the store has the files of the book, and each that is held will end as it means
+pub record HasAllOf (book : List Entry) (helds : List Held) (store : Store) : Type 0 where
+  pub faithful : IsFaithful book store
+  pub truly : AllByRecursion (IsTrulyHeldIn book store.tree) helds
+
+-- where the store tells
+abbrev pub IsShown : {D : Type 0} → (D → Option Store) → House D → List Held → Type 0
+IsShown told house helds = Tells (told house.shelf) (HasAllOf (entries_of house) helds)

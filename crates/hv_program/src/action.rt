@@ -1,0 +1,145 @@
+ghost use Rattle.std.specs.Prelude.{◌≡◌, ◌≤◌, [], false, IfOk, IfErr};
+ghost use Rattle.hv_base.specs.Told.{Tells, StaysTold};
+ghost use Rattle.hv_directives.specs.declared.actions.Action.TheVariants as action;
+ghost use Rattle.hv_house.specs.Faults.{EndsRun, FileCause};
+ghost use Rattle.hv_house.specs.House.{entries_of, IsReady};
+ghost use Rattle.hv_program.specs.Doing.{session_line};
+ghost use Rattle.hv_program.specs.Keeping.{standing_of, AreHeld, IsShown};
+ghost use Rattle.hv_program.specs.Running.{Acts, IsFine, IsShort, Stops};
+
+use crate::held::{Held, keep, let_go};
+use hv_base::{Duplicate, List, NoMemory, Text};
+use hv_directives::{Action, Session, Statement};
+use hv_house::{House, HouseFault};
+use hv_session::{Reply, Taken, finish, take_up};
+use hv_shelf::Shelf;
+use std::alloc::Global;
+
+/// The line of a session, to which the statements behind it belong.
+fn announce(alloc: Global, session: &Text) -> Result<Reply, NoMemory>
+    ensures line { IfOk result (λ reply. reply.text ≡ session_line session.now) }
+    ensures accepted { IfOk result (λ reply. reply.refused ≡ false) }
+{
+    let mut line = Vec::from_slice(alloc, b"-- session ")?;
+    line.extend_from_slice(session.bytes())?;
+    line.push(b'\n')?;
+    Ok(Reply {
+        text: List::from_vec(line),
+        refused: false,
+    })
+}
+
+/// The reply of what prints nothing.
+fn nothing(alloc: Global) -> Reply
+    ensures { result ≡ record { text = []; refused = false } }
+{
+    Reply {
+        text: List::from_vec(Vec::new(alloc)),
+        refused: false,
+    }
+}
+
+/// Takes up a statement. Where it is held from then on nothing is printed.
+fn run_statement<D: Shelf>(
+    alloc: Global,
+    house: &mut House<D>,
+    held: &mut Vec<Held>,
+    statement: &Statement,
+) -> Result<Reply, HouseFault>
+    requires ready { IsReady D.told house.old }
+    requires held { AreHeld (entries_of house.old) held.old.items }
+    requires short { IsShort statement.now }
+    ensures ready { IfOk result (λ _. IsReady D.told house.new) }
+    ensures held { IfOk result (λ _. AreHeld (entries_of house.new) held.new.items) }
+    ensures shows { IsShown D.told house.old held.old.items
+        → IfOk result (λ _. IsShown D.told house.new held.new.items) }
+    ensures acted { IsShown D.told house.old held.old.items
+        → IfOk result (λ reply. Tells (D.told house.new.shelf) (λ _. Acts
+        (D.faults house.old.shelf) (D.faults house.new.shelf)
+        (standing_of house.old held.old.items) (standing_of house.new held.new.items)
+        (action.Run statement.now) reply.text reply.refused)) }
+    ensures tells { StaysTold (D.told house.old.shelf) (D.told house.new.shelf) }
+    ensures stopped { IfErr result (λ why. Stops why (D.told house.new.shelf)
+        (standing_of house.old held.old.items) (action.Run statement.now) (entries_of house.new)) }
+    ensures ends { IfErr result EndsRun }
+    ensures cause { FileCause (D.faults house.old.shelf) (D.faults house.new.shelf) result }
+{
+    let session = statement.session.name.duplicate(alloc)?;
+    held.reserve(1)?;
+    match take_up(
+        alloc,
+        house,
+        &statement.session.name,
+        statement.number,
+        &statement.text,
+        statement.hold,
+    )? {
+        Taken::Replied(reply) => Ok(reply),
+        Taken::Kept(paused) => {
+            keep(held, Held { session, paused });
+            Ok(nothing(alloc))
+        }
+    }
+}
+
+/// Does the held statement of a session, if there is one, to its end.
+fn release<D: Shelf>(
+    alloc: Global,
+    house: &mut House<D>,
+    held: &mut Vec<Held>,
+    session: &Session,
+) -> Result<Reply, HouseFault>
+    requires ready { IsReady D.told house.old }
+    requires held { AreHeld (entries_of house.old) held.old.items }
+    ensures ready { IfOk result (λ _. IsReady D.told house.new) }
+    ensures held { IfOk result (λ _. AreHeld (entries_of house.new) held.new.items) }
+    ensures shows { IsShown D.told house.old held.old.items
+        → IfOk result (λ _. IsShown D.told house.new held.new.items) }
+    ensures acted { IsShown D.told house.old held.old.items
+        → IfOk result (λ reply. Tells (D.told house.new.shelf) (λ _. Acts
+        (D.faults house.old.shelf) (D.faults house.new.shelf)
+        (standing_of house.old held.old.items) (standing_of house.new held.new.items)
+        (action.Release session.now) reply.text reply.refused)) }
+    ensures tells { StaysTold (D.told house.old.shelf) (D.told house.new.shelf) }
+    ensures stopped { IfErr result (λ why. Stops why (D.told house.new.shelf)
+        (standing_of house.old held.old.items) (action.Release session.now) (entries_of house.new)) }
+    ensures ends { IfErr result EndsRun }
+    ensures cause { FileCause (D.faults house.old.shelf) (D.faults house.new.shelf) result }
+{
+    match let_go(held, &session.name) {
+        Some(paused) => finish(alloc, house, paused),
+        None => Ok(nothing(alloc)),
+    }
+}
+
+/// Does an action, and gives what is to be printed.
+pub fn act<D: Shelf>(
+    alloc: Global,
+    house: &mut House<D>,
+    held: &mut Vec<Held>,
+    action: &Action,
+) -> Result<Reply, HouseFault>
+    requires ready { IsReady D.told house.old }
+    requires held { AreHeld (entries_of house.old) held.old.items }
+    requires fine { IsFine action.now }
+    ensures ready { IfOk result (λ _. IsReady D.told house.new) }
+    ensures held { IfOk result (λ _. AreHeld (entries_of house.new) held.new.items) }
+    ensures shows { IsShown D.told house.old held.old.items
+        → IfOk result (λ _. IsShown D.told house.new held.new.items) }
+    ensures acted { IsShown D.told house.old held.old.items
+        → IfOk result (λ reply. Tells (D.told house.new.shelf) (λ _. Acts
+        (D.faults house.old.shelf) (D.faults house.new.shelf)
+        (standing_of house.old held.old.items) (standing_of house.new held.new.items)
+        action.now reply.text reply.refused)) }
+    ensures tells { StaysTold (D.told house.old.shelf) (D.told house.new.shelf) }
+    ensures stopped { IfErr result (λ why. Stops why (D.told house.new.shelf)
+        (standing_of house.old held.old.items) action.now (entries_of house.new)) }
+    ensures ends { IfErr result EndsRun }
+    ensures cause { FileCause (D.faults house.old.shelf) (D.faults house.new.shelf) result }
+{
+    match action {
+        Action::Run(statement) => run_statement(alloc, house, held, statement),
+        Action::Announce(session) => Ok(announce(alloc, &session.name)?),
+        Action::Release(session) => release(alloc, house, held, session),
+    }
+}

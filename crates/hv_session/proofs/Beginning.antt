@@ -1,0 +1,446 @@
+-- How a statement is opened: with its Start, or with its abort; and what it comes to from there.
+use Rattle.std.proofs.Common.{◌≡◌, ℕ, ◌+◌, ◌<◌, ◌≤◌, true, false, Option, Some, None, List, [], ◌∷◌, ◌++◌, Result, Ok, Err, ◌⊎◌, inl, inr, length, take, refl, sym, ap, ◌∙◌, subst, arith, append_assoc, append-nil}
+use Rattle.std.specs.Prelude.{Bool, nat_lt, IfOk, IfErr, IsTrue, IsFalse, IsSomeAnd, ◌↔◌}
+use Rattle.std.proofs.lemmas.Bool.{false≢true}
+use Rattle.std.proofs.lemmas.Bool.Decides.{nat_tests}
+use Rattle.std.specs.List.{AllByRecursion}
+use Rattle.std.proofs.lemmas.List.{append_cancel_left}
+use Rattle.hv_base.specs.declared.gate.Stage.{Stage}
+use Rattle.hv_base.specs.declared.gate.Stage.TheVariants as stage
+use Rattle.hv_base.specs.Told.{Tells, Moves, StaysTold}
+use Rattle.hv_base.proofs.ToldLemmas.{stays_by, stays_stays}
+use Rattle.hv_shelf.specs.Disk.{Store, Tree}
+use Rattle.hv_ast.specs.declared.statement.Stmt.{Stmt}
+use Rattle.hv_built.specs.Running.{Runs}
+use Rattle.hv_history.specs.declared.entry.Entry.{Entry}
+use Rattle.hv_history.specs.declared.entry.Entry.TheVariants as entry
+use Rattle.hv_history.specs.declared.entry.Cause.{Cause}
+use Rattle.hv_history.specs.declared.entry.Cause.TheVariants as cause
+use Rattle.hv_history.specs.declared.state.Transaction.{Transaction}
+use Rattle.hv_history.specs.Book.{tree_of_entry}
+use Rattle.hv_history.specs.Answers.{cause_text}
+use Rattle.hv_history.specs.State.{State, state_of, opened, meaning, nothing_yet, after}
+use Rattle.hv_history.specs.Legal.{Fits, AllFit, IsLegal, IsLegalFrom, IsTruthful, Of, is_open, is_started, NeedsId, load, profile}
+use Rattle.hv_journal.specs.Appending.{KeepsTree}
+use Rattle.hv_stands.specs.Files.{Stands}
+use Rattle.hv_stands.specs.Running.{Asking, next_number, opening, starting, IsOf, AreOf, IsWaiting, IsUnderWay, HasAnswered, KeepsGiven}
+use Rattle.hv_stands.specs.Statements.{AllFitting, CommitsNothing}
+use Rattle.hv_stands.proofs.Begun.{opens, begins}
+use Rattle.hv_stands.proofs.StatementFiles.{other-entries-stand}
+use Rattle.hv_house.specs.declared.fault.HouseFault.{HouseFault}
+use Rattle.hv_house.specs.declared.fault.HouseFault.TheVariants as fault
+use Rattle.hv_house.specs.declared.house.House.{House}
+use Rattle.hv_house.specs.Faults.{FileCause, EndsRun}
+use Rattle.hv_house.specs.House.{entries_of, IsReady, IsSmall, IsFaithful, Shows, AreNoted, AreHalted, StaysReady, Leaves}
+use Rattle.hv_ending.specs.declared.ready.Way.{Way}
+use Rattle.hv_ending.specs.declared.ready.Reply.{Reply}
+use Rattle.hv_ending.specs.Ending.{KeepsCount, IsUndamaged, EndsUncommitted, IsAborted, HasStopped, aborting}
+use Rattle.hv_base.specs.declared.ids.TxnId.{TxnId}
+use Rattle.hv_session.proofs.Shorts.{short_blocked, short_full, short_memory}
+use Rattle.hv_session.specs.declared.paused.Taken.{Taken}
+use Rattle.hv_session.specs.declared.paused.Taken.TheVariants as taken
+use Rattle.hv_session.specs.declared.opening.Copies.{Copies}
+use Rattle.hv_session.specs.Lines.{IsLine, IsFullLine, IsTextLine}
+use Rattle.hv_session.specs.Taking.{EndsBefore, IsHold, IsHeld, IsTrulyHeld, IsFinished, IsReplied, IsKeptIn, IsTakenAs}
+use Rattle.hv_session.specs.Ways.{IsPart, IsTrueOf, ShowsAnd, GoesInTime, StandsHeld, StandsTruly, asking_of, AreCopies, IsTurnedAway, Hinders, IsHindered, AbortsOpened}
+use Rattle.hv_session.proofs.Books.{all-append, IsBegun, fit-behind, begun-true, begun-undamaged, one-legal}
+use Rattle.hv_session.proofs.Telling.{told-map, told-both, told-behind}
+use Rattle.hv_session.proofs.Passing.{HasPassed, part-behind, passed-part, same-files}
+
+-- ---- a faithful book goes on by entries that begin a statement
+
+fit-front : (s : State) (book more : List Entry) → AllFit profile s (book ++ more) → AllFit profile s book
+fit-front s [] more fit = tt
+fit-front s (e ∷ book) more fit = (fit.0, fit-front (after s e) book more fit.1)
+
+begun-quiet : (event : Entry) → IsBegun event → CommitsNothing event
+begun-quiet (entry.Opened txn session number text) begun = tt
+begun-quiet (entry.Start txn statement) begun = tt
+begun-quiet (entry.Given txn table write) begun = tt
+begun-quiet event begun = absurd begun
+
+one-faithful : (book : List Entry) (event : Entry) (x y : Store) → AllFitting (book ++ event ∷ []) → IsTruthful (state_of book) event → CommitsNothing event
+    → y.tree ≡ x.tree → IsFaithful book x → IsFaithful (book ++ event ∷ []) y
+one-faithful book event x y fit truthful quiet tree faithful = record {
+  stands = subst (Stands (state_of (book ++ event ∷ []))) (sym tree)
+      (other-entries-stand book event x.tree (fit-front nothing_yet book (event ∷ []) fit) (fit-behind nothing_yet book (event ∷ []) fit).0 quiet faithful.stands);
+  legal = one-legal book event faithful.legal fit truthful;
+}
+
+pub begun-faithful : (book added : List Entry) (x y : Store) → AllFitting (book ++ added) → AllByRecursion IsBegun added → y.tree ≡ x.tree
+    → IsFaithful book x → IsFaithful (book ++ added) y
+begun-faithful book [] x y fit begun tree faithful = record {
+  stands = subst (λ (b : List Entry). Stands (state_of b) y.tree) (sym (append-nil book)) (subst (Stands (state_of book)) (sym tree) faithful.stands);
+  legal = subst (IsLegal profile) (sym (append-nil book)) faithful.legal;
+}
+begun-faithful book (event ∷ added) x y fit begun tree faithful =
+    let next : (book ++ event ∷ []) ++ added ≡ book ++ (event ∷ added) = append_assoc book (event ∷ []) added in
+    let all : AllFitting ((book ++ event ∷ []) ++ added) = subst AllFitting (sym next) fit in
+    subst (λ (b : List Entry). IsFaithful b y) next
+    (begun-faithful (book ++ event ∷ []) added x y all begun.1 tree
+    (one-faithful book event x x (fit-front nothing_yet (book ++ event ∷ []) added all) (begun-true (state_of book) event begun.0) (begun-quiet event begun.0) refl faithful))
+
+-- ---- what was noted of a statement that begins
+
+module _ {D : Type 0} (told : D → Option Store) (before now : House D) where
+  pub noted-passed : (faults : D → ℕ) (txn : ℕ) (events : List Entry) → IsReady told now → AreNoted told events before now → AreOf txn events → AllByRecursion IsBegun events
+      → faults before.shelf ≤ faults now.shelf → HasPassed told faults txn before now
+  noted-passed faults txn events ready noted of_it begun later = record {
+    ready = ready;
+    added = events;
+    book = noted.entries;
+    of_it = of_it;
+    begun = begun;
+    keeps = same-files (state_of (entries_of before)).tables (told before.shelf) (told now.shelf) noted.tree;
+    tells = stays_by KeepsTree (told before.shelf) (told now.shelf) noted.tree;
+    later = later;
+  }
+
+  pub noted-shows : (events : List Entry) → IsReady told now → AreNoted told events before now → AllByRecursion IsBegun events
+      → Shows told before (entries_of before) → Shows told now (entries_of now)
+  noted-shows events ready noted begun shows =
+      told-behind KeepsTree (IsFaithful (entries_of before)) (IsFaithful (entries_of now))
+      (λ x y tree faithful. subst (λ (b : List Entry). IsFaithful b y) (sym noted.entries)
+      (begun-faithful (entries_of before) events x y (subst AllFitting noted.entries ready.fit) begun tree faithful))
+      (told before.shelf) (told now.shelf) noted.tree shows
+
+  -- nothing was noted, since memory lacked
+  module _ (faults : D → ℕ) (txn : ℕ) (events : List Entry) (halted : AreHalted told events fault.NoMemory before now) (stays : StaysReady told fault.NoMemory now) where
+    pub lacks-passed : faults before.shelf ≤ faults now.shelf → HasPassed told faults txn before now
+    lacks-passed later = record {
+      ready = stays.ready refl;
+      added = [];
+      book = halted.entries ∙ sym (append-nil (entries_of before));
+      of_it = tt;
+      begun = tt;
+      keeps = same-files (state_of (entries_of before)).tables (told before.shelf) (told now.shelf) halted.tree;
+      tells = stays_by KeepsTree (told before.shelf) (told now.shelf) halted.tree;
+      later = later;
+    }
+
+    pub lacks-shows : (P : Type 0) → P → Shows told before (entries_of before) → ShowsAnd told now (λ _. P)
+    lacks-shows P p shows =
+        told-behind KeepsTree (IsFaithful (entries_of before)) (IsTrueOf (entries_of now) (λ _. P))
+        (λ x y tree faithful. record {
+          faithful = subst (λ (b : List Entry). IsFaithful b y) (sym halted.entries)
+              (record { stands = subst (Stands (state_of (entries_of before))) (sym tree) faithful.stands; legal = faithful.legal });
+          true_of = p;
+        })
+        (told before.shelf) (told now.shelf) halted.tree shows
+
+  -- or the run ends
+  pub halted-stopped : (txn : ℕ) (events : List Entry) (why : HouseFault) → AreHalted told events why before now → AreOf txn events → length events ≤ 2 → HasStopped told txn why before now
+  halted-stopped txn events why halted of_it few = record {
+    added = [];
+    book = halted.entries ∙ sym (append-nil (entries_of before));
+    of_it = tt;
+    legal = record { fit = tt; truthful = tt };
+    unended = tt;
+    further = events;
+    further_of_it = of_it;
+    few = few;
+    leaves = subst (λ (b : List Entry). Leaves why events (told now.shelf) b) (sym halted.entries) halted.leaves;
+  }
+
+-- it wasn't opened
+pub memory-away : (first now : List Entry) (asking : Asking) (reply : Reply) → now ≡ first → IsLine (cause_text None cause.Memory) reply → IsTurnedAway first now asking reply
+memory-away first now asking reply same line hold is = inr (inr (inr (record { book = same; is_refused = line.refusal; line = line.line_is })))
+
+-- ---- where the note of an opening was refused
+
+module _ {D : Type 0} (told : D → Option Store) (faults : D → ℕ) (txn : ℕ) (before now : House D) (events : List Entry) (of_it : AreOf txn events) (few : length events ≤ 2) where
+  -- memory lacked, and the reply says so; or the run ends
+  pub unopened-part : {T : Type 0} (why : HouseFault) (result : Result Reply HouseFault) → AreHalted told events why before now → StaysReady told why now
+      → StaysTold (told before.shelf) (told now.shelf) → EndsRun why → FileCause {T = T} (faults before.shelf) (faults now.shelf) (Err why)
+      → IfOk result (λ reply. (why ≡ fault.NoMemory) × IsLine (cause_text None cause.Memory) reply) → IfErr result (λ failed. failed ≡ why)
+      → IsPart told faults txn before now result
+  unopened-part why (Ok reply) halted stays tells ends cause memory failed =
+      passed-part told faults txn before now reply
+      (lacks-passed told before now faults txn events
+      (subst (λ (w : HouseFault). AreHalted told events w before now) memory.0 halted) (subst (λ (w : HouseFault). StaysReady told w now) memory.0 stays) cause.later)
+  unopened-part {T = T} why (Err other) halted stays tells ends cause memory failed =
+      subst (λ (w : HouseFault). IsPart {T = Reply} told faults txn before now (Err w)) (sym failed) (record {
+        done = tt;
+        keeps = same-files (state_of (entries_of before)).tables (told before.shelf) (told now.shelf) halted.tree;
+        tells = tells;
+        stopped = halted-stopped told before now txn events why halted of_it few;
+        ends = ends;
+        cause = record { later = cause.later; failed = cause.failed };
+      })
+
+  pub unopened-truly : (asking : Asking) (why : HouseFault) (result : Result Reply HouseFault) → AreHalted told events why before now → StaysReady told why now
+      → IfOk result (λ reply. (why ≡ fault.NoMemory) × IsLine (cause_text None cause.Memory) reply) → Shows told before (entries_of before)
+      → IfOk result (λ reply. ShowsAnd told now (λ _. IsTurnedAway (entries_of before) (entries_of now) asking reply))
+  unopened-truly asking why (Err other) halted stays memory shows = tt
+  unopened-truly asking why (Ok reply) halted stays memory shows =
+      lacks-shows told before now faults txn events
+      (subst (λ (w : HouseFault). AreHalted told events w before now) memory.0 halted) (subst (λ (w : HouseFault). StaysReady told w now) memory.0 stays)
+      (IsTurnedAway (entries_of before) (entries_of now) asking reply)
+      (memory-away (entries_of before) (entries_of now) asking reply halted.entries memory.1) shows
+
+-- ---- it began: what it goes on to is what it was taken up to
+
+module _ (first before now : List Entry) (asking : Asking) (book : before ≡ first ++ opening first asking ∷ starting (next_number first) ∷ []) where
+  begun-book : (added : List Entry) → now ≡ before ++ added → now ≡ first ++ (opening first asking ∷ starting (next_number first) ∷ added)
+  begun-book added is =
+      is ∙ ap (λ (b : List Entry). b ++ added) book ∙ append_assoc first (opening first asking ∷ starting (next_number first) ∷ []) added
+
+  same-added : (xs ys : List Entry) → now ≡ before ++ xs → now ≡ before ++ ys → xs ≡ ys
+  same-added xs ys x y = append_cancel_left before xs ys (sym x ∙ y)
+
+  pub goes-taken : (hold : Option Stage) (files : Tree) (way : Taken) → GoesInTime hold (next_number first) before now way
+      → StandsTruly before now files (next_number first) way → IsTakenAs first now files asking hold way
+  goes-taken hold files (taken.Replied reply) goes truly = inl (record {
+    added = starting (next_number first) ∷ truly.added;
+    book = begun-book truly.added truly.book;
+    of_it = (refl, truly.of_it);
+    in_time = subst (λ (es : List Entry). EndsBefore hold (next_number first) (starting (next_number first) ∷ es)) (same-added goes.added truly.added goes.book truly.book) goes.in_time;
+    undamaged = (tt, truly.undamaged);
+    answered = truly.answered;
+  })
+  goes-taken hold files (taken.Kept paused) goes truly = record {
+    added = starting (next_number first) ∷ goes.added;
+    book = begun-book goes.added goes.book;
+    txn_is = goes.in_time.0;
+    at_hold = goes.in_time.1;
+    truly = truly;
+  }
+
+  pub goes-kept : (hold : Option Stage) (way : Taken) → GoesInTime hold (next_number first) before now way → StandsHeld now asking way → IsKeptIn first now asking way
+  goes-kept hold (taken.Replied reply) goes stands = tt
+  goes-kept hold (taken.Kept paused) goes stands = (goes.in_time.0, stands)
+
+-- ---- it is turned away
+
+module _ (first before now : List Entry) (asking : Asking) (book : before ≡ first ++ opening first asking ∷ []) where
+  never-started : (hold : Option Stage) (why : Cause) → IsHold hold → EndsBefore hold (next_number first) (aborting (next_number first) why ∷ [])
+  never-started None why is = tt
+  never-started (Some stage.Start) why is = (why, refl)
+  never-started (Some stage.Read) why is = inl (why, refl)
+  never-started (Some stage.Commit) why is = inl (why, refl)
+  never-started (Some stage.Taken) why is = absurd is
+  never-started (Some stage.Replied) why is = absurd is
+
+  hinders-whole : (why : Cause) → Hinders why → IsUndamaged (aborting (next_number first) why)
+  hinders-whole (cause.Blocked holder) hinders = tt
+  hinders-whole cause.Full hinders = tt
+  hinders-whole cause.Memory hinders = tt
+  hinders-whole why hinders = absurd hinders
+
+  pub hindered-away : (reply : Reply) → IsHindered (next_number first) before now → HasAnswered now (next_number first) reply.text reply.refused → IsTurnedAway first now asking reply
+  hindered-away reply hindered answered hold is = inl (record {
+    added = aborting (next_number first) hindered.why ∷ [];
+    book = hindered.book ∙ ap (λ (b : List Entry). b ++ aborting (next_number first) hindered.why ∷ []) book
+        ∙ append_assoc first (opening first asking ∷ []) (aborting (next_number first) hindered.why ∷ []);
+    of_it = (refl, tt);
+    in_time = never-started hold hindered.why is;
+    undamaged = (hinders-whole hindered.why hindered.hinders, tt);
+    answered = answered;
+  })
+
+pub full-away : (book : List Entry) (asking : Asking) (reply : Reply) → profile.entries < load (state_of book) + 2 → IsFullLine reply → IsTurnedAway book book asking reply
+full-away book asking reply lacks (inl line) hold is = inr (inr (inl (record { book = refl; lacks = lacks; is_refused = line.refusal; line = line.line_is })))
+full-away book asking reply lacks (inr line) hold is = inr (inr (inr (record { book = refl; is_refused = line.refusal; line = line.line_is })))
+
+-- its Opened doesn't fit, since there is no room
+pub lacks-room : (book : List Entry) (asking : Asking) (tree : Stmt) → Runs asking.text tree → (Fits profile (state_of book) (opening book asking) → ⊥)
+    → profile.entries < load (state_of book) + 2
+lacks-room book asking tree runs unfit = by (nat_lt profile.entries (load (state_of book) + 2)) refl
+  where
+    by : (b : Bool) → nat_lt profile.entries (load (state_of book) + 2) ≡ b → profile.entries < load (state_of book) + 2
+    by true is = grind (arith, nat_tests, is)
+    by false is = absurd (unfit (record { next = refl; statement = (tree, runs); room = grind (arith, nat_tests, is) }))
+
+-- ---- an opened statement is aborted
+
+abbrev waiting_here : Asking → Transaction
+waiting_here asking = opened asking.session asking.number asking.text
+
+module _ (book : List Entry) (asking : Asking) (txn : ℕ) (said : Stmt) (waits : IsWaiting book asking txn said) where
+  of-waiting : (P : Transaction → Type 0) → P (waiting_here asking) → Of (state_of book) txn P
+  of-waiting P p = subst (λ (o : Option Transaction). IsSomeAnd o P) (sym waits.here) p
+
+  pub waiting-memory : Fits profile (state_of book) (aborting txn cause.Memory)
+  waiting-memory = of-waiting (λ (t : Transaction). IsTrue (is_open t)) refl
+
+  pub hinders-true : (why : Cause) → Hinders why → IsTruthful (state_of book) (aborting txn why)
+  hinders-true (cause.Blocked holder) hinders = of-waiting (λ (t : Transaction). Unit {0}) tt
+  hinders-true cause.Full hinders = of-waiting (λ (t : Transaction). IsFalse (is_started t) ⊎ NeedsId t.given (meaning t)) (inl refl)
+  hinders-true cause.Memory hinders = of-waiting (λ (t : Transaction). Unit {0}) tt
+  hinders-true why hinders = absurd hinders
+
+pub hinders-told : (book : List Entry) (asking : Asking) (txn : ℕ) (said : Stmt) → IsWaiting book asking txn said → (why : Cause) → Hinders why → (o : Option Store)
+    → Tells o (λ _. IsTruthful (state_of book) (aborting txn why))
+hinders-told book asking txn said waits why hinders None = tt
+hinders-told book asking txn said waits why hinders (Some s) = hinders-true book asking txn said waits why hinders
+
+pub hinders-small : (txn : TxnId) (why : Cause) → Hinders why → IsSmall (aborting txn.0 why)
+hinders-small txn (cause.Blocked holder) hinders = short_blocked txn holder
+hinders-small txn cause.Full hinders = short_full txn
+hinders-small txn cause.Memory hinders = short_memory txn
+hinders-small txn why hinders = absurd hinders
+
+pub hinders-uncommitted : (why : Cause) → Hinders why → EndsUncommitted why
+hinders-uncommitted (cause.Blocked holder) hinders = tt
+hinders-uncommitted cause.Full hinders = tt
+hinders-uncommitted cause.Memory hinders = tt
+hinders-uncommitted why hinders = absurd hinders
+
+module _ (why : Cause) (hinders : Hinders why) where
+  hinders-of : (of : Cause) → ((of ≡ why) ⊎ (of ≡ cause.Memory)) → Hinders of
+  hinders-of of (inl is) = subst Hinders (sym is) hinders
+  hinders-of of (inr is) = subst Hinders (sym is) tt
+
+  hinders-counts : (low high txn : ℕ) (of : Cause) → Hinders of → KeepsCount low high (aborting txn of)
+  hinders-counts low high txn (cause.Blocked holder) is = tt
+  hinders-counts low high txn cause.Full is = tt
+  hinders-counts low high txn cause.Memory is = tt
+  hinders-counts low high txn of is = absurd is
+
+  pub hindered-by : (txn : ℕ) (before now : List Entry) (result : Result Reply HouseFault) → IfOk result (λ _. IsAborted txn why before now) → IfOk result (λ _. IsHindered txn before now)
+  hindered-by txn before now (Ok reply) aborted = record { why = aborted.of; hinders = hinders-of aborted.of aborted.is; book = aborted.book }
+  hindered-by txn before now (Err failed) aborted = tt
+
+  module _ {D : Type 0} (told : D → Option Store) (faults : D → ℕ) (txn : ℕ) (before now : House D) where
+    pub aborted-part : (result : Result Reply HouseFault) → IfOk result (λ _. IsReady told now) → IfOk result (λ _. IsAborted txn why (entries_of before) (entries_of now))
+        → Moves KeepsTree (told before.shelf) (told now.shelf) → StaysTold (told before.shelf) (told now.shelf)
+        → IfErr result (λ failed. HasStopped told txn failed before now) → IfErr result EndsRun → FileCause (faults before.shelf) (faults now.shelf) result
+        → IsPart told faults txn before now result
+    aborted-part (Ok reply) ready aborted tree tells stopped ends cause = record {
+      done = record {
+        ready = ready;
+        added = record {
+          added = aborting txn aborted.of ∷ [];
+          book = aborted.book;
+          of_it = (refl, tt);
+          counts = (hinders-counts (faults before.shelf) (faults now.shelf) txn aborted.of (hinders-of aborted.of aborted.is), tt);
+        };
+      };
+      keeps = same-files (state_of (entries_of before)).tables (told before.shelf) (told now.shelf) tree;
+      tells = tells;
+      stopped = tt;
+      ends = tt;
+      cause = cause;
+    }
+    aborted-part (Err failed) ready aborted tree tells stopped ends cause = record {
+      done = tt;
+      keeps = same-files (state_of (entries_of before)).tables (told before.shelf) (told now.shelf) tree;
+      tells = tells;
+      stopped = stopped;
+      ends = ends;
+      cause = cause;
+    }
+
+-- ---- behind its Opened it is turned away
+
+pub turned-away : {D : Type 0} (told : D → Option Store) (faults : D → ℕ) (txn : ℕ) (before between now : House D) (asking : Asking) (said : Stmt) (result : Result Reply HouseFault)
+    → entries_of between ≡ entries_of before ++ opening (entries_of before) asking ∷ [] → txn ≡ next_number (entries_of before)
+    → IsWaiting (entries_of between) asking txn said → AbortsOpened told faults txn between now result → Shows told between (entries_of between)
+    → IfOk result (λ reply. ShowsAnd told now (λ _. IsTurnedAway (entries_of before) (entries_of now) asking reply))
+turned-away told faults txn before between now asking said (Err why) book is waits aborts shows = tt
+turned-away told faults txn before between now asking said (Ok reply) book is waits aborts shows =
+    told-map (IsFaithful (entries_of now)) (IsTrueOf (entries_of now) (λ _. IsTurnedAway (entries_of before) (entries_of now) asking reply))
+    (λ s faithful. record {
+      faithful = faithful;
+      true_of = hindered-away (entries_of before) (entries_of between) (entries_of now) asking book reply
+          (subst (λ (n : ℕ). IsHindered n (entries_of between) (entries_of now)) is aborts.hindered)
+          (subst (λ (n : ℕ). HasAnswered (entries_of now) n reply.text reply.refused) is (aborts.answered asking said waits));
+    })
+    (told now.shelf) (aborts.shows shows)
+
+-- ---- an entry that opens a statement
+
+module _ (book : List Entry) (asking : Asking) (event : Entry) where
+  pub opened-tree : (tree : Stmt) → event ≡ opening book asking → Runs asking.text tree → Some tree ≡ tree_of_entry event
+  opened-tree tree is runs = sym (ap tree_of_entry is ∙ runs.read)
+
+  pub opened-of : event ≡ opening book asking → AreOf (next_number book) (event ∷ [])
+  opened-of is = (subst (IsOf (next_number book)) (sym is) refl, tt)
+
+  pub opened-begun : event ≡ opening book asking → AllByRecursion IsBegun (event ∷ [])
+  opened-begun is = (subst IsBegun (sym is) tt, tt)
+
+pub opened-waits : (book now : List Entry) (asking : Asking) (event : Entry) (tree : Stmt) (txn : ℕ) → event ≡ opening book asking → Runs asking.text tree
+    → now ≡ book ++ event ∷ [] → txn ≡ next_number book → IsWaiting now asking txn tree
+opened-waits book now asking event tree txn is runs noted number =
+    subst (λ (b : List Entry). IsWaiting b asking txn tree) (sym (noted ∙ ap (λ (e : Entry). book ++ e ∷ []) is))
+    (subst (λ (n : ℕ). IsWaiting (book ++ opening book asking ∷ []) asking n tree) (sym number) (opens book asking tree runs))
+
+-- the text of an entry is that of whoever asked
+text_of : Entry → List ℕ
+text_of (entry.Opened txn session number text) = text
+text_of event = []
+
+pub opened-runs : (book : List Entry) (first asking : Asking) (event : Entry) (tree : Stmt) → event ≡ opening book first → event ≡ opening book asking → Runs first.text tree → Runs asking.text tree
+unfolding text_of
+opened-runs book first asking event tree one other runs = subst (λ (t : List ℕ). Runs t tree) (ap text_of (sym one ∙ other)) runs
+
+pub renumbered : {D T : Type 0} (told : D → Option Store) (faults : D → ℕ) (before now : House D) (txn number : ℕ) (result : Result T HouseFault) → txn ≡ number
+    → IsPart told faults txn before now result → IsPart told faults number before now result
+renumbered told faults before now txn number result is part = subst (λ (n : ℕ). IsPart told faults n before now result) is part
+
+pub opened-is : (book : List Entry) (asking : Asking) (txn : TxnId) → txn.0 ≡ next_number book → entry.Opened txn asking.session asking.number asking.text ≡ opening book asking
+opened-is book asking txn is = ap (λ (n : ℕ). entry.Opened (record { 0 = n }) asking.session asking.number asking.text) is
+
+-- ---- a statement that began goes on
+
+pub begun-under : (book now : List Entry) (asking : Asking) (tree : Stmt) (txn place : ℕ) → Runs asking.text tree
+    → now ≡ book ++ opening book asking ∷ starting (next_number book) ∷ [] → txn ≡ next_number book → place ≡ length book + 1 → IsUnderWay now asking txn place tree []
+begun-under book now asking tree txn place runs noted number at =
+    subst (λ (b : List Entry). IsUnderWay b asking txn place tree []) (sym noted)
+    (subst (λ (n : ℕ). IsUnderWay (book ++ opening book asking ∷ starting (next_number book) ∷ []) asking n place tree []) (sym number)
+    (subst (λ (p : ℕ). IsUnderWay (book ++ opening book asking ∷ starting (next_number book) ∷ []) asking (next_number book) p tree []) (sym at) (begins book asking tree runs)))
+
+pub kept-on : (first before now : List Entry) (asking : Asking) → before ≡ first ++ opening first asking ∷ starting (next_number first) ∷ [] → (txn : ℕ) → txn ≡ next_number first
+    → (hold : Option Stage) (result : Result Taken HouseFault) → IfOk result (GoesInTime hold txn before now) → IfOk result (StandsHeld now asking) → IfOk result (IsKeptIn first now asking)
+kept-on first before now asking book txn is hold (Err why) goes stands = tt
+kept-on first before now asking book txn is hold (Ok way) goes stands =
+    goes-kept first before now asking book hold way (subst (λ (n : ℕ). GoesInTime hold n before now way) is goes) stands
+
+pub goes-on : {D : Type 0} (told : D → Option Store) (first before now : House D) (asking : Asking)
+    → entries_of before ≡ entries_of first ++ opening (entries_of first) asking ∷ starting (next_number (entries_of first)) ∷ [] → (txn : ℕ) → txn ≡ next_number (entries_of first)
+    → (hold : Option Stage) (result : Result Taken HouseFault) → IfOk result (GoesInTime hold txn (entries_of before) (entries_of now))
+    → IfOk result (λ way. ShowsAnd told now (λ s. StandsTruly (entries_of before) (entries_of now) s.tree txn way))
+    → IfOk result (λ way. ShowsAnd told now (λ s. IsTakenAs (entries_of first) (entries_of now) s.tree asking hold way))
+goes-on told first before now asking book txn is hold (Err why) goes truly = tt
+goes-on told first before now asking book txn is hold (Ok way) goes truly =
+    told-map (IsTrueOf (entries_of now) (λ s. StandsTruly (entries_of before) (entries_of now) s.tree txn way)) (IsTrueOf (entries_of now) (λ s. IsTakenAs (entries_of first) (entries_of now) s.tree asking hold way))
+    (λ s both. record {
+      faithful = both.faithful;
+      true_of = goes-taken (entries_of first) (entries_of before) (entries_of now) asking book hold s.tree way
+          (subst (λ (n : ℕ). GoesInTime hold n (entries_of before) (entries_of now) way) is goes)
+          (subst (λ (n : ℕ). StandsTruly (entries_of before) (entries_of now) s.tree n way) is both.true_of);
+    })
+    (told now.shelf) truly
+
+-- ---- one that is turned away is taken so
+
+pub turned-taken : {D : Type 0} (told : D → Option Store) (before now : House D) (asking : Asking) (hold : Option Stage) → IsHold hold → (reply : Reply)
+    → ShowsAnd told now (λ _. IsTurnedAway (entries_of before) (entries_of now) asking reply)
+    → ShowsAnd told now (λ s. IsTakenAs (entries_of before) (entries_of now) s.tree asking hold (taken.Replied reply))
+turned-taken told before now asking hold is reply truly =
+    told-map (IsTrueOf (entries_of now) (λ _. IsTurnedAway (entries_of before) (entries_of now) asking reply))
+    (IsTrueOf (entries_of now) (λ s. IsTakenAs (entries_of before) (entries_of now) s.tree asking hold (taken.Replied reply)))
+    (λ s both. record { faithful = both.faithful; true_of = both.true_of hold is })
+    (told now.shelf) truly
+
+-- ---- one that wasn't opened is taken so
+
+pub same-asking : (copies : Copies) (number : ℕ) (session text : List ℕ) → AreCopies session text copies → asking_of copies number ≡ record { session = session; number = number; text = text }
+same-asking copies number session text are = λ i. record { session = are.session_is i; number = number; text = are.text_is i }
+
+pub memory-taken : (book : List Entry) (files : Tree) (asking : Asking) (hold : Option Stage) (reply : Reply) → IsLine (cause_text None cause.Memory) reply
+    → IsTakenAs book book files asking hold (taken.Replied reply)
+memory-taken book files asking hold reply line = inr (inr (inr (record { book = refl; is_refused = line.refusal; line = line.line_is })))
+
+pub text-taken : (book : List Entry) (files : Tree) (asking : Asking) (hold : Option Stage) (reply : Reply) → IsTextLine asking.text reply
+    → IsTakenAs book book files asking hold (taken.Replied reply)
+text-taken book files asking hold reply (inl line) = inr (inl (record { book = refl; is_refused = line.refusal; fault = line.fault }))
+text-taken book files asking hold reply (inr line) = memory-taken book files asking hold reply line
+
+-- where the test says so, no opening fits
+pub unfit : (book : List Entry) (asking : Asking) (txn : TxnId) → txn.0 ≡ next_number book → (fits : Bool) → fits ≡ false
+    → (IsTrue fits ↔ Fits profile (state_of book) (entry.Opened txn asking.session asking.number asking.text)) → Fits profile (state_of book) (opening book asking) → ⊥
+unfit book asking txn is fits no_ test here =
+    let said : fits ≡ true = test.1 (subst (Fits profile (state_of book)) (sym (opened-is book asking txn is)) here) in
+    false≢true (sym no_ ∙ said)

@@ -1,0 +1,270 @@
+-- How a started statement is aborted, and where the run ends in its place.
+use Rattle.std.proofs.Common.{◌≡◌, ℕ, ◌<◌, ◌≤◌, true, Option, Some, None, List, [], ◌∷◌, ◌++◌, Result, Ok, Err, ◌⊎◌, inl, inr, length, take, refl, sym, ap, ◌∙◌, subst, arith, append-nil}
+use Rattle.std.specs.Prelude.{IsTrue, IsSomeAnd, MatchResult, IfOk, IfErr}
+use Rattle.std.specs.List.{AllByRecursion}
+use Rattle.hv_base.specs.Refusals as refusals
+use Rattle.hv_base.specs.declared.refusal.Refusal.{Refusal}
+use Rattle.hv_base.specs.Told.{Tells, Moves, StaysTold}
+use Rattle.hv_base.specs.Faults.{Rose}
+use Rattle.hv_base.proofs.ToldLemmas.{Moves-then, Moves-same, stays_same, stays_equal, stays_stays}
+use Rattle.hv_shelf.specs.Disk.{Store}
+use Rattle.hv_ast.specs.declared.statement.Stmt.{Stmt}
+use Rattle.hv_logic.specs.declared.meaning.Meaning.{Meaning}
+use Rattle.hv_logic.specs.declared.meaning.Meaning.TheVariants as meanings
+use Rattle.hv_history.specs.declared.entry.Entry.{Entry}
+use Rattle.hv_history.specs.declared.entry.Cause.{Cause}
+use Rattle.hv_history.specs.declared.entry.Cause.TheVariants as cause
+use Rattle.hv_history.specs.declared.entry.FilePlace.{FilePlace}
+use Rattle.hv_history.specs.declared.state.Transaction.{Transaction}
+use Rattle.hv_history.specs.State.{State, state_of, meaning}
+use Rattle.hv_history.specs.Legal.{Of, is_open, IsRunning, Fits, IsTruthful, IsRefusedAs, IsLegalFrom, profile}
+use Rattle.hv_journal.specs.Appending.{Holds, HoldsMore, ReadsMore, KeepsTree}
+use Rattle.hv_stands.specs.Running.{Asking, meant, running, snapshot_at, IsUnderWay, HasAnswered, KeepsGiven}
+use Rattle.hv_house.specs.declared.fault.HouseFault.{HouseFault}
+use Rattle.hv_house.specs.declared.fault.HouseFault.TheVariants as halts
+use Rattle.hv_house.specs.declared.fault.RowFault.{RowFault}
+use Rattle.hv_house.specs.declared.fault.RowFault.TheVariants as row_fault
+use Rattle.hv_house.specs.declared.house.House.{House}
+use Rattle.hv_house.specs.Faults.{FileCause, HasRisen, HasRisenReading, EndsRun, IsDamage}
+use Rattle.hv_house.specs.House.{entries_of, IsReady, IsAsked, IsFaithful, Leaves, Shows}
+use Rattle.hv_ending.specs.declared.ready.Way.{Way}
+use Rattle.hv_ending.specs.declared.ready.Reply.{Reply}
+use Rattle.hv_ending.specs.Ending.{KeepsCount, IsUndamaged, IsAborted, HasStopped, aborting}
+use Rattle.hv_session.proofs.Passing.{cause-from, same-files, asked-shows}
+use Rattle.hv_session.specs.Ways.{IsPart, IsTrueOf, ShowsAnd, CutsOff, IsCauseOfRows, IsAbortedFor, EndsFor, ComesTo, ComesTruly}
+use Rattle.hv_session.specs.declared.ends.Outcome.{Outcome}
+use Rattle.hv_session.specs.declared.ends.Outcome.TheVariants as outcome
+use Rattle.hv_session.specs.Taking.{EndsEarly, IsFinished}
+use Rattle.hv_session.proofs.Telling.{told-both, told-behind}
+
+-- ---- what fits and is true of a statement that is under way
+
+module _ (book : List Entry) (asking : Asking) (txn place : ℕ) (said : Stmt) (given : List (ℕ × ℕ)) (way : IsUnderWay book asking txn place said given) where
+  abbrev here : Transaction
+  here = running asking (meant (take place book) said) (snapshot_at book place) given
+
+  pub of-way : (P : Transaction → Type 0) → P here → Of (state_of book) txn P
+  of-way P p = subst (λ (o : Option Transaction). IsSomeAnd o P) (sym way.here) p
+
+  is-running : IsRunning here
+  is-running = record { unended = refl; started = refl }
+
+  pub memory-fits : Fits profile (state_of book) (aborting txn cause.Memory)
+  memory-fits = of-way (λ (t : Transaction). IsTrue (is_open t)) refl
+
+  pub damage-fits : (at : FilePlace) → Fits profile (state_of book) (aborting txn (cause.Damaged at))
+  damage-fits at = of-way IsRunning is-running
+
+  pub refusal-fits : (number : ℕ) → Fits profile (state_of book) (aborting txn (cause.Refused number))
+  refusal-fits number = of-way IsRunning is-running
+
+  -- a cause that tells nothing of what it means
+  pub rows-true : (fault : RowFault) (why : Cause) → IsCauseOfRows fault why → IsTruthful (state_of book) (aborting txn why)
+  rows-true (row_fault.Damaged at) why is = subst (λ (w : Cause). IsTruthful (state_of book) (aborting txn w)) (sym is) (of-way (λ (t : Transaction). Unit {0}) tt)
+  rows-true (row_fault.House (halts.Failed count)) why is = subst (λ (w : Cause). IsTruthful (state_of book) (aborting txn w)) (sym is) (of-way (λ (t : Transaction). Unit {0}) tt)
+  rows-true (row_fault.House halts.NoMemory) why is = subst (λ (w : Cause). IsTruthful (state_of book) (aborting txn w)) (sym is) (of-way (λ (t : Transaction). Unit {0}) tt)
+  rows-true (row_fault.House halts.Store) why is = absurd is
+
+  pub refusal-true : (why : Refusal) → meant (take place book) said ≡ Some (meanings.Refused why) → IsTruthful (state_of book) (aborting txn (cause.Refused (refusals.number why)))
+  refusal-true why means =
+      of-way (λ (t : Transaction). IsRefusedAs (refusals.number why) (meaning t)) (subst (λ (o : Option Meaning). IsRefusedAs (refusals.number why) o) (sym means) refl)
+
+-- ---- the run ends with nothing noted
+
+pub nothing-leaves : {D : Type 0} (told : D → Option Store) (house : House D) (why : HouseFault) → EndsRun why → IsReady told house → Leaves why [] (told house.shelf) (entries_of house)
+nothing-leaves told house halts.NoMemory ends ready = ready.kept.reads
+nothing-leaves told house halts.Store ends ready = by (told house.shelf) ready.kept.reads
+  where
+    by : (o : Option Store) → Holds o (entries_of house) → HoldsMore o (entries_of house) []
+    by None holds = tt
+    by (Some s) holds = inl holds
+nothing-leaves told house (halts.Failed count) ends ready = ends
+
+pub nothing-stopped : {D : Type 0} (told : D → Option Store) (txn : ℕ) (why : HouseFault) (before now : House D) → EndsRun why → IsReady told now → entries_of now ≡ entries_of before
+    → HasStopped told txn why before now
+nothing-stopped told txn why before now ends ready same = record {
+  added = [];
+  book = same ∙ sym (append-nil (entries_of before));
+  of_it = tt;
+  legal = record { fit = tt; truthful = tt };
+  unended = tt;
+  further = [];
+  further_of_it = tt;
+  few = omega arith;
+  leaves = nothing-leaves told now why ends ready;
+}
+
+-- ---- an abort for a fault of rows
+
+module _ {D : Type 0} (told : D → Option Store) (faults : D → ℕ) (way : Way) where
+  of-truth : (why : Cause) (before : House D) (o : Option Store) → IsTruthful (state_of (entries_of before)) (aborting way.txn.0 why)
+      → Tells o (λ _. IsTruthful (state_of (entries_of before)) (aborting way.txn.0 why))
+  of-truth why before None truly = tt
+  of-truth why before (Some s) truly = truly
+
+  aborted-for : (fault : RowFault) (why : Cause) (before now : House D) (r : Result Reply HouseFault) → IsCauseOfRows fault why
+      → IfOk r (λ _. IsAborted way.txn.0 why (entries_of before) (entries_of now)) → IfOk r (λ _. IsAbortedFor way.txn.0 fault (entries_of before) (entries_of now))
+  aborted-for fault why before now (Ok reply) is aborted = record { why = why; is_cause = is; aborted = aborted }
+  aborted-for fault why before now (Err failed) is aborted = tt
+
+  pub cut-ends : (fault : RowFault) (why : Cause) (before now : House D) (result : Result Reply HouseFault)
+      → IsCauseOfRows fault why → IsTruthful (state_of (entries_of before)) (aborting way.txn.0 why)
+      → CutsOff told faults way why before now result → EndsFor told faults way fault before now result
+  cut-ends fault why before now result is truly cuts = record {
+    ready = cuts.ready;
+    aborted = aborted-for fault why before now result is cuts.aborted;
+    answered = cuts.answered;
+    shows = cuts.shows (of-truth why before (told before.shelf) truly);
+    tree = cuts.tree;
+    tells = cuts.tells;
+    stopped = cuts.stopped;
+    ends = cuts.ends;
+    later = cuts.cause.later;
+    cause = λ low below risen. cause-from low (faults before.shelf) (faults now.shelf) below result cuts.cause;
+  }
+
+  -- the run ends in place of an abort
+  pub store-ends : (fault : HouseFault) (house : House D) → IsReady told house
+      → ((low : ℕ) → HasRisen low (faults house.shelf) fault → Rose low (faults house.shelf))
+      → EndsFor told faults way (row_fault.House fault) house house (Err halts.Store)
+  store-ends fault house ready rises = record {
+    ready = tt;
+    aborted = tt;
+    answered = λ asking said given under. tt;
+    shows = λ shows. tt;
+    tree = Moves-same KeepsTree (λ s. refl) (told house.shelf);
+    tells = stays_same (told house.shelf);
+    stopped = nothing-stopped told way.txn.0 halts.Store house house tt ready refl;
+    ends = tt;
+    later = omega arith;
+    cause = λ low below risen. record { later = below; failed = rises low risen };
+  }
+
+  -- ---- behind what was only asked
+
+  module _ (fault : RowFault) (first before now : House D) (asked : IsAsked told first before) (later : faults first.shelf ≤ faults before.shelf)
+      (risen : HasRisenReading (faults first.shelf) (faults before.shelf) fault) where
+    abbrev same : entries_of before ≡ entries_of first
+    same = ap (λ t. t.entries) asked.book
+
+    counts : (why of : Cause) → IsCauseOfRows fault why → ((of ≡ why) ⊎ (of ≡ cause.Memory)) → faults before.shelf ≤ faults now.shelf
+        → KeepsCount (faults first.shelf) (faults now.shelf) (aborting way.txn.0 of)
+    counts why of is (inr memory) upto = subst (λ (w : Cause). KeepsCount (faults first.shelf) (faults now.shelf) (aborting way.txn.0 w)) (sym memory) tt
+    counts why of is (inl cause_is) upto =
+        subst (λ (w : Cause). KeepsCount (faults first.shelf) (faults now.shelf) (aborting way.txn.0 w)) (sym cause_is) (by fault is risen)
+      where
+        by : (f : RowFault) → IsCauseOfRows f why → HasRisenReading (faults first.shelf) (faults before.shelf) f
+            → KeepsCount (faults first.shelf) (faults now.shelf) (aborting way.txn.0 why)
+        by (row_fault.Damaged at) is rose = subst (λ (w : Cause). KeepsCount (faults first.shelf) (faults now.shelf) (aborting way.txn.0 w)) (sym is) tt
+        by (row_fault.House (halts.Failed count)) is rose =
+            let at : count ≡ faults before.shelf = rose.0 in
+            let above = rose.1 in
+            subst (λ (w : Cause). KeepsCount (faults first.shelf) (faults now.shelf) (aborting way.txn.0 w)) (sym is) (omega (arith, at, above), omega (arith, at, upto))
+        by (row_fault.House halts.NoMemory) is rose = subst (λ (w : Cause). KeepsCount (faults first.shelf) (faults now.shelf) (aborting way.txn.0 w)) (sym is) tt
+        by (row_fault.House halts.Store) is rose = absurd is
+
+    early : (why of : Cause) → IsCauseOfRows fault why → ((of ≡ why) ⊎ (of ≡ cause.Memory)) → EndsEarly of
+    early why of is (inr memory) = subst EndsEarly (sym memory) tt
+    early why of is (inl cause_is) = subst EndsEarly (sym cause_is) (by fault is)
+      where
+        by : (f : RowFault) → IsCauseOfRows f why → EndsEarly why
+        by (row_fault.Damaged at) is = subst EndsEarly (sym is) tt
+        by (row_fault.House (halts.Failed count)) is = subst EndsEarly (sym is) tt
+        by (row_fault.House halts.NoMemory) is = subst EndsEarly (sym is) tt
+        by (row_fault.House halts.Store) is = absurd is
+
+    whole : (why of : Cause) → IsCauseOfRows fault why → ((of ≡ why) ⊎ (of ≡ cause.Memory)) → (IsDamage fault → ⊥) → IsUndamaged (aborting way.txn.0 of)
+    whole why of is (inr memory) undamaged = subst (λ (w : Cause). IsUndamaged (aborting way.txn.0 w)) (sym memory) tt
+    whole why of is (inl cause_is) undamaged = subst (λ (w : Cause). IsUndamaged (aborting way.txn.0 w)) (sym cause_is) (by fault is undamaged)
+      where
+        by : (f : RowFault) → IsCauseOfRows f why → (IsDamage f → ⊥) → IsUndamaged (aborting way.txn.0 why)
+        by (row_fault.Damaged at) is undamaged = absurd (undamaged tt)
+        by (row_fault.House (halts.Failed count)) is undamaged = subst (λ (w : Cause). IsUndamaged (aborting way.txn.0 w)) (sym is) tt
+        by (row_fault.House halts.NoMemory) is undamaged = subst (λ (w : Cause). IsUndamaged (aborting way.txn.0 w)) (sym is) tt
+        by (row_fault.House halts.Store) is undamaged = absurd is
+
+    abbrev tree_kept : Moves KeepsTree (told first.shelf) (told before.shelf)
+    tree_kept = subst (Moves KeepsTree (told first.shelf)) (sym asked.store) (Moves-same KeepsTree (λ s. refl) (told first.shelf))
+
+    files-kept : Moves KeepsTree (told before.shelf) (told now.shelf) → Moves (KeepsGiven (state_of (entries_of first)).tables) (told first.shelf) (told now.shelf)
+    files-kept tree =
+        same-files (state_of (entries_of first)).tables (told first.shelf) (told now.shelf)
+        (Moves-then KeepsTree KeepsTree KeepsTree (λ x y z p q. q ∙ p) (told first.shelf) (told before.shelf) (told now.shelf) tree_kept tree)
+
+    tells-kept : StaysTold (told before.shelf) (told now.shelf) → StaysTold (told first.shelf) (told now.shelf)
+    tells-kept tells = stays_stays (told first.shelf) (told before.shelf) (told now.shelf) (stays_equal (told first.shelf) (told before.shelf) asked.store) tells
+
+    stopped-kept : (why : HouseFault) → HasStopped told way.txn.0 why before now → HasStopped told way.txn.0 why first now
+    stopped-kept why stopped = record {
+      added = stopped.added;
+      book = stopped.book ∙ ap (λ (b : List Entry). b ++ stopped.added) same;
+      of_it = stopped.of_it;
+      legal = subst (λ (b : List Entry). IsLegalFrom profile (state_of b) stopped.added) same stopped.legal;
+      unended = stopped.unended;
+      further = stopped.further;
+      further_of_it = stopped.further_of_it;
+      few = stopped.few;
+      leaves = stopped.leaves;
+    }
+
+    ended-book : (of : Cause) → entries_of now ≡ entries_of before ++ aborting way.txn.0 of ∷ [] → entries_of now ≡ entries_of first ++ aborting way.txn.0 of ∷ []
+    ended-book of book = book ∙ ap (λ (b : List Entry). b ++ aborting way.txn.0 of ∷ []) same
+
+    pub ended-part : (reply : Reply) → EndsFor told faults way fault before now (Ok reply) → (outcome : Outcome) → IsPart told faults way.txn.0 first now (Ok outcome)
+    ended-part reply ends outcome =
+        let aborted = ends.aborted.aborted in
+        record {
+          done = record {
+            ready = ends.ready;
+            added = record {
+              added = aborting way.txn.0 aborted.of ∷ [];
+              book = ended-book aborted.of aborted.book;
+              of_it = (refl, tt);
+              counts = (counts ends.aborted.why aborted.of ends.aborted.is_cause aborted.is ends.later, tt);
+            };
+          };
+          keeps = files-kept ends.tree;
+          tells = tells-kept ends.tells;
+          stopped = tt;
+          ends = tt;
+          cause = record { later = (ends.cause (faults first.shelf) later risen).later; failed = tt };
+        }
+
+    pub halted-part : (why : HouseFault) → EndsFor told faults way fault before now (Err why) → IsPart {T = Outcome} told faults way.txn.0 first now (Err why)
+    halted-part why ends =
+        let why_ended = ends.cause (faults first.shelf) later risen in
+        record {
+          done = tt;
+          keeps = files-kept ends.tree;
+          tells = tells-kept ends.tells;
+          stopped = stopped-kept why ends.stopped;
+          ends = ends.ends;
+          cause = record { later = why_ended.later; failed = why_ended.failed };
+        }
+
+    pub ended-comes : (reply : Reply) → EndsFor told faults way fault before now (Ok reply) → ComesTo way.txn.0 (entries_of first) (entries_of now) (outcome.Ended reply)
+    ended-comes reply ends =
+        let aborted = ends.aborted.aborted in
+        (aborted.of, early ends.aborted.why aborted.of ends.aborted.is_cause aborted.is, ended-book aborted.of aborted.book)
+
+    -- where all is told it has its answer, and no file was damaged
+    pub ended-truly : (reply : Reply) (asking : Asking) (said : Stmt) → EndsFor told faults way fault before now (Ok reply)
+        → IsUnderWay (entries_of first) asking way.txn.0 way.place said [] → Shows told first (entries_of first)
+        → Tells (told first.shelf) (λ _. IsDamage fault → ⊥)
+        → ShowsAnd told now (λ _. ComesTruly (entries_of first) (entries_of now) way said (outcome.Ended reply))
+    ended-truly reply asking said ends under shows undamaged =
+        let aborted = ends.aborted.aborted in
+        told-both (IsFaithful (entries_of now)) (λ _. IsDamage fault → ⊥) (IsTrueOf (entries_of now) (λ _. IsFinished (entries_of first) (entries_of now) way.txn.0 reply.text reply.refused))
+        (λ s faithful none. record {
+          faithful = faithful;
+          true_of = record {
+            added = aborting way.txn.0 aborted.of ∷ [];
+            book = ended-book aborted.of aborted.book;
+            of_it = (refl, tt);
+            undamaged = (whole ends.aborted.why aborted.of ends.aborted.is_cause aborted.is none, tt);
+            answered = ends.answered asking said [] (subst (λ (b : List Entry). IsUnderWay b asking way.txn.0 way.place said []) (sym same) under);
+          };
+        })
+        (told now.shelf)
+        (ends.shows (asked-shows told first before asked shows))
+        (told-behind (λ _ _. Unit {0}) (λ _. IsDamage fault → ⊥) (λ _. IsDamage fault → ⊥) (λ x y step none. none) (told first.shelf) (told now.shelf) (tells-kept ends.tells) undamaged)

@@ -1,0 +1,103 @@
+-- A statement that is held goes on from its point, and what its parts say is what the whole says.
+use Rattle.std.proofs.Common.{◌≡◌, ℕ, Option, Some, List, [], ◌∷◌, ◌++◌, Result, Ok, Err, take, refl, sym, ap, ◌∙◌, subst}
+use Rattle.std.specs.Prelude.{IfOk}
+use Rattle.hv_base.specs.Told.{Tells}
+use Rattle.hv_shelf.specs.Disk.{Store, Tree}
+use Rattle.hv_logic.specs.declared.meaning.Meaning.{Meaning}
+use Rattle.hv_history.specs.declared.entry.Entry.{Entry}
+use Rattle.hv_history.specs.declared.state.Transaction.{Transaction}
+use Rattle.hv_stands.specs.Running.{Asking, meant, running, snapshot_at, IsUnderWay, HasAnswered}
+use Rattle.hv_stands.proofs.Numbers.{one_value}
+use Rattle.hv_house.specs.declared.fault.HouseFault.{HouseFault}
+use Rattle.hv_house.specs.declared.house.House.{House}
+use Rattle.hv_house.specs.House.{entries_of, IsReady, IsFaithful, Shows}
+use Rattle.hv_ending.specs.declared.ready.Ready.{Ready}
+use Rattle.hv_ending.specs.declared.ready.Reply.{Reply}
+use Rattle.hv_ending.specs.Ending.{AddsOf, CanEnd, EndIsTrue, Concludes, IsReadyToEnd, IsTrulyReady}
+use Rattle.hv_session.specs.declared.paused.Point.{Point}
+use Rattle.hv_session.specs.declared.paused.Point.TheVariants as point
+use Rattle.hv_session.specs.declared.paused.Paused.{Paused}
+use Rattle.hv_session.specs.Taking.{HasNone, CanEndAt, PointIsTrue, IsHeld, IsTrulyHeld, IsFinished}
+use Rattle.hv_session.specs.Ways.{IsPart, IsTrueOf, ShowsAnd}
+use Rattle.hv_session.proofs.Telling.{told-map, told-both}
+
+-- ---- what a whole says by its parts
+
+module _ {D T : Type 0} (told : D → Option Store) (faults : D → ℕ) (txn : ℕ) (before now : House D) where
+  pub part-ready : (result : Result T HouseFault) → IsPart told faults txn before now result → IfOk result (λ _. IsReady told now)
+  part-ready (Ok x) part = part.done.ready
+  part-ready (Err why) part = tt
+
+  pub part-added : (result : Result T HouseFault) → IsPart told faults txn before now result
+      → IfOk result (λ _. AddsOf txn (faults before.shelf) (faults now.shelf) (entries_of before) (entries_of now))
+  part-added (Ok x) part = part.done.added
+  part-added (Err why) part = tt
+
+module _ {D T : Type 0} (told : D → Option Store) (house : House D) (P : T → Store → Type 0) where
+  pub shown-ok : (result : Result T HouseFault) → IfOk result (λ x. ShowsAnd told house (P x)) → IfOk result (λ _. Shows told house (entries_of house))
+  shown-ok (Ok x) shows = told-map (IsTrueOf (entries_of house) (P x)) (IsFaithful (entries_of house)) (λ s both. both.faithful) (told house.shelf) shows
+  shown-ok (Err why) shows = tt
+
+  pub truth-ok : (result : Result T HouseFault) → IfOk result (λ x. ShowsAnd told house (P x)) → IfOk result (λ x. Tells (told house.shelf) (P x))
+  truth-ok (Ok x) shows = told-map (IsTrueOf (entries_of house) (P x)) (P x) (λ s both. both.true_of) (told house.shelf) shows
+  truth-ok (Err why) shows = tt
+
+-- ---- at its point
+
+module _ (book : List Entry) (asking : Asking) (paused : Paused) (held : IsHeld book asking paused) where
+  none-under : held.given ≡ [] → IsUnderWay book asking paused.txn.0 paused.place paused.tree []
+  none-under none = subst (IsUnderWay book asking paused.txn.0 paused.place paused.tree) none held.under_way
+
+  pub started-under : paused.point ≡ point.Started → IsUnderWay book asking paused.txn.0 paused.place paused.tree []
+  started-under is = none-under (subst (λ (p : Point). HasNone p held.given) is held.none)
+
+  pub meant-under : (meaning : Meaning) → paused.point ≡ point.Meant meaning → IsUnderWay book asking paused.txn.0 paused.place paused.tree []
+  meant-under meaning is = none-under (subst (λ (p : Point). HasNone p held.given) is held.none)
+
+  pub meant-can : (meaning : Meaning) → paused.point ≡ point.Meant meaning → CanEnd book meaning
+  meant-can meaning is = subst (CanEndAt book paused.txn.0 held.given) is held.can
+
+  pub ready-to-end : (ready : Ready) → paused.point ≡ point.Ready ready → IsReadyToEnd book asking paused.txn.0 paused.place paused.tree ready
+  ready-to-end ready is = record { given = held.given; under_way = held.under_way; can = subst (CanEndAt book paused.txn.0 held.given) is held.can }
+
+  -- and what is true of it there
+  pub meant-told : (meaning : Meaning) → paused.point ≡ point.Meant meaning → (o : Option Store) → Tells o (λ s. IsTrulyHeld book s.tree paused)
+      → Tells o (λ _. meant (take paused.place book) paused.tree ≡ Some meaning)
+  meant-told meaning is o told =
+      told-map (λ s. IsTrulyHeld book s.tree paused) (λ _. meant (take paused.place book) paused.tree ≡ Some meaning)
+      (λ s truly. subst (PointIsTrue s.tree (meant (take paused.place book) paused.tree) truly.held.given) is truly.truly) o told
+
+  same-given : (other : Asking) (given : List (ℕ × ℕ)) → IsUnderWay book other paused.txn.0 paused.place paused.tree given → given ≡ held.given
+  same-given other given under =
+      ap (λ (t : Transaction). t.given)
+      (one_value (running other (meant (take paused.place book) paused.tree) (snapshot_at book paused.place) given)
+      (running asking (meant (take paused.place book) paused.tree) (snapshot_at book paused.place) held.given) (sym under.here ∙ held.under_way.here))
+
+  pub ready-told : (ready : Ready) → paused.point ≡ point.Ready ready → (o : Option Store) → Tells o (λ s. IsTrulyHeld book s.tree paused)
+      → Tells o (λ s. IsTrulyReady book s.tree asking paused.txn.0 paused.place paused.tree ready)
+  unfolding ready-to-end
+  ready-told ready is o told =
+      told-map (λ s. IsTrulyHeld book s.tree paused) (λ s. IsTrulyReady book s.tree asking paused.txn.0 paused.place paused.tree ready)
+      (λ s truly. record {
+        to_end = ready-to-end ready is;
+        truly = subst (λ (given : List (ℕ × ℕ)). EndIsTrue s.tree (meant (take paused.place book) paused.tree) given ready.end ready.text)
+            (same-given truly.asking truly.held.given truly.held.under_way)
+            (subst (PointIsTrue s.tree (meant (take paused.place book) paused.tree) truly.held.given) is truly.truly);
+      })
+      o told
+
+-- ---- its conclusion
+
+pub concluded-shows : {D : Type 0} (told : D → Option Store) (txn low high : ℕ) (before now : House D) (result : Result Reply HouseFault)
+    → IfOk result (λ _. Concludes txn low high (entries_of before) (entries_of now)) → IfOk result (λ _. Shows told now (entries_of now))
+    → IfOk result (λ reply. Tells (told now.shelf) (λ _. HasAnswered (entries_of now) txn reply.text reply.refused))
+    → IfOk result (λ reply. ShowsAnd told now (λ _. IsFinished (entries_of before) (entries_of now) txn reply.text reply.refused))
+concluded-shows told txn low high before now (Err why) concludes shows answered = tt
+concluded-shows told txn low high before now (Ok reply) concludes shows answered =
+    told-both (IsFaithful (entries_of now)) (λ _. HasAnswered (entries_of now) txn reply.text reply.refused)
+    (IsTrueOf (entries_of now) (λ _. IsFinished (entries_of before) (entries_of now) txn reply.text reply.refused))
+    (λ s faithful answer. record {
+      faithful = faithful;
+      true_of = record { added = concludes.added; book = concludes.book; of_it = concludes.of_it; undamaged = concludes.undamaged; answered = answer };
+    })
+    (told now.shelf) shows answered

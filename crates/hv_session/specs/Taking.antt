@@ -1,0 +1,184 @@
+-- How a statement is taken up, held and ended, beside others that are open: what is added to the book, and what is replied.
+-- Source: Hive Transactions (snapshots, locks, first committer wins); where a statement may be held is this project's profile.
+use Rattle.std.specs.Prelude.{◌≡◌, ◌⊎◌, ℕ, ◌+◌, ◌<◌, ◌≤◌, Bool, true, false, Option, Some, None, List, [], ◌∷◌, ◌++◌, length, take}
+use Rattle.std.specs.List.{AllByRecursion}
+use Rattle.hv_base.specs.Told.{Tells}
+use Rattle.hv_base.specs.declared.gate.Stage.{Stage}
+use Rattle.hv_base.specs.declared.gate.Stage.TheVariants as stage
+use Rattle.hv_base.specs.declared.ids.TableId.{TableId}
+use Rattle.hv_base.specs.declared.ids.WriteId.{WriteId}
+use Rattle.hv_shelf.specs.Disk.{Store, Tree}
+use Rattle.hv_logic.specs.declared.meaning.Meaning.{Meaning}
+use Rattle.hv_logic.specs.declared.meaning.Meaning.TheVariants.{Refused}
+use Rattle.hv_history.specs.declared.entry.Entry.{Entry}
+use Rattle.hv_history.specs.declared.entry.Entry.TheVariants as entry
+use Rattle.hv_history.specs.declared.entry.Cause.{Cause}
+use Rattle.hv_history.specs.declared.entry.Cause.TheVariants as cause
+use Rattle.hv_history.specs.State.{state_of}
+use Rattle.hv_history.specs.Legal.{TouchesAreMeant, IsMake, HasRoom, IsLegalFrom, load, profile}
+use Rattle.hv_history.specs.Answers.{committed_text, ok_line, cause_text}
+use Rattle.hv_stands.specs.Running.{Asking, next_number, opening, AreOf, meant, IsUnderWay, HasAnswered, HasPut}
+use Rattle.hv_ending.specs.Ending.{IsUndamaged, EndsUncommitted, CanEnd, EndCanBeNoted, EndIsTrue}
+use Rattle.hv_session.specs.Faults.{IsFaultLine}
+use Rattle.hv_session.specs.declared.paused.Point.{Point}
+use Rattle.hv_session.specs.declared.paused.Point.TheVariants as point
+use Rattle.hv_session.specs.declared.paused.Paused.{Paused}
+use Rattle.hv_session.specs.declared.paused.Taken.{Taken}
+use Rattle.hv_session.specs.declared.paused.Taken.TheVariants as taken
+
+-- ---- where it may be held, and which ends come before that
+
+-- an abort by which a statement ends before it is held where its files are read: for its text, for a read that failed, or for memory
+abbrev pub EndsEarly : Cause → Type 0
+EndsEarly (cause.Refused number) = Unit {0}
+EndsEarly (cause.ReadFault count) = Unit {0}
+EndsEarly (cause.Damaged place) = Unit {0}
+EndsEarly cause.Memory = Unit {0}
+EndsEarly why = ⊥
+
+-- behind its Opened stands just an abort: it never started
+abbrev pub NeverStarted : ℕ → List Entry → Type 0
+NeverStarted txn added = (why : Cause) × (added ≡ entry.Abort (record { 0 = txn }) why ∷ [])
+
+-- it started, and behind its Start stands just this abort
+abbrev pub AbortedAtOnce : ℕ → (Cause → Type 0) → List Entry → Type 0
+AbortedAtOnce txn P added =
+    (why : Cause) × P why × (added ≡ entry.Start (record { 0 = txn }) 0 ∷ entry.Abort (record { 0 = txn }) why ∷ [])
+
+-- or behind its write id
+abbrev pub AbortedGiven : ℕ → (Cause → Type 0) → List Entry → Type 0
+AbortedGiven txn P added =
+    (why : Cause) × (table : TableId) × (write : WriteId) × P why
+    × (added ≡ entry.Start (record { 0 = txn }) 0 ∷ entry.Given (record { 0 = txn }) table write ∷ entry.Abort (record { 0 = txn }) why ∷ [])
+
+-- what may stand behind the Opened of a statement that ended before the place where it was to be held
+abbrev pub EndsBefore : Option Stage → ℕ → List Entry → Type 0
+EndsBefore None txn added = Unit {0}
+EndsBefore (Some stage.Start) txn added = NeverStarted txn added
+EndsBefore (Some stage.Read) txn added = NeverStarted txn added ⊎ AbortedAtOnce txn EndsEarly added
+EndsBefore (Some stage.Commit) txn added = NeverStarted txn added ⊎ AbortedAtOnce txn EndsUncommitted added ⊎ AbortedGiven txn EndsUncommitted added
+EndsBefore (Some other) txn added = ⊥
+
+abbrev pub HasJustStarted : ℕ → List Entry → Type 0
+HasJustStarted txn added = added ≡ entry.Start (record { 0 = txn }) 0 ∷ []
+
+abbrev pub HasItsId : ℕ → List Entry → Type 0
+HasItsId txn added =
+    (table : TableId) × (write : WriteId) × (added ≡ entry.Start (record { 0 = txn }) 0 ∷ entry.Given (record { 0 = txn }) table write ∷ [])
+
+-- and behind that of one that is held
+abbrev pub HoldsAt : Option Stage → ℕ → List Entry → Type 0
+HoldsAt (Some stage.Start) txn added = HasJustStarted txn added
+HoldsAt (Some stage.Read) txn added = HasJustStarted txn added
+HoldsAt (Some stage.Commit) txn added = HasJustStarted txn added ⊎ HasItsId txn added
+HoldsAt other txn added = ⊥
+
+-- a hold that a script may ask for
+abbrev pub IsHold : Option Stage → Type 0
+IsHold None = Unit {0}
+IsHold (Some stage.Start) = Unit {0}
+IsHold (Some stage.Read) = Unit {0}
+IsHold (Some stage.Commit) = Unit {0}
+IsHold (Some other) = ⊥
+
+-- ---- a statement that is held
+
+-- its transaction is under way; before its commit it has no write id
+abbrev pub HasNone : Point → List (ℕ × ℕ) → Type 0
+HasNone (point.Ready ready) given = Unit {0}
+HasNone other given = given ≡ []
+
+-- what it comes to can be ended, and its end can be noted
+abbrev pub CanEndAt : List Entry → ℕ → List (ℕ × ℕ) → Point → Type 0
+CanEndAt book txn given point.Started = Unit {0}
+CanEndAt book txn given (point.Meant meaning) = CanEnd book meaning
+CanEndAt book txn given (point.Ready ready) = EndCanBeNoted txn given ready.end
+
+-- what is refused doesn't wait
+abbrev pub IsUnrefused : Meaning → Type 0
+IsUnrefused (Refused why) = ⊥
+IsUnrefused meaning = Unit {0}
+
+abbrev pub WaitsUnrefused : Point → Type 0
+WaitsUnrefused (point.Meant meaning) = IsUnrefused meaning
+WaitsUnrefused other = Unit {0}
+
+pub record IsHeld (book : List Entry) (asking : Asking) (paused : Paused) : Type 0 where
+  pub given : List (ℕ × ℕ)
+  pub under_way : IsUnderWay book asking paused.txn.0 paused.place paused.tree given
+  pub none : HasNone paused.point given
+  pub can : CanEndAt book paused.txn.0 given paused.point
+  pub unrefused : WaitsUnrefused paused.point
+
+abbrev pub IsHeldBySome : List Entry → Paused → Type 0
+IsHeldBySome book paused = (asking : Asking) × IsHeld book asking paused
+
+abbrev pub PointIsTrue : Tree → Option Meaning → List (ℕ × ℕ) → Point → Type 0
+PointIsTrue files meaning given point.Started = Unit {0}
+PointIsTrue files meaning given (point.Meant found) = meaning ≡ Some found
+PointIsTrue files meaning given (point.Ready ready) = EndIsTrue files meaning given ready.end ready.text
+
+pub record IsTrulyHeld (book : List Entry) (files : Tree) (paused : Paused) : Type 0 where
+  pub asking : Asking
+  pub held : IsHeld book asking paused
+  pub truly : PointIsTrue files (meant (take paused.place book) paused.tree) held.given paused.point
+
+-- ---- what a statement that was taken up comes to, over a book of which all is told
+
+-- it went through the book as a transaction, whose answer is the reply
+pub record WentThrough (before now : List Entry) (asking : Asking) (hold : Option Stage) (reply : List ℕ) (refused : Bool) : Type 0 where
+  pub added : List Entry
+  pub book : now ≡ before ++ opening before asking ∷ added
+  pub of_it : AreOf (next_number before) added
+  pub in_time : EndsBefore hold (next_number before) added
+  pub undamaged : AllByRecursion IsUndamaged added
+  pub answered : HasAnswered now (next_number before) reply refused
+
+-- its text is refused: nothing was noted, and the reply is its fault's line
+pub record IsNoStatement (before now : List Entry) (text reply : List ℕ) (refused : Bool) : Type 0 where
+  pub book : now ≡ before
+  pub is_refused : refused ≡ true
+  pub fault : IsFaultLine text reply
+
+-- there is no room for its opening and its end
+pub record IsFull (before now : List Entry) (reply : List ℕ) (refused : Bool) : Type 0 where
+  pub book : now ≡ before
+  pub lacks : profile.entries < load (state_of before) + 2
+  pub is_refused : refused ≡ true
+  pub line : reply ≡ cause_text None cause.Full
+
+-- memory lacked before its opening
+pub record LacksMemory (before now : List Entry) (reply : List ℕ) (refused : Bool) : Type 0 where
+  pub book : now ≡ before
+  pub is_refused : refused ≡ true
+  pub line : reply ≡ cause_text None cause.Memory
+
+abbrev pub IsReplied : List Entry → List Entry → Asking → Option Stage → List ℕ → Bool → Type 0
+IsReplied before now asking hold reply refused =
+    WentThrough before now asking hold reply refused ⊎ IsNoStatement before now asking.text reply refused
+    ⊎ IsFull before now reply refused ⊎ LacksMemory before now reply refused
+
+-- it is held, with its transaction open
+pub record IsKept (before now : List Entry) (files : Tree) (asking : Asking) (hold : Option Stage) (paused : Paused) : Type 0 where
+  pub added : List Entry
+  pub book : now ≡ before ++ opening before asking ∷ added
+  pub txn_is : paused.txn.0 ≡ next_number before
+  pub at_hold : HoldsAt hold (next_number before) added
+  pub truly : IsTrulyHeld now files paused
+
+abbrev pub IsTakenAs : List Entry → List Entry → Tree → Asking → Option Stage → Taken → Type 0
+IsTakenAs before now files asking hold (taken.Replied reply) = IsReplied before now asking hold reply.text reply.refused
+IsTakenAs before now files asking hold (taken.Kept paused) = IsKept before now files asking hold paused
+
+-- what stands of one that is held whatever is told
+abbrev pub IsKeptIn : List Entry → List Entry → Asking → Taken → Type 0
+IsKeptIn before now asking (taken.Replied reply) = Unit {0}
+IsKeptIn before now asking (taken.Kept paused) = (paused.txn.0 ≡ next_number before) × IsHeld now asking paused
+
+-- a started statement went on to its end, by entries of it alone, none of which says that a file is damaged
+pub record IsFinished (before now : List Entry) (txn : ℕ) (reply : List ℕ) (refused : Bool) : Type 0 where
+  pub added : List Entry
+  pub book : now ≡ before ++ added
+  pub of_it : AreOf txn added
+  pub undamaged : AllByRecursion IsUndamaged added
+  pub answered : HasAnswered now txn reply refused
