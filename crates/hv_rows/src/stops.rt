@@ -50,13 +50,7 @@ fn prints<R: Threads + Wait + Sync + Abort>(
 }
 
 fn lines_in(printed: &[u8]) -> usize {
-    let mut lines = 0;
-    for byte in printed {
-        if *byte == b'\n' {
-            lines += 1;
-        }
-    }
-    lines
+    printed.iter().filter(|byte| **byte == b'\n').count()
 }
 
 /// Opens the store twice: what is found is what stood behind so many lines, or behind the reply that wasn't printed
