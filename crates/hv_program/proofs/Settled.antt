@@ -1,4 +1,5 @@
--- Where a script isn't refused, each statement that it holds is released, so that none waits behind its last action.
+-- Where a script isn't refused, each statement that it holds is released, so that none waits behind its last action; and none
+-- waits of a session where a statement of that session is opened.
 use Rattle.std.proofs.Common.{◌≡◌, ℕ, ◌+◌, ◌==◌, Bool, true, false, not, ◌&&◌, ◌||◌, cond, nat_eq, nat_lt, nat_le, ◌⊎◌, Option, Some, None, List, [], ◌∷◌, ◌++◌, length, map, inl, inr, refl, sym, ap, ◌∙◌, subst, eq-eqb}
 use Rattle.std.specs.List.{AllByRecursion, filter, list_any}
 use Rattle.std.specs.Cmp.Lexicographic.{pointwise, same_text as equal-text}
@@ -17,7 +18,7 @@ use Rattle.hv_directives.specs.Kinds.{kind_of}
 use Rattle.hv_directives.specs.Standing.{Standing as Place, first_standing, holds, is_held, is_other, is_faulty, is_seen, after, with_held, fault_lines, line_of_pending, line_of_held, unreleased}
 use Rattle.hv_directives.specs.Actions.{action_for, actions_from, actions_of, least, refused_at, stage_of_pending, statement_in}
 use Rattle.hv_session.specs.Taking.{HoldsAt}
-use Rattle.hv_program.specs.Doing.{Waiting, Standing, is_session, waiting_in, without, ReleasesOne, IsDone, AreDone, IsPutOff, Replies, asking_of}
+use Rattle.hv_program.specs.Doing.{Waiting, Standing, is_session, waiting_in, without, ReleasesOne, IsDone, AreDone, AreInTurn, IsPutOff, Replies, asking_of}
 use Rattle.hv_program.specs.Running.{beginning}
 
 -- ---- texts
@@ -143,6 +144,19 @@ else-none : (name : List ℕ) (ws : List Waiting) → waiting_in name ws ≡ Non
 else-none name [] e = tt
 else-none name (first ∷ ws) e = none-by name (is_session name first) first ws refl e (else-none name ws)
 
+-- nobody waits of a session of which none is held
+none-waits-by : (name : List ℕ) (b : Bool) (first : Waiting) (ws : List Waiting) → b ≡ false → waiting_in name ws ≡ None → cond b (Some first) (waiting_in name ws) ≡ None
+none-waits-by name true first ws apart e = let no_ : true ≡ false = apart in cc
+none-waits-by name false first ws apart e = e
+
+nobody-waits : (name : List ℕ) (held : List Keeps) (ws : List Waiting) → is_held name held ≡ false → AllByRecursion (IsKnown held) ws → waiting_in name ws ≡ None
+nobody-waits name held [] free known = refl
+nobody-waits name held (w ∷ ws) free known =
+    none-waits-by name (is_session name w) w ws
+    (unless-met (is_session name w)
+    (λ same. wrong (is_held name held) (subst (λ (text : List ℕ). is_held text held ≡ true) (text-equal w.session name same) known.0) free))
+    (nobody-waits name held ws free known.1)
+
 -- ---- one action
 
 abbrev Behind : Place → Item → Kind → Standing → Type 0
@@ -232,6 +246,24 @@ item-settles start book before now place item (Go name) rest output refused ok d
     record { between = done.0; output = done.2; refused = done.4; are_done = done.6; settles = released start book before done.0 name place.held _ done.1 done.3 refl done.5 h }
 item-settles start book before now place item Unknown rest output refused ok done h = let no_ : true ≡ false = ok in cc
 
+-- an item's action is in turn, where those behind it are
+item-in-turn : (start book : List Entry) (before now : Standing) (place : Place) (item : Item) (kind : Kind) (rest : List Action) (output : List ℕ) (refused : Bool)
+    → is_faulty place item kind ≡ false → (done : AreDone start book before now (option_to_list (action_for place item kind) ++ rest) output refused)
+    → Settles place.held before.waiting
+    → ((between : Standing) (more : List ℕ) (later : Bool) (those : AreDone start book between now rest more later) → Settles (after place item kind).held between.waiting
+    → AreInTurn start book between now rest more later those)
+    → AreInTurn start book before now (option_to_list (action_for place item kind) ++ rest) output refused done
+item-in-turn start book before now place item Statement rest output refused ok done h next =
+    let free = (or_parts (nat_lt 32768 (length item.bytes) || nat_le 10000 place.statements) (is_held place.current place.held) ok).1 in
+    (nobody-waits place.current place.held before.waiting free h.known,
+    next done.0 done.2 done.4 done.6 (run-settles start book before done.0 place item done.1 done.3 free done.5 h))
+item-in-turn start book before now place item (Session name) rest output refused ok done h next =
+    (tt, next done.0 done.2 done.4 done.6 (subst (λ (s : Standing). Settles place.held s.waiting) (sym done.5.0) h))
+item-in-turn start book before now place item (Hold stage) rest output refused ok done h next = next before output refused done h
+item-in-turn start book before now place item (Go name) rest output refused ok done h next =
+    (tt, next done.0 done.2 done.4 done.6 (released start book before done.0 name place.held _ done.1 done.3 refl done.5 h))
+item-in-turn start book before now place item Unknown rest output refused ok done h next = let no_ : true ≡ false = ok in cc
+
 -- ---- all of them
 
 none-line : (line : ℕ) (lines : List ℕ) → line ∷ lines ≡ [] → ⊥
@@ -277,4 +309,32 @@ pub settled : (script : List ℕ) (start book : List Entry) (now : Standing) (ou
 settled script start book now output refused ok done =
     let lines = (earlier-none (bytes_line script) (least (fault_lines first_standing (items_of (front script)))) ok).1 in
     settled-from start book (beginning start) now first_standing (items_of (front script)) output refused
+    (none-least (fault_lines first_standing (items_of (front script))) lines) done (record { known = tt; apart = tt })
+
+-- what holds of the actions behind a test that isn't met
+in-turn-by : (start book : List Entry) (before now : Standing) (b : Bool) (met unmet : List Action) (output : List ℕ) (refused : Bool) → b ≡ false
+    → (done : AreDone start book before now (cond b met unmet) output refused)
+    → ((those : AreDone start book before now unmet output refused) → AreInTurn start book before now unmet output refused those)
+    → AreInTurn start book before now (cond b met unmet) output refused done
+in-turn-by start book before now true met unmet output refused is done next = let no_ : true ≡ false = is in cc
+in-turn-by start book before now false met unmet output refused is done next = next done
+
+in-turn-from : (start book : List Entry) (before now : Standing) (place : Place) (items : List Item) (output : List ℕ) (refused : Bool) → fault_lines place items ≡ []
+    → (done : AreDone start book before now (actions_from place items) output refused) → Settles place.held before.waiting
+    → AreInTurn start book before now (actions_from place items) output refused done
+in-turn-from start book before now place [] output refused ok done h = tt
+in-turn-from start book before now place (item ∷ items) output refused ok done h =
+    let kind = kind_of item.bytes in
+    let parts = faultless (is_faulty place item kind) item.line (fault_lines place items) (fault_lines (after place item kind) items) ok in
+    in-turn-by start book before now (is_faulty place item kind) (actions_from place items)
+    (option_to_list (action_for place item kind) ++ actions_from (after place item kind) items) output refused parts.0 done
+    (λ those. item-in-turn start book before now place item kind (actions_from (after place item kind) items) output refused parts.0 those h
+    (λ between more later rest on. in-turn-from start book between now (after place item kind) items more later parts.1 rest on))
+
+pub in-turn : (script : List ℕ) (start book : List Entry) (now : Standing) (output : List ℕ) (refused : Bool) → refused_at script ≡ None
+    → (done : AreDone start book (beginning start) now (actions_of script) output refused)
+    → AreInTurn start book (beginning start) now (actions_of script) output refused done
+in-turn script start book now output refused ok done =
+    let lines = (earlier-none (bytes_line script) (least (fault_lines first_standing (items_of (front script)))) ok).1 in
+    in-turn-from start book (beginning start) now first_standing (items_of (front script)) output refused
     (none-least (fault_lines first_standing (items_of (front script))) lines) done (record { known = tt; apart = tt })

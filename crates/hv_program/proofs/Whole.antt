@@ -25,7 +25,7 @@ use Rattle.hv_program.specs.Results.{IsServed, IsCutOff}
 use Rattle.hv_program.specs.Headline.{IsWhole, IsAllDone, IsLineOf, IsCutLine, IsUnread, IsAfter, Headline}
 use Rattle.hv_program.specs.Serving.{ServedOf, Serves, IsCutFull, IsSaid, IsSaidOrNot}
 use Rattle.hv_program.proofs.Ends.{tells-still}
-use Rattle.hv_program.proofs.Settled.{settled}
+use Rattle.hv_program.proofs.Settled.{settled, in-turn}
 
 -- ---- a script that isn't refused
 
@@ -170,6 +170,7 @@ module _ (low high : ℕ) (words : List (List ℕ)) (book : List Entry) (script 
   all-done whole refused served = record {
     whole = whole;
     served = served;
+    in_turn = in-turn script (opening_of book) served.last.book served.last served.output refused whole.unrefused served.are_done;
     settled = settled script (opening_of book) served.last.book served.last served.output refused whole.unrefused served.are_done;
   }
 

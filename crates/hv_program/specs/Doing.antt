@@ -133,3 +133,18 @@ AreDone start book before now (first ∷ more) output refused =
     (between : Standing) × (reply : List ℕ) × (rest : List ℕ) × (this : Bool) × (later : Bool)
     × IsDone start book before between first reply this × AreDone start book between now more rest later
     × (output ≡ reply ++ rest) × (refused ≡ this || later)
+
+-- ---- one statement of a session after another
+
+-- no statement of its session waits where an action opens one
+abbrev pub IsInTurn : Standing → Action → Type 0
+IsInTurn before (action.Announce session) = Unit {0}
+IsInTurn before (action.Run statement) = waiting_in statement.session.name before.waiting ≡ None
+IsInTurn before (action.Release session) = Unit {0}
+
+-- and so it was before each of these actions, as they were done: the last statement of the session had ended
+abbrev pub AreInTurn : (start book : List Entry) (before now : Standing) (actions : List Action) (output : List ℕ) (refused : Bool)
+    → AreDone start book before now actions output refused → Type 0
+AreInTurn start book before now [] output refused done = Unit {0}
+AreInTurn start book before now (first ∷ more) output refused done =
+    IsInTurn before first × AreInTurn start book done.0 now more done.2 done.4 done.6

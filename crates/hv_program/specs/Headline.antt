@@ -8,6 +8,8 @@ use Rattle.hv_script.specs.Words.{command_of}
 use Rattle.hv_directives.specs.Actions.{refused_at, actions_of}
 use Rattle.hv_history.specs.State.{state_of}
 use Rattle.hv_history.specs.Legal.{load, profile}
+use Rattle.hv_program.specs.Doing.{AreInTurn}
+use Rattle.hv_program.specs.Running.{beginning}
 use Rattle.hv_program.specs.Lines.{words_line, script_line, full_line}
 use Rattle.hv_program.specs.Results.{IsServed, IsCutOff, StopsForMemory, StopsForStore}
 
@@ -22,10 +24,11 @@ pub record IsWhole (script left : List ℕ) : Type 0 where
   pub unrefused : refused_at script ≡ None
   pub at_end : left ≡ []
 
--- all of the script was done, and no statement waits any more
+-- all of the script was done, each statement behind the end of its session's last, and none waits any more
 pub record IsAllDone (low high : ℕ) (book : List Entry) (script left written now : List ℕ) (store : Store) (refused : Bool) : Type 0 where
   pub whole : IsWhole script left
   pub served : IsServed low high (opening_of book) (actions_of script) written now store refused
+  pub in_turn : AreInTurn (opening_of book) served.last.book (beginning (opening_of book)) served.last (actions_of script) served.output refused served.are_done
   pub settled : served.last.waiting ≡ []
 
 -- the line of a run that does nothing
