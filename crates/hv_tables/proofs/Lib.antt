@@ -1,5 +1,6 @@
 pub mod Searching
 pub mod Names
+pub mod Fronts
 pub mod Sheets
 pub mod Puts
 pub mod Members

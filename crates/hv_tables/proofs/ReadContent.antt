@@ -27,10 +27,11 @@ use Rattle.hv_tables.specs.declared.key.FileKey.{FileKey}
 use Rattle.hv_tables.specs.declared.row_at.RowAt.{RowAt}
 use Rattle.hv_tables.specs.Orders.{key_cmp, row_at_cmp}
 use Rattle.hv_tables.specs.Keys.{keys_read, key_place}
+use Rattle.hv_tables.specs.Amiss.{IsUnder}
 use Rattle.hv_tables.specs.Reading.{Sheet, sheet_key, IsSheet, founds_in, deleted_in, at_of, is_gone, left_of, AreRows, IsSpoiled}
 use Rattle.hv_tables.proofs.Members.{In, all-in, in-all, contained, in-kept, kept-in, any-in, in-any, in-sorted, sorted-in, in-map, map-in, in-flat, flat-in, same-rising}
 use Rattle.hv_tables.proofs.KeyPlaces.{tied, equal-by, there-place, place-of, read-key, keys-rise}
-use Rattle.hv_tables.proofs.Shown.{IsOf, IsReadable, Shows, one-write, statement_of, statement-is, key_of, IsSheetOf, sheet-of, has-sheet, here, stands-parts, founds-of, deleted-of}
+use Rattle.hv_tables.proofs.Shown.{IsOf, IsReadable, Shows, own-records, one-write, statement_of, statement-is, key_of, IsSheetOf, sheet-of, has-sheet, here, stands-parts, founds-of, deleted-of}
 
 found-total : IsTotalOrder found_cmp
 found-total =
@@ -272,4 +273,6 @@ module _ (info : TableInfo) (given : ℕ) (lost : List ℕ) (files : Tree) (writ
       let has = subst (λ w. HasRecords deletes key.bucket records (tree.get files (own_place info.table.0 key.partition deletes w key.bucket))) found.2
       (filed.each deletes key.partition key.bucket) in
       let held = held-by deletes key.bucket there.1.0 records file is has in
-      spoiled.lacks.lacks records (record { file = held.0; bytes = held.1 })
+      let is_read = all-in (IsReadable info.shape given lost) writes shows.readable found.0 found.1 in
+      let own = subst (λ w. AllByRecursion (IsUnder w) records) found.2 (own-records info.shape deletes key.partition key.bucket found.0 is_read.each) in
+      spoiled.lacks.lacks records (record { file = held.0; own = own; bytes = held.1 })

@@ -28,9 +28,10 @@ use Rattle.hv_stands.specs.Sound.{HasOther, AreApart}
 use Rattle.hv_stands.specs.Laws.{HasItsFiles}
 use Rattle.hv_tables.specs.declared.key.FileKey.{FileKey}
 use Rattle.hv_tables.specs.Keys.{is_among, keys_read, key_place}
+use Rattle.hv_tables.specs.Amiss.{IsUnder}
 use Rattle.hv_tables.specs.Reading.{Sheet, sheet_key, IsSheet, found_with, founds_in, deleted_with, deleted_in, at_of}
 use Rattle.hv_tables.proofs.Names.{one, same-text, text-same}
-use Rattle.hv_tables.proofs.Members.{In, all-in, in-all, in-kept, in-map, map-in}
+use Rattle.hv_tables.proofs.Members.{In, all-in, in-all, in-kept, kept-in, in-map, map-in}
 use Rattle.hv_tables.proofs.KeyPlaces.{place-there, of-key, read-key, key-read}
 
 -- ---- what is known of a table's commits and its files
@@ -108,6 +109,23 @@ records-are : (shape : Shape) (deletes : Bool) (partition : List ℕ) (bucket : 
     → records_of shape deletes partition bucket written ≡ map (record_of shape deletes written.write) (filter (stands_in partition bucket) (rows_of deletes written))
 records-are shape false partition bucket written = refl
 records-are shape true partition bucket written = refl
+
+-- each of them says its write id
+own-record : (shape : Shape) (deletes : Bool) (written : Written) (found : Found) → AllByRecursion (IsOf shape written) written.inserts → In found (rows_of deletes written)
+    → IsUnder written.write (record_of shape deletes written.write found)
+own-record shape false written found each h = let is = all-in (IsOf shape written) written.inserts each found h in is.write
+own-record shape true written found each h = refl
+
+pub own-records : (shape : Shape) (deletes : Bool) (partition : List ℕ) (bucket : ℕ) (written : Written) → AllByRecursion (IsOf shape written) written.inserts
+    → AllByRecursion (IsUnder written.write) (records_of shape deletes partition bucket written)
+own-records shape deletes partition bucket written each =
+    let there = filter (stands_in partition bucket) (rows_of deletes written) in
+    subst (AllByRecursion (IsUnder written.write)) (sym (records-are shape deletes partition bucket written))
+    (in-all (IsUnder written.write) (map (record_of shape deletes written.write) there)
+    (λ r h.
+    let at = map-in (record_of shape deletes written.write) r there h in
+    let kept = kept-in (stands_in partition bucket) at.0 (rows_of deletes written) at.1 in
+    subst (IsUnder written.write) at.2 (own-record shape deletes written at.0 each kept.0)))
 
 there-are : (deletes : Bool) (bucket : ℕ) (bytes : List ℕ) (records recs : List Rec) → Some bytes ≡ file_of deletes bucket records → CanStand deletes bucket records
     → IsFile deletes bucket recs → bytes ≡ file_spelling deletes bucket recs → recs ≡ records

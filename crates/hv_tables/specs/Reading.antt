@@ -20,17 +20,19 @@ use Rattle.hv_tables.specs.declared.key.FileKey.{FileKey}
 use Rattle.hv_tables.specs.declared.row_at.RowAt.{RowAt}
 use Rattle.hv_tables.specs.Orders.{row_at_cmp}
 use Rattle.hv_tables.specs.Keys.{keys_read, key_place}
+use Rattle.hv_tables.specs.Amiss.{IsUnder}
 
 -- ---- files
 
--- at a place stands the file of its bucket with these records of a kind
-pub record HoldsAt (files : Tree) (place : Place) (deletes : Bool) (recs : List Rec) : Type 0 where
+-- at a place stands the file of its bucket with these records of a kind, all of one write id
+pub record HoldsAt (files : Tree) (place : Place) (deletes : Bool) (write : ℕ) (recs : List Rec) : Type 0 where
   pub file : IsFile deletes place.bucket recs
+  pub own : AllByRecursion (IsUnder write) recs
   pub bytes : tree.get files place ≡ Some (file_spelling deletes place.bucket recs)
 
--- no file of that kind and of its bucket does
-abbrev pub LacksAt : Tree → Place → Bool → Type 0
-LacksAt files place deletes = (recs : List Rec) → HoldsAt files place deletes recs → ⊥
+-- no file of that kind, of its bucket and of that write id does
+abbrev pub LacksAt : Tree → Place → Bool → ℕ → Type 0
+LacksAt files place deletes write = (recs : List Rec) → HoldsAt files place deletes write recs → ⊥
 
 -- a file that was read
 pub record Sheet : Type 0 where
@@ -41,7 +43,7 @@ abbrev pub sheet_key : Sheet → FileKey
 sheet_key sheet = sheet.key
 
 abbrev pub IsSheet : ℕ → Bool → Tree → Sheet → Type 0
-IsSheet table deletes files sheet = HoldsAt files (key_place table deletes sheet.key) deletes sheet.recs
+IsSheet table deletes files sheet = HoldsAt files (key_place table deletes sheet.key) deletes sheet.key.write sheet.recs
 
 -- these files of a kind, one after another, and what was taken of them
 pub record Reads {X : Type 0} (table : ℕ) (deletes : Bool) (files : Tree) (keys : List FileKey) (pick : Sheet → List X) (items : List X) : Type 0 where
@@ -54,7 +56,7 @@ pub record Reads {X : Type 0} (table : ℕ) (deletes : Bool) (files : Tree) (key
 pub record LacksOne (table : ℕ) (deletes : Bool) (files : Tree) (keys : List FileKey) : Type 0 where
   pub key : FileKey
   pub among : Contains keys key
-  pub lacks : LacksAt files (key_place table deletes key) deletes
+  pub lacks : LacksAt files (key_place table deletes key) deletes key.write
 
 -- ---- rows
 

@@ -1,6 +1,7 @@
 //! The rows of a table, read from its files, and the files of a change, put into a store.
 #![tactic(auto)]
 
+mod amiss;
 mod fault;
 mod key;
 mod keys;

@@ -3,11 +3,13 @@ ghost use Rattle.std.specs.List.{AllByRecursion};
 ghost use Rattle.hv_base.specs.Told.{Tells};
 ghost use Rattle.hv_dirs.specs.Names.{write_end};
 ghost use Rattle.hv_tables.specs.Faults.{StoreCause, IsShort, IsShortDamage, IsDamage};
+ghost use Rattle.hv_tables.specs.Damage.{told_place, TellsPlace, TellsFile, TellsOne, TellsDamage};
 ghost use Rattle.hv_tables.specs.declared.fault.RowFault.TheVariants.{Failed};
 ghost use Rattle.hv_tables.specs.Orders.{row_at_cmp};
 ghost use Rattle.hv_tables.specs.Keys.{HasName, key_place};
-ghost use Rattle.hv_tables.specs.Reading.{HoldsAt, LacksAt, Reads, LacksOne, deleted_in, left_in, AreRows, IsSpoiled};
+ghost use Rattle.hv_tables.specs.Reading.{HoldsAt, Reads, deleted_in, left_in, AreRows, IsSpoiled};
 
+use crate::amiss::first_amiss;
 use crate::fault::RowFault;
 use crate::key::FileKey;
 use crate::keys::{key_place, keys_read};
@@ -19,11 +21,6 @@ use hv_logic::{Found, TableInfo};
 use hv_rowfile::{FileFault, Rec, decode};
 use hv_shelf::{Place, Shelf};
 use std::alloc::Global;
-
-/// The offsets of the kind and of the bucket in a file's head.
-const KIND: u64 = 4;
-
-const BUCKET: u64 = 5;
 
 /// The most bytes of a place's names that an entry takes.
 const MOST_BYTES: usize = 1000;
@@ -37,13 +34,7 @@ fn is_short(place: &Place) -> bool
 }
 
 fn place_in(alloc: Global, place: &Place, at: u64) -> Result<FilePlace, NoMemory>
-    ensures { IfOk result (λ found. found ≡ record {
-      table = place.now.table;
-      partition = place.now.partition;
-      dir = place.now.dir;
-      bucket = place.now.bucket;
-      at = at;
-    }) }
+    ensures { IfOk result (λ found. found ≡ told_place place.now at) }
 {
     Ok(FilePlace {
         table: place.table,
@@ -59,6 +50,7 @@ fn place_in(alloc: Global, place: &Place, at: u64) -> Result<FilePlace, NoMemory
 fn damaged(alloc: Global, place: &Place, at: u64) -> RowFault
     ensures store { result ≢ Failed }
     ensures short { IsShortDamage result }
+    ensures place { TellsPlace place.now at result }
 {
     if !is_short(place) {
         return RowFault::NoMemory;
@@ -69,18 +61,19 @@ fn damaged(alloc: Global, place: &Place, at: u64) -> RowFault
     }
 }
 
-/// The records of the file of a kind at this place.
+/// The records of the file of a kind and a write id at this place.
 fn read_file<D: Shelf>(
     alloc: Global,
     shelf: &mut D,
     deletes: bool,
+    write: u64,
     place: &Place,
 ) -> Result<Vec<Rec>, RowFault>
     ensures same { D.told shelf.new ≡ D.told shelf.old }
     ensures recs { IfOk result (λ recs. Tells (D.told shelf.old) (λ s.
-        HoldsAt s.tree place.now deletes recs.items)) }
-    ensures damage { IfErr result (λ fault. IsDamage fault
-        → Tells (D.told shelf.old) (λ s. LacksAt s.tree place.now deletes)) }
+        HoldsAt s.tree place.now deletes write recs.items)) }
+    ensures damage { IfErr result (λ fault. Tells (D.told shelf.old) (λ s.
+        TellsFile s.tree place.now deletes write fault)) }
     ensures short { IfErr result IsShortDamage }
     ensures cause { StoreCause (D.faults shelf.old) (D.faults shelf.new) (IsErrOf result Failed) }
 {
@@ -88,14 +81,11 @@ fn read_file<D: Shelf>(
         return Err(damaged(alloc, place, u64::MAX));
     };
     match decode(alloc, &bytes) {
-        Ok((kind, bucket, recs)) => {
-            if kind != deletes {
-                return Err(damaged(alloc, place, KIND));
+        Ok((kind, other, recs)) => {
+            match first_amiss(alloc, deletes, place.bucket, write, kind, other, &recs)? {
+                Some(at) => Err(damaged(alloc, place, at)),
+                None => Ok(recs),
             }
-            if bucket != place.bucket {
-                return Err(damaged(alloc, place, BUCKET));
-            }
-            Ok(recs)
         }
         Err(FileFault::Damaged { at }) => Err(damaged(alloc, place, at)),
         Err(FileFault::NoMemory) => Err(RowFault::NoMemory),
@@ -113,14 +103,14 @@ fn read_key<D: Shelf>(
     requires { HasName key.now }
     ensures same { D.told shelf.new ≡ D.told shelf.old }
     ensures recs { IfOk result (λ recs. Tells (D.told shelf.old) (λ s.
-        HoldsAt s.tree (key_place table.0 deletes key.now) deletes recs.items)) }
-    ensures damage { IfErr result (λ fault. IsDamage fault
-        → Tells (D.told shelf.old) (λ s. LacksAt s.tree (key_place table.0 deletes key.now) deletes)) }
+        HoldsAt s.tree (key_place table.0 deletes key.now) deletes key.now.write recs.items)) }
+    ensures damage { IfErr result (λ fault. Tells (D.told shelf.old) (λ s.
+        TellsFile s.tree (key_place table.0 deletes key.now) deletes key.now.write fault)) }
     ensures short { IfErr result IsShortDamage }
     ensures cause { StoreCause (D.faults shelf.old) (D.faults shelf.new) (IsErrOf result Failed) }
 {
     let place = key_place(alloc, deletes, table, key)?;
-    read_file(alloc, shelf, deletes, &place)
+    read_file(alloc, shelf, deletes, key.write, &place)
 }
 
 /// Where the rows stand that these files delete.
@@ -134,8 +124,8 @@ fn read_deleted<D: Shelf>(
     ensures same { D.told shelf.new ≡ D.told shelf.old }
     ensures rows { IfOk result (λ rows. Tells (D.told shelf.old) (λ s.
         Reads table.0 true s.tree keys.now deleted_in rows.items)) }
-    ensures damage { IfErr result (λ fault. IsDamage fault
-        → Tells (D.told shelf.old) (λ s. LacksOne table.0 true s.tree keys.now)) }
+    ensures damage { IfErr result (λ fault. Tells (D.told shelf.old) (λ s.
+        TellsOne table.0 true s.tree keys.now fault)) }
     ensures short { IfErr result IsShortDamage }
     ensures cause { StoreCause (D.faults shelf.old) (D.faults shelf.new) (IsErrOf result Failed) }
 {
@@ -161,8 +151,8 @@ fn read_left<D: Shelf>(
     ensures rows { IfOk result (λ rows. Tells (D.told shelf.old) (λ s.
         Reads info.now.table.0 false s.tree keys.now
         (left_in gone.now info.now.shape) rows.items)) }
-    ensures damage { IfErr result (λ fault. IsDamage fault
-        → Tells (D.told shelf.old) (λ s. LacksOne info.now.table.0 false s.tree keys.now)) }
+    ensures damage { IfErr result (λ fault. Tells (D.told shelf.old) (λ s.
+        TellsOne info.now.table.0 false s.tree keys.now fault)) }
     ensures short { IfErr result IsShortDamage }
     ensures cause { StoreCause (D.faults shelf.old) (D.faults shelf.new) (IsErrOf result Failed) }
 {
@@ -193,6 +183,8 @@ pub fn read_rows<D: Shelf>(
         AreRows info.now given lost.now s.tree rows.items)) }
     ensures damage { IfErr result (λ fault. IsDamage fault
         → Tells (D.told shelf.old) (λ s. IsSpoiled info.now given lost.now s.tree)) }
+    ensures place { IfErr result (λ fault. Tells (D.told shelf.old) (λ s.
+        TellsDamage info.now given lost.now s.tree fault)) }
     ensures short { IfErr result IsShortDamage }
     ensures cause { StoreCause (D.faults shelf.old) (D.faults shelf.new) (IsErrOf result Failed) }
 {

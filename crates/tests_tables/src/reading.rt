@@ -2,7 +2,7 @@
 ghost use Rattle.std.specs.Prelude.{IfOk};
 ghost use Rattle.hv_tables.specs.Putting.{CanPut};
 
-use crate::store::{File, GONE_1, put, store, table};
+use crate::store::{File, GONE_1, GONE_BY_2, ROW_9, ROWS_3_AND_9, put, store, table};
 use hv_base::{List, RowId, TableId, Text, WriteId};
 use hv_logic::Found;
 use hv_route::OutFile;
@@ -102,7 +102,7 @@ fn rows_come_by_partition(rt: HostRuntime) -> Result<(), Fail> {
 }
 
 /// A file in place of the row of `p=b`, and the offset at which it is damaged.
-static BROKEN: [(File, u64); 4] = [
+static BROKEN: [(File, u64); 7] = [
     (("p=b", "delta_0000001_0000001_0000", 1, b"HVR2"), 0),
     (("p=b", "delta_0000001_0000001_0000", 1, GONE_1), 4),
     (("p=b", "delta_0000001_0000001_0000", 0, OF_BUCKET_1), 5),
@@ -110,6 +110,9 @@ static BROKEN: [(File, u64); 4] = [
         ("p=b", "delete_delta_0000003_0000003_0000", 1, OF_BUCKET_1),
         4,
     ),
+    (("p=b", "delta_0000001_0000001_0000", 1, ROW_9), 17),
+    (("p=b", "delta_0000001_0000001_0000", 1, ROWS_3_AND_9), 54),
+    (("p=b", "delete_delta_0000003_0000003_0000", 1, GONE_BY_2), 17),
 ];
 
 const OF_BUCKET_1: &[u8] = b"HVR1\0\0\0\0\x01\0\0\0\0\0\0\0\0";

@@ -12,5 +12,5 @@ loop-key-preserved g c =
     reads-next g.D.Shelf.told g.D.Shelf.faults c.args.shelf.now c.loop-key.shelf c.read_key.new.shelf c.args.table.0 true c.args.keys.now c.loop-key.key-index c.key-item.result deleted_in
     c.loop-key.rows.items (flat_map (deleted_with c.key-item.result.partition) c.deref.result.now) c.push_all_deleted.new.gone.items c.deref.result.now
     c.loop-key-test.true c.key-item.is c.loop-key.invariant c.in_ok-recs.ensures.same c.in_ok-recs.ensures.cause.later
-    (subst (λ (recs : List Rec). Tells (g.D.Shelf.told c.loop-key.shelf) (λ s. HoldsAt s.tree (key_place c.args.table.0 true c.key-item.result) true recs)) (sym c.deref.ensures.value) c.in_ok-recs.ensures.recs)
+    (subst (λ (recs : List Rec). Tells (g.D.Shelf.told c.loop-key.shelf) (λ s. HoldsAt s.tree (key_place c.args.table.0 true c.key-item.result) true c.key-item.result.write recs)) (sym c.deref.ensures.value) c.in_ok-recs.ensures.recs)
     refl c.in_ok-push_all_deleted.ensures
