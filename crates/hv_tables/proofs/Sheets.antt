@@ -1,10 +1,10 @@
 -- Files that were read, one after another.
-use Rattle.std.proofs.Common.{◌≡◌, ℕ, ◌+◌, ◌<◌, ◌≤◌, inl, inr, Bool, true, false, cond, not, Option, Some, None, List, [], ◌∷◌, ◌++◌, filter, map, length, get_or, take, refl, sym, ap, ◌∙◌, subst, arith, append-nil, IsPermutation, IfOk, IfErr, Result, Ok, Err}
+use Rattle.std.proofs.Common.{◌≡◌, ℕ, ◌+◌, ◌<◌, ◌≤◌, inl, inr, Bool, true, false, cond, not, Option, Some, None, List, [], ◌∷◌, ◌++◌, filter, map, length, get_or, take, option_map, refl, sym, ap, ◌∙◌, subst, arith, append-nil, IsPermutation, IfOk, IfErr, Result, Ok, Err}
 use Rattle.std.specs.FinMap as tree
 use Rattle.std.specs.Ordering.{is_eq}
 use Rattle.std.specs.List.{flat_map, Contains}
 use Rattle.std.proofs.lemmas.List.{take_more}
-use Rattle.std.proofs.lemmas.List.Elements.{filter-append}
+use Rattle.std.proofs.lemmas.List.Elements.{filter-append, Contains-get_or}
 use Rattle.std.proofs.lemmas.List.Concat.{flat_map-cons}
 use Rattle.std.proofs.lemmas.Grind.{flat_map-append}
 use Rattle.std.proofs.lemmas.List.Sorted.{list_any-IsPermutation}
@@ -42,6 +42,11 @@ holds (Some s) place deletes write kind other bytes recs got file spelled none =
       own = meant.2;
       bytes = sym got ∙ ap Some (spelled ∙ (λ i. file_spelling (sym meant.0 i) (meant.1 i) recs));
     }
+
+pub got-some : {V : Type 0} (items : V → List ℕ) (o : Option Store) (place : Place) (file : Option V) (v : V) (bytes : List ℕ)
+    → Tells o (λ s. option_map items file ≡ tree.get s.tree place) → file ≡ Some v → bytes ≡ items v → Tells o (λ s. Some bytes ≡ tree.get s.tree place)
+got-some items None place file v bytes got is at = tt
+got-some items (Some s) place file v bytes got is at = ap Some at ∙ ap (option_map items) (sym is) ∙ got
 
 -- what is told of a file: nothing stands there, or what is no file, or another file
 file-told : (files : Tree) (place : Place) (deletes : Bool) (write at : ℕ) (why : RowFault) → TellsPlace place at why
@@ -119,6 +124,17 @@ one-told (Some s) table deletes keys key (fault.Damaged place) among told = reco
 one-told (Some s) table deletes keys key fault.Failed among told = tt
 one-told (Some s) table deletes keys key fault.NoMemory among told = tt
 
+-- what is passed up of a file that is damaged
+pub err-told : {T : Type 0} (first before : Option Store) (table : ℕ) (deletes : Bool) (keys : List FileKey) (i : ℕ) (key : FileKey) (result : Result T RowFault) (why same : RowFault)
+    → result ≡ Err same → same ≡ why → i < length keys → key ≡ get_or keys i key → before ≡ first
+    → Tells before (λ s. TellsFile s.tree (key_place table deletes key) deletes key.write why)
+    → IfErr result (λ w. Tells first (λ s. TellsOne table deletes s.tree keys w))
+err-told {T = T} first before table deletes keys i key result why same is e low at told file =
+    subst (λ (r : Result T RowFault). IfErr r (λ w. Tells first (λ s. TellsOne table deletes s.tree keys w))) (sym is)
+    (subst (λ (w : RowFault). Tells first (λ s. TellsOne table deletes s.tree keys w)) (sym e)
+    (one-told first table deletes keys key why (subst (Contains keys) (sym at) (Contains-get_or keys i key low))
+    (subst (λ (o : Option Store). Tells o (λ s. TellsFile s.tree (key_place table deletes key) deletes key.write why)) told file)))
+
 -- of so many files, one more was read
 pub reads-next : {D X : Type 0} (told : D → Option Store) (faults : D → ℕ) (first before now : D) (table : ℕ) (deletes : Bool) (keys : List FileKey) (i : ℕ) (key : FileKey) (pick : Sheet → List X) (items more all : List X) (recs : List Rec)
     → i < length keys → key ≡ get_or keys i key → ReadsUpTo told faults first before table deletes (take i keys) pick items → told now ≡ told before → faults before ≤ faults now
@@ -192,6 +208,7 @@ module _ (info : TableInfo) (given : ℕ) (lost : List ℕ) where
 
   pub spoiled-told : (o : Option Store) (places : List Place) (deletes : Bool) (keys : List FileKey) (why : RowFault) → Tells o (λ s. places ≡ places_of info.table s.tree)
       → keys ≡ keys_read deletes given lost places → Tells o (λ s. TellsOne info.table.0 deletes s.tree keys why) → IsDamage why → Tells o (λ s. IsSpoiled info given lost s.tree)
+  unfolding spoiled-one
   spoiled-told None places deletes keys why are kare one damage = tt
   spoiled-told (Some s) places deletes keys (fault.Damaged told) are kare one damage =
       let file = spoiled-one s places deletes keys told are kare one in record {

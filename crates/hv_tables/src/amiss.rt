@@ -38,12 +38,7 @@ fn is_kind(deletes: bool, kind: bool) -> bool
 }
 
 /// The offset behind these records of a file.
-fn offset_behind(
-    alloc: Global,
-    deletes: bool,
-    bucket: u32,
-    recs: &[Rec],
-) -> Result<u64, NoMemory>
+fn offset_behind(alloc: Global, deletes: bool, bucket: u32, recs: &[Rec]) -> Result<u64, NoMemory>
     requires { CanWrite deletes bucket recs.now }
     ensures { IfOk result (λ at. at ≡ length (file_spelling deletes bucket recs.now)) }
 {
