@@ -2,25 +2,22 @@ ghost use Rattle.std.specs.Prelude.{◌≡◌};
 ghost use Rattle.hv_merge.specs.Steps.{is_below, is_before};
 
 use hv_base::RowId;
-use std::cmp::Ordering;
 
 /// Whether an identifier comes before the other. This is `<` on them, which looks at all parts, but stops at the first that differs.
+/// It makes no `Ordering` on the way: a merge asks this for each file of each row.
 pub fn comes_before(id: RowId, other: RowId) -> bool
     ensures { result ≡ is_below other id }
 {
-    match id.write.0.cmp(&other.write.0) {
-        Ordering::Less => true,
-        Ordering::Greater => false,
-        Ordering::Equal => match id.statement.cmp(&other.statement) {
-            Ordering::Less => true,
-            Ordering::Greater => false,
-            Ordering::Equal => match id.bucket.cmp(&other.bucket) {
-                Ordering::Less => true,
-                Ordering::Greater => false,
-                Ordering::Equal => id.row < other.row,
-            },
-        },
+    if id.write.0 != other.write.0 {
+        return id.write.0 < other.write.0;
     }
+    if id.statement != other.statement {
+        return id.statement < other.statement;
+    }
+    if id.bucket != other.bucket {
+        return id.bucket < other.bucket;
+    }
+    id.row < other.row
 }
 
 /// Whether an identifier comes before the other one, if there is one.
