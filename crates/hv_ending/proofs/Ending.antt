@@ -36,7 +36,7 @@ use Rattle.hv_ending.specs.declared.ready.Reply.{Reply}
 use Rattle.hv_ending.specs.declared.ready.Way.{Way}
 use Rattle.hv_ending.specs.declared.ready.End.TheVariants as end
 use Rattle.hv_ending.specs.declared.ready.Ready.{Ready}
-use Rattle.hv_ending.specs.Ending.{KeepsCount, IsUndamaged, aborting, committing, creating, IsChangeReady, IsTrulyReady}
+use Rattle.hv_ending.specs.Ending.{KeepsCount, IsUndamaged, IsNoEnd, aborting, committing, creating, IsChangeReady, IsTrulyReady}
 use Rattle.hv_ending.specs.Steps.{Goes, LacksMemory, AbortedOrLacks, DoneOrLacks, conflict_cause, conflict_text, Conclusion}
 use Rattle.hv_ending.proofs.Books.{of-here, legal-next, abort-true, commit-true, abort-answered}
 use Rattle.hv_ending.proofs.Touched.{touch-of-table}
@@ -148,6 +148,7 @@ pub record EndsWell (way : Way) (ready : Ready) (book : List Entry) (event : Ent
   pub fits : Fits profile (state_of book) event
   pub of_it : IsOf way.txn.0 event
   pub undamaged : IsUndamaged event
+  pub ends : IsNoEnd event → ⊥
   pub says : (files : Tree) (asking : Asking) (said : Stmt) → IsTrulyReady book files asking way.txn.0 way.place said ready → IsTruthful (state_of book) event
   pub stands : (files : Tree) (asking : Asking) (said : Stmt) → IsTrulyReady book files asking way.txn.0 way.place said ready
       → Stands (state_of book) files → Stands (state_of (book ++ event ∷ [])) files
@@ -160,7 +161,7 @@ module _ {D : Type 0} (told : D → Option Store) (faults : D → ℕ) (way : Wa
       → EndsWell way ready (entries_of before) event reply → Conclusion told faults way ready before now (Ok reply)
   ended-conclusion event reply goes book counts well = record {
     goes = goes;
-    added = record { added = event ∷ []; book = book; of_it = (well.of_it, tt); counts = (counts, tt); undamaged = (well.undamaged, tt) };
+    added = record { added = event ∷ []; book = book; of_it = (well.of_it, tt); counts = (counts, tt); undamaged = (well.undamaged, tt); ends = (event, well.ends, refl) };
     shows = λ asking said truly shows.
         told-on KeepsTree (λ s. IsTrulyReady (entries_of before) s.tree asking way.txn.0 way.place said ready) (IsFaithful (entries_of before)) (IsFaithful (entries_of now))
         (told before.shelf) (told now.shelf) goes.moves
@@ -192,6 +193,7 @@ module _ {D : Type 0} (told : D → Option Store) (faults : D → ℕ) (way : Wa
     fits = lacks.fits;
     of_it = refl;
     undamaged = tt;
+    ends = λ never. never;
     says = λ files asking said truly. abort-true (entries_of before) asking way.txn.0 way.place said truly.to_end.given truly.to_end.under_way cause.Memory tt;
     stands = λ files asking said truly stands. other-entries-stand (entries_of before) (aborting way.txn.0 cause.Memory) files go.fit lacks.fits tt stands;
     answered = λ files asking said truly.
@@ -225,6 +227,7 @@ module _ {D : Type 0} (told : D → Option Store) (faults : D → ℕ) (way : Wa
         fits = done.fits;
         of_it = refl;
         undamaged = tt;
+        ends = λ never. never;
         says = λ files asking said truly. commit-says (entries_of before) files asking way.txn.0 way.place said wrote name text truly;
         stands = λ files asking said truly stands. commit-stands (entries_of before) files asking way.txn.0 way.place said wrote name text truly go.fit near done.fits stands;
         answered = λ files asking said truly. commit-answered (entries_of before) files asking way.txn.0 way.place said wrote name text truly reply done.text_is done.accepted;
@@ -244,6 +247,7 @@ module _ {D : Type 0} (told : D → Option Store) (faults : D → ℕ) (way : Wa
         fits = done.fits;
         of_it = refl;
         undamaged = tt;
+        ends = λ never. never;
         says = λ files asking said truly. conflict-says (entries_of before) files asking way.txn.0 way.place said wrote name text truly clash touch met found;
         stands = λ files asking said truly stands.
             other-entries-stand (entries_of before) (aborting way.txn.0 (conflict_cause clash.by touch)) files go.fit done.fits tt stands;
@@ -261,6 +265,7 @@ module _ {D : Type 0} (told : D → Option Store) (faults : D → ℕ) (way : Wa
         fits = done.fits;
         of_it = refl;
         undamaged = tt;
+        ends = λ never. never;
         says = λ files asking said truly.
             of-here (λ (t : Transaction). IsMake (meaning t)) (state_of (entries_of before)) way.txn.0 _ truly.to_end.under_way.here truly.truly.makes;
         stands = λ files asking said truly stands.

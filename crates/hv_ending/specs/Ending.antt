@@ -20,7 +20,7 @@ use Rattle.hv_history.specs.declared.entry.Cause.{Cause}
 use Rattle.hv_history.specs.declared.entry.Cause.TheVariants as cause
 use Rattle.hv_history.specs.declared.state.Table.{Table}
 use Rattle.hv_history.specs.State.{state_of, numbered, given_in}
-use Rattle.hv_history.specs.Legal.{TouchesAreMeant, IsMake, IsLegalFrom, Rise, is_touched, profile}
+use Rattle.hv_history.specs.Legal.{TouchesAreMeant, IsMake, IsLegalFrom, AllFit, Rise, is_touched, profile}
 use Rattle.hv_history.specs.Answers.{committed_text, ok_line}
 use Rattle.hv_stands.specs.Running.{Asking, AreOf, meant, IsUnderWay, HasAnswered, HasPut}
 use Rattle.hv_house.specs.declared.fault.HouseFault.{HouseFault}
@@ -160,13 +160,18 @@ pub record Prepares (txn low high : ℕ) (before now : List Entry) (found : Prep
   pub counts : AllByRecursion (KeepsCount low high) added
   pub undamaged : AllByRecursion IsUndamaged added
 
--- ending it adds entries of it alone, none of which says that a file is damaged
+-- it is one entry, which ends its transaction
+abbrev pub IsOneEnd : List Entry → Type 0
+IsOneEnd added = (last : Entry) × (IsNoEnd last → ⊥) × (added ≡ last ∷ [])
+
+-- ending it adds just one entry, which is its own and ends it, and doesn't say that a file is damaged
 pub record Concludes (txn low high : ℕ) (before now : List Entry) : Type 0 where
   pub added : List Entry
   pub book : now ≡ before ++ added
   pub of_it : AreOf txn added
   pub counts : AllByRecursion (KeepsCount low high) added
   pub undamaged : AllByRecursion IsUndamaged added
+  pub ends : IsOneEnd added
 
 -- what stands of it then, whatever is told: it is under way, and its end can be noted
 pub record IsReadyToEnd (book : List Entry) (asking : Asking) (txn place : ℕ) (said : Stmt) (ready : Ready) : Type 0 where
@@ -201,3 +206,9 @@ pub record HasStopped {D : Type 0} (told : D → Option Store) (txn : ℕ) (why 
   pub further_of_it : AreOf txn further
   pub few : length further ≤ 2
   pub leaves : Leaves why further (told now.shelf) (entries_of now)
+
+-- it stopped at one entry: the journal may have no other, and that one fits behind the book
+pub record StopsAtOne {D : Type 0} (told : D → Option Store) (txn : ℕ) (why : HouseFault) (before now : House D) : Type 0 where
+  pub stopped : HasStopped told txn why before now
+  pub one : length stopped.further ≤ 1
+  pub fit : AllFit profile (state_of (entries_of now)) stopped.further

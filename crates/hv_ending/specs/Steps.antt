@@ -38,7 +38,7 @@ use Rattle.hv_ending.specs.declared.ready.End.TheVariants as end
 use Rattle.hv_ending.specs.declared.ready.Prepared.{Prepared}
 use Rattle.hv_ending.specs.declared.ready.Prepared.TheVariants as prepared
 use Rattle.hv_ending.specs.declared.ready.Ready.{Ready}
-use Rattle.hv_ending.specs.Ending.{KeepsCount, IsUndamaged, aborting, EndsUncommitted, Prepares, Concludes, IsPreparedIn, IsTrulyPrepared, IsTrulyReady, HasStopped}
+use Rattle.hv_ending.specs.Ending.{KeepsCount, IsUndamaged, aborting, EndsUncommitted, Prepares, Concludes, IsPreparedIn, IsTrulyPrepared, IsTrulyReady, StopsAtOne}
 
 -- ---- whatever comes of a call
 
@@ -46,7 +46,7 @@ use Rattle.hv_ending.specs.Ending.{KeepsCount, IsUndamaged, aborting, EndsUncomm
 pub record Goes {D T : Type 0} (told : D → Option Store) (faults : D → ℕ) (step : Store → Store → Type 0) (txn : ℕ) (before now : House D) (result : Result T HouseFault) : Type 0 where
   pub ready : IfOk result (λ _. IsReady told now)
   pub moves : Moves step (told before.shelf) (told now.shelf)
-  pub stopped : IfErr result (λ why. HasStopped told txn why before now)
+  pub stopped : IfErr result (λ why. StopsAtOne told txn why before now)
   pub ends : IfErr result EndsRun
   pub cause : FileCause (faults before.shelf) (faults now.shelf) result
 
@@ -63,6 +63,7 @@ pub record IsAdded {D : Type 0} (told : D → Option Store) (faults : D → ℕ)
 pub record IsLeftOut {D : Type 0} (told : D → Option Store) (faults : D → ℕ) (event : Entry) (why : HouseFault) (before now : House D) : Type 0 where
   pub stays : StaysReady told why now
   pub halted : IsHalted told event why before now
+  pub fits : Fits profile (state_of (entries_of before)) event
   pub ends : EndsRun why
   pub later : faults before.shelf ≤ faults now.shelf
   pub risen : HasRisen (faults before.shelf) (faults now.shelf) why
@@ -150,7 +151,7 @@ pub record BreaksOff {D : Type 0} (told : D → Option Store) (faults : D → �
   pub ended : IfOk result (EndsBy IsAnyway txn low (faults now.shelf) (entries_of before) (entries_of now))
   pub ready : IfOk result (λ _. IsReady told now)
   pub tree : Moves KeepsTree (told before.shelf) (told now.shelf)
-  pub stopped : IfErr result (λ why. HasStopped told txn why before now)
+  pub stopped : IfErr result (λ why. StopsAtOne told txn why before now)
   pub ends : IfErr result EndsRun
   pub cause : FileCause low (faults now.shelf) result
 

@@ -15,7 +15,7 @@ ghost use Rattle.hv_conflicts.specs.Clashes.{IsClash};
 ghost use Rattle.hv_house.specs.Faults.{FileCause, EndsRun};
 ghost use Rattle.hv_house.specs.House.{entries_of, IsSmall, IsReady, Shows};
 ghost use Rattle.hv_ending.specs.declared.ready.End.TheVariants as last;
-ghost use Rattle.hv_ending.specs.Ending.{aborting, committing, creating, Concludes, IsReadyToEnd, IsTrulyReady, HasStopped};
+ghost use Rattle.hv_ending.specs.Ending.{aborting, committing, creating, Concludes, IsReadyToEnd, IsTrulyReady, HasStopped, StopsAtOne};
 ghost use Rattle.hv_ending.specs.Steps.{Goes, IsAdded, IsLeftOut, HasDone, DoneOrLacks, AbortedOrLacks, IsConflictOf, conflict_cause, conflict_text, Conclusion};
 
 use crate::ready::{End, Ready, Reply, Way};
@@ -295,6 +295,8 @@ pub fn conclude<D: Shelf>(
     ensures tells { StaysTold (D.told house.old.shelf) (D.told house.new.shelf) }
     ensures stopped { IfErr result (λ why.
         HasStopped D.told way.txn.0 why house.old house.new) }
+    ensures further { IfErr result (λ why.
+        StopsAtOne D.told way.txn.0 why house.old house.new) }
     ensures ends { IfErr result EndsRun }
     ensures cause { FileCause (D.faults house.old.shelf) (D.faults house.new.shelf) result }
 {

@@ -12,7 +12,7 @@ ghost use Rattle.hv_journal.specs.Appending.{KeepsTree};
 ghost use Rattle.hv_stands.specs.Running.{Asking, IsOf, IsWaiting, IsUnderWay, HasAnswered};
 ghost use Rattle.hv_house.specs.Faults.{FileCause, EndsRun};
 ghost use Rattle.hv_house.specs.House.{entries_of, IsSmall, IsReady, StaysReady, Shows};
-ghost use Rattle.hv_ending.specs.Ending.{aborting, EndsUncommitted, IsAborted, HasStopped};
+ghost use Rattle.hv_ending.specs.Ending.{aborting, EndsUncommitted, IsAborted, HasStopped, StopsAtOne};
 ghost use Rattle.hv_ending.specs.Steps.{Goes, IsAdded, IsLeftOut, HasAborted, LacksMemory, IsWithdrawn};
 
 use crate::ready::Reply;
@@ -178,6 +178,7 @@ pub fn refuse<D: Shelf>(
     ensures tree { Moves KeepsTree (D.told house.old.shelf) (D.told house.new.shelf) }
     ensures tells { StaysTold (D.told house.old.shelf) (D.told house.new.shelf) }
     ensures stopped { IfErr result (λ why. HasStopped D.told txn.0 why house.old house.new) }
+    ensures further { IfErr result (λ why. StopsAtOne D.told txn.0 why house.old house.new) }
     ensures ends { IfErr result EndsRun }
     ensures cause { FileCause (D.faults house.old.shelf) (D.faults house.new.shelf) result }
 {
