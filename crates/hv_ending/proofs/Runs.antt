@@ -190,6 +190,17 @@ module _ {D : Type 0} (told : D → Option Store) (faults : D → ℕ) where
   left-goes txn event before now why of_it left =
       goes-err KeepsTree txn before now why left.halted.tree (halted-stopped told txn event why before now of_it left.halted left.fits) left.ends left.later left.risen
 
+  -- behind one that wasn't, another call goes on
+  pub left-then : {T : Type 0} (txn : ℕ) (event : Entry) (first before now : House D) (why : HouseFault) (result : Result T HouseFault)
+      → IsLeftOut told faults event why first before → Goes told faults KeepsTree txn before now result → Goes told faults KeepsTree txn first now result
+  left-then txn event first before now why (Ok x) left goes =
+      goes-ok KeepsTree txn first now x goes.ready (tree-then (told first.shelf) (told before.shelf) (told now.shelf) left.halted.tree goes.moves)
+      (omega (arith, left.later, goes.cause.later))
+  left-then txn event first before now why (Err failed) left goes =
+      goes-err KeepsTree txn first now failed (tree-then (told first.shelf) (told before.shelf) (told now.shelf) left.halted.tree goes.moves)
+      (stopped-earlier told txn failed first before now left.halted.entries goes.stopped) goes.ends (omega (arith, left.later, goes.cause.later))
+      (risen-earlier (faults first.shelf) (faults before.shelf) (faults now.shelf) failed left.later goes.cause.failed)
+
   pub tried-goes : {T : Type 0} (txn : ℕ) (event : Entry) (before now : House D) (result : Result T HouseFault) → IsOf txn event
       → IfOk result (λ _. IsAdded told faults event before now) → IfErr result (λ why. IsLeftOut told faults event why before now)
       → Goes told faults KeepsTree txn before now result

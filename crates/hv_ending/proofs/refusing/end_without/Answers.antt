@@ -2,10 +2,15 @@ use Rattle.std.proofs.Common.{subst}
 use Rattle.hv_house.specs.declared.fault.HouseFault.{HouseFault}
 use Rattle.hv_house.specs.declared.fault.HouseFault.TheVariants as fault
 use Rattle.hv_ending.specs.Steps.{IsLeftOut}
-use Rattle.hv_ending.proofs.Runs.{left-goes}
+use Rattle.hv_ending.proofs.Runs.{left-goes, left-then}
 use Rattle.hv_ending.proofs.refusing.end_without.Goals as goal
 
 pub returns-in-Store-clause-goes : goal.returns-in-Store-clause-goes
 returns-in-Store-clause-goes g c = λ first event of_it left.
     left-goes g.D.Shelf.told g.D.Shelf.faults c.args.txn.0 event first c.args.house.now fault.Store of_it
     (subst (λ (why : HouseFault). IsLeftOut g.D.Shelf.told g.D.Shelf.faults event why first c.args.house.now) c.in-Store.is left)
+
+pub returns-in-NoMemory-clause-goes : goal.returns-in-NoMemory-clause-goes
+returns-in-NoMemory-clause-goes g c = λ first event of_it left.
+    left-then g.D.Shelf.told g.D.Shelf.faults c.args.txn.0 event first c.args.house.now c.lack_memory.new.house c.args.fault c.lack_memory.result left
+    c.lack_memory.ensures.goes
