@@ -6,6 +6,7 @@ pub mod Boots
 pub mod Faithful
 pub mod Passing
 pub mod Steps
+pub mod Reading
 pub mod Ready
 pub mod Past
 pub mod Seen

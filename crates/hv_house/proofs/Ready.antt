@@ -1,5 +1,6 @@
 -- A house between two calls.
-use Rattle.std.proofs.Common.{◌≡◌, ◌+◌, ◌<◌, ◌≤◌, Option, Some, None, Result, Ok, Err, OnOk, List, [], ◌∷◌, ◌++◌, length, sym, ap, ◌∙◌, subst, arith, append_assoc, length-append}
+use Rattle.std.proofs.Common.{◌≡◌, ◌+◌, ◌<◌, ◌≤◌, Bool, false, Option, Some, None, Result, Ok, Err, OnOk, List, [], ◌∷◌, ◌++◌, length, sym, ap, ◌∙◌, subst, arith, append_assoc, length-append}
+use Rattle.std.specs.Prelude.{◌||◌}
 use Rattle.hv_base.specs.Told.{Moves}
 use Rattle.hv_shelf.specs.Disk.{Store}
 use Rattle.hv_history.specs.declared.entry.Entry.{Entry}
@@ -7,38 +8,56 @@ use Rattle.hv_history.specs.State.{state_of}
 use Rattle.hv_history.specs.Journal.{place_of, Reads}
 use Rattle.hv_history.specs.Legal.{Fits, profile}
 use Rattle.hv_journal.specs.Appending.{Holds}
+use Rattle.hv_trail.specs.Steps.{Call, Done}
 use Rattle.hv_stands.specs.Running.{Asking, opening, starting, next_number}
 use Rattle.hv_stands.specs.Statements.{AllFitting}
 use Rattle.hv_stands.proofs.Fitting.{one-more-fits, fitting-room}
 use Rattle.hv_house.specs.declared.fault.HouseFault.{HouseFault}
 use Rattle.hv_house.specs.declared.fault.HouseFault.TheVariants as fault
+use Rattle.hv_house.specs.declared.fault.RowFault.{RowFault}
+use Rattle.hv_house.specs.declared.fault.RowFault.TheVariants as row_fault
 use Rattle.hv_house.specs.declared.house.House.{House}
-use Rattle.hv_house.specs.Steps.{ClosesBy}
-use Rattle.hv_house.specs.House.{entries_of, IsKept, IsReady, AreNoted, AreHalted, StaysReady, IsAsked, IsBeside, KeepsJournal, BeginFits, beginning_of}
+use Rattle.hv_house.specs.Steps.{ClosesBy, reading_outcome, GainsBy}
+use Rattle.hv_house.specs.House.{entries_of, IsKept, IsReady, AreNoted, AreHalted, StaysReady, StaysRead, IsAsked, IsBeside, KeepsJournal, BeginFits, beginning_of}
 
 -- ---- it was only asked, or files were put
 
 module _ {D : Type 0} (told : D → Option Store) (before now : House D) where
-  same-kept : now.place ≡ before.place → now.trail ≡ before.trail → Holds (told now.shelf) (entries_of before) → IsKept told before → IsKept told now
-  same-kept place book holds kept =
-      let entries : entries_of now ≡ entries_of before = ap (λ t. t.entries) book in
-      record {
-        place = place ∙ kept.place ∙ ap place_of (sym entries);
-        near = omega (arith, place, kept.near, ap length entries);
-        few = omega (arith, kept.few, ap length entries);
-        reads = subst (Holds (told now.shelf)) (sym entries) holds;
-        running = ap (λ t. t.closed) book ∙ kept.running;
-      }
-
-  pub asked-ready : IsAsked told before now → IsReady told before → IsReady told now
-  asked-ready asked ready = record {
-    kept = same-kept asked.place asked.book (subst (λ o. Holds o (entries_of before)) (sym asked.store) ready.kept.reads) ready.kept;
-    fit = subst AllFitting (sym (ap (λ t. t.entries) asked.book)) ready.fit;
+  same-kept : now.place ≡ before.place → entries_of now ≡ entries_of before → now.trail.closed ≡ before.trail.closed → Holds (told now.shelf) (entries_of before)
+      → IsKept told before → IsKept told now
+  same-kept place entries closed holds kept = record {
+    place = place ∙ kept.place ∙ ap place_of (sym entries);
+    near = omega (arith, place, kept.near, ap length entries);
+    few = omega (arith, kept.few, ap length entries);
+    reads = subst (Holds (told now.shelf)) (sym entries) holds;
+    running = closed ∙ kept.running;
   }
+
+  asked-holds : IsAsked told before now → IsReady told before → Holds (told now.shelf) (entries_of before)
+  asked-holds asked ready = subst (λ o. Holds o (entries_of before)) (sym asked.store) ready.kept.reads
+
+  pub asked-ready : IsAsked told before now → now.trail.closed ≡ before.trail.closed → IsReady told before → IsReady told now
+  asked-ready asked closed ready = record {
+    kept = same-kept asked.place asked.book closed (asked-holds asked ready) ready.kept;
+    fit = subst AllFitting (sym asked.book) ready.fit;
+  }
+
+  -- it was read, or that failed
+  still-closed : {b : Bool} → IsReady told before → b ≡ before.trail.closed || false → b ≡ before.trail.closed
+  still-closed ready same = same ∙ ap (λ c. c || false) ready.kept.running ∙ sym ready.kept.running
+
+  pub read-ready : (call : Call) → IsAsked told before now → GainsBy call Done before now → IsReady told before → IsReady told now
+  read-ready call asked gains ready = asked-ready asked (still-closed ready gains.closed) ready
+
+  pub read-stays : (call : Call) (why : RowFault) → IsAsked told before now → GainsBy call (reading_outcome why) before now → IsReady told before → StaysRead told why now
+  read-stays call (row_fault.Damaged place) asked gains ready = asked-ready asked (still-closed ready gains.closed) ready
+  read-stays call (row_fault.House fault.NoMemory) asked gains ready = asked-ready asked (still-closed ready gains.closed) ready
+  read-stays call (row_fault.House (fault.Failed count)) asked gains ready = asked-ready asked (still-closed ready gains.closed) ready
+  read-stays call (row_fault.House fault.Store) asked gains ready = subst (Holds (told now.shelf)) (sym asked.book) (asked-holds asked ready)
 
   pub beside-ready : IsBeside before now → Moves KeepsJournal (told before.shelf) (told now.shelf) → IsReady told before → IsReady told now
   beside-ready beside keeps ready = record {
-    kept = same-kept beside.place beside.book (holds-still (told before.shelf) (told now.shelf) keeps ready.kept.reads) ready.kept;
+    kept = same-kept beside.place (ap (λ t. t.entries) beside.book) (ap (λ t. t.closed) beside.book) (holds-still (told before.shelf) (told now.shelf) keeps ready.kept.reads) ready.kept;
     fit = subst AllFitting (sym (ap (λ t. t.entries) beside.book)) ready.fit;
   }
     where

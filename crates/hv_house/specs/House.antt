@@ -13,6 +13,8 @@ use Rattle.hv_stands.specs.Running.{Asking, opening, starting, next_number}
 use Rattle.hv_stands.specs.Statements.{AllFitting}
 use Rattle.hv_house.specs.declared.fault.HouseFault.{HouseFault}
 use Rattle.hv_house.specs.declared.fault.HouseFault.TheVariants as fault
+use Rattle.hv_house.specs.declared.fault.RowFault.{RowFault}
+use Rattle.hv_house.specs.declared.fault.RowFault.TheVariants as row_fault
 use Rattle.hv_house.specs.declared.house.House.{House}
 
 -- the most bytes of an entry, and of its record with its gate
@@ -73,11 +75,11 @@ abbrev pub BeginFits : List Entry → Asking → Type 0
 BeginFits book asking = Fits profile (state_of book) (opening book asking)
     × Fits profile (state_of (book ++ opening book asking ∷ [])) (starting (next_number book))
 
--- the house was only asked
+-- the house was only asked: nothing was noted, and the store is as it was
 pub record IsAsked {D : Type 0} (told : D → Option Store) (before now : House D) : Type 0 where
   pub store : told now.shelf ≡ told before.shelf
   pub place : now.place ≡ before.place
-  pub book : now.trail ≡ before.trail
+  pub book : entries_of now ≡ entries_of before
 
 -- only the store changed
 pub record IsBeside {D : Type 0} (before now : House D) : Type 0 where
@@ -103,6 +105,13 @@ IsHalted told event why before now = AreHalted told (event ∷ []) why before no
 -- the house stays ready where memory lacked
 pub record StaysReady {D : Type 0} (told : D → Option Store) (why : HouseFault) (now : House D) : Type 0 where
   pub ready : why ≡ fault.NoMemory → IsReady told now
+
+-- Behind a fault of reading the house is ready, but where the store failed: there it is closed, and its journal reads to the book still.
+abbrev pub StaysRead : {D : Type 0} → (D → Option Store) → RowFault → House D → Type 0
+StaysRead told (row_fault.House fault.Store) now = Holds (told now.shelf) (entries_of now)
+StaysRead told (row_fault.House fault.NoMemory) now = IsReady told now
+StaysRead told (row_fault.House (fault.Failed count)) now = IsReady told now
+StaysRead told (row_fault.Damaged place) now = IsReady told now
 
 -- the journal is as it was
 abbrev pub KeepsJournal : Store → Store → Type 0

@@ -71,18 +71,20 @@ module _ (book : List Entry) (asking : Asking) (txn place : ℕ) (said : Stmt) (
 
 -- ---- the run ends with nothing noted
 
-pub nothing-leaves : {D : Type 0} (told : D → Option Store) (house : House D) (why : HouseFault) → EndsRun why → IsReady told house → Leaves why [] (told house.shelf) (entries_of house)
-nothing-leaves told house halts.NoMemory ends ready = ready.kept.reads
-nothing-leaves told house halts.Store ends ready = by (told house.shelf) ready.kept.reads
+pub nothing-leaves : {D : Type 0} (told : D → Option Store) (house : House D) (why : HouseFault) → EndsRun why → Holds (told house.shelf) (entries_of house)
+    → Leaves why [] (told house.shelf) (entries_of house)
+nothing-leaves told house halts.NoMemory ends holds = holds
+nothing-leaves told house halts.Store ends holds = by (told house.shelf) holds
   where
     by : (o : Option Store) → Holds o (entries_of house) → HoldsMore o (entries_of house) []
     by None holds = tt
     by (Some s) holds = inl holds
-nothing-leaves told house (halts.Failed count) ends ready = ends
+nothing-leaves told house (halts.Failed count) ends holds = ends
 
-pub nothing-stopped : {D : Type 0} (told : D → Option Store) (txn : ℕ) (why : HouseFault) (before now : House D) → EndsRun why → IsReady told now → entries_of now ≡ entries_of before
+pub nothing-stopped : {D : Type 0} (told : D → Option Store) (txn : ℕ) (why : HouseFault) (before now : House D) → EndsRun why → Holds (told now.shelf) (entries_of now)
+    → entries_of now ≡ entries_of before
     → HasStopped told txn why before now
-nothing-stopped told txn why before now ends ready same = record {
+nothing-stopped told txn why before now ends holds same = record {
   added = [];
   book = same ∙ sym (append-nil (entries_of before));
   of_it = tt;
@@ -91,7 +93,7 @@ nothing-stopped told txn why before now ends ready same = record {
   further = [];
   further_of_it = tt;
   few = omega arith;
-  leaves = nothing-leaves told now why ends ready;
+  leaves = nothing-leaves told now why ends holds;
 }
 
 -- ---- an abort for a fault of rows
@@ -124,17 +126,17 @@ module _ {D : Type 0} (told : D → Option Store) (faults : D → ℕ) (way : Wa
   }
 
   -- the run ends in place of an abort
-  pub store-ends : (fault : HouseFault) (house : House D) → IsReady told house
+  pub store-ends : (fault : HouseFault) (house : House D) → Holds (told house.shelf) (entries_of house)
       → ((low : ℕ) → HasRisen low (faults house.shelf) fault → Rose low (faults house.shelf))
       → EndsFor told faults way (row_fault.House fault) house house (Err halts.Store)
-  store-ends fault house ready rises = record {
+  store-ends fault house holds rises = record {
     ready = tt;
     aborted = tt;
     answered = λ asking said given under. tt;
     shows = λ shows. tt;
     tree = Moves-same KeepsTree (λ s. refl) (told house.shelf);
     tells = stays_same (told house.shelf);
-    stopped = nothing-stopped told way.txn.0 halts.Store house house tt ready refl;
+    stopped = nothing-stopped told way.txn.0 halts.Store house house tt holds refl;
     ends = tt;
     later = omega arith;
     cause = λ low below risen. record { later = below; failed = rises low risen };
@@ -145,7 +147,7 @@ module _ {D : Type 0} (told : D → Option Store) (faults : D → ℕ) (way : Wa
   module _ (fault : RowFault) (first before now : House D) (asked : IsAsked told first before) (later : faults first.shelf ≤ faults before.shelf)
       (risen : HasRisenReading (faults first.shelf) (faults before.shelf) fault) where
     abbrev same : entries_of before ≡ entries_of first
-    same = ap (λ t. t.entries) asked.book
+    same = asked.book
 
     counts : (why of : Cause) → IsCauseOfRows fault why → ((of ≡ why) ⊎ (of ≡ cause.Memory)) → faults before.shelf ≤ faults now.shelf
         → KeepsCount (faults first.shelf) (faults now.shelf) (aborting way.txn.0 of)

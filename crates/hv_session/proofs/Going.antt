@@ -34,16 +34,15 @@ use Rattle.hv_session.specs.Taking.{EndsEarly, IsFinished}
 use Rattle.hv_session.specs.Ways.{IsPart, IsTrueOf, ShowsAnd, CutsOff, ComesTo, ComesTruly, GoesToCommit, GoesTruly}
 use Rattle.hv_session.proofs.Books.{all-append, IsBegun}
 use Rattle.hv_session.proofs.Telling.{told-map, told-both, told-behind}
-use Rattle.hv_house.proofs.Ready.{asked-ready}
 use Rattle.hv_session.proofs.Cutting.{refusal-true}
 use Rattle.hv_session.proofs.Passing.{HasPassed, same-files, passed-part, part-ok, asked-same, asked-shows, nothing-passed}
 
 -- ---- it means something over what was seen
 
 module _ {D : Type 0} (told : D → Option Store) (faults : D → ℕ) (txn : ℕ) (before now : House D) (asked : IsAsked told before now) where
-  pub means-part : (meaning : Meaning) → IsReady told before → faults before.shelf ≤ faults now.shelf → IsPart told faults txn before now (Ok (outcome.Means meaning))
+  pub means-part : (meaning : Meaning) → IsReady told now → faults before.shelf ≤ faults now.shelf → IsPart told faults txn before now (Ok (outcome.Means meaning))
   means-part meaning ready later =
-      passed-part told faults txn before now (outcome.Means meaning) (nothing-passed told before now asked faults txn (asked-ready told before now asked ready) later)
+      passed-part told faults txn before now (outcome.Means meaning) (nothing-passed told before now asked faults txn ready later)
 
   pub means-comes : (meaning : Meaning) → CanEnd (entries_of before) meaning → ComesTo txn (entries_of before) (entries_of now) (outcome.Means meaning)
   means-comes meaning can = (asked-same told before now asked, subst (λ (b : List Entry). CanEnd b meaning) (sym (asked-same told before now asked)) can)

@@ -196,7 +196,7 @@ passed-part told faults txn before now x passed = record {
 
 module _ {D : Type 0} (told : D → Option Store) (before now : House D) (asked : IsAsked told before now) where
   pub asked-same : entries_of now ≡ entries_of before
-  asked-same = ap (λ t. t.entries) asked.book
+  asked-same = asked.book
 
   asked-keeps : Moves KeepsTree (told before.shelf) (told now.shelf)
   asked-keeps = subst (Moves KeepsTree (told before.shelf)) (sym asked.store) (Moves-same KeepsTree (λ s. refl) (told before.shelf))

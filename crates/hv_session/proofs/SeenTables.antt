@@ -67,12 +67,12 @@ asked-asked told first before now asked then = record {
 -- one more of the names was looked at
 pub sees-next : {D : Type 0} (told : D → Option Store) (faults : D → ℕ) (first before now : House D) (place : ℕ) (reads : Bool) (locks : List Lock) (i : ℕ) (lock : Lock) (seen next : List Seen)
     → SeesUpTo told faults first before place reads locks i seen → i < length locks → get_or locks i lock ≡ lock
-    → IsAsked told before now → faults before.shelf ≤ faults now.shelf
+    → IsAsked told before now → IsReady told now → faults before.shelf ≤ faults now.shelf
     → AddsSeen (told before.shelf) (state_at (entries_of before) place) reads lock.name seen next
     → SeesUpTo told faults first now place reads locks (i + 1) next
-sees-next told faults first before now place reads locks i lock seen next sees within here only later adds =
+sees-next told faults first before now place reads locks i lock seen next sees within here only ready later adds =
     let o : told before.shelf ≡ told first.shelf = sees.asked.store in
-    let known : state_at (entries_of before) place ≡ state_at (entries_of first) place = ap (λ t. state_at t.entries place) sees.asked.book in
+    let known : state_at (entries_of before) place ≡ state_at (entries_of first) place = ap (λ b. state_at b place) sees.asked.book in
     let one : IsSeenOf (told first.shelf) reads (state_at (entries_of first) place) (table_of_name lock.name (state_at (entries_of first) place).tables) adds.first =
     subst (λ (s : State). IsSeenOf (told first.shelf) reads s (table_of_name lock.name s.tables) adds.first) known
     (subst (λ (t : Option Store). IsSeenOf t reads (state_at (entries_of before) place) (table_of_name lock.name (state_at (entries_of before) place).tables) adds.first) o adds.sees) in
@@ -80,6 +80,7 @@ sees-next told faults first before now place reads locks i lock seen next sees w
     let was = sees.later in
     record {
       asked = asked-asked told first before now sees.asked only;
+      ready = ready;
       later = omega (arith, was, later);
       sees = subst (λ (xs : List Seen). AreSeen (told first.shelf) (state_at (entries_of first) place) reads (take (i + 1) locks) xs) (sym adds.now_is)
           (subst (λ (ls : List Lock). AreSeen (told first.shelf) (state_at (entries_of first) place) reads ls (seen ++ option_to_list adds.first)) (sym more)
@@ -90,7 +91,7 @@ sees-next told faults first before now place reads locks i lock seen next sees w
 pub spoiled-first : {D : Type 0} (told : D → Option Store) (first before : House D) (place : ℕ) → IsAsked told first before
     → IsSpoiled (told before.shelf) (state_at (entries_of before) place) → IsSpoiled (told first.shelf) (state_at (entries_of first) place)
 spoiled-first told first before place asked spoiled =
-    subst (λ (s : State). IsSpoiled (told first.shelf) s) (ap (λ t. state_at t.entries place) asked.book)
+    subst (λ (s : State). IsSpoiled (told first.shelf) s) (ap (λ b. state_at b place) asked.book)
     (subst (λ (o : Option Store). IsSpoiled o (state_at (entries_of before) place)) asked.store spoiled)
 
 -- ---- what is seen of a table

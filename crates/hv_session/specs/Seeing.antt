@@ -14,7 +14,7 @@ use Rattle.hv_history.specs.declared.entry.Entry.{Entry}
 use Rattle.hv_history.specs.State.{State, state_of}
 use Rattle.hv_stands.specs.Reading.{table_of_name}
 use Rattle.hv_house.specs.declared.house.House.{House}
-use Rattle.hv_house.specs.House.{entries_of, IsAsked}
+use Rattle.hv_house.specs.House.{entries_of, IsAsked, IsReady}
 use Rattle.hv_house.specs.Seeing.{IsSeenOf}
 
 -- the state at a place of a book
@@ -40,6 +40,7 @@ IsSeen told state tree seen = AreSeen told state (reads_rows tree) (names_in tre
 -- of the names the first ones were looked at
 pub record SeesUpTo {D : Type 0} (told : D → Option Store) (faults : D → ℕ) (first now : House D) (place : ℕ) (reads : Bool) (locks : List Lock) (i : ℕ) (seen : List Seen) : Type 0 where
   pub asked : IsAsked told first now
+  pub ready : IsReady told now
   pub later : faults first.shelf ≤ faults now.shelf
   pub sees : AreSeen (told first.shelf) (state_at (entries_of first) place) reads (take i locks) seen
 

@@ -7,7 +7,7 @@ ghost use Rattle.hv_history.specs.Legal.{Fits, profile};
 ghost use Rattle.hv_history.specs.State.{state_of};
 ghost use Rattle.hv_stands.specs.Running.{Asking, meant, IsUnderWay};
 ghost use Rattle.hv_house.specs.Faults.{IsShortDamage};
-ghost use Rattle.hv_house.specs.House.{entries_of, IsSmall, IsReady, Shows};
+ghost use Rattle.hv_house.specs.House.{entries_of, IsSmall, IsReady, StaysRead, Shows};
 ghost use Rattle.hv_house.specs.declared.fault.HouseFault.TheVariants as fault;
 ghost use Rattle.hv_house.specs.declared.fault.RowFault.TheVariants as row_fault;
 ghost use Rattle.hv_ending.specs.Ending.{aborting, CanEnd, EndsUncommitted, IsPreparedIn};
@@ -84,7 +84,7 @@ fn end_halted<D: Shelf>(
     way: Way,
     fault: HouseFault,
 ) -> Result<Reply, HouseFault>
-    requires ready { IsReady D.told house.old }
+    requires stays { StaysRead D.told (row_fault.House fault) house.old }
     requires way { (said : Tree) × IsOnWay (entries_of house.old) way said }
     ensures ends { EndsFor D.told D.faults way (row_fault.House fault) house.old house.new result }
 {
@@ -102,7 +102,7 @@ fn end_unseen<D: Shelf>(
     way: Way,
     fault: RowFault,
 ) -> Result<Reply, HouseFault>
-    requires ready { IsReady D.told house.old }
+    requires stays { StaysRead D.told fault house.old }
     requires way { (said : Tree) × IsOnWay (entries_of house.old) way said }
     requires short { IsShortDamage fault }
     ensures ends { EndsFor D.told D.faults way fault house.old house.new result }
@@ -130,7 +130,7 @@ fn come_to<D: Shelf>(
         → IfOk result (λ outcome. ShowsAnd D.told house.new (λ _. ComesTruly
         (entries_of house.old) (entries_of house.new) way tree.now outcome)) }
 {
-    match see_meaning(alloc, house, way.place, tree) {
+    match see_meaning(alloc, house, way.txn, way.place, tree) {
         Ok(meaning) => Ok(Outcome::Means(meaning)),
         Err(fault) => Ok(Outcome::Ended(end_unseen(alloc, house, way, fault)?)),
     }

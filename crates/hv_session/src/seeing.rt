@@ -8,13 +8,13 @@ ghost use Rattle.hv_meaning.specs.Meaning.{meaning_in};
 ghost use Rattle.hv_meaning.specs.Laws.{MeansSomething, are_values, reads_rows};
 ghost use Rattle.hv_stands.specs.Running.{meant};
 ghost use Rattle.hv_house.specs.Faults.{ReadCause, IsShortDamage, IsDamage};
-ghost use Rattle.hv_house.specs.House.{entries_of, IsAsked, IsReady, Shows};
+ghost use Rattle.hv_house.specs.House.{entries_of, IsAsked, IsReady, StaysRead, Shows};
 ghost use Rattle.hv_house.specs.Seeing.{IsSpoiled};
 ghost use Rattle.hv_ending.specs.Ending.{CanEnd};
 ghost use Rattle.hv_session.specs.Seeing.{AddsSeen, IsSeen, IsNarrow, state_at};
 
 use hv_ast::{Rows, Stmt};
-use hv_base::{NoMemory, Text};
+use hv_base::{NoMemory, Text, TxnId};
 use hv_effect::meaning_in;
 use hv_house::{House, RowFault};
 use hv_logic::{Meaning, Seen, TableInfo};
@@ -49,10 +49,11 @@ fn put(table: Seen, seen: &mut Vec<Seen>) -> Result<(), NoMemory>
     Ok(())
 }
 
-/// Looks at the table of one more name, as it stood at a place of the book.
+/// Looks at the table of one more name, as it stood at a place of the book, for a transaction.
 fn see_next<D: Shelf>(
     alloc: Global,
     house: &mut House<D>,
+    by: TxnId,
     place: u64,
     name: &Text,
     reads: bool,
@@ -65,9 +66,11 @@ fn see_next<D: Shelf>(
         name.now seen.old.items seen.new.items) }
     ensures damage { IfErr result (λ fault. IsDamage fault
         → IsSpoiled (D.told house.old.shelf) (state_at (entries_of house.old) place)) }
+    ensures ready { OnOk result (IsReady D.told house.new) }
+    ensures stays { IfErr result (λ why. StaysRead D.told why house.new) }
     ensures cause { ReadCause (D.faults house.old.shelf) (D.faults house.new.shelf) result }
 {
-    if let Some(table) = house.see(alloc, place, name, reads)? {
+    if let Some(table) = house.see(alloc, by, place, name, reads)? {
         put(table, seen)?;
     }
     Ok(())
@@ -77,6 +80,7 @@ fn see_next<D: Shelf>(
 fn seen<D: Shelf>(
     alloc: Global,
     house: &mut House<D>,
+    by: TxnId,
     place: u64,
     tree: &Stmt,
 ) -> Result<Vec<Seen>, RowFault>
@@ -87,13 +91,15 @@ fn seen<D: Shelf>(
         (state_at (entries_of house.old) place) tree.now seen.items) }
     ensures damage { IfErr result (λ fault. IsDamage fault
         → IsSpoiled (D.told house.old.shelf) (state_at (entries_of house.old) place)) }
+    ensures ready { IfOk result (λ _. IsReady D.told house.new) }
+    ensures stays { IfErr result (λ why. StaysRead D.told why house.new) }
     ensures cause { ReadCause (D.faults house.old.shelf) (D.faults house.new.shelf) result }
 {
     let names = names_in(alloc, tree)?;
     let reads = reads_rows(tree);
     let mut seen = Vec::new(alloc);
     for i in 0..names.len() {
-        see_next(alloc, house, place, &names[i].name, reads, &mut seen)?;
+        see_next(alloc, house, by, place, &names[i].name, reads, &mut seen)?;
     }
     Ok(seen)
 }
@@ -143,6 +149,7 @@ fn meaning(alloc: Global, tree: &Stmt, seen: Vec<Seen>) -> Result<Meaning, NoMem
 pub fn see_meaning<D: Shelf>(
     alloc: Global,
     house: &mut House<D>,
+    by: TxnId,
     place: u64,
     tree: &Stmt,
 ) -> Result<Meaning, RowFault>
@@ -156,8 +163,10 @@ pub fn see_meaning<D: Shelf>(
         (λ _. meant (take place (entries_of house.old)) tree.now ≡ Some meaning)) }
     ensures whole { Shows D.told house.old (entries_of house.old)
         → IfErr result (λ fault. Tells (D.told house.old.shelf) (λ _. IsDamage fault → ⊥)) }
+    ensures ready { IfOk result (λ _. IsReady D.told house.new) }
+    ensures stays { IfErr result (λ why. StaysRead D.told why house.new) }
     ensures cause { ReadCause (D.faults house.old.shelf) (D.faults house.new.shelf) result }
 {
-    let tables = seen(alloc, house, place, tree)?;
+    let tables = seen(alloc, house, by, place, tree)?;
     Ok(meaning(alloc, tree, tables)?)
 }

@@ -1,6 +1,5 @@
 use Rattle.std.proofs.Common.{sym, subst}
 use Rattle.hv_house.specs.House.{entries_of}
-use Rattle.hv_house.proofs.Ready.{asked-ready}
 use Rattle.hv_session.specs.Ways.{IsOnWay}
 use Rattle.hv_session.proofs.Passing.{asked-same, part-residual}
 use Rattle.hv_session.proofs.Cutting.{ended-part, halted-part, ended-comes, ended-truly}
@@ -10,17 +9,13 @@ use Rattle.hv_session.proofs.ends.come_to.Goals as goal
 pub see_meaning-requires-clause-built : goal.see_meaning-requires-clause-built
 see_meaning-requires-clause-built g c = c.requires.way.1.runs.built
 
-pub end_unseen-requires-clause-ready : goal.end_unseen-requires-clause-ready
-end_unseen-requires-clause-ready g c =
-    asked-ready g.D.Shelf.told c.args.house.now c.see_meaning.new.house c.in-Err.ensures.asked c.requires.ready
-
 pub end_unseen-requires-clause-way : goal.end_unseen-requires-clause-way
 end_unseen-requires-clause-way g c =
     (c.args.tree.now, subst (λ b. IsOnWay b c.args.way c.args.tree.now) (sym (asked-same g.D.Shelf.told c.args.house.now c.see_meaning.new.house c.in-Err.ensures.asked)) c.requires.way)
 
 pub returns-in-Ok-clause-part : goal.returns-in-Ok-clause-part
 returns-in-Ok-clause-part g c =
-    means-part g.D.Shelf.told g.D.Shelf.faults c.args.way.txn.0 c.args.house.now c.see_meaning.new.house c.in-Ok.ensures.asked c.in-Ok.meaning c.requires.ready c.in-Ok.ensures.cause.later
+    means-part g.D.Shelf.told g.D.Shelf.faults c.args.way.txn.0 c.args.house.now c.see_meaning.new.house c.in-Ok.ensures.asked c.in-Ok.meaning c.in-Ok.ensures.ready c.in-Ok.ensures.cause.later
 
 pub returns-in-Ok-clause-comes : goal.returns-in-Ok-clause-comes
 returns-in-Ok-clause-comes g c =

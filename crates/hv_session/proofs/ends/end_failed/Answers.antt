@@ -23,4 +23,4 @@ returns-then-fault_fits g c =
 
 pub returns-else-fault_fits : goal.returns-else-fault_fits
 returns-else-fault_fits g c =
-    record { ends = store-ends g.D.Shelf.told g.D.Shelf.faults c.args.way (fault.Failed c.args.count) c.args.house.now c.requires.ready (λ low risen. risen-store low _ risen.1) }
+    record { ends = store-ends g.D.Shelf.told g.D.Shelf.faults c.args.way (fault.Failed c.args.count) c.args.house.now c.requires.ready.kept.reads (λ low risen. risen-store low _ risen.1) }

@@ -2,11 +2,17 @@ use Rattle.std.proofs.Common.{refl, sym, subst, Err}
 use Rattle.hv_house.specs.declared.fault.HouseFault.TheVariants as fault
 use Rattle.hv_house.specs.declared.fault.RowFault.TheVariants as row_fault
 use Rattle.hv_history.specs.declared.entry.Cause.TheVariants as cause
-use Rattle.hv_house.specs.House.{entries_of}
+use Rattle.hv_house.specs.House.{entries_of, StaysRead}
 use Rattle.hv_session.specs.Ways.{EndsFor}
 use Rattle.hv_session.proofs.Shorts.{short_memory}
 use Rattle.hv_session.proofs.Cutting.{memory-fits, rows-true, cut-ends, store-ends}
 use Rattle.hv_session.proofs.ends.end_halted.Goals as goal
+
+pub end_failed-requires-clause-ready : goal.end_failed-requires-clause-ready
+end_failed-requires-clause-ready g c = subst (λ f. StaysRead g.D.Shelf.told (row_fault.House f) c.args.house.now) c.in-Failed.is c.requires.stays
+
+pub cut_off-requires-clause-ready : goal.cut_off-requires-clause-ready
+cut_off-requires-clause-ready g c = subst (λ f. StaysRead g.D.Shelf.told (row_fault.House f) c.args.house.now) c.in-NoMemory.is c.requires.stays
 
 pub cut_off-requires-clause-small : goal.cut_off-requires-clause-small
 cut_off-requires-clause-small g c = short_memory c.args.way.txn
@@ -30,5 +36,6 @@ pub returns-in-Store : goal.returns-in-Store
 returns-in-Store g c =
     record {
       ends = subst (λ f. EndsFor g.D.Shelf.told g.D.Shelf.faults c.args.way (row_fault.House f) c.args.house.now c.args.house.now (Err fault.Store)) (sym c.in-Store.is)
-          (store-ends g.D.Shelf.told g.D.Shelf.faults c.args.way fault.Store c.args.house.now c.requires.ready (λ low risen. risen));
+          (store-ends g.D.Shelf.told g.D.Shelf.faults c.args.way fault.Store c.args.house.now
+          (subst (λ f. StaysRead g.D.Shelf.told (row_fault.House f) c.args.house.now) c.in-Store.is c.requires.stays) (λ low risen. risen));
     }

@@ -1,12 +1,15 @@
 use Rattle.std.proofs.Common.{refl, sym, subst}
 use Rattle.hv_house.specs.declared.fault.RowFault.TheVariants as row_fault
 use Rattle.hv_history.specs.declared.entry.Cause.TheVariants as cause
-use Rattle.hv_house.specs.House.{entries_of}
+use Rattle.hv_house.specs.House.{entries_of, StaysRead}
 use Rattle.hv_house.specs.Faults.{IsShortDamage}
 use Rattle.hv_session.specs.Ways.{EndsFor}
 use Rattle.hv_session.proofs.Shorts.{short_damage}
 use Rattle.hv_session.proofs.Cutting.{damage-fits, rows-true, cut-ends}
 use Rattle.hv_session.proofs.ends.end_unseen.Goals as goal
+
+pub cut_off-requires-clause-ready : goal.cut_off-requires-clause-ready
+cut_off-requires-clause-ready g c = subst (λ f. StaysRead g.D.Shelf.told f c.args.house.now) c.in-Damaged.is c.requires.stays
 
 pub cut_off-requires-clause-small : goal.cut_off-requires-clause-small
 cut_off-requires-clause-small g c = short_damage c.args.way.txn c.in-Damaged.place (subst IsShortDamage c.in-Damaged.is c.requires.short)

@@ -1,0 +1,132 @@
+-- What a call that reads is as a step.
+use Rattle.std.proofs.Common.{◌≡◌, ◌≤◌, ℕ, Bool, true, false, true≢false, Option, Some, None, Result, Ok, Err, List, [], ◌++◌, refl, sym, ap, ◌∙◌, subst, arith, append-nil}
+use Rattle.std.specs.Prelude.{◌||◌, IfErr}
+use Rattle.hv_base.specs.Told.{Moves}
+use Rattle.hv_shelf.specs.Disk.{Store}
+use Rattle.hv_history.specs.declared.entry.Entry.{Entry}
+use Rattle.hv_trail.specs.declared.trail.Reader.{Reader}
+use Rattle.hv_trail.specs.Trail.{book_of, woven_from}
+use Rattle.hv_trail.specs.Kept.{trail_of}
+use Rattle.hv_trail.specs.Steps.{Call, Read, Outcome, Done, Closed, Refused, Failed, gains, shuts, locks_after, MayEnd, Changes, Counts, Step}
+use Rattle.hv_house.specs.declared.fault.HouseFault.{HouseFault}
+use Rattle.hv_house.specs.declared.fault.HouseFault.TheVariants as fault
+use Rattle.hv_house.specs.declared.fault.RowFault.{RowFault}
+use Rattle.hv_house.specs.declared.fault.RowFault.TheVariants as row_fault
+use Rattle.hv_house.specs.declared.house.House.{House}
+use Rattle.hv_house.specs.Faults.{HasRisenReading, ReadCause}
+use Rattle.hv_house.specs.House.{entries_of, IsReady, StaysRead}
+use Rattle.hv_house.specs.Steps.{seen_of, fault_outcome, reading_outcome, read_outcome, ClosesBy, KeepsFault, GainsBy}
+use Rattle.hv_house.proofs.Steps.{same-trail}
+
+-- ---- what the trail gains
+
+-- nothing was done
+pub gains-nothing : {D : Type 0} (call : Call) (outcome : Outcome) (before now : House D) → gains call outcome ≡ [] → shuts outcome ≡ false → before.trail.closed ≡ false
+    → now.place ≡ before.place → now.start ≡ before.start → entries_of now ≡ entries_of before → now.trail.marks ≡ before.trail.marks
+    → now.trail.opened ≡ before.trail.opened → now.trail.closed ≡ before.trail.closed → GainsBy call outcome before now
+gains-nothing call outcome before now none open_ running place start entries marks left closed = record {
+  place = place;
+  entries = entries;
+  start = start;
+  left = left;
+  trail = same-trail before now entries marks ∙ sym (append-nil (trail_of before.trail)) ∙ ap (λ items. trail_of before.trail ++ items) (sym none);
+  closed = closed ∙ running ∙ sym (ap (λ c. before.trail.closed || c) open_ ∙ ap (λ c. c || false) running);
+}
+
+-- a read that failed is kept in mind
+pub gains-fault : {D : Type 0} (by : Option Reader) (why : HouseFault) (before now : House D) → before.trail.closed ≡ false → KeepsFault by false why before now
+    → GainsBy (Read by) (reading_outcome (row_fault.House why)) before now
+gains-fault by (fault.Failed count) before now running keeps = record {
+  place = keeps.place;
+  entries = keeps.entries;
+  start = keeps.start;
+  left = keeps.left;
+  trail = keeps.trail;
+  closed = keeps.closed ∙ running ∙ sym (ap (λ c. c || false) running);
+}
+gains-fault by fault.Store before now running keeps = record {
+  place = keeps.place;
+  entries = keeps.entries;
+  start = keeps.start;
+  left = keeps.left;
+  trail = keeps.trail;
+  closed = keeps.closed ∙ sym (ap (λ c. c || true) running);
+}
+gains-fault by fault.NoMemory before now running keeps = record {
+  place = keeps.place;
+  entries = keeps.entries;
+  start = keeps.start;
+  left = keeps.left;
+  trail = keeps.trail;
+  closed = keeps.closed ∙ running ∙ sym (ap (λ c. c || false) running);
+}
+
+-- behind a call that left the trail as it was
+pub gains-behind : {D : Type 0} (call : Call) (outcome : Outcome) (first before now : House D) → before.place ≡ first.place → before.start ≡ first.start
+    → entries_of before ≡ entries_of first → before.trail.marks ≡ first.trail.marks → before.trail.opened ≡ first.trail.opened → before.trail.closed ≡ first.trail.closed
+    → GainsBy call outcome before now → GainsBy call outcome first now
+gains-behind call outcome first before now place start entries marks left closed gained = record {
+  place = gained.place ∙ place;
+  entries = gained.entries ∙ entries;
+  start = gained.start ∙ start;
+  left = gained.left ∙ left;
+  trail = gained.trail ∙ ap (λ items. items ++ gains call outcome) (same-trail first before entries marks);
+  closed = gained.closed ∙ ap (λ c. c || shuts outcome) closed;
+}
+
+-- ---- the step
+
+module _ {D : Type 0} (told : D → Option Store) (faults : D → ℕ) (by : Option Reader) (before now : House D) (running : before.trail.closed ≡ false)
+    (same : told now.shelf ≡ told before.shelf) (later : faults before.shelf ≤ faults now.shelf) where
+  moves-same : (R : Store → Store → Type 0) → ((s t : Store) → t ≡ s → R s t) → Moves R (told before.shelf) (told now.shelf)
+  moves-same R keeps = subst (λ (o : Option Store). Moves R (told before.shelf) o) (sym same) (by_cases (told before.shelf))
+    where
+      by_cases : (o : Option Store) → Moves R o o
+      by_cases None = tt
+      by_cases (Some s) = keeps s s refl
+
+  step-by : (outcome : Outcome) → MayEnd (Read by) outcome → ((book : List Entry) (s t : Store) → t ≡ s → Changes book (Read by) outcome s t)
+      → [] ≡ locks_after (Read by) outcome [] → Counts outcome (faults before.shelf) (faults now.shelf) → GainsBy (Read by) outcome before now
+      → Step told faults (Read by) outcome (seen_of before) (seen_of now)
+  step-by outcome may keeps locks counts gained = record {
+    may = may;
+    trail = gained.trail;
+    store = moves-same (Changes (book_of (trail_of before.trail)) (Read by) outcome) (keeps (book_of (trail_of before.trail)));
+    closed = gained.closed;
+    shut_out = λ shut. absurd (true≢false (sym shut ∙ running));
+    locks = locks;
+    counts = counts;
+    rest = record { start = ap (λ s. s.value) gained.start; opened = gained.left; limits = refl };
+  }
+
+  pub step-read : GainsBy (Read by) Done before now → Step told faults (Read by) Done (seen_of before) (seen_of now)
+  step-read gained = step-by Done tt (λ book s t e. e) refl later gained
+
+  pub step-unread : (why : RowFault) → HasRisenReading (faults before.shelf) (faults now.shelf) why → GainsBy (Read by) (reading_outcome why) before now
+      → Step told faults (Read by) (reading_outcome why) (seen_of before) (seen_of now)
+  step-unread (row_fault.Damaged place) rose gained = step-by Refused tt (λ book s t e. e) refl later gained
+  step-unread (row_fault.House fault.Store) rose gained = step-by Closed tt (λ book s t e. e) refl later gained
+  step-unread (row_fault.House fault.NoMemory) rose gained = step-by Refused tt (λ book s t e. e) refl later gained
+  step-unread (row_fault.House (fault.Failed count)) rose gained = step-by (Failed count) tt (λ book s t e. e) refl (rose.0, omega (arith, rose.1)) gained
+
+-- ---- what is passed up
+
+pub step-up : {D T : Type 0} (told : D → Option Store) (faults : D → ℕ) (call : Call) (result : Result T RowFault) (why same : RowFault) (before now : House D)
+    → result ≡ Err same → same ≡ why → Step told faults call (reading_outcome why) (seen_of before) (seen_of now)
+    → Step told faults call (read_outcome result) (seen_of before) (seen_of now)
+step-up {T = T} told faults call result why same before now is e step =
+    subst (λ (r : Result T RowFault). Step told faults call (read_outcome r) (seen_of before) (seen_of now)) (sym is)
+    (subst (λ (w : RowFault). Step told faults call (reading_outcome w) (seen_of before) (seen_of now)) (sym e) step)
+
+pub stays-up : {D T : Type 0} (told : D → Option Store) (result : Result T RowFault) (why same : RowFault) (now : House D)
+    → result ≡ Err same → same ≡ why → StaysRead told why now → IfErr result (λ w. StaysRead told w now)
+stays-up {T = T} told result why same now is e stays =
+    subst (λ (r : Result T RowFault). IfErr r (λ w. StaysRead told w now)) (sym is) (subst (λ (w : RowFault). StaysRead told w now) (sym e) stays)
+
+-- nothing was read, for want of memory
+pub step-idle : {D T : Type 0} (told : D → Option Store) (faults : D → ℕ) (by : Option Reader) (result : Result T RowFault) (house : House D)
+    → result ≡ Err (row_fault.House fault.NoMemory) → IsReady told house → Step told faults (Read by) (read_outcome result) (seen_of house) (seen_of house)
+step-idle {T = T} told faults by result house is ready =
+    step-up {T = T} told faults (Read by) result (row_fault.House fault.NoMemory) (row_fault.House fault.NoMemory) house house is refl
+    (step-unread told faults by house house ready.kept.running refl (omega arith) (row_fault.House fault.NoMemory) tt
+    (gains-nothing (Read by) Refused house house refl refl ready.kept.running refl refl refl refl refl refl))
