@@ -14,6 +14,7 @@ ghost use Rattle.hv_stands.specs.Running.{Asking, IsOf, HasAnswered};
 ghost use Rattle.hv_conflicts.specs.Clashes.{IsClash};
 ghost use Rattle.hv_house.specs.Faults.{FileCause, EndsRun};
 ghost use Rattle.hv_house.specs.House.{entries_of, IsSmall, IsReady, Shows};
+ghost use Rattle.hv_house.specs.Steps.{IsMarked};
 ghost use Rattle.hv_ending.specs.declared.ready.End.TheVariants as last;
 ghost use Rattle.hv_ending.specs.Ending.{aborting, committing, creating, Concludes, IsReadyToEnd, IsTrulyReady, HasStopped, StopsAtOne};
 ghost use Rattle.hv_ending.specs.Steps.{Goes, IsAdded, IsLeftOut, HasDone, DoneOrLacks, AbortedOrLacks, IsConflictOf, conflict_cause, conflict_text, Conclusion};
@@ -38,6 +39,7 @@ fn note_last<D: Shelf>(
     requires tree { tree_of_entry entry ≡ None }
     requires small { IsSmall entry }
     requires fits { Fits profile (state_of (entries_of house.old)) entry }
+    requires marked { IsMarked house.old entry }
     ensures done { IfOk result (HasDone entry text (entries_of house.old) (entries_of house.new)) }
     ensures added { IfOk result (λ _. IsAdded D.told D.faults entry house.old house.new) }
     ensures left { IfErr result (λ why. IsLeftOut D.told D.faults entry why house.old house.new) }
@@ -64,6 +66,7 @@ fn note_end<D: Shelf>(
     requires small { IsSmall entry }
     requires of_it { IsOf txn.0 entry }
     requires fits { Fits profile (state_of (entries_of house.old)) entry }
+    requires marked { IsMarked house.old entry }
     requires memory { Fits profile (state_of (entries_of house.old)) (aborting txn.0 Memory) }
     ensures done { IfOk result (DoneOrLacks txn.0 entry text
         (entries_of house.old) (entries_of house.new)) }
@@ -145,6 +148,7 @@ fn note_conflict<D: Shelf>(
     requires ready { IsReady D.told house.old }
     requires small { IsSmall (aborting txn.0 conflict.cause) }
     requires fits { Fits profile (state_of (entries_of house.old)) (aborting txn.0 conflict.cause) }
+    requires marked { IsMarked house.old (aborting txn.0 conflict.cause) }
     requires memory { Fits profile (state_of (entries_of house.old)) (aborting txn.0 Memory) }
     ensures aborted { IfOk result (AbortedOrLacks txn.0 conflict.cause conflict.text.items
         (entries_of house.old) (entries_of house.new)) }

@@ -12,6 +12,7 @@ ghost use Rattle.hv_journal.specs.Appending.{KeepsTree};
 ghost use Rattle.hv_stands.specs.Running.{Asking, IsOf, IsWaiting, IsUnderWay, HasAnswered};
 ghost use Rattle.hv_house.specs.Faults.{FileCause, EndsRun};
 ghost use Rattle.hv_house.specs.House.{entries_of, IsSmall, IsReady, StaysReady, Shows};
+ghost use Rattle.hv_house.specs.Steps.{IsMarked};
 ghost use Rattle.hv_ending.specs.Ending.{aborting, EndsUncommitted, IsAborted, HasStopped, StopsAtOne};
 ghost use Rattle.hv_ending.specs.Steps.{Goes, IsAdded, IsLeftOut, HasAborted, LacksMemory, IsWithdrawn};
 
@@ -28,6 +29,7 @@ pub fn note<D: Shelf>(house: &mut House<D>, entry: Entry) -> Result<(), HouseFau
     requires tree { tree_of_entry entry ≡ None }
     requires small { IsSmall entry }
     requires fits { Fits profile (state_of (entries_of house.old)) entry }
+    requires marked { IsMarked house.old entry }
     ensures added { IfOk result (λ _. IsAdded D.told D.faults entry house.old house.new) }
     ensures left { IfErr result (λ why. IsLeftOut D.told D.faults entry why house.old house.new) }
 {
@@ -44,6 +46,7 @@ pub fn abort_with<D: Shelf>(
     requires ready { IsReady D.told house.old }
     requires small { IsSmall (aborting txn.0 cause) }
     requires fits { Fits profile (state_of (entries_of house.old)) (aborting txn.0 cause) }
+    requires marked { IsMarked house.old (aborting txn.0 cause) }
     ensures aborted { IfOk result
         (HasAborted txn.0 cause text.items (entries_of house.old) (entries_of house.new)) }
     ensures added { IfOk result (λ _.
@@ -70,6 +73,7 @@ fn abort<D: Shelf>(
     requires ready { IsReady D.told house.old }
     requires small { IsSmall (aborting txn.0 cause) }
     requires fits { Fits profile (state_of (entries_of house.old)) (aborting txn.0 cause) }
+    requires marked { IsMarked house.old (aborting txn.0 cause) }
     ensures aborted { IfOk result (HasAborted txn.0 cause (cause_text None cause)
         (entries_of house.old) (entries_of house.new)) }
     ensures added { IfOk result (λ _.
@@ -130,6 +134,7 @@ pub fn withdraw<D: Shelf>(
     requires ready { IsReady D.told house.old }
     requires small { IsSmall (aborting txn.0 cause) }
     requires fits { Fits profile (state_of (entries_of house.old)) (aborting txn.0 cause) }
+    requires marked { IsMarked house.old (aborting txn.0 cause) }
     ensures withdrawn { IfOk result
         (IsWithdrawn txn.0 cause (entries_of house.old) (entries_of house.new)) }
     ensures goes { Goes D.told D.faults KeepsTree txn.0 house.old house.new result }
@@ -161,6 +166,7 @@ pub fn refuse<D: Shelf>(
     requires ready { IsReady D.told house.old }
     requires small { IsSmall (aborting txn.0 cause) }
     requires fits { Fits profile (state_of (entries_of house.old)) (aborting txn.0 cause) }
+    requires marked { IsMarked house.old (aborting txn.0 cause) }
     requires uncommitted { EndsUncommitted cause }
     ensures ready { IfOk result (λ _. IsReady D.told house.new) }
     ensures aborted { IfOk result (λ _.

@@ -1,10 +1,16 @@
 -- What a call that reads is as a step.
 use Rattle.std.proofs.Common.{◌≡◌, ◌≤◌, ℕ, Bool, true, false, true≢false, Option, Some, None, Result, Ok, Err, List, [], ◌++◌, refl, sym, ap, ◌∙◌, subst, arith, append-nil}
-use Rattle.std.specs.Prelude.{◌||◌, IfErr}
+use Rattle.std.specs.Prelude.{◌||◌, ◌∷◌, Contains, IfErr}
+use Rattle.std.proofs.lemmas.List.Elements.{Contains-append_right}
+use Rattle.hv_base.specs.declared.ids.TxnId.{TxnId}
 use Rattle.hv_base.specs.Told.{Moves}
 use Rattle.hv_shelf.specs.Disk.{Store}
 use Rattle.hv_history.specs.declared.entry.Entry.{Entry}
 use Rattle.hv_trail.specs.declared.trail.Reader.{Reader}
+use Rattle.hv_trail.specs.declared.trail.Reader.TheVariants.{Txn}
+use Rattle.hv_trail.specs.declared.trail.Mark.TheVariants.{Broke}
+use Rattle.hv_trail.specs.declared.trail.TrailItem.{TrailItem}
+use Rattle.hv_trail.specs.declared.trail.TrailItem.TheVariants.{Marked}
 use Rattle.hv_trail.specs.Trail.{book_of, woven_from}
 use Rattle.hv_trail.specs.Kept.{trail_of}
 use Rattle.hv_trail.specs.Steps.{Call, Read, Outcome, Done, Closed, Refused, Failed, gains, shuts, locks_after, MayEnd, Changes, Counts, Step}
@@ -15,7 +21,7 @@ use Rattle.hv_house.specs.declared.fault.RowFault.TheVariants as row_fault
 use Rattle.hv_house.specs.declared.house.House.{House}
 use Rattle.hv_house.specs.Faults.{HasRisenReading, ReadCause}
 use Rattle.hv_house.specs.House.{entries_of, IsReady, StaysRead}
-use Rattle.hv_house.specs.Steps.{seen_of, fault_outcome, reading_outcome, read_outcome, ClosesBy, KeepsFault, GainsBy}
+use Rattle.hv_house.specs.Steps.{seen_of, fault_outcome, reading_outcome, read_outcome, ClosesBy, KeepsFault, GainsBy, IsMarkedFor}
 use Rattle.hv_house.proofs.Steps.{same-trail}
 
 -- ---- what the trail gains
@@ -109,7 +115,25 @@ module _ {D : Type 0} (told : D → Option Store) (faults : D → ℕ) (by : Opt
   step-unread (row_fault.House fault.NoMemory) rose gained = step-by Refused tt (λ book s t e. e) refl later gained
   step-unread (row_fault.House (fault.Failed count)) rose gained = step-by (Failed count) tt (λ book s t e. e) refl (rose.0, omega (arith, rose.1)) gained
 
+-- ---- the mark of a fault stands
+
+contains-last : (items : List TrailItem) (item : TrailItem) → Contains (items ++ item ∷ []) item
+contains-last items item = Contains-append_right items (item ∷ []) item (0, omega arith, refl)
+
+pub read-marked : {D : Type 0} (by : TxnId) (why : RowFault) (before now : House D) → GainsBy (Read (Some (Txn by))) (reading_outcome why) before now → IsMarkedFor now by why
+read-marked by (row_fault.House (fault.Failed count)) before now gained =
+    subst (λ (items : List TrailItem). Contains items (Marked (Broke (Some (Txn by)) false count))) (sym gained.trail)
+    (contains-last (trail_of before.trail) (Marked (Broke (Some (Txn by)) false count)))
+read-marked by (row_fault.House fault.Store) before now gained = tt
+read-marked by (row_fault.House fault.NoMemory) before now gained = tt
+read-marked by (row_fault.Damaged place) before now gained = tt
+
 -- ---- what is passed up
+
+pub marked-up : {D T : Type 0} (by : TxnId) (result : Result T RowFault) (why same : RowFault) (now : House D) → result ≡ Err same → same ≡ why
+    → IsMarkedFor now by why → IfErr result (IsMarkedFor now by)
+marked-up {T = T} by result why same now is e marked =
+    subst (λ (r : Result T RowFault). IfErr r (IsMarkedFor now by)) (sym is) (subst (IsMarkedFor now by) (sym e) marked)
 
 pub step-up : {D T : Type 0} (told : D → Option Store) (faults : D → ℕ) (call : Call) (result : Result T RowFault) (why same : RowFault) (before now : House D)
     → result ≡ Err same → same ≡ why → Step told faults call (reading_outcome why) (seen_of before) (seen_of now)

@@ -1,7 +1,12 @@
 -- A house as steps: what those see of it who act on it, and how its calls end.
-use Rattle.std.specs.Prelude.{◌≡◌, ◌||◌, Bool, true, false, Option, List, [], ◌∷◌, ◌++◌, length, map, Result, Ok, Err}
+use Rattle.std.specs.Prelude.{◌≡◌, ℕ, ◌||◌, Bool, true, false, Option, Some, List, [], ◌∷◌, ◌++◌, length, map, Contains, Result, Ok, Err}
+use Rattle.hv_base.specs.declared.ids.TxnId.{TxnId}
+use Rattle.hv_history.specs.declared.entry.Entry.{Entry}
+use Rattle.hv_history.specs.declared.entry.Entry.TheVariants as entry
+use Rattle.hv_history.specs.declared.entry.Cause.TheVariants as cause
 use Rattle.hv_history.specs.Legal.{profile}
 use Rattle.hv_trail.specs.declared.trail.Reader.{Reader}
+use Rattle.hv_trail.specs.declared.trail.Reader.TheVariants.{Txn}
 use Rattle.hv_trail.specs.declared.trail.Mark.TheVariants.{Broke}
 use Rattle.hv_trail.specs.declared.trail.TrailItem.{TrailItem}
 use Rattle.hv_trail.specs.declared.trail.TrailItem.TheVariants.{Noted, Marked}
@@ -81,6 +86,22 @@ pub record GainsBy {D : Type 0} (call : Call) (outcome : Outcome) (before now : 
   pub left : now.trail.opened ≡ before.trail.opened
   pub trail : trail_of now.trail ≡ trail_of before.trail ++ gains call outcome
   pub closed : now.trail.closed ≡ before.trail.closed || shuts outcome
+
+-- a read of this transaction failed, with this count
+abbrev pub HasBroken : {D : Type 0} → House D → TxnId → ℕ → Type 0
+HasBroken house by count = Contains (trail_of house.trail) (Marked (Broke (Some (Txn by)) false count))
+
+-- a fault of reading that has a count has a mark
+abbrev pub IsMarkedFor : {D : Type 0} → House D → TxnId → RowFault → Type 0
+IsMarkedFor house by (row_fault.House (fault.Failed count)) = HasBroken house by count
+IsMarkedFor house by (row_fault.House fault.Store) = Unit {0}
+IsMarkedFor house by (row_fault.House fault.NoMemory) = Unit {0}
+IsMarkedFor house by (row_fault.Damaged place) = Unit {0}
+
+-- an abort for a read that failed keeps the count of a mark of its transaction
+abbrev pub IsMarked : {D : Type 0} → House D → Entry → Type 0
+IsMarked house (entry.Abort txn (cause.ReadFault count)) = HasBroken house txn count
+IsMarked house event = Unit {0}
 
 -- a house that was opened over this store: its trail is its book, and its opening left all of it
 pub record IsOpenedOver {D : Type 0} (shelf : D) (house : House D) : Type 0 where

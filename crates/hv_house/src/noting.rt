@@ -10,7 +10,7 @@ ghost use Rattle.hv_trail.specs.Steps.{Step};
 ghost use Rattle.hv_trail.specs.Steps as calls;
 ghost use Rattle.hv_house.specs.Faults.{FileCause, EndsRun};
 ghost use Rattle.hv_house.specs.House.{entries_of, IsSmall, BeginFits, beginning_of, IsReady, StaysReady, AreNoted, IsNoted, AreHalted, IsHalted};
-ghost use Rattle.hv_house.specs.Steps.{seen_of, outcome_of};
+ghost use Rattle.hv_house.specs.Steps.{seen_of, outcome_of, IsMarked};
 
 use crate::fault::HouseFault;
 use crate::house::House;
@@ -27,6 +27,7 @@ impl<D: Shelf> House<D> {
         requires tree { tree ≡ tree_of_entry entry }
         requires small { IsSmall entry }
         requires fits { Fits profile (state_of (entries_of self.old)) entry }
+        requires marked { IsMarked self.old entry }
         ensures ready { OnOk result (IsReady D.told self.new) }
         ensures noted { OnOk result (IsNoted D.told entry self.old self.new) }
         ensures stays { IfErr result (λ why. StaysReady D.told why self.new) }

@@ -10,7 +10,7 @@ ghost use Rattle.hv_trail.specs.Steps.{Step};
 ghost use Rattle.hv_trail.specs.Steps as calls;
 ghost use Rattle.hv_house.specs.Faults.{failed_with, read_fault, ReadCause, IsShortDamage, IsDamage};
 ghost use Rattle.hv_house.specs.House.{entries_of, IsReady, StaysRead, IsAsked};
-ghost use Rattle.hv_house.specs.Steps.{seen_of, reading_outcome, read_outcome, KeepsFault, GainsBy};
+ghost use Rattle.hv_house.specs.Steps.{seen_of, reading_outcome, read_outcome, KeepsFault, GainsBy, IsMarkedFor};
 ghost use Rattle.hv_house.specs.Seeing.{info_of_name, AreRead, IsSeenOf, IsSpoiled};
 
 use crate::fault::{HouseFault, RowFault};
@@ -132,6 +132,7 @@ impl<D: Shelf> House<D> {
             → IsSpoiled (D.told self.old.shelf) (state_of (take place (entries_of self.old)))) }
         ensures ready { IfOk result (λ _. IsReady D.told self.new) }
         ensures stays { IfErr result (λ why. StaysRead D.told why self.new) }
+        ensures marked { IfErr result (IsMarkedFor self.new by) }
         ensures step { Step D.told D.faults (calls.Read (Some (Txn by))) (read_outcome result)
             (seen_of self.old) (seen_of self.new) }
         ensures cause { ReadCause (D.faults self.old.shelf) (D.faults self.new.shelf) result }

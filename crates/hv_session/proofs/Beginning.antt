@@ -32,6 +32,7 @@ use Rattle.hv_house.specs.declared.fault.HouseFault.TheVariants as fault
 use Rattle.hv_house.specs.declared.house.House.{House}
 use Rattle.hv_house.specs.Faults.{FileCause, EndsRun}
 use Rattle.hv_house.specs.House.{entries_of, IsReady, IsSmall, IsFaithful, Shows, AreNoted, AreHalted, StaysReady, Leaves}
+use Rattle.hv_house.specs.Steps.{IsMarked}
 use Rattle.hv_ending.specs.declared.ready.Way.{Way}
 use Rattle.hv_ending.specs.declared.ready.Reply.{Reply}
 use Rattle.hv_ending.specs.Ending.{KeepsCount, IsUndamaged, EndsUncommitted, IsAborted, HasStopped, aborting}
@@ -285,6 +286,12 @@ hinders-uncommitted (cause.Blocked holder) hinders = tt
 hinders-uncommitted cause.Full hinders = tt
 hinders-uncommitted cause.Memory hinders = tt
 hinders-uncommitted why hinders = absurd hinders
+
+pub hinders-marked : {D : Type 0} (house : House D) (txn : ℕ) (why : Cause) → Hinders why → IsMarked house (aborting txn why)
+hinders-marked house txn (cause.Blocked holder) hinders = tt
+hinders-marked house txn cause.Full hinders = tt
+hinders-marked house txn cause.Memory hinders = tt
+hinders-marked house txn why hinders = absurd hinders
 
 module _ (why : Cause) (hinders : Hinders why) where
   hinders-of : (of : Cause) → ((of ≡ why) ⊎ (of ≡ cause.Memory)) → Hinders of

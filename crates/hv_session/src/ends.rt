@@ -8,6 +8,7 @@ ghost use Rattle.hv_history.specs.State.{state_of};
 ghost use Rattle.hv_stands.specs.Running.{Asking, meant, IsUnderWay};
 ghost use Rattle.hv_house.specs.Faults.{IsShortDamage};
 ghost use Rattle.hv_house.specs.House.{entries_of, IsSmall, IsReady, StaysRead, Shows};
+ghost use Rattle.hv_house.specs.Steps.{IsMarked, IsMarkedFor};
 ghost use Rattle.hv_house.specs.declared.fault.HouseFault.TheVariants as fault;
 ghost use Rattle.hv_house.specs.declared.fault.RowFault.TheVariants as row_fault;
 ghost use Rattle.hv_ending.specs.Ending.{aborting, CanEnd, EndsUncommitted, IsPreparedIn};
@@ -41,6 +42,7 @@ fn cut_off<D: Shelf>(
     requires ready { IsReady D.told house.old }
     requires small { IsSmall (aborting way.txn.0 cause) }
     requires fits { Fits profile (state_of (entries_of house.old)) (aborting way.txn.0 cause) }
+    requires marked { IsMarked house.old (aborting way.txn.0 cause) }
     requires uncommitted { EndsUncommitted cause }
     ensures cuts { CutsOff D.told D.faults way cause house.old house.new result }
 {
@@ -67,6 +69,7 @@ fn end_failed<D: Shelf>(
     count: u64,
 ) -> Result<Reply, HouseFault>
     requires ready { IsReady D.told house.old }
+    requires marked { IsMarkedFor house.old way.txn (row_fault.House (fault.Failed count)) }
     requires way { (said : Tree) × IsOnWay (entries_of house.old) way said }
     ensures ends { EndsFor D.told D.faults way (row_fault.House (fault.Failed count)) house.old house.new result }
 {
@@ -85,6 +88,7 @@ fn end_halted<D: Shelf>(
     fault: HouseFault,
 ) -> Result<Reply, HouseFault>
     requires stays { StaysRead D.told (row_fault.House fault) house.old }
+    requires marked { IsMarkedFor house.old way.txn (row_fault.House fault) }
     requires way { (said : Tree) × IsOnWay (entries_of house.old) way said }
     ensures ends { EndsFor D.told D.faults way (row_fault.House fault) house.old house.new result }
 {
@@ -103,6 +107,7 @@ fn end_unseen<D: Shelf>(
     fault: RowFault,
 ) -> Result<Reply, HouseFault>
     requires stays { StaysRead D.told fault house.old }
+    requires marked { IsMarkedFor house.old way.txn fault }
     requires way { (said : Tree) × IsOnWay (entries_of house.old) way said }
     requires short { IsShortDamage fault }
     ensures ends { EndsFor D.told D.faults way fault house.old house.new result }

@@ -9,6 +9,7 @@ ghost use Rattle.hv_meaning.specs.Laws.{MeansSomething, are_values, reads_rows};
 ghost use Rattle.hv_stands.specs.Running.{meant};
 ghost use Rattle.hv_house.specs.Faults.{ReadCause, IsShortDamage, IsDamage};
 ghost use Rattle.hv_house.specs.House.{entries_of, IsAsked, IsReady, StaysRead, Shows};
+ghost use Rattle.hv_house.specs.Steps.{IsMarkedFor};
 ghost use Rattle.hv_house.specs.Seeing.{IsSpoiled};
 ghost use Rattle.hv_ending.specs.Ending.{CanEnd};
 ghost use Rattle.hv_session.specs.Seeing.{AddsSeen, IsSeen, IsNarrow, state_at};
@@ -68,6 +69,7 @@ fn see_next<D: Shelf>(
         → IsSpoiled (D.told house.old.shelf) (state_at (entries_of house.old) place)) }
     ensures ready { OnOk result (IsReady D.told house.new) }
     ensures stays { IfErr result (λ why. StaysRead D.told why house.new) }
+    ensures marked { IfErr result (IsMarkedFor house.new by) }
     ensures cause { ReadCause (D.faults house.old.shelf) (D.faults house.new.shelf) result }
 {
     if let Some(table) = house.see(alloc, by, place, name, reads)? {
@@ -93,6 +95,7 @@ fn seen<D: Shelf>(
         → IsSpoiled (D.told house.old.shelf) (state_at (entries_of house.old) place)) }
     ensures ready { IfOk result (λ _. IsReady D.told house.new) }
     ensures stays { IfErr result (λ why. StaysRead D.told why house.new) }
+    ensures marked { IfErr result (IsMarkedFor house.new by) }
     ensures cause { ReadCause (D.faults house.old.shelf) (D.faults house.new.shelf) result }
 {
     let names = names_in(alloc, tree)?;
@@ -165,6 +168,7 @@ pub fn see_meaning<D: Shelf>(
         → IfErr result (λ fault. Tells (D.told house.old.shelf) (λ _. IsDamage fault → ⊥)) }
     ensures ready { IfOk result (λ _. IsReady D.told house.new) }
     ensures stays { IfErr result (λ why. StaysRead D.told why house.new) }
+    ensures marked { IfErr result (IsMarkedFor house.new by) }
     ensures cause { ReadCause (D.faults house.old.shelf) (D.faults house.new.shelf) result }
 {
     let tables = seen(alloc, house, by, place, tree)?;

@@ -3,6 +3,7 @@ use Rattle.hv_history.specs.declared.entry.Cause.{Cause}
 use Rattle.hv_history.specs.State.{state_of}
 use Rattle.hv_history.specs.Legal.{Fits, profile}
 use Rattle.hv_house.specs.House.{entries_of, IsSmall}
+use Rattle.hv_house.specs.Steps.{IsMarked}
 use Rattle.hv_ending.specs.Ending.{aborting}
 use Rattle.hv_ending.proofs.Shorts.{short_conflict}
 use Rattle.hv_ending.proofs.Ending.{conflict-fits}
@@ -19,3 +20,8 @@ note_conflict-requires-clause-fits g c =
     let found = c.in-Ok.ensures.conflict c.requires.clash.touch c.requires.clash.found in
     subst (λ (why : Cause). Fits profile (state_of (entries_of c.args.house.now)) (aborting c.args.way.txn.0 why)) (sym found.cause_is)
     (conflict-fits (entries_of c.args.house.now) c.args.way.txn.0 c.args.wrote.now c.args.found c.requires.clash.touch c.requires.running c.requires.clash c.requires.clash.found)
+
+pub note_conflict-requires-clause-marked : goal.note_conflict-requires-clause-marked
+note_conflict-requires-clause-marked g c =
+    let found = c.in-Ok.ensures.conflict c.requires.clash.touch c.requires.clash.found in
+    subst (λ (why : Cause). IsMarked c.args.house.now (aborting c.args.way.txn.0 why)) (sym found.cause_is) tt

@@ -3,6 +3,7 @@ use Rattle.hv_house.specs.declared.fault.HouseFault.TheVariants as fault
 use Rattle.hv_house.specs.declared.fault.RowFault.TheVariants as row_fault
 use Rattle.hv_history.specs.declared.entry.Cause.TheVariants as cause
 use Rattle.hv_house.specs.House.{entries_of, StaysRead}
+use Rattle.hv_house.specs.Steps.{IsMarkedFor}
 use Rattle.hv_session.specs.Ways.{EndsFor}
 use Rattle.hv_session.proofs.Shorts.{short_memory}
 use Rattle.hv_session.proofs.Cutting.{memory-fits, rows-true, cut-ends, store-ends}
@@ -10,6 +11,9 @@ use Rattle.hv_session.proofs.ends.end_halted.Goals as goal
 
 pub end_failed-requires-clause-ready : goal.end_failed-requires-clause-ready
 end_failed-requires-clause-ready g c = subst (λ f. StaysRead g.D.Shelf.told (row_fault.House f) c.args.house.now) c.in-Failed.is c.requires.stays
+
+pub end_failed-requires-clause-marked : goal.end_failed-requires-clause-marked
+end_failed-requires-clause-marked g c = subst (λ f. IsMarkedFor c.args.house.now c.args.way.txn (row_fault.House f)) c.in-Failed.is c.requires.marked
 
 pub cut_off-requires-clause-ready : goal.cut_off-requires-clause-ready
 cut_off-requires-clause-ready g c = subst (λ f. StaysRead g.D.Shelf.told (row_fault.House f) c.args.house.now) c.in-NoMemory.is c.requires.stays

@@ -2,11 +2,18 @@ use Rattle.std.proofs.Common.{refl, sym, subst}
 use Rattle.hv_house.specs.declared.fault.RowFault.TheVariants as row_fault
 use Rattle.hv_history.specs.declared.entry.Cause.TheVariants as cause
 use Rattle.hv_house.specs.House.{entries_of, StaysRead}
+use Rattle.hv_house.specs.Steps.{IsMarkedFor}
 use Rattle.hv_house.specs.Faults.{IsShortDamage}
 use Rattle.hv_session.specs.Ways.{EndsFor}
 use Rattle.hv_session.proofs.Shorts.{short_damage}
 use Rattle.hv_session.proofs.Cutting.{damage-fits, rows-true, cut-ends}
 use Rattle.hv_session.proofs.ends.end_unseen.Goals as goal
+
+pub end_halted-requires-clause-stays : goal.end_halted-requires-clause-stays
+end_halted-requires-clause-stays g c = subst (λ f. StaysRead g.D.Shelf.told f c.args.house.now) c.in-House.is c.requires.stays
+
+pub end_halted-requires-clause-marked : goal.end_halted-requires-clause-marked
+end_halted-requires-clause-marked g c = subst (λ f. IsMarkedFor c.args.house.now c.args.way.txn f) c.in-House.is c.requires.marked
 
 pub cut_off-requires-clause-ready : goal.cut_off-requires-clause-ready
 cut_off-requires-clause-ready g c = subst (λ f. StaysRead g.D.Shelf.told f c.args.house.now) c.in-Damaged.is c.requires.stays

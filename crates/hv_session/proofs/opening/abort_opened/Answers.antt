@@ -1,6 +1,6 @@
 use Rattle.hv_base.specs.Told.{Tells}
 use Rattle.hv_house.specs.House.{entries_of}
-use Rattle.hv_session.proofs.Beginning.{hinders-small, hinders-uncommitted, hinders-told, hindered-by, aborted-part}
+use Rattle.hv_session.proofs.Beginning.{hinders-small, hinders-uncommitted, hinders-marked, hinders-told, hindered-by, aborted-part}
 use Rattle.hv_session.proofs.opening.abort_opened.Goals as goal
 
 pub refuse-requires-clause-small : goal.refuse-requires-clause-small
@@ -11,6 +11,9 @@ refuse-requires-clause-fits g c = c.hindrance-cause.ensures.hinders.fits
 
 pub refuse-requires-clause-uncommitted : goal.refuse-requires-clause-uncommitted
 refuse-requires-clause-uncommitted g c = hinders-uncommitted c.hindrance-cause.result c.hindrance-cause.ensures.hinders.hinders
+
+pub refuse-requires-clause-marked : goal.refuse-requires-clause-marked
+refuse-requires-clause-marked g c = hinders-marked c.args.house.now c.args.txn.0 c.hindrance-cause.result c.hindrance-cause.ensures.hinders.hinders
 
 pub returns : goal.returns
 returns g c =

@@ -1,5 +1,6 @@
-use Rattle.std.proofs.Common.{◌++◌, ◌∷◌, [], ap, ◌∙◌, arith}
+use Rattle.std.proofs.Common.{◌++◌, ◌∷◌, [], sym, ap, ◌∙◌, subst, arith}
 use Rattle.hv_house.specs.House.{entries_of}
+use Rattle.hv_house.specs.Steps.{IsMarked}
 use Rattle.hv_session.proofs.Shorts.{small-opened}
 use Rattle.hv_session.proofs.Beginning.{opened-tree, opened-waits, opened-runs, opened-of, opened-begun, noted-passed, noted-shows, unopened-part, unopened-truly, turned-away, renumbered}
 use Rattle.hv_session.proofs.Passing.{part-behind}
@@ -12,6 +13,9 @@ note-requires-clause-tree g c =
 pub note-requires-clause-small : goal.note-requires-clause-small
 note-requires-clause-small g c =
     let opened = c.requires.opened in small-opened (entries_of c.args.house.now) opened.0 c.args.opened opened.1 opened.4 opened.3
+
+pub note-requires-clause-marked : goal.note-requires-clause-marked
+note-requires-clause-marked g c = subst (λ e. IsMarked c.args.house.now e) (sym c.requires.opened.1) tt
 
 pub abort_opened-requires-clause-waiting : goal.abort_opened-requires-clause-waiting
 abort_opened-requires-clause-waiting g c =
