@@ -6,8 +6,8 @@ use Rattle.hv_house.specs.Seeing.{IsSpoiled}
 use Rattle.hv_house.proofs.Seen.{found-by, seen-found, seen-none-by, spoiled, err-spoils}
 use Rattle.hv_house.proofs.house.House.see.Goals as goal
 
-pub rows_for-requires : goal.rows_for-requires
-rows_for-requires g c =
+pub rows_for-requires-clause-given : goal.rows_for-requires-clause-given
+rows_for-requires-clause-given g c =
     let is = found-by (entries_of c.args.self.now) c.args.place c.requires.ready.fit c.book-book.result.now.entries c.book-book.ensures.entries c.args.name.now c.as_slice.result.now
     (c.as_slice.ensures ∙ c.in_ok-catalog.ensures.catalog) c.in_ok-info.field-0 c.in_ok-info.ensures c.in-Some.info c.in-Some.is c.in_ok-ids-in-Some.ids.given
     c.in_ok-ids-in-Some.ids.lost.items c.deref.result.now c.in_ok-ids-in-Some.ensures.given c.in_ok-ids-in-Some.ensures.lost c.deref.ensures.value
