@@ -254,9 +254,10 @@ item-in-turn : (start book : List Entry) (before now : Standing) (place : Place)
     → AreInTurn start book between now rest more later those)
     → AreInTurn start book before now (option_to_list (action_for place item kind) ++ rest) output refused done
 item-in-turn start book before now place item Statement rest output refused ok done h next =
-    let free = (or_parts (nat_lt 32768 (length item.bytes) || nat_le 10000 place.statements) (is_held place.current place.held) ok).1 in
-    (nobody-waits place.current place.held before.waiting free h.known,
-    next done.0 done.2 done.4 done.6 (run-settles start book before done.0 place item done.1 done.3 free done.5 h))
+    let free = (or_parts (nat_lt 32768 (length item.bytes) || nat_le 10000 place.statements) (is_held place.current place.held) ok).1 in (
+      nobody-waits place.current place.held before.waiting free h.known,
+      next done.0 done.2 done.4 done.6 (run-settles start book before done.0 place item done.1 done.3 free done.5 h),
+    )
 item-in-turn start book before now place item (Session name) rest output refused ok done h next =
     (tt, next done.0 done.2 done.4 done.6 (subst (λ (s : Standing). Settles place.held s.waiting) (sym done.5.0) h))
 item-in-turn start book before now place item (Hold stage) rest output refused ok done h next = next before output refused done h
