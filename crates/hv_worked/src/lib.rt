@@ -6,6 +6,8 @@ mod taking;
 pub use taking::take;
 
 #[cfg(test)]
+mod positions;
+#[cfg(test)]
 mod running;
 #[cfg(test)]
 mod tests;

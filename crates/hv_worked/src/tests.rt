@@ -11,7 +11,7 @@ use std::test::Fail;
 
 /// What happens to a transaction, by its number. `Fails` is for want of memory.
 #[derive(Clone, Copy)]
-enum Event {
+pub enum Event {
     Takes(u64, &'static str),
     Makes(u64, u64),
     Gives(u64, u64, u64),
@@ -74,7 +74,7 @@ const MIXED_PRINTS: [(u64, &str); 8] = [
 
 /// 2, 3 and 4 have their write ids, and are open at once: 4 commits first, 3 fails between, and 2 commits
 /// last. 5 starts before any of them ends, 6 behind 4, and 7 behind all.
-const CROSSED: [Event; 17] = [
+pub const CROSSED: [Event; 17] = [
     Takes(1, "CREATE TABLE t (a INT, s STRING)"),
     Makes(1, 1),
     Takes(2, "INSERT INTO t VALUES (5,'early')"),
@@ -94,7 +94,8 @@ const CROSSED: [Event; 17] = [
     Lists(5),
 ];
 
-const CROSSED_PRINTS: [(u64, &str); 6] = [
+const CROSSED_PRINTS: [(u64, &str); 7] = [
+    (1, "OK\n"),
     (2, "OK inserted 1 deleted 0\n"),
     (3, "FAILED 40 NoMemory\n"),
     (4, "OK inserted 2 deleted 0\n"),
@@ -105,7 +106,7 @@ const CROSSED_PRINTS: [(u64, &str); 6] = [
 
 /// 3 and 4 insert into two tables and are open at once, 4 commits first; 5 starts before either ends, 6 and 7 behind 4, and
 /// 8 behind both.
-const SIDE_BY_SIDE: [Event; 18] = [
+pub const SIDE_BY_SIDE: [Event; 18] = [
     Takes(1, "CREATE TABLE t (a INT)"),
     Makes(1, 1),
     Takes(2, "CREATE TABLE u (n INT)"),
@@ -126,7 +127,9 @@ const SIDE_BY_SIDE: [Event; 18] = [
     Lists(5),
 ];
 
-const SIDE_BY_SIDE_PRINTS: [(u64, &str); 6] = [
+const SIDE_BY_SIDE_PRINTS: [(u64, &str); 8] = [
+    (1, "OK\n"),
+    (2, "OK\n"),
     (3, "OK inserted 1 deleted 0\n"),
     (4, "OK inserted 2 deleted 0\n"),
     (5, "n\n"),
@@ -338,7 +341,7 @@ fn known(rt: &impl Abort, alloc: Global, book: &Book, position: usize) -> Result
 }
 
 /// The book of an opening and these events.
-fn happened(alloc: Global, events: &[Event]) -> Result<Book, Fail> {
+pub fn happened(alloc: Global, events: &[Event]) -> Result<Book, Fail> {
     let mut book = Book::new(alloc);
     book.push(Entry::Boot { run: 0 }, None)?;
     for event in events {
