@@ -49,7 +49,7 @@ committed_text (Some (Listing names rows)) wrote = listing names rows
 committed_text (Some (Change info effect)) wrote = counts_line wrote
 committed_text _ wrote = ok_line
 
--- ---- a refusal prints FAILED, its number and its name
+-- ---- a refusal prints FAILED, its number and its name, and what it names
 
 abbrev pub every_refusal : List Refusal
 every_refusal =
@@ -70,6 +70,9 @@ refusal_name n = name_among every_refusal n
 
 unfoldable pub failed_line : ℕ → List ℕ → List ℕ
 failed_line number text = line (codes "FAILED " ++ decimal number ++ codes " " ++ text)
+
+abbrev pub refused_line : Refusal → List ℕ → List ℕ
+refused_line why more = failed_line (number why) (name why ++ more)
 
 -- a space and the text, where there is one
 abbrev pub after_space : List ℕ → List ℕ
@@ -94,20 +97,24 @@ five_digits n = map (λ k. 48 + n / k % 10) (10000 ∷ 1000 ∷ 100 ∷ 10 ∷ 1
 abbrev pub place_text : FilePlace → List ℕ
 place_text place = place.dir ++ codes "/bucket_" ++ five_digits place.bucket
 
+-- a conflict with that transaction, in a partition of the table of that name
+unfoldable pub conflict_text : ℕ → List ℕ → List ℕ → List ℕ
+conflict_text by table partition =
+    refused_line refusal.Conflict (codes " with " ++ decimal by ++ codes " on " ++ table ++ after_space partition)
+
 unfoldable pub cause_text : Option Snapshot → Cause → List ℕ
 cause_text snapshot (cause.Refused n) = failed_line n (refusal_name n)
-cause_text snapshot (cause.Conflict by table partition) =
-    failed_line 30 (codes "Conflict with " ++ decimal by.0 ++ codes " on " ++ name_at snapshot table.0 ++ after_space partition)
-cause_text snapshot (cause.Request by) = failed_line 31 (codes "Aborted by " ++ decimal by.0)
-cause_text snapshot cause.Full = failed_line 32 (codes "JournalFull")
-cause_text snapshot (cause.Twice partition row) = failed_line 36 (codes "MergeTwice " ++ row_text row ++ after_space partition)
-cause_text snapshot (cause.Blocked holder) = failed_line 37 (codes "Blocked by " ++ decimal holder.0)
-cause_text snapshot (cause.ReadFault count) = failed_line 38 (codes "ReadFault " ++ decimal count)
-cause_text snapshot (cause.WriteFault count) = failed_line 39 (codes "WriteFault " ++ decimal count)
-cause_text snapshot (cause.Damaged place) = failed_line 43 (codes "Damaged " ++ place_text place ++ codes " at " ++ decimal place.at)
-cause_text snapshot cause.RowLimit = failed_line 41 (codes "RowLimit")
-cause_text snapshot cause.PartitionLimit = failed_line 42 (codes "PartitionLimit")
-cause_text snapshot cause.Memory = failed_line 40 (codes "NoMemory")
+cause_text snapshot (cause.Conflict by table partition) = conflict_text by.0 (name_at snapshot table.0) partition
+cause_text snapshot (cause.Request by) = refused_line refusal.Aborted (codes " by " ++ decimal by.0)
+cause_text snapshot cause.Full = refused_line refusal.JournalFull []
+cause_text snapshot (cause.Twice partition row) = refused_line refusal.MergeTwice (codes " " ++ row_text row ++ after_space partition)
+cause_text snapshot (cause.Blocked holder) = refused_line refusal.Blocked (codes " by " ++ decimal holder.0)
+cause_text snapshot (cause.ReadFault count) = refused_line refusal.ReadFault (codes " " ++ decimal count)
+cause_text snapshot (cause.WriteFault count) = refused_line refusal.WriteFault (codes " " ++ decimal count)
+cause_text snapshot (cause.Damaged place) = refused_line refusal.Damaged (codes " " ++ place_text place ++ codes " at " ++ decimal place.at)
+cause_text snapshot cause.RowLimit = refused_line refusal.RowLimit []
+cause_text snapshot cause.PartitionLimit = refused_line refusal.PartitionLimit []
+cause_text snapshot cause.Memory = refused_line refusal.NoMemory []
 -- a run that stopped prints nothing, so this one is never shown
 cause_text snapshot cause.Lost = []
 

@@ -1,6 +1,7 @@
 ghost use Rattle.std.specs.Prelude.{◌≡◌, ◌++◌, IfOk, string_bytes, codes};
 ghost use Rattle.std.specs.Fmt.{decimal};
-ghost use Rattle.hv_history.specs.Answers.{refusal_name, failed_line, after_space, name_at, row_text, five_digits, place_text, cause_text};
+ghost use Rattle.hv_base.specs.declared.refusal.Refusal.TheVariants as refusal;
+ghost use Rattle.hv_history.specs.Answers.{refusal_name, failed_line, refused_line, conflict_text, after_space, name_at, row_text, five_digits, place_text, cause_text};
 
 use crate::entry::{Cause, FilePlace};
 use crate::numbers::numbered;
@@ -79,41 +80,60 @@ fn place_text(alloc: Global, place: &FilePlace) -> Result<String, NoMemory>
     Ok(format!(in alloc; "{dir}/bucket_{bucket}")?)
 }
 
-// A failure of so many words and a number.
-fn counted_line(alloc: Global, number: u32, words: &str, count: u64) -> Result<Vec<u8>, NoMemory>
-    ensures { IfOk result (λ line. line.items ≡ failed_line number (words.now ++ decimal count)) }
+// The line of a refusal, with what stands behind its name.
+fn refused_line(alloc: Global, refusal: Refusal, more: &str) -> Result<Vec<u8>, NoMemory>
+    ensures { IfOk result (λ line. line.items ≡ refused_line refusal more.now) }
 {
-    let text = format!(in alloc; "{words}{count}")?;
-    failed_line(alloc, number, text.as_str())
+    let name = refusal.name();
+    let text = format!(in alloc; "{name}{more}")?;
+    failed_line(alloc, refusal.number(), text.as_str())
 }
 
-fn conflict_line(alloc: Global, by: u64, name: &str, partition: &Text) -> Result<Vec<u8>, NoMemory>
-    ensures { IfOk result (λ line. line.items ≡ failed_line 30 (codes "Conflict with " ++ decimal by
-        ++ codes " on " ++ name.now ++ after_space partition.now)) }
+// The same with words and a number.
+fn counted_line(
+    alloc: Global,
+    refusal: Refusal,
+    words: &str,
+    count: u64,
+) -> Result<Vec<u8>, NoMemory>
+    ensures { IfOk result (λ line. line.items ≡ refused_line refusal (words.now ++ decimal count)) }
+{
+    let more = format!(in alloc; "{words}{count}")?;
+    refused_line(alloc, refusal, more.as_str())
+}
+
+/// What is printed for a conflict with this transaction, in a partition of the table of this name.
+pub fn conflict_text(
+    alloc: Global,
+    by: u64,
+    table: &str,
+    partition: &Text,
+) -> Result<Vec<u8>, NoMemory>
+    ensures { IfOk result (λ line. line.items ≡ conflict_text by table.now partition.now) }
 {
     let place = after_space(alloc, partition)?;
-    let text = format!(in alloc; "Conflict with {by} on {name}{place}")?;
-    failed_line(alloc, 30, text.as_str())
+    let more = format!(in alloc; " with {by} on {table}{place}")?;
+    refused_line(alloc, Refusal::Conflict, more.as_str())
 }
 
 fn twice_line(alloc: Global, id: &RowId, partition: &Text) -> Result<Vec<u8>, NoMemory>
     ensures { IfOk result (λ line. line.items
-        ≡ failed_line 36 (codes "MergeTwice " ++ row_text id.now ++ after_space partition.now)) }
+        ≡ refused_line refusal.MergeTwice (codes " " ++ row_text id.now ++ after_space partition.now)) }
 {
     let row = row_text(alloc, id)?;
     let place = after_space(alloc, partition)?;
-    let text = format!(in alloc; "MergeTwice {row}{place}")?;
-    failed_line(alloc, 36, text.as_str())
+    let more = format!(in alloc; " {row}{place}")?;
+    refused_line(alloc, Refusal::MergeTwice, more.as_str())
 }
 
 fn damaged_line(alloc: Global, place: &FilePlace) -> Result<Vec<u8>, NoMemory>
-    ensures { IfOk result (λ line. line.items ≡ failed_line 43 (codes "Damaged "
+    ensures { IfOk result (λ line. line.items ≡ refused_line refusal.Damaged (codes " "
         ++ place_text place.now ++ codes " at " ++ decimal place.now.at)) }
 {
     let file = place_text(alloc, place)?;
     let at = place.at;
-    let text = format!(in alloc; "Damaged {file} at {at}")?;
-    failed_line(alloc, 43, text.as_str())
+    let more = format!(in alloc; " {file} at {at}")?;
+    refused_line(alloc, Refusal::Damaged, more.as_str())
 }
 
 /// What is printed for a transaction that ended of this cause.
@@ -131,17 +151,17 @@ pub fn cause_text(
             with,
             table,
             partition,
-        } => conflict_line(alloc, with.0, name_at(snapshot, table.0), partition),
-        Cause::Request { by } => counted_line(alloc, 31, "Aborted by ", by.0),
-        Cause::Full => failed_line(alloc, 32, "JournalFull"),
+        } => conflict_text(alloc, with.0, name_at(snapshot, table.0), partition),
+        Cause::Request { by } => counted_line(alloc, Refusal::Aborted, " by ", by.0),
+        Cause::Full => refused_line(alloc, Refusal::JournalFull, ""),
         Cause::Twice { partition, row } => twice_line(alloc, row, partition),
-        Cause::Blocked { holder } => counted_line(alloc, 37, "Blocked by ", holder.0),
-        Cause::ReadFault { count } => counted_line(alloc, 38, "ReadFault ", *count),
-        Cause::WriteFault { count } => counted_line(alloc, 39, "WriteFault ", *count),
+        Cause::Blocked { holder } => counted_line(alloc, Refusal::Blocked, " by ", holder.0),
+        Cause::ReadFault { count } => counted_line(alloc, Refusal::ReadFault, " ", *count),
+        Cause::WriteFault { count } => counted_line(alloc, Refusal::WriteFault, " ", *count),
         Cause::Damaged { place } => damaged_line(alloc, place),
-        Cause::RowLimit => failed_line(alloc, 41, "RowLimit"),
-        Cause::PartitionLimit => failed_line(alloc, 42, "PartitionLimit"),
-        Cause::Memory => failed_line(alloc, 40, "NoMemory"),
+        Cause::RowLimit => refused_line(alloc, Refusal::RowLimit, ""),
+        Cause::PartitionLimit => refused_line(alloc, Refusal::PartitionLimit, ""),
+        Cause::Memory => refused_line(alloc, Refusal::NoMemory, ""),
         Cause::Lost => Ok(Vec::new(alloc)),
     }
 }

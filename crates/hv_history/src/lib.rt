@@ -10,7 +10,7 @@ mod numbers;
 mod state;
 
 pub use answers::{counts_line, listing, ok_line};
-pub use causes::{cause_text, refusal_name};
+pub use causes::{cause_text, conflict_text, refusal_name};
 pub use commits::{given_in, written_by};
 pub use entry::{Cause, Entry, FilePlace, JobCause, JobKind};
 pub use laws::{
