@@ -4,4 +4,9 @@ pub mod CommitLaws
 pub mod HeldLaws
 pub mod TableLaws
 pub mod BookLaws
+pub mod IdLaws
+pub mod GivenLaws
 pub mod PastLaws
+pub mod NameLaws
+pub mod LoadLaws
+pub mod OpenedLaws

@@ -8,7 +8,8 @@ use Rattle.hv_book.specs.declared.notes.End.{End}
 use Rattle.hv_history.specs.declared.entry.Entry.{Entry}
 use Rattle.hv_history.specs.declared.entry.Entry.TheVariants as entry
 use Rattle.hv_book.specs.declared.notes.TransactionNote.{TransactionNote}
-use Rattle.hv_book.specs.declared.notes.Step.TheVariants as step
+use Rattle.hv_jobs.specs.declared.jobs.Step.TheVariants as step
+use Rattle.hv_jobs.specs.Jobs.{stepped}
 use Rattle.hv_history.specs.declared.state.Transaction.{Transaction}
 use Rattle.hv_history.specs.declared.state.Table.{Table}
 use Rattle.hv_history.specs.declared.state.Snapshot.{Snapshot}
@@ -16,7 +17,7 @@ use Rattle.hv_history.specs.declared.state.Ending.{Ending}
 use Rattle.hv_history.specs.declared.state.Written.{Written}
 use Rattle.hv_history.specs.declared.state.Ending.TheVariants.{Aborted, Made, Dropped}
 use Rattle.hv_history.specs.State.{State, Job, numbered, changed, changed_at, while_open, unless_ended, started, given_id, committed, ended, first_of, owned, dropped, forgot, written_to, tables_behind, commits, opened, made_by, asked, acted, after}
-use Rattle.hv_book.specs.Notes.{Notes, noted, while_unended, unended, started_at, ended_at, start_note, end_note, ending, one_more, gone, stepped, other_than, note_open}
+use Rattle.hv_book.specs.Notes.{Notes, noted, while_unended, unended, started_at, ended_at, start_note, end_note, ending, one_more, gone, other_than, note_open}
 use Rattle.hv_book.specs.Briefs.{brief, brief_table, brief_job, end_of, snapshot_place, open_from, open_next}
 
 -- ---- a map over what is changed

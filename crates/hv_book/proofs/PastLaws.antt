@@ -12,122 +12,23 @@ use Rattle.hv_history.specs.declared.state.Transaction.{Transaction}
 use Rattle.hv_history.specs.declared.state.Written.{Written}
 use Rattle.hv_history.specs.declared.state.Ending.{Ending}
 use Rattle.hv_history.specs.declared.state.Ending.TheVariants.{Committed, Made, Dropped}
-use Rattle.hv_history.specs.State.{State, numbered, changed, changed_at, while_open, unless_ended, committed, ended, owned, dropped, forgot, written_to, tables_behind, commits, made_by, first_of, acted, after, state_of}
+use Rattle.hv_history.specs.State.{State, numbered, changed, while_open, unless_ended, committed, ended, owned, dropped, forgot, written_to, tables_behind, commits, made_by, first_of, acted, after, state_of}
 use Rattle.hv_history.specs.Lasting.{Later}
 use Rattle.hv_history.proofs.LastingLaws.{goes-on}
-use Rattle.hv_book.specs.declared.past.IdNote.{IdNote}
-use Rattle.hv_book.specs.declared.past.EndedId.{EndedId}
+use Rattle.hv_ids.specs.declared.notes.IdNote.{IdNote}
+use Rattle.hv_ids.specs.declared.notes.PlacedId.{PlacedId}
 use Rattle.hv_book.specs.declared.past.ForgotNote.{ForgotNote}
 use Rattle.hv_book.specs.declared.past.SpanNote.{SpanNote}
 use Rattle.hv_book.specs.Notes.{Notes, notes_of, add_if, is_open_note, is_open_in}
 use Rattle.hv_book.specs.Briefs.{brief, brief_table, end_of}
-use Rattle.hv_book.specs.Past.{Past, no_past, is_of_other, ended_id, ended_if, ended_of, id_given, without_if, over_if, drop_span, new_span, forgot_note, past_behind, owners_in, forgotten_in, total, total_from, only_if, weight_in, ended_weight, HasCommitted, IsSettled, IsBehind, PlacesRise, IsBelowLimit, IsDroppedBelow, is_before, live_if, live_then, table_live, forgot_then, forgot_id, IsPast}
+use Rattle.hv_book.specs.Past.{Past, no_past, ended_id, ended_if, ended_of, id_given, given_then, over_if, drop_span, new_span, forgot_note, past_behind, owners_in, forgotten_in, total, total_from, weight_in, ended_weight, HasCommitted, IsSettled, IsBehind, PlacesRise, IsBelowLimit, IsDroppedBelow, is_before, live_if, live_then, table_live, forgot_then, forgot_id, IsPast}
 use Rattle.hv_book.proofs.TextLaws.{numbered-map, length-snoc, all-snoc}
 use Rattle.hv_book.proofs.CommitLaws.{all-changed}
 use Rattle.hv_book.proofs.HeldLaws.{same_or_not, numbered-here, numbered-other}
 use Rattle.hv_book.proofs.TableLaws.{kept-changed, has-more, behind-keeps, owners-next, forgotten-next}
 use Rattle.hv_book.proofs.BookLaws.{follows, state_of-snoc}
-
--- ---- all
-
-all-more : {A : Type 0} (P Q : A → Type 0) → ((x : A) → P x → Q x) → (xs : List A) → AllByRecursion P xs → AllByRecursion Q xs
-all-more P Q step [] h = tt
-all-more P Q step (x ∷ xs) h = (step x h.0, all-more P Q step xs h.1)
-
-all-append : {A : Type 0} (P : A → Type 0) (xs ys : List A) → AllByRecursion P xs → AllByRecursion P ys → AllByRecursion P (xs ++ ys)
-all-append P [] ys h k = k
-all-append P (x ∷ xs) ys h k = (h.0, all-append P xs ys h.1 k)
-
-all-get : {A : Type 0} (P : A → Type 0) (xs : List A) (n : ℕ) (x : A) → AllByRecursion P xs → slice_get xs n ≡ Some x → P x
-all-get P [] n x h is = cc
-all-get P (y ∷ xs) zero x h is = let same : y ≡ x = cc in subst P same h.0
-all-get P (y ∷ xs) (suc n) x h is = all-get P xs n x h.1 is
-
-all-numbered : {A : Type 0} (P : A → Type 0) (xs : List A) (n : ℕ) (x : A) → AllByRecursion P xs → numbered xs n ≡ Some x → P x
-all-numbered P xs zero x h is = cc
-all-numbered P xs (suc n) x h is = all-get P xs n x h is
-
--- ---- totals
-
-pub total-append : {A : Type 0} (weight : A → ℕ) (xs ys : List A) → total weight (xs ++ ys) ≡ total weight xs + total weight ys
-total-append weight [] ys = omega arith
-total-append weight (x ∷ xs) ys = omega (arith, total-append weight xs ys)
-
-from-snoc : (weight : ℕ → ℕ → ℕ) (write : ℕ) (owners : List ℕ) (txn : ℕ)
-    → total_from weight write (owners ++ txn ∷ []) ≡ total_from weight write owners + weight (write + length owners) txn
-from-snoc weight write [] txn =
-    let at : write ≡ write + 0 = omega arith in
-    let same : weight write txn ≡ weight (write + 0) txn = ap (λ k. weight k txn) at in
-    omega (arith, same)
-from-snoc weight write (x ∷ owners) txn =
-    let at : write + 1 + length owners ≡ write + suc (length owners) = omega arith in
-    let same : weight (write + 1 + length owners) txn ≡ weight (write + suc (length owners)) txn = ap (λ k. weight k txn) at in
-    omega (arith, same, from-snoc weight (write + 1) owners txn)
-
-pub over-length : (txn place : ℕ) (ids : List IdNote) → length (ended_of txn place ids) + length (filter (is_of_other txn) ids) ≡ length ids
-over-length txn place [] = omega arith
-over-length txn place (id ∷ ids) = by (over-length txn place ids) (id.txn == txn)
-  where
-    by : length (ended_of txn place ids) + length (filter (is_of_other txn) ids) ≡ length ids → (b : Bool)
-        → length (ended_if b place id (ended_of txn place ids)) + length (if (not b) then id ∷ filter (is_of_other txn) ids else filter (is_of_other txn) ids) ≡ suc (length ids)
-    by rest true = omega (arith, rest)
-    by rest false = omega (arith, rest)
-
-module _ (table : ℕ) (weight : ℕ → ℕ → ℕ) where
-  total-split : (txn place : ℕ) (ids : List IdNote)
-      → total (weight_in table weight) (filter (is_of_other txn) ids) + total (ended_weight table weight) (ended_of txn place ids) ≡ total (weight_in table weight) ids
-  total-split txn place [] = omega arith
-  total-split txn place (id ∷ ids) = by (total-split txn place ids) (id.txn == txn)
-    where
-      by : total (weight_in table weight) (filter (is_of_other txn) ids) + total (ended_weight table weight) (ended_of txn place ids) ≡ total (weight_in table weight) ids
-          → (b : Bool)
-          → total (weight_in table weight) (if (not b) then id ∷ filter (is_of_other txn) ids else filter (is_of_other txn) ids)
-          + total (ended_weight table weight) (ended_if b place id (ended_of txn place ids))
-          ≡ total (weight_in table weight) (id ∷ ids)
-      by rest true = omega (arith, rest)
-      by rest false = omega (arith, rest)
-
-  over-keeps : (b : Bool) (txn place : ℕ) (ids : List IdNote) (those : List EndedId)
-      → total (weight_in table weight) (without_if b txn ids) + total (ended_weight table weight) (over_if b txn place ids those)
-      ≡ total (weight_in table weight) ids + total (ended_weight table weight) those
-  over-keeps true txn place ids those =
-      omega (arith, total-append (ended_weight table weight) those (ended_of txn place ids), total-split txn place ids)
-  over-keeps false txn place ids those = refl
-
-  -- what a Given adds, where its table is this one
-  given_weight : Bool → ℕ → Option Table → ℕ
-  given_weight b txn None = 0
-  given_weight b txn (Some t) = only_if b (weight (length t.owners + 1) txn)
-
-  given-total : (txn other : ℕ) (o : Option Table) (ids : List IdNote)
-      → total (weight_in table weight) (id_given txn other (option_map brief_table o) ids) ≡ total (weight_in table weight) ids + given_weight (other == table) txn o
-  unfolding given_weight
-  given-total txn other None ids = omega arith
-  given-total txn other (Some t) ids =
-      omega (arith, total-append (weight_in table weight) ids (record { table = other; write = length t.owners + 1; txn = txn } ∷ []))
-
-  owners-total : (txn other : ℕ) (ts : List Table)
-      → total_from weight 1 (add_if ((other == table) && is_some (numbered ts table)) txn (owners_in (numbered ts table)))
-      ≡ total_from weight 1 (owners_in (numbered ts table)) + given_weight (other == table) txn (numbered ts other)
-  unfolding given_weight
-  owners-total txn other ts = by (other == table) refl
-    where
-      here : (o : Option Table) → total_from weight 1 (add_if (is_some o) txn (owners_in o)) ≡ total_from weight 1 (owners_in o) + given_weight true txn o
-      here None = omega arith
-      here (Some t) =
-          let at : 1 + length t.owners ≡ length t.owners + 1 = omega arith in
-          let same : weight (1 + length t.owners) txn ≡ weight (length t.owners + 1) txn = ap (λ k. weight k txn) at in
-          omega (arith, same, from-snoc weight 1 t.owners txn)
-
-      other_one : (o : Option Table) → 0 ≡ given_weight false txn o
-      other_one None = refl
-      other_one (Some t) = refl
-
-      by : (b : Bool) → (other == table) ≡ b
-          → total_from weight 1 (add_if (b && is_some (numbered ts table)) txn (owners_in (numbered ts table)))
-          ≡ total_from weight 1 (owners_in (numbered ts table)) + given_weight b txn (numbered ts other)
-      by true is = here (numbered ts table) ∙ ap (λ k. total_from weight 1 (owners_in (numbered ts table)) + given_weight true txn (numbered ts k)) (sym (eqb-true other table is))
-      by false is = omega (arith, other_one (numbered ts other))
+use Rattle.hv_book.proofs.IdLaws.{all-more, all-append, all-numbered, over-keeps, given-total, owners-total, length-changed}
+use Rattle.hv_book.proofs.GivenLaws.{given-early, given-late, given-below, given-rising}
 
 abbrev IdsAre : State → Past → Type 0
 IdsAre state past = (table : ℕ) (weight : ℕ → ℕ → ℕ) → total_from weight 1 (owners_in (numbered state.tables table))
@@ -213,7 +114,7 @@ ends-committed state ts f ending txn at b next ends is_committed before was is_o
     }
 
 -- what holds of each id that goes over
-ended-all : (P : EndedId → Type 0) (txn place : ℕ) → ((id : IdNote) → id.txn ≡ txn → P (ended_id place id)) → (ids : List IdNote) → AllByRecursion P (ended_of txn place ids)
+ended-all : (P : PlacedId → Type 0) (txn place : ℕ) → ((id : IdNote) → id.txn ≡ txn → P (ended_id place id)) → (ids : List IdNote) → AllByRecursion P (ended_of txn place ids)
 ended-all P txn place step [] = tt
 ended-all P txn place step (id ∷ ids) = by (ended-all P txn place step ids) (id.txn == txn) refl
   where
@@ -221,12 +122,12 @@ ended-all P txn place step (id ∷ ids) = by (ended-all P txn place step ids) (i
     by rest true is = (step id (eqb-true id.txn txn is), rest)
     by rest false is = rest
 
-over-all : (P : EndedId → Type 0) (b : Bool) (txn place : ℕ) (ids : List IdNote) (those : List EndedId)
+over-all : (P : PlacedId → Type 0) (b : Bool) (txn place : ℕ) (ids : List IdNote) (those : List PlacedId)
     → (b ≡ true → (id : IdNote) → id.txn ≡ txn → P (ended_id place id)) → AllByRecursion P those → AllByRecursion P (over_if b txn place ids those)
 over-all P true txn place ids those step h = all-append P those (ended_of txn place ids) h (ended-all P txn place (step refl) ids)
 over-all P false txn place ids those step h = h
 
-over-settled : (state : State) (b : Bool) (txn place : ℕ) (ids : List IdNote) (those : List EndedId)
+over-settled : (state : State) (b : Bool) (txn place : ℕ) (ids : List IdNote) (those : List PlacedId)
     → (b ≡ true → HasCommitted state txn place) → AllByRecursion (IsSettled state) those → AllByRecursion (IsSettled state) (over_if b txn place ids those)
 over-settled state b txn place ids those ends h =
     over-all (IsSettled state) b txn place ids those (λ opened id same. subst (λ k. HasCommitted state k place) (sym same) (ends opened)) h
@@ -270,7 +171,7 @@ settled-next place state notes event past at same h = by event (all-more (IsSett
 
 -- ---- their places
 
-over-below : (b : Bool) (txn place : ℕ) (ids : List IdNote) (those : List EndedId) → AllByRecursion (IsBehind place) those
+over-below : (b : Bool) (txn place : ℕ) (ids : List IdNote) (those : List PlacedId) → AllByRecursion (IsBehind place) those
     → AllByRecursion (IsBehind (place + 1)) (over_if b txn place ids those)
 over-below b txn place ids those h =
     over-all (IsBehind (place + 1)) b txn place ids those (λ opened id same. omega arith)
@@ -302,19 +203,19 @@ ended-rise txn place [] = tt
 ended-rise txn place (id ∷ ids) = by (ended-rise txn place ids) (id.txn == txn)
   where
     by : PlacesRise (ended_of txn place ids) → (b : Bool) → PlacesRise (ended_if b place id (ended_of txn place ids))
-    by rest true = (ended-all (λ (other : EndedId). place ≤ other.at) txn place (λ other same. omega arith) ids, rest)
+    by rest true = (ended-all (λ (other : PlacedId). place ≤ other.at) txn place (λ other same. omega arith) ids, rest)
     by rest false = rest
 
-rise-append : (txn place : ℕ) (ids : List IdNote) (those : List EndedId) → AllByRecursion (IsBehind place) those → PlacesRise those → PlacesRise (those ++ ended_of txn place ids)
+rise-append : (txn place : ℕ) (ids : List IdNote) (those : List PlacedId) → AllByRecursion (IsBehind place) those → PlacesRise those → PlacesRise (those ++ ended_of txn place ids)
 rise-append txn place ids [] below h = ended-rise txn place ids
 rise-append txn place ids (e ∷ those) below h =
     let first : e.at < place = below.0 in (
-      all-append (λ (other : EndedId). e.at ≤ other.at) those (ended_of txn place ids) h.0
-          (ended-all (λ (other : EndedId). e.at ≤ other.at) txn place (λ other same. omega (arith, first)) ids),
+      all-append (λ (other : PlacedId). e.at ≤ other.at) those (ended_of txn place ids) h.0
+          (ended-all (λ (other : PlacedId). e.at ≤ other.at) txn place (λ other same. omega (arith, first)) ids),
       rise-append txn place ids those below.1 h.1,
     )
 
-over-rise : (b : Bool) (txn place : ℕ) (ids : List IdNote) (those : List EndedId) → AllByRecursion (IsBehind place) those → PlacesRise those
+over-rise : (b : Bool) (txn place : ℕ) (ids : List IdNote) (those : List PlacedId) → AllByRecursion (IsBehind place) those → PlacesRise those
     → PlacesRise (over_if b txn place ids those)
 over-rise true txn place ids those below h = rise-append txn place ids those below h
 over-rise false txn place ids those below h = h
@@ -338,15 +239,6 @@ rising-next place notes (entry.Failed job cause) past below h = h
 rising-next place notes (entry.Forgot table write) past below h = h
 
 -- ---- tables
-
-length-changed_at : {A : Type 0} (f : A → A) (xs : List A) (n : ℕ) → length (changed_at f xs n) ≡ length xs
-length-changed_at f [] n = refl
-length-changed_at f (x ∷ xs) zero = refl
-length-changed_at f (x ∷ xs) (suc n) = ap suc (length-changed_at f xs n)
-
-length-changed : {A : Type 0} (f : A → A) (xs : List A) (n : ℕ) → length (changed f xs n) ≡ length xs
-length-changed f xs zero = refl
-length-changed f xs (suc n) = length-changed_at f xs n
 
 length-behind : (ws : List (ℕ × Written)) (ts : List Table) → length (tables_behind ws ts) ≡ length ts
 length-behind [] ts = refl
@@ -633,6 +525,7 @@ abbrev AtPlace : List Entry → Past → ℕ → ℕ → Type 0
 AtPlace entries past position table =
     (live_then position (numbered past.spans table) ≡ option_map table_live (numbered (state_of (take position entries)).tables table))
     × (map forgot_id (filter (forgot_then position table) past.forgotten) ≡ forgotten_in (numbered (state_of (take position entries)).tables table))
+    × (total (given_then position table) past.given ≡ length (owners_in (numbered (state_of (take position entries)).tables table)))
 
 place-next : (done : List Entry) (event : Entry) (past : Past) → IsPast done past → (position table : ℕ)
     → AtPlace (done ++ event ∷ []) (past_behind (length done) (notes_of done) event past) position table
@@ -645,6 +538,8 @@ place-next done event past h position table = by (nat_lt (length done) position)
               ∙ ap (λ (xs : List Entry). option_map table_live (numbered (state_of xs).tables table)) front,
           forgotten-early position table (length done) le (notes_of done) event past ∙ h.forgotten position table
               ∙ ap (λ (xs : List Entry). forgotten_in (numbered (state_of xs).tables table)) front,
+          given-early position table (length done) le (notes_of done) event past ∙ h.given position table
+              ∙ ap (λ (xs : List Entry). length (owners_in (numbered (state_of xs).tables table))) front,
         )
 
     late : length done < position → AtPlace (done ++ event ∷ []) (past_behind (length done) (notes_of done) event past) position table
@@ -660,6 +555,9 @@ place-next done event past h position table = by (nat_lt (length done) position)
           forgotten-late position table (length done) lt (state_of done) (notes_of done) event past (follows done).tables
               (h.forgotten position table ∙ ap (λ (xs : List Entry). forgotten_in (numbered (state_of xs).tables table)) whole)
               ∙ ap (λ (s : State). forgotten_in (numbered s.tables table)) more,
+          given-late position table (length done) lt (state_of done) (notes_of done) event past (follows done).tables
+              (h.given position table ∙ ap (λ (xs : List Entry). length (owners_in (numbered (state_of xs).tables table))) whole)
+              ∙ ap (λ (s : State). length (owners_in (numbered s.tables table))) more,
         )
 
     by : (b : Bool) → nat_lt (length done) position ≡ b → AtPlace (done ++ event ∷ []) (past_behind (length done) (notes_of done) event past) position table
@@ -683,6 +581,9 @@ past-next done event past h =
       dropped = subst (λ n. AllByRecursion (IsDroppedBelow n) (past_behind (length done) (notes_of done) event past).spans) long (dropped-next (length done) (notes_of done) event past h.dropped);
       live = λ position table. (place-next done event past h position table).0;
       forgotten = λ position table. (place-next done event past h position table).1;
+      given = λ position table. (place-next done event past h position table).2;
+      given_below = subst (λ n. AllByRecursion (IsBehind n) (past_behind (length done) (notes_of done) event past).given) long (given-below (length done) (notes_of done) event past h.given_below);
+      given_rising = given-rising (length done) (notes_of done) event past h.given_below h.given_rising;
     }
 
 nothing-numbered : {A : Type 0} (n : ℕ) → numbered {A = A} [] n ≡ None
@@ -699,6 +600,11 @@ past-none = record {
   settled = tt;
   below = tt;
   rising = tt;
+  given = λ position table.
+      ap (λ (o : Option Table). length (owners_in o)) (sym (nothing-numbered table))
+      ∙ ap (λ (xs : List Entry). length (owners_in (numbered (state_of xs).tables table))) (sym (nothing-taken position));
+  given_below = tt;
+  given_rising = tt;
   count = refl;
   dropped = tt;
   live = λ position table.

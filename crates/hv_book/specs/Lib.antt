@@ -3,3 +3,5 @@ pub mod Briefs
 pub mod Index
 pub mod Commits
 pub mod Past
+pub mod Names
+pub mod Opened

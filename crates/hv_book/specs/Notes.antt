@@ -6,10 +6,10 @@ use Rattle.hv_history.specs.declared.entry.Entry.TheVariants as entry
 use Rattle.hv_book.specs.declared.notes.End.{End}
 use Rattle.hv_book.specs.declared.notes.TransactionNote.{TransactionNote}
 use Rattle.hv_book.specs.declared.notes.TableNote.{TableNote}
-use Rattle.hv_book.specs.declared.notes.JobNote.{JobNote}
+use Rattle.hv_jobs.specs.declared.jobs.JobNote.{JobNote}
 use Rattle.hv_book.specs.declared.notes.Held.{Held}
-use Rattle.hv_book.specs.declared.notes.Step.{Step}
-use Rattle.hv_book.specs.declared.notes.Step.TheVariants as step
+use Rattle.hv_jobs.specs.declared.jobs.Step.TheVariants as step
+use Rattle.hv_jobs.specs.Jobs.{new_job, stepped}
 use Rattle.hv_history.specs.State.{numbered, changed, first_of}
 
 -- `opened` has the place of each transaction's Opened, `ongoing` the numbers of those that have not ended, `texts` for each
@@ -129,20 +129,11 @@ noted_create place txn table notes = record (ending place true txn notes) {
 abbrev pub noted_drop : ℕ → ℕ → ℕ → Notes → Notes
 noted_drop place txn table notes = record (ending place true txn notes) { tables = changed gone notes.tables table }
 
-abbrev pub new_job : JobNote
-new_job = record { is_picked = false; is_published = false; is_empty = false; is_failed = false }
-
 abbrev pub noted_asked : Notes → Notes
 noted_asked notes = record notes { jobs = notes.jobs ++ new_job ∷ [] }
 
 abbrev pub noted_job : (JobNote → JobNote) → ℕ → Notes → Notes
 noted_job f job notes = record notes { jobs = changed f notes.jobs job }
-
-abbrev pub stepped : Step → JobNote → JobNote
-stepped step.Picked job = record job { is_picked = true }
-stepped step.Published job = record job { is_published = true }
-stepped step.Empty job = record job { is_empty = true }
-stepped step.Failed job = record job { is_failed = true }
 
 abbrev pub noted : ℕ → Entry → Notes → Notes
 noted place (entry.Opened txn session number text) notes = noted_opened place notes

@@ -1,15 +1,18 @@
 use crate::index::Index;
-use crate::notes::{End, Held, JobNote, TableNote, TransactionNote, append};
+use crate::names::{has_named, name_place, note_names};
+use crate::notes::{End, Held, TableNote, TransactionNote, append};
 use crate::openings::OpeningNotes;
 use crate::past::PastNotes;
 use hv_ast::Stmt;
-use hv_base::{List, NoMemory, Touch};
+use hv_base::{List, NoMemory, Text, Touch};
 use hv_history::{Entry, numbered};
+use hv_jobs::JobNote;
 use std::alloc::Global;
 use std::marker::Model;
 
 /// The list of the journal's entries, which is the warehouse's history. Beside each entry that has a
-/// text it keeps that text's tree, and beside them all what is asked often: so nobody walks them.
+/// text it keeps that text's tree, and beside them all what is asked often: so nobody walks them. `names` has
+/// the numbers of the live tables, by name.
 /// Contracts see the entries, and how many more fit without asking for memory.
 #[derive(Drop)]
 pub struct Book {
@@ -18,6 +21,7 @@ pub struct Book {
     index: Index,
     openings: OpeningNotes,
     past: PastNotes,
+    names: Vec<u64>,
 }
 
 impl Model for Book {
@@ -28,18 +32,20 @@ impl Model for Book {
 
     ghost view = { λ book. record { entries = book.entries.items; spare = book.index.room } };
 
-    ghost invariant = { λ book. IsIndexed book.entries book.trees book.index book.openings book.past };
+    ghost invariant = { λ book. IsIndexed book.entries book.trees book.index book.openings book.past book.names };
 }
 
 impl Book {
-    ghost use Rattle.std.specs.Prelude.{◌≡◌, ℕ, ◌+◌, ◌<◌, ◌≤◌, ◌++◌, ◌∷◌, [], Some, map, OnOk, OnErr, IsOk};
+    ghost use Rattle.std.specs.Prelude.{◌≡◌, ℕ, ◌+◌, ◌*◌, ◌^◌, ◌<◌, ◌≤◌, ◌++◌, ◌∷◌, [], Some, map, OnOk, OnErr, IsOk};
     ghost use Rattle.std.specs.Option.{option_copied};
     ghost use Rattle.hv_history.specs.declared.state.Table.{Table};
     ghost use Rattle.hv_history.specs.Book.{tree_of_entry, tree_at};
     ghost use Rattle.hv_history.specs.State.{state_of, numbered, created_shape};
+    ghost use Rattle.hv_history.specs.Legal.{load, is_named};
     ghost use Rattle.hv_book.specs.Briefs.{brief, brief_table, brief_job, open_from, held_by, given_at, tree_in, text_tree};
     ghost use Rattle.hv_book.specs.Index.{openings_in};
     ghost use Rattle.hv_book.specs.Past.{IsPast, past_in};
+    ghost use Rattle.hv_book.specs.Opened.{AreOpened};
     ghost use Rattle.std.specs.List.{list_any};
     ghost use Rattle.std.specs.Prelude.{Bool, List};
     ghost use Rattle.hv_base.specs.declared.ids.Touch.{Touch};
@@ -55,6 +61,7 @@ impl Book {
             index: Index::new(alloc),
             openings: OpeningNotes::new(alloc),
             past: PastNotes::new(alloc),
+            names: Vec::new(alloc),
         }
     }
 
@@ -81,6 +88,13 @@ impl Book {
         self.index.transactions.as_slice()
     }
 
+    /// The places where the transactions were opened, rising.
+    pub fn opened(&self) -> &[u64]
+        ensures opened { AreOpened self.now.entries result.now }
+    {
+        self.index.opened.as_slice()
+    }
+
     /// The numbers of the open transactions, rising.
     pub fn ongoing(&self) -> &[u64]
         ensures ongoing { result.now ≡ open_from 1 (map brief (state_of self.now.entries).transactions) }
@@ -100,6 +114,23 @@ impl Book {
         ensures jobs { result.now ≡ map brief_job (state_of self.now.entries).jobs }
     {
         self.index.jobs.as_slice()
+    }
+
+    /// The entries, and the one that each open transaction and each working job still needs.
+    pub fn load(&self) -> u128
+        ensures load { result ≡ load (state_of self.now.entries) }
+        ensures bound { result ≤ 3 * 2 ^ 64 }
+    {
+        let entries = self.entries.as_slice().len() as u128;
+        let ongoing = self.index.ongoing.as_slice().len() as u128;
+        entries + ongoing + u128::from(self.index.jobs.working())
+    }
+
+    /// Whether a live table has this name.
+    pub fn has_named(&self, name: &Text) -> bool
+        ensures named { result ≡ list_any (is_named name.now) (state_of self.now.entries).tables }
+    {
+        has_named(self, &self.names, name.as_str())
     }
 
     /// The write ids of the open transactions.
@@ -210,6 +241,7 @@ impl Book {
         self.trees.reserve(more)?;
         self.openings.kept.reserve(more)?;
         self.past.reserve(more)?;
+        self.names.reserve(more)?;
         self.index.reserve(more)
     }
 
@@ -239,6 +271,9 @@ impl Book {
         ensures spare { self.old.spare ≤ self.new.spare + 1 }
     {
         let place = self.entries.as_slice().len() as u64;
+        let next = self.index.tables.as_slice().len() as u64 + 1;
+        let at = name_place(self, &self.names, &entry);
+        note_names(&mut self.names, at, next, &entry);
         self.past.note(&self.index, place, &entry);
         self.index.note(place, &entry);
         self.openings.note(place, &entry);

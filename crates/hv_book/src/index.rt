@@ -1,11 +1,12 @@
 ghost use Rattle.std.specs.Prelude.{◌≡◌};
 
 use crate::notes::{
-    End, Held, JobNote, Step, TableNote, TransactionNote, append, change_job, close, count_one,
-    drop_table, finish, is_open, let_go, start,
+    End, Held, TableNote, TransactionNote, append, close, count_one, drop_table, finish, is_open,
+    let_go, start,
 };
 use hv_base::NoMemory;
 use hv_history::{Entry, numbered};
+use hv_jobs::{Jobs, Step};
 use std::alloc::Global;
 
 /// What a book keeps beside its entries. `room` more entries can be noted without asking for memory.
@@ -18,14 +19,14 @@ pub struct Index {
     pub tables: Vec<TableNote>,
     pub held: Vec<Held>,
     pub commits: Vec<u64>,
-    pub jobs: Vec<JobNote>,
+    pub jobs: Jobs,
     pub room: usize,
 }
 
 impl Index {
     ghost use Rattle.std.specs.Prelude.{◌≡◌, ◌≤◌, ◌<◌, ◌+◌, ◌-◌, ◌^◌, ◌++◌, ◌∷◌, [], false, max, IsOk, OnOk};
     ghost use Rattle.std.specs.List.{AllByRecursion};
-    ghost use Rattle.hv_book.specs.Notes.{no_notes, noted, noted_opened, noted_start, noted_given, noted_commit, noted_create, noted_drop, noted_asked, noted_job, ending};
+    ghost use Rattle.hv_book.specs.Notes.{no_notes, noted, noted_opened, noted_start, noted_given, noted_commit, noted_create, noted_drop, ending};
     ghost use Rattle.hv_book.specs.Index.{notes_in, Spares};
 
     /// The index of no entries. It takes no memory.
@@ -42,7 +43,7 @@ impl Index {
             tables: Vec::new(alloc),
             held: Vec::new(alloc),
             commits: Vec::new(alloc),
-            jobs: Vec::new(alloc),
+            jobs: Jobs::new(alloc),
             room: 0,
         }
     }
@@ -169,24 +170,6 @@ impl Index {
         drop_table(&mut self.tables, table);
     }
 
-    fn note_asked(&mut self)
-        requires spares { Spares self.old.room self.old }
-        requires room { 0 < self.old.room }
-        ensures notes { notes_in self.new ≡ noted_asked (notes_in self.old) }
-        ensures spares { Spares (self.old.room - 1) self.new }
-        ensures room { self.new.room ≡ self.old.room }
-    {
-        append(
-            &mut self.jobs,
-            JobNote {
-                is_picked: false,
-                is_published: false,
-                is_empty: false,
-                is_failed: false,
-            },
-        );
-    }
-
     /// Notes an entry at its place, and leaves the room to be lowered.
     fn act(&mut self, place: u64, entry: &Entry)
         requires spares { Spares self.old.room self.old }
@@ -205,11 +188,11 @@ impl Index {
             Entry::Abort { txn, .. } => self.note_end(place, false, txn.0),
             Entry::Create { txn, table } => self.note_create(place, txn.0, table.0),
             Entry::Drop { txn, table } => self.note_drop(place, txn.0, table.0),
-            Entry::Asked { .. } => self.note_asked(),
-            Entry::Picked { job, .. } => change_job(&mut self.jobs, job.0, Step::Picked),
-            Entry::Published { job, .. } => change_job(&mut self.jobs, job.0, Step::Published),
-            Entry::Empty { job } => change_job(&mut self.jobs, job.0, Step::Empty),
-            Entry::Failed { job, .. } => change_job(&mut self.jobs, job.0, Step::Failed),
+            Entry::Asked { .. } => self.jobs.add(),
+            Entry::Picked { job, .. } => self.jobs.change(job.0, Step::Picked),
+            Entry::Published { job, .. } => self.jobs.change(job.0, Step::Published),
+            Entry::Empty { job } => self.jobs.change(job.0, Step::Empty),
+            Entry::Failed { job, .. } => self.jobs.change(job.0, Step::Failed),
             Entry::Boot { .. } | Entry::Cleaned { .. } | Entry::Forgot { .. } => {}
         }
     }

@@ -3,11 +3,12 @@
 
 mod book;
 mod index;
+mod names;
 mod notes;
 mod openings;
 mod past;
 
 pub use book::Book;
-pub use notes::{End, Held, JobNote, TableNote, TransactionNote};
+pub use notes::{End, Held, TableNote, TransactionNote};
 pub use openings::OpeningNotes;
-pub use past::{EndedId, ForgotNote, IdNote, PastNotes, SpanNote};
+pub use past::{ForgotNote, PastNotes, SpanNote};

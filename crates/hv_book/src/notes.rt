@@ -1,7 +1,7 @@
 ghost use Rattle.std.specs.Prelude.{◌≡◌, ◌+◌, ◌<◌, ◌≤◌, ◌^◌, ◌++◌, ◌∷◌, [], Option, None, Some, true, false, OnOk, IsOk, filter, vec_len, vec_capacity, slice_set, slice_index_or};
 ghost use Rattle.std.specs.List.{AllByRecursion};
 ghost use Rattle.hv_history.specs.State.{changed, numbered};
-ghost use Rattle.hv_book.specs.Notes.{start_note, end_note, one_more, gone, other_than, held_by_other, is_open_note, stepped};
+ghost use Rattle.hv_book.specs.Notes.{start_note, end_note, one_more, gone, other_than, held_by_other, is_open_note};
 
 use hv_history::{numbered, place_of};
 
@@ -33,15 +33,6 @@ pub struct Held {
     pub txn: u64,
     pub table: u64,
     pub write: u64,
-}
-
-/// How far a compaction job has come.
-#[derive(Clone, Copy)]
-pub struct JobNote {
-    pub is_picked: bool,
-    pub is_published: bool,
-    pub is_empty: bool,
-    pub is_failed: bool,
 }
 
 /// Appends to a vector that has room.
@@ -177,37 +168,4 @@ fn gone(note: TableNote) -> TableNote
         is_live: false,
         high: note.high,
     }
-}
-
-/// Changes the note of a job.
-pub fn change_job(jobs: &mut Vec<JobNote>, job: u64, step: Step)
-    ensures items { jobs.new.items ≡ changed (stepped step) jobs.old.items job }
-    ensures len { vec_len jobs.new ≡ vec_len jobs.old }
-    ensures capacity { vec_capacity jobs.new ≡ vec_capacity jobs.old }
-{
-    if let Some(at) = place_of(jobs, job) {
-        jobs[at] = stepped(jobs[at], step);
-    }
-}
-
-/// What happened to a job.
-#[derive(Clone, Copy)]
-pub enum Step {
-    Picked,
-    Published,
-    Empty,
-    Failed,
-}
-
-fn stepped(job: JobNote, step: Step) -> JobNote
-    ensures { result ≡ stepped step job }
-{
-    let mut next = job;
-    match step {
-        Step::Picked => next.is_picked = true,
-        Step::Published => next.is_published = true,
-        Step::Empty => next.is_empty = true,
-        Step::Failed => next.is_failed = true,
-    }
-    next
 }

@@ -1,20 +1,20 @@
 -- The exceptions that the notes give are those of the list, each once: every weight adds up to the same over both.
-use Rattle.std.proofs.Common.{◌≡◌, ℕ, zero, suc, ◌+◌, ◌-◌, ◌<◌, ◌≤◌, Bool, true, false, Option, Some, None, List, [], ◌∷◌, ◌++◌, length, map, filter, take, drop, get_or, refl, sym, ap, ◌∙◌, arith}
+use Rattle.std.proofs.Common.{◌≡◌, ℕ, suc, ◌+◌, ◌<◌, ◌≤◌, Bool, true, false, Option, Some, None, List, [], ◌∷◌, ◌++◌, length, map, filter, take, refl, sym, ap, ◌∙◌, arith}
 use Rattle.std.specs.Prelude.{◌==◌, ◌&&◌, ◌||◌, nat_le, if◌then◌else◌}
 use Rattle.std.specs.Option.{option_map}
-use Rattle.std.specs.List.{list_any, flat_map, AllByRecursion}
-use Rattle.std.proofs.lemmas.Bool.{lt-ltb, le-leb, lt-leb}
-use Rattle.std.proofs.lemmas.List.{take-append-drop, take_all, length-drop}
+use Rattle.std.specs.List.{slice_get, list_any, flat_map, AllByRecursion}
+use Rattle.std.proofs.lemmas.Bool.{lt-ltb, le-leb, lt-leb, leb-false, ne_eqb}
 use Rattle.std.proofs.lemmas.List.Concat.{flat_map-cons}
 use Rattle.hv_history.specs.declared.entry.Entry.{Entry}
 use Rattle.hv_history.specs.State.{numbered, state_of}
 use Rattle.hv_book.specs.declared.notes.TransactionNote.{TransactionNote}
-use Rattle.hv_book.specs.declared.past.IdNote.{IdNote}
-use Rattle.hv_book.specs.declared.past.EndedId.{EndedId}
+use Rattle.hv_ids.specs.declared.notes.IdNote.{IdNote}
+use Rattle.hv_ids.specs.declared.notes.PlacedId.{PlacedId}
+use Rattle.hv_ids.specs.Ids.{table_of, is_in}
 use Rattle.hv_book.specs.declared.past.ForgotNote.{ForgotNote}
 use Rattle.hv_book.specs.Briefs.{brief, end_of}
 use Rattle.hv_book.specs.Past.{Past, IsPast, IsSettled, PlacesRise, owners_in, forgotten_in, total, total_from, only_if, weight_in, ended_weight, forgot_then, forgot_id}
-use Rattle.hv_book.proofs.PastLaws.{total-append}
+use Rattle.hv_book.proofs.IdLaws.{total-append}
 use Rattle.hv_book.proofs.TextLaws.{numbered-map}
 use Rattle.hv_wids.specs.declared.list.Exception.{Exception}
 use Rattle.hv_earlier.specs.declared.fates.Fate.{Fate}
@@ -22,18 +22,12 @@ use Rattle.hv_earlier.specs.declared.fates.Fate.TheVariants as fate
 use Rattle.hv_earlier.specs.declared.exceptions.Spot.{Spot}
 use Rattle.hv_earlier.specs.Fates.{fate_of}
 use Rattle.hv_earlier.specs.Lists.{unless_forgotten, exception_by, exceptions_from, list_at}
-use Rattle.hv_earlier.specs.Places.{fate_when, fate_then, fate_if, fate_in, is_forgot, exception_then, only_those, exceptions_of, ended_exceptions, IsSpot, EndsBefore}
+use Rattle.hv_earlier.specs.Places.{fate_when, fate_then, fate_if, fate_in, is_forgot, exception_then, only_those, exceptions_of, ended_exceptions, weight_from, IsSpot}
+use Rattle.hv_links.specs.Links.{last_of, before_of}
 use Rattle.hv_earlier.proofs.PlaceLaws.{fate-at, owners-go-on}
+use Rattle.hv_earlier.proofs.WalkLaws.{total-same, walk-start, walk-step, none-from}
 
 -- ---- totals
-
-total-same : {A : Type 0} (f g : A → ℕ) → ((x : A) → f x ≡ g x) → (xs : List A) → total f xs ≡ total g xs
-total-same f g same [] = refl
-total-same f g same (x ∷ xs) = λ i. same x i + total-same f g same xs i
-
-total-none : {A : Type 0} (f : A → ℕ) (xs : List A) → AllByRecursion (λ (x : A). f x ≡ 0) xs → total f xs ≡ 0
-total-none f [] h = refl
-total-none f (x ∷ xs) h = let first : f x ≡ 0 = h.0 in omega (arith, first, total-none f xs h.1)
 
 total-flat : {A B : Type 0} (weight : B → ℕ) (f : A → List B) (g : A → ℕ) → ((x : A) → total weight (f x) ≡ g x) → (xs : List A) → total weight (flat_map f xs) ≡ total g xs
 total-flat weight f g same [] = refl
@@ -125,12 +119,12 @@ module _ (entries : List Entry) (spot : Spot) (is : IsSpot entries spot) where
         by false c = refl
 
     ended-total : (forgotten : List ForgotNote) → map forgot_id (filter (forgot_then spot.position spot.table) forgotten) ≡ ids
-        → (weight : Exception → ℕ) (ended : EndedId) → total weight (ended_exceptions notes forgotten spot ended) ≡ ended_weight spot.table (weighs weight) ended
+        → (weight : Exception → ℕ) (ended : PlacedId) → total weight (ended_exceptions notes forgotten spot ended) ≡ ended_weight spot.table (weighs weight) ended
     unfolding ended_exceptions
     ended-total forgotten are weight ended = id-total forgotten are weight ended.id
 
   -- one that had committed before that place is no exception there
-  settled-nothing : (weight : Exception → ℕ) (ended : EndedId) → IsSettled (state_of entries) ended → EndsBefore spot.position ended
+  settled-nothing : (weight : Exception → ℕ) (ended : PlacedId) → IsSettled (state_of entries) ended → ended.at < spot.position
       → ended_weight spot.table (weighs weight) ended ≡ 0
   unfolding weighs upto weight_of fates
   settled-nothing weight ended h before =
@@ -167,19 +161,50 @@ module _ (entries : List Entry) (spot : Spot) (is : IsSpot entries spot) where
       by true false = refl
       by false c = refl
 
-  settled-none : (weight : Exception → ℕ) (xs : List EndedId) (n : ℕ) → AllByRecursion (IsSettled (state_of entries)) xs → AllByRecursion (EndsBefore spot.position) (take n xs)
-      → total (ended_weight spot.table (weighs weight)) (take n xs) ≡ 0
-  settled-none weight xs zero h before = refl
-  settled-none weight [] (suc n) h before = refl
-  settled-none weight (x ∷ xs) (suc n) h before =
-      omega (arith, settled-nothing weight x h.0 before.0, settled-none weight xs n h.1 before.1)
+  -- those that committed from that place on weigh as all
+  settled-from : (notes : List TransactionNote) → notes ≡ map brief (state_of entries).transactions → (forgotten : List ForgotNote)
+      → map forgot_id (filter (forgot_then spot.position spot.table) forgotten) ≡ ids → (weight : Exception → ℕ) (xs : List PlacedId)
+      → AllByRecursion (IsSettled (state_of entries)) xs
+      → total (weight_from notes forgotten spot spot.position weight) xs ≡ total (ended_weight spot.table (weighs weight)) xs
+  settled-from notes as_noted forgotten are weight [] h = refl
+  settled-from notes as_noted forgotten are weight (x ∷ xs) h =
+      let first = by (nat_le spot.position x.at) refl (ended-total notes as_noted forgotten are weight x) (settled-nothing weight x h.0) in
+      omega (arith, first, settled-from notes as_noted forgotten are weight xs h.1)
+    where
+      by : (b : Bool) → nat_le spot.position x.at ≡ b → total weight (ended_exceptions notes forgotten spot x) ≡ ended_weight spot.table (weighs weight) x
+          → (x.at < spot.position → ended_weight spot.table (weighs weight) x ≡ 0)
+          → only_if b (total weight (ended_exceptions notes forgotten spot x)) ≡ ended_weight spot.table (weighs weight) x
+      by true is same none = same
+      by false is same none = sym (none (leb-false spot.position x.at is))
 
-  settled-rest : (weight : Exception → ℕ) (xs : List EndedId) (n : ℕ) → AllByRecursion (IsSettled (state_of entries)) xs → AllByRecursion (EndsBefore spot.position) (take n xs)
-      → total (ended_weight spot.table (weighs weight)) xs ≡ total (ended_weight spot.table (weighs weight)) (drop n xs)
-  settled-rest weight xs n h before =
-      let split = total-append (ended_weight spot.table (weighs weight)) (take n xs) (drop n xs) in
-      let none = settled-none weight xs n h before in
-      ap (total (ended_weight spot.table (weighs weight))) (sym (take-append-drop n xs)) ∙ omega (arith, split, none)
+  aborted-all : (notes : List TransactionNote) → notes ≡ map brief (state_of entries).transactions → (forgotten : List ForgotNote)
+      → map forgot_id (filter (forgot_then spot.position spot.table) forgotten) ≡ ids → (weight : Exception → ℕ) (xs : List PlacedId)
+      → total (weight_from notes forgotten spot 0 weight) xs ≡ total (ended_weight spot.table (weighs weight)) xs
+  aborted-all notes as_noted forgotten are weight xs =
+      total-same (weight_from notes forgotten spot 0 weight) (ended_weight spot.table (weighs weight))
+      (λ x. ap (λ b. only_if b (total weight (ended_exceptions notes forgotten spot x))) (le-leb 0 x.at (omega arith)) ∙ ended-total notes as_noted forgotten are weight x) xs
+
+  -- those of the table alone
+  pending-some : (notes : List TransactionNote) → notes ≡ map brief (state_of entries).transactions → (forgotten : List ForgotNote)
+      → map forgot_id (filter (forgot_then spot.position spot.table) forgotten) ≡ ids → (weight : Exception → ℕ) (xs : List IdNote)
+      → total weight (flat_map (exceptions_of notes forgotten spot) (filter (is_in spot.table) xs)) ≡ total (weight_in spot.table (weighs weight)) xs
+  pending-some notes as_noted forgotten are weight [] = refl
+  pending-some notes as_noted forgotten are weight (x ∷ xs) =
+      by (x.table == spot.table) refl (id-total notes as_noted forgotten are weight x) (pending-some notes as_noted forgotten are weight xs)
+    where
+      some : List IdNote
+      some = filter (is_in spot.table) xs
+
+      by : (b : Bool) → (x.table == spot.table) ≡ b → total weight (exceptions_of notes forgotten spot x) ≡ weight_in spot.table (weighs weight) x
+          → total weight (flat_map (exceptions_of notes forgotten spot) (filter (is_in spot.table) xs)) ≡ total (weight_in spot.table (weighs weight)) xs
+          → total weight (flat_map (exceptions_of notes forgotten spot) (if b then x ∷ filter (is_in spot.table) xs else filter (is_in spot.table) xs))
+          ≡ weight_in spot.table (weighs weight) x + total (weight_in spot.table (weighs weight)) xs
+      by true is first rest =
+          let split = total-append weight (exceptions_of notes forgotten spot x) (flat_map (exceptions_of notes forgotten spot) (filter (is_in spot.table) xs)) in
+          ap (total weight) (flat_map-cons (exceptions_of notes forgotten spot) x (filter (is_in spot.table) xs)) ∙ omega (arith, split, first, rest)
+      by false is first rest =
+          let nothing : weight_in spot.table (weighs weight) x ≡ 0 = ap (λ b. only_if b (weighs weight x.write x.txn)) is in
+          omega (arith, nothing, rest)
 
   -- of the whole list
   list-total : (weight : Exception → ℕ)
@@ -194,43 +219,48 @@ module _ (entries : List Entry) (spot : Spot) (is : IsSpot entries spot) where
       ∙ sym (exceptions-total weight fates ids 1 before)
 
   pub all-exceptions : (past : Past) → IsPast entries past → (notes : List TransactionNote) → notes ≡ map brief (state_of entries).transactions
-      → (n : ℕ) → AllByRecursion (EndsBefore spot.position) (take n past.committed) → (weight : Exception → ℕ)
-      → total weight (flat_map (exceptions_of notes past.forgotten spot) past.pending ++ flat_map (ended_exceptions notes past.forgotten spot) past.aborted
-      ++ flat_map (ended_exceptions notes past.forgotten spot) (drop n past.committed))
+      → (weight : Exception → ℕ)
+      → total weight (flat_map (exceptions_of notes past.forgotten spot) (filter (is_in spot.table) past.pending))
+      + total (weight_from notes past.forgotten spot 0 weight) past.aborted + total (weight_from notes past.forgotten spot spot.position weight) past.committed
       ≡ total weight (list_at entries spot.position spot.table).exceptions
   unfolding ids
-  all-exceptions past kept notes as_noted n before weight =
+  all-exceptions past kept notes as_noted weight =
       let forgot = kept.forgotten spot.position spot.table in
-      let pending = flat_map (exceptions_of notes past.forgotten spot) past.pending in
-      let aborted = flat_map (ended_exceptions notes past.forgotten spot) past.aborted in
-      let committed = flat_map (ended_exceptions notes past.forgotten spot) (drop n past.committed) in
-      let first = total-flat weight (exceptions_of notes past.forgotten spot) (weight_in spot.table (weighs weight)) (id-total notes as_noted past.forgotten forgot weight) past.pending in
-      let second = total-flat weight (ended_exceptions notes past.forgotten spot) (ended_weight spot.table (weighs weight)) (ended-total notes as_noted past.forgotten forgot weight) past.aborted in
-      let third = total-flat weight (ended_exceptions notes past.forgotten spot) (ended_weight spot.table (weighs weight)) (ended-total notes as_noted past.forgotten forgot weight) (drop n past.committed) in
-      let split = total-append weight (pending ++ aborted) committed in
-      let split-first = total-append weight pending aborted in
-      let rest = settled-rest weight past.committed n kept.settled before in
+      let first = pending-some notes as_noted past.forgotten forgot weight past.pending in
+      let second = aborted-all notes as_noted past.forgotten forgot weight past.aborted in
+      let third = settled-from notes as_noted past.forgotten forgot weight past.committed kept.settled in
       let whole = kept.ids spot.table (weighs weight) in
       let list = list-total weight in
-      omega (arith, first, second, third, split, split-first, rest, whole, list)
+      omega (arith, first, second, third, whole, list)
 
--- ---- the ids that ended before a place, where places rise
+-- ---- going back over the ids of the table
 
-first-ends : (x : EndedId) (xs : List EndedId) (i : ℕ) (d : EndedId) (position : ℕ) → AllByRecursion (λ (other : EndedId). x.at ≤ other.at) xs → i < length xs
-    → (get_or xs i d).at < position → x.at < position
-first-ends x [] i d position h within before = absurd (omega (arith, within))
-first-ends x (y ∷ xs) zero d position h within before = let first : x.at ≤ y.at = h.0 in omega (arith, first, before)
-first-ends x (y ∷ xs) (suc i) d position h within before = first-ends x xs i d position h.1 (omega (arith, within)) before
+ended-other : (notes : List TransactionNote) (forgotten : List ForgotNote) (spot : Spot) (from : ℕ) (weight : Exception → ℕ) (x : PlacedId)
+    → (x.id.table ≡ spot.table → ⊥) → weight_from notes forgotten spot from weight x ≡ 0
+unfolding ended_exceptions exceptions_of
+ended-other notes forgotten spot from weight x other = by (nat_le from x.at) (x.id.table == spot.table) (ne_eqb x.id.table spot.table other) (nat_le x.id.write spot.high)
+  where
+    by : (b c : Bool) → c ≡ false → (d : Bool)
+        → only_if b (total weight (only_those (c && d) (exception_then forgotten spot x.id.write (fate_in spot.position spot.transactions x.id.txn (numbered notes x.id.txn))))) ≡ 0
+    by true true e d = cc
+    by true false e d = refl
+    by false c e d = refl
 
-pub ended-front : (xs : List EndedId) (i n : ℕ) (d : EndedId) (position : ℕ) → PlacesRise xs → i < length xs → n ≡ i + 1 → (get_or xs i d).at < position
-    → AllByRecursion (EndsBefore position) (take n xs)
-ended-front xs i zero d position rise within count before = absurd (omega (arith, count))
-ended-front [] i (suc n) d position rise within count before = absurd (omega (arith, within))
-ended-front (x ∷ xs) zero (suc zero) d position rise within count before = (before, tt)
-ended-front (x ∷ xs) zero (suc (suc n)) d position rise within count before = absurd (omega (arith, count))
-ended-front (x ∷ xs) (suc i) (suc n) d position rise within count before =
-    (first-ends x xs i d position rise.0 (omega (arith, within)) before, ended-front xs i n d position rise.1 (omega (arith, within)) (omega (arith, count)) before)
+module _ (notes : List TransactionNote) (forgotten : List ForgotNote) (spot : Spot) (from : ℕ) (weight : Exception → ℕ) where
+  pub ended-start : (ids : List PlacedId)
+      → total (weight_from notes forgotten spot from weight) (take (last_of spot.table (map table_of ids)) ids) ≡ total (weight_from notes forgotten spot from weight) ids
+  ended-start ids = walk-start (weight_from notes forgotten spot from weight) spot.table (ended-other notes forgotten spot from weight) ids
 
--- the rest of a list is its whole rest
-pub rest-all : {A : Type 0} (n : ℕ) (xs : List A) → take (length xs - n) (drop n xs) ≡ drop n xs
-rest-all n xs = let long = length-drop n xs in take_all (length xs - n) (drop n xs) (omega (arith, long))
+  pub ended-step : (ids : List PlacedId) (at : ℕ) (x : PlacedId) → slice_get ids at ≡ Some x → x.id.table ≡ spot.table → from ≤ x.at
+      → total (weight_from notes forgotten spot from weight) (take (suc at) ids)
+      ≡ total (weight_from notes forgotten spot from weight) (take (before_of (suc at) (map table_of ids)) ids) + total weight (ended_exceptions notes forgotten spot x)
+  ended-step ids at x got is le =
+      let step = walk-step (weight_from notes forgotten spot from weight) spot.table (ended-other notes forgotten spot from weight) ids at x got is in
+      let one = ap (λ b. only_if b (total weight (ended_exceptions notes forgotten spot x))) (le-leb from x.at le) in
+      omega (arith, step, one)
+
+  pub ended-none : (ids : List PlacedId) (at : ℕ) (x : PlacedId) → PlacesRise ids → slice_get ids at ≡ Some x → x.at < from
+      → total (weight_from notes forgotten spot from weight) (take (suc at) ids) ≡ 0
+  ended-none ids at x rise got before =
+      none-from (weight_from notes forgotten spot from weight) from
+      (λ y lt. ap (λ b. only_if b (total weight (ended_exceptions notes forgotten spot y))) (lt-leb from y.at lt)) ids at x rise got before

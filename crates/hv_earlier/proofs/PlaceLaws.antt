@@ -1,10 +1,10 @@
 -- An earlier place, by what the whole book says: how transactions stood there, and which ids of a table had been given.
-use Rattle.std.proofs.Common.{◌≡◌, ℕ, zero, suc, ◌+◌, ◌<◌, ◌≤◌, Bool, true, false, Option, Some, None, List, [], ◌∷◌, ◌++◌, length, map, take, drop, fold, refl, sym, ap, ◌∙◌, subst, arith}
-use Rattle.std.specs.Prelude.{◌==◌, ◌&&◌, is_none, is_some, nat_le, IsSomeAnd}
+use Rattle.std.proofs.Common.{◌≡◌, ℕ, zero, suc, ◌<◌, ◌≤◌, Bool, true, false, Option, Some, None, List, [], ◌∷◌, ◌++◌, length, map, take, drop, fold, refl, sym, ap, ◌∙◌, subst, arith}
+use Rattle.std.specs.Prelude.{is_some, nat_le, IsSomeAnd}
 use Rattle.std.specs.Option.{option_map}
 use Rattle.std.specs.List.{slice_get, AllByRecursion}
 use Rattle.std.proofs.lemmas.Bool.{lt-ltb, le-ltb, leb-true, leb-false}
-use Rattle.std.proofs.lemmas.List.{map-append, length-append, length-map, length-take, length-drop, append-nil, append_assoc}
+use Rattle.std.proofs.lemmas.List.{map-append, length-map, length-take, length-drop, append-nil, append_assoc}
 use Rattle.hv_history.specs.declared.entry.Entry.{Entry}
 use Rattle.hv_history.specs.declared.entry.Entry.TheVariants as entry
 use Rattle.hv_history.specs.declared.state.Transaction.{Transaction}
@@ -13,20 +13,18 @@ use Rattle.hv_history.specs.declared.state.Ending.{Ending}
 use Rattle.hv_history.specs.declared.state.Ending.TheVariants.{Committed, Aborted, Made, Dropped}
 use Rattle.hv_history.specs.State.{State, numbered, while_open, unless_ended, started, given_id, committed, ended, opened, acted, after, nothing_yet, state_of}
 use Rattle.hv_history.specs.Lasting.{TableLater}
-use Rattle.hv_history.proofs.LastingLaws.{goes-on, goes-on-all}
+use Rattle.hv_history.proofs.LastingLaws.{goes-on-all}
 use Rattle.hv_book.specs.declared.notes.TableNote.{TableNote}
-use Rattle.hv_book.specs.Notes.{add_if}
 use Rattle.hv_book.specs.Briefs.{brief, brief_table, end_of}
-use Rattle.hv_book.specs.Past.{owners_in, total, only_if}
+use Rattle.hv_book.specs.Past.{owners_in}
 use Rattle.hv_book.proofs.NoteLaws.{map-same}
 use Rattle.hv_book.proofs.TextLaws.{get-front, numbered-map}
 use Rattle.hv_book.proofs.CommitLaws.{IsTold, EndIsTold}
-use Rattle.hv_book.proofs.TableLaws.{owners_after, owners-next}
 use Rattle.hv_book.proofs.BookLaws.{follows}
 use Rattle.hv_earlier.specs.declared.fates.Fate.{Fate}
 use Rattle.hv_earlier.specs.declared.fates.Fate.TheVariants as fate
 use Rattle.hv_earlier.specs.Fates.{fate_by, fate_of}
-use Rattle.hv_earlier.specs.Places.{opened_one, given_one, fate_when, fate_then, fate_if, fate_in}
+use Rattle.hv_earlier.specs.Places.{fate_when, fate_then, fate_if, fate_in}
 
 -- ---- the state behind a book goes on from that at an earlier place
 
@@ -51,25 +49,6 @@ opens _ = []
 pub opens_all : List Entry → List Fate
 opens_all [] = []
 opens_all (event ∷ more) = opens event ++ opens_all more
-
-opens-length : (more : List Entry) → length (opens_all more) ≡ total opened_one more
-unfolding opens opens_all
-opens-length [] = refl
-opens-length (entry.Opened txn session number text ∷ more) = let rest = opens-length more in omega (arith, rest)
-opens-length (entry.Boot run ∷ more) = let rest = opens-length more in omega (arith, rest)
-opens-length (entry.Start txn statement ∷ more) = let rest = opens-length more in omega (arith, rest)
-opens-length (entry.Given txn table write ∷ more) = let rest = opens-length more in omega (arith, rest)
-opens-length (entry.Commit txn wrote ∷ more) = let rest = opens-length more in omega (arith, rest)
-opens-length (entry.Abort txn cause ∷ more) = let rest = opens-length more in omega (arith, rest)
-opens-length (entry.Create txn table ∷ more) = let rest = opens-length more in omega (arith, rest)
-opens-length (entry.Drop txn table ∷ more) = let rest = opens-length more in omega (arith, rest)
-opens-length (entry.Asked job table partition kind by ∷ more) = let rest = opens-length more in omega (arith, rest)
-opens-length (entry.Picked job watermark ∷ more) = let rest = opens-length more in omega (arith, rest)
-opens-length (entry.Published job low high mark ∷ more) = let rest = opens-length more in omega (arith, rest)
-opens-length (entry.Empty job ∷ more) = let rest = opens-length more in omega (arith, rest)
-opens-length (entry.Cleaned job ∷ more) = let rest = opens-length more in omega (arith, rest)
-opens-length (entry.Failed job cause ∷ more) = let rest = opens-length more in omega (arith, rest)
-opens-length (entry.Forgot table write ∷ more) = let rest = opens-length more in omega (arith, rest)
 
 -- an end at that place or behind it changes nothing of how a transaction stood
 module _ (position : ℕ) where
@@ -168,14 +147,6 @@ fates-then entries position =
     ∙ then-all position more (state_of front) (λ some. omega (arith, some, short, rest, here))
     ∙ ap (λ (fs : List Fate). fs ++ opens_all more) (told-all position front (state_of front).transactions (omega (arith, short)) (follows front).commits.told)
 
-pub opened-before : (entries : List Entry) (position : ℕ)
-    → length (state_of entries).transactions ≡ length (state_of (take position entries)).transactions + total opened_one (drop position entries)
-opened-before entries position =
-    sym (length-map (state_of entries).transactions (then_of position))
-    ∙ ap length (fates-then entries position)
-    ∙ length-append (map fate_of (state_of (take position entries)).transactions) (opens_all (drop position entries))
-    ∙ (λ i. length-map (state_of (take position entries)).transactions fate_of i + opens-length (drop position entries) i)
-
 -- ---- the one of a number in the front of a list
 
 keep_if : {A : Type 0} → Bool → Option A → Option A
@@ -226,62 +197,7 @@ fate-at entries position k =
 
 -- ---- the ids of a table
 
-there-next : (state : State) (event : Entry) (table : ℕ) → is_some (numbered state.tables table) ≡ true → is_some (numbered (after state event).tables table) ≡ true
-there-next state event table is = by (numbered state.tables table) refl is
-  where
-    so : (o : Option Table) (t : Table) → IsSomeAnd o (TableLater t) → is_some o ≡ true
-    so None t later = absurd later
-    so (Some u) t later = refl
-
-    by : (o : Option Table) → numbered state.tables table ≡ o → is_some o ≡ true → is_some (numbered (after state event).tables table) ≡ true
-    by None here has = cc
-    by (Some t) here has = so (numbered (after state event).tables table) t ((goes-on state event).tables table t here)
-
-more-owners : (table txn : ℕ) (b : Bool) (owners : List ℕ) → length (add_if b txn owners) ≡ length owners + only_if b 1
-more-owners table txn true owners = length-append owners (txn ∷ [])
-more-owners table txn false owners = omega arith
-
-and-true : (b : Bool) → (b && true) ≡ b
-and-true true = refl
-and-true false = refl
-
-owners-grow : (table : ℕ) (owners : List ℕ) (event : Entry) → length (owners_after table true owners event) ≡ length owners + given_one table event
-owners-grow table owners (entry.Given txn other write) =
-    ap (λ b. length (add_if b txn.0 owners)) (and-true (other.0 == table)) ∙ more-owners table txn.0 (other.0 == table) owners
-owners-grow table owners (entry.Boot run) = omega arith
-owners-grow table owners (entry.Opened txn session number text) = omega arith
-owners-grow table owners (entry.Start txn statement) = omega arith
-owners-grow table owners (entry.Commit txn wrote) = omega arith
-owners-grow table owners (entry.Abort txn cause) = omega arith
-owners-grow table owners (entry.Create txn other) = omega arith
-owners-grow table owners (entry.Drop txn other) = omega arith
-owners-grow table owners (entry.Asked job other partition kind by) = omega arith
-owners-grow table owners (entry.Picked job watermark) = omega arith
-owners-grow table owners (entry.Published job low high mark) = omega arith
-owners-grow table owners (entry.Empty job) = omega arith
-owners-grow table owners (entry.Cleaned job) = omega arith
-owners-grow table owners (entry.Failed job cause) = omega arith
-owners-grow table owners (entry.Forgot other write) = omega arith
-
-given-all : (table : ℕ) (more : List Entry) (state : State) → is_some (numbered state.tables table) ≡ true
-    → length (owners_in (numbered (fold after state more).tables table)) ≡ length (owners_in (numbered state.tables table)) + total (given_one table) more
-given-all table [] state there = omega arith
-given-all table (event ∷ more) state there =
-    let next : length (owners_in (numbered (after state event).tables table)) ≡ length (owners_in (numbered state.tables table)) + given_one table event =
-    ap length (sym (owners-next table state event))
-    ∙ ap (λ b. length (owners_after table b (owners_in (numbered state.tables table)) event)) there
-    ∙ owners-grow table (owners_in (numbered state.tables table)) event
-    in
-    omega (arith, next, given-all table more (after state event) (there-next state event table there))
-
-pub given-before : (entries : List Entry) (position table : ℕ) → is_some (numbered (state_of (take position entries)).tables table) ≡ true
-    → length (owners_in (numbered (state_of entries).tables table))
-    ≡ length (owners_in (numbered (state_of (take position entries)).tables table)) + total (given_one table) (drop position entries)
-given-before entries position table there =
-    ap (λ (s : State). length (owners_in (numbered s.tables table))) (go-on entries position)
-    ∙ given-all table (drop position entries) (state_of (take position entries)) there
-
--- the ids that were given before that place come first
+-- those that were given before that place come first
 pub record OwnersGoOn (before now : List ℕ) : Type 0 where
   pub more : List ℕ
   pub is : now ≡ before ++ more
@@ -305,13 +221,13 @@ owners-go-on entries position table =
 
 -- ---- tables that were there
 
-pub there-by : {A B : Type 0} (f : A → B) (o : Option A) → is_none (option_map f o) ≡ false → is_some o ≡ true
-there-by f None is = cc
-there-by f (Some x) is = refl
-
 pub high-of : (note : TableNote) (o : Option Table) → Some note ≡ option_map brief_table o → note.high ≡ length (owners_in o)
 high-of note None is = cc
 high-of note (Some t) is = let same : note ≡ brief_table t = cc in ap (λ (n : TableNote). n.high) same
+
+pub no-owners : (o : Option Table) → None ≡ option_map brief_table o → length (owners_in o) ≡ 0
+no-owners None is = refl
+no-owners (Some t) is = cc
 
 -- a table that was there is there
 pub missing-table : {X : Type 0} (entries : List Entry) (position n : ℕ) → None ≡ option_map brief_table (numbered (state_of entries).tables n)

@@ -1,15 +1,14 @@
 -- What the notes beside a book say of an earlier place of it.
-use Rattle.std.specs.Prelude.{◌≡◌, ℕ, ◌==◌, ◌&&◌, ◌<◌, nat_lt, nat_le, Bool, true, false, Option, Some, None, List, [], ◌∷◌, length, take}
+use Rattle.std.specs.Prelude.{◌≡◌, ℕ, ◌==◌, ◌&&◌, nat_lt, nat_le, Bool, true, false, Option, Some, None, List, [], ◌∷◌, length, take}
 use Rattle.std.specs.List.{list_any}
 use Rattle.hv_history.specs.declared.entry.Entry.{Entry}
-use Rattle.hv_history.specs.declared.entry.Entry.TheVariants as entry
 use Rattle.hv_history.specs.State.{state_of, numbered}
 use Rattle.hv_book.specs.declared.notes.End.{End}
 use Rattle.hv_book.specs.declared.notes.TransactionNote.{TransactionNote}
-use Rattle.hv_book.specs.declared.past.IdNote.{IdNote}
-use Rattle.hv_book.specs.declared.past.EndedId.{EndedId}
+use Rattle.hv_ids.specs.declared.notes.IdNote.{IdNote}
+use Rattle.hv_ids.specs.declared.notes.PlacedId.{PlacedId}
 use Rattle.hv_book.specs.declared.past.ForgotNote.{ForgotNote}
-use Rattle.hv_book.specs.Past.{owners_in, only_if, forgot_then}
+use Rattle.hv_book.specs.Past.{owners_in, total, only_if, forgot_then}
 use Rattle.hv_wids.specs.declared.list.Exception.{Exception}
 use Rattle.hv_earlier.specs.declared.fates.Fate.{Fate}
 use Rattle.hv_earlier.specs.declared.fates.Fate.TheVariants as fate
@@ -18,19 +17,9 @@ use Rattle.hv_earlier.specs.Lists.{exception, unless_forgotten}
 
 -- ---- what came from that place on
 
-abbrev pub is_opened : Entry → Bool
-is_opened (entry.Opened txn session number text) = true
-is_opened _ = false
-
-abbrev pub is_given_in : ℕ → Entry → Bool
-is_given_in table (entry.Given txn other write) = other.0 == table
-is_given_in table _ = false
-
-abbrev pub opened_one : Entry → ℕ
-opened_one event = only_if (is_opened event) 1
-
-abbrev pub given_one : ℕ → Entry → ℕ
-given_one table event = only_if (is_given_in table event) 1
+-- an id of the table that was given from that place on
+abbrev pub given_from : ℕ → ℕ → PlacedId → ℕ
+given_from position table placed = only_if ((placed.id.table == table) && nat_le position placed.at) 1
 
 -- ---- whether a table was there and live
 
@@ -78,16 +67,18 @@ exceptions_of notes forgotten spot id =
     only_those ((id.table == spot.table) && nat_le id.write spot.high)
     (exception_then forgotten spot id.write (fate_in spot.position spot.transactions id.txn (numbered notes id.txn)))
 
-unfoldable pub ended_exceptions : List TransactionNote → List ForgotNote → Spot → EndedId → List Exception
+unfoldable pub ended_exceptions : List TransactionNote → List ForgotNote → Spot → PlacedId → List Exception
 ended_exceptions notes forgotten spot ended = exceptions_of notes forgotten spot ended.id
+
+-- what the exceptions that an id gives weigh, where its place is from there on
+abbrev pub weight_from : List TransactionNote → List ForgotNote → Spot → ℕ → (Exception → ℕ) → PlacedId → ℕ
+weight_from notes forgotten spot from weight ended =
+    only_if (nat_le from ended.at) (total weight (ended_exceptions notes forgotten spot ended))
 
 -- the spot is that place: its table had so many ids there, and so many transactions were opened
 pub record IsSpot (entries : List Entry) (spot : Spot) : Type 0 where
   pub high : spot.high ≡ length (owners_in (numbered (state_of (take spot.position entries)).tables spot.table))
   pub transactions : spot.transactions ≡ length (state_of (take spot.position entries)).transactions
-
-abbrev pub EndsBefore : ℕ → EndedId → Type 0
-EndsBefore position ended = ended.at < position
 
 abbrev pub write_of : Exception → ℕ
 write_of exception = exception.write.0

@@ -1,60 +1,27 @@
-ghost use Rattle.std.specs.Prelude.{◌≡◌, length, drop, take, is_some};
+ghost use Rattle.std.specs.Prelude.{◌≡◌, ◌≤◌, length, take};
 ghost use Rattle.std.specs.Option.{option_copied, option_map};
 ghost use Rattle.hv_history.specs.State.{state_of, numbered};
-ghost use Rattle.hv_book.specs.Past.{owners_in, total, live_then, table_live};
-ghost use Rattle.hv_earlier.specs.Places.{is_opened, is_given_in, opened_one, given_one, IsSpot};
+ghost use Rattle.hv_book.specs.Past.{owners_in, total, live_then, table_live, PlacesRise};
+ghost use Rattle.hv_earlier.specs.Places.{given_from, IsSpot};
 
 use crate::exceptions::Spot;
 use hv_book::{Book, SpanNote};
-use hv_history::{Entry, numbered};
+use hv_history::numbered;
+use hv_ids::PlacedIds;
 
-/// The entries from this place on.
-fn behind(entries: &[Entry], position: usize) -> &[Entry]
-    ensures { result.now ≡ drop position entries.now }
-{
-    &entries[position.min(entries.len())..]
-}
-
-fn is_opened(entry: &Entry) -> bool
-    ensures { result ≡ is_opened entry.now }
-{
-    match entry {
-        Entry::Opened { .. } => true,
-        _ => false,
-    }
-}
-
-fn is_given_in(entry: &Entry, table: u64) -> bool
-    ensures { result ≡ is_given_in table entry.now }
-{
-    match entry {
-        Entry::Given { table: other, .. } => other.0 == table,
-        _ => false,
-    }
-}
-
-/// How many transactions these entries open.
-fn opened_in(entries: &[Entry]) -> u64
-    ensures { result ≡ total opened_one entries.now }
+/// How many ids of a table were given from a place on. It walks these ids alone, the last first.
+fn given_since(given: &PlacedIds, position: u64, table: u64) -> u64
+    requires rising { PlacesRise given.now.ids }
+    ensures since { result ≡ total (given_from position table) given.now.ids }
 {
     let mut count = 0;
-    for entry in entries {
-        if is_opened(entry) {
-            count += 1;
+    let mut number = given.last(table);
+    while number > 0 {
+        if given.numbered(number).at < position {
+            return count;
         }
-    }
-    count
-}
-
-/// How many write ids of a table these entries give.
-fn given_in(entries: &[Entry], table: u64) -> u64
-    ensures { result ≡ total (given_one table) entries.now }
-{
-    let mut count = 0;
-    for entry in entries {
-        if is_given_in(entry, table) {
-            count += 1;
-        }
+        count += 1;
+        number = given.before(number);
     }
     count
 }
@@ -90,23 +57,19 @@ fn high_at(book: &Book, position: usize, table: u64) -> u64
     ensures high { result
         ≡ length (owners_in (numbered (state_of (take position book.now.entries)).tables table)) }
 {
-    if was_live(book, position, table).is_none() {
-        return 0;
-    }
+    let since = given_since(&book.past().given, position as u64, table);
     match numbered(book.tables(), table) {
-        Some(note) => note
-            .high
-            .saturating_sub(given_in(behind(book.entries(), position), table)),
+        Some(note) => note.high.saturating_sub(since),
         None => 0,
     }
 }
 
-/// How many transactions were opened before a place.
+/// How many transactions were opened before a place, by binary search.
 fn opened_at(book: &Book, position: usize) -> u64
     ensures opened { result ≡ length (state_of (take position book.now.entries)).transactions }
 {
-    let now = book.transactions().len() as u64;
-    now.saturating_sub(opened_in(behind(book.entries(), position)))
+    let place = position as u64;
+    book.opened().partition_point(|at| *at < place) as u64
 }
 
 /// The place, and what a list is asked with there.

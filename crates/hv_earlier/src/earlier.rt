@@ -1,31 +1,16 @@
-ghost use Rattle.std.specs.Prelude.{◌≡◌, ◌≤◌, ℕ, IfOk, OnOk, length, map, take};
-ghost use Rattle.std.specs.List.{AllByRecursion};
+ghost use Rattle.std.specs.Prelude.{◌≡◌, ℕ, IfOk, OnOk, map};
 ghost use Rattle.std.specs.List.Sorted.{IsNonDecreasingBy};
 ghost use Rattle.hv_wids.specs.declared.list.Exception.{Exception};
-ghost use Rattle.hv_book.specs.Past.{total, PlacesRise};
+ghost use Rattle.hv_book.specs.Past.{total};
 ghost use Rattle.hv_earlier.specs.Lists.{list_at};
-ghost use Rattle.hv_earlier.specs.Places.{IsSpot, EndsBefore, write_of};
+ghost use Rattle.hv_earlier.specs.Places.{IsSpot, write_of};
 
 use crate::counts::spot_at;
 use crate::exceptions::{Spot, put_ended, put_ids};
 use hv_base::{NoMemory, TableId, WriteId};
-use hv_book::{Book, EndedId};
+use hv_book::Book;
 use hv_wids::{Exception, WriteIdList};
 use std::alloc::Global;
-
-/// How many of these ended before a place. It walks back from the last one.
-fn ended_before(ended: &[EndedId], position: u64) -> usize
-    requires rising { PlacesRise ended.now }
-    ensures bound { result ≤ length ended.now }
-    ensures before { AllByRecursion (EndsBefore position) (take result ended.now) }
-{
-    for i in (0..ended.len()).rev() {
-        if ended[i].at < position {
-            return i + 1;
-        }
-    }
-    0
-}
 
 /// The exceptions of a list, in no order: of the ids that have not committed, and of those that
 /// committed from that place on.
@@ -37,12 +22,19 @@ fn exceptions_at(alloc: Global, book: &Book, spot: Spot) -> Result<Vec<Exception
     let past = book.past();
     let notes = book.transactions();
     let forgotten = past.forgotten.as_slice();
-    let committed = past.committed.as_slice();
-    let from = ended_before(committed, spot.position);
+    let pending = past.pending.of_table(spot.table);
     let mut exceptions = Vec::new(alloc);
-    put_ids(&mut exceptions, notes, forgotten, spot, &past.pending)?;
-    put_ended(&mut exceptions, notes, forgotten, spot, &past.aborted)?;
-    put_ended(&mut exceptions, notes, forgotten, spot, &committed[from..])?;
+    put_ids(&mut exceptions, notes, forgotten, spot, pending)?;
+    put_ended(&mut exceptions, notes, forgotten, spot, &past.aborted, 0)?;
+    let from = spot.position;
+    put_ended(
+        &mut exceptions,
+        notes,
+        forgotten,
+        spot,
+        &past.committed,
+        from,
+    )?;
     Ok(exceptions)
 }
 
@@ -67,8 +59,9 @@ fn rising_at(alloc: Global, book: &Book, spot: Spot) -> Result<Vec<Exception>, N
     Ok(exceptions)
 }
 
-/// The write id list of a table at a place of the book, from 0: the entries before it count. It walks
-/// the ids that have not committed, those that committed from that place on, and the entries there.
+/// The write id list of a table at a place of the book, from 0: the entries before it count. It walks, of
+/// the table, the ids that have not committed, those that committed from that place on, and those that were
+/// given there.
 pub fn list_at(
     alloc: Global,
     book: &Book,

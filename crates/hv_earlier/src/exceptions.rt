@@ -1,10 +1,12 @@
-ghost use Rattle.std.specs.Prelude.{◌≡◌, ◌++◌, OnOk};
+ghost use Rattle.std.specs.Prelude.{◌≡◌, ℕ, ◌+◌, ◌<◌, ◌++◌, OnOk};
 ghost use Rattle.std.specs.List.{list_any, flat_map};
-ghost use Rattle.hv_earlier.specs.Places.{is_forgot, exception_then, exceptions_of, ended_exceptions};
+ghost use Rattle.hv_book.specs.Past.{total, PlacesRise};
+ghost use Rattle.hv_earlier.specs.Places.{is_forgot, exception_then, exceptions_of, ended_exceptions, weight_from};
 
 use crate::fates::{Fate, fate_in};
 use hv_base::{NoMemory, WriteId};
-use hv_book::{EndedId, ForgotNote, IdNote, TransactionNote};
+use hv_book::{ForgotNote, TransactionNote};
+use hv_ids::{IdNote, PlacedId, PlacedIds};
 use hv_wids::Exception;
 
 /// Where a list is asked: the place, the table, how many ids of it were given before that place, and how
@@ -105,27 +107,36 @@ fn put_ended_one(
     notes: &[TransactionNote],
     forgotten: &[ForgotNote],
     spot: Spot,
-    ended: &EndedId,
+    ended: PlacedId,
 ) -> Result<(), NoMemory>
     ensures { OnOk result (exceptions.new.items
-        ≡ exceptions.old.items ++ ended_exceptions notes.now forgotten.now spot ended.now) }
+        ≡ exceptions.old.items ++ ended_exceptions notes.now forgotten.now spot ended) }
 {
     put_id(exceptions, notes, forgotten, spot, ended.id)
 }
 
-/// The same of ids whose transactions ended.
+/// The same of ids of the table whose transactions ended, from a place on. It walks these alone, the last
+/// first.
 pub fn put_ended(
     exceptions: &mut Vec<Exception>,
     notes: &[TransactionNote],
     forgotten: &[ForgotNote],
     spot: Spot,
-    ids: &[EndedId],
+    ids: &PlacedIds,
+    from: u64,
 ) -> Result<(), NoMemory>
-    ensures { OnOk result (exceptions.new.items
-        ≡ exceptions.old.items ++ flat_map (ended_exceptions notes.now forgotten.now spot) ids.now) }
+    requires rising { 0 < from → PlacesRise ids.now.ids }
+    ensures put { OnOk result ((weight : Exception → ℕ) → total weight exceptions.new.items
+        ≡ total weight exceptions.old.items + total (weight_from notes.now forgotten.now spot from weight) ids.now.ids) }
 {
-    for ended in ids {
+    let mut number = ids.last(spot.table);
+    while number > 0 {
+        let ended = ids.numbered(number);
+        if ended.at < from {
+            return Ok(());
+        }
         put_ended_one(exceptions, notes, forgotten, spot, ended)?;
+        number = ids.before(number);
     }
     Ok(())
 }

@@ -1,6 +1,6 @@
 -- What a note says is what the transaction says.
 use Rattle.std.proofs.Common.{◌≡◌, ℕ, suc, ◌+◌, zero, Option, Some, None, List, [], ◌∷◌, ◌++◌, drop, length, map, refl, sym, ap, ◌∙◌, subst, arith}
-use Rattle.std.specs.Prelude.{Bool, true, false, not, ◌&&◌, ◌||◌, ◌↔◌, IsTrue, IsFalse, IsSomeAnd, IsNone, ◌==◌, is_none, is_some, sum_by}
+use Rattle.std.specs.Prelude.{Bool, true, false, not, ◌&&◌, ◌↔◌, IsTrue, IsFalse, IsSomeAnd, IsNone, ◌==◌, is_none, is_some}
 use Rattle.std.specs.Option.{option_map}
 use Rattle.std.specs.List.{slice_get, list_all, list_any}
 use Rattle.hv_ast.specs.declared.statement.Stmt.{Stmt}
@@ -12,18 +12,17 @@ use Rattle.hv_ast.specs.declared.types.ScalarName.TheVariants as scalar
 use Rattle.hv_logic.specs.Shapes.{type_of, column_of}
 use Rattle.hv_route.specs.Back.{is_flat, AreFlat}
 use Rattle.std.proofs.lemmas.Bool.{eq-eqb, eqb-true}
-use Rattle.std.proofs.lemmas.List.Sums.{sum_by-cons}
 use Rattle.hv_history.specs.declared.state.Transaction.{Transaction}
 use Rattle.hv_history.specs.declared.state.Snapshot.{Snapshot}
 use Rattle.hv_history.specs.declared.state.Ending.{Ending}
 use Rattle.hv_history.specs.declared.state.Ending.TheVariants.{Committed, Aborted, Made, Dropped}
 use Rattle.hv_base.specs.declared.ids.Limits.{Limits}
 use Rattle.hv_history.specs.declared.state.Table.{Table}
-use Rattle.hv_history.specs.State.{State, Job, numbered, given_in, created_shape}
-use Rattle.hv_history.specs.Legal.{is_open, IsRunning, open_one, one_if, is_working, working_one, GivenFits, HasRoom, CreateFits, is_named, is_create, made_name}
-use Rattle.hv_book.specs.Briefs.{brief, brief_table, tree_in, given_at, given_while, brief_job, end_of, snapshot_place, open_from, open_next}
+use Rattle.hv_history.specs.State.{State, numbered, given_in, created_shape}
+use Rattle.hv_history.specs.Legal.{is_open, IsRunning, GivenFits, HasRoom, CreateFits, is_named, is_create, made_name}
+use Rattle.hv_book.specs.Briefs.{brief, brief_table, tree_in, given_at, given_while, end_of, snapshot_place}
 use Rattle.hv_meta.specs.declared.facts.TxnState.TheVariants.{Ended}
-use Rattle.hv_meta.specs.States.{ending_place, state_by, noted_by, transaction_state, noted_state, is_unended_note, is_running_note, is_working_note, working_note, is_next_note, is_held, is_flat_name, is_flat_definition, made_parts, named_in}
+use Rattle.hv_meta.specs.States.{ending_place, state_by, noted_by, transaction_state, noted_state, is_unended_note, is_running_note, is_next_note, is_held, is_flat_name, is_flat_definition, made_parts}
 use Rattle.hv_meta.specs.Catalogs.{live_infos, info_in, info_if}
 use Rattle.hv_logic.specs.declared.catalog.TableInfo.{TableInfo}
 use Rattle.hv_book.specs.declared.notes.TableNote.{TableNote}
@@ -77,39 +76,6 @@ noted-running (Some t) = (
   λ h. and-both (is_none (option_map end_of t.ending)) (is_some (option_map snapshot_place t.snapshot))
       (mapped-none end_of t.ending ∙ h.unended) (mapped-some snapshot_place t.snapshot ∙ h.started),
 )
-
--- ---- the load
-
-pub open-count : (m : ℕ) (ts : List Transaction) → length (open_from m (map brief ts)) ≡ sum_by open_one ts
-open-count m [] = refl
-open-count m (t ∷ ts) = by t.ending refl (open-count (m + 1) ts) ∙ sym (sum_by-cons open_one t ts)
-  where
-    by : (e : Option Ending) → t.ending ≡ e → length (open_from (m + 1) (map brief ts)) ≡ sum_by open_one ts
-        → length (open_next (is_none (option_map end_of t.ending)) m (open_from (m + 1) (map brief ts))) ≡ one_if (is_none t.ending) + sum_by open_one ts
-    by None is rest =
-        ap (λ (o : Option Ending). length (open_next (is_none (option_map end_of o)) m (open_from (m + 1) (map brief ts)))) is
-        ∙ (let more : suc (length (open_from (m + 1) (map brief ts))) ≡ 1 + sum_by open_one ts = omega (arith, rest) in more)
-        ∙ ap (λ (o : Option Ending). one_if (is_none o) + sum_by open_one ts) (sym is)
-    by (Some e) is rest =
-        ap (λ (o : Option Ending). length (open_next (is_none (option_map end_of o)) m (open_from (m + 1) (map brief ts)))) is
-        ∙ (let same : length (open_from (m + 1) (map brief ts)) ≡ 0 + sum_by open_one ts = omega (arith, rest) in same)
-        ∙ ap (λ (o : Option Ending). one_if (is_none o) + sum_by open_one ts) (sym is)
-
-some-none : {A : Type 0} (o : Option A) → not (is_some o) ≡ is_none o
-some-none None = refl
-some-none (Some x) = refl
-
-working-same : (j : Job) → is_working_note (brief_job j) ≡ is_working j
-working-same j =
-    ap (λ b. is_some j.watermark && (b && (not j.is_empty && not (is_some j.failure)))) (some-none j.published)
-    ∙ ap (λ b. is_some j.watermark && (is_none j.published && (not j.is_empty && b))) (some-none j.failure)
-
-pub working-count : (js : List Job) → sum_by working_note (map brief_job js) ≡ sum_by working_one js
-working-count [] = refl
-working-count (j ∷ js) =
-    sum_by-cons working_note (brief_job j) (map brief_job js)
-    ∙ ap (λ b. one_if b + sum_by working_note (map brief_job js)) (working-same j) ∙ ap (λ n. working_one j + n) (working-count js)
-    ∙ sym (sum_by-cons working_one j js)
 
 -- ---- a fact of the transaction, beside one that isn't about it
 
@@ -178,41 +144,11 @@ module _ (limits : Limits) (state : State) (table write : ℕ) where
         (and-both n (not h && m) (next ∙ (next-table (numbered state.tables table) write).1 fits.live) (and-both (not h) m ((false-is h).1 free) (room.1 fits.room))),
   )
 
--- ---- a table's name
+-- ---- the live tables
 
 drop-nil : {A : Type 0} (n : ℕ) → drop {A = A} n [] ≡ []
 drop-nil zero = refl
 drop-nil (suc n) = refl
-
-any-at : (name : List ℕ) (ts : List Table) (n : ℕ) → named_in name (slice_get ts n) ≡ false
-    → list_any (is_named name) (drop n ts) ≡ list_any (is_named name) (drop (n + 1) ts)
-any-at name [] zero h = refl
-any-at name [] (suc n) h = ap (list_any (is_named name)) (sym (drop-nil (suc n + 1)))
-any-at name (t ∷ ts) zero h = ap (λ b. b || list_any (is_named name) ts) h
-any-at name (t ∷ ts) (suc n) h =
-    any-at name ts n h ∙ ap (λ k. list_any (is_named name) (drop k (t ∷ ts))) (let at : suc (n + 1) ≡ suc n + 1 = omega arith in at)
-
-pub any-step : (name : List ℕ) (ts : List Table) (i number : ℕ) → number ≡ i + 1 → named_in name (numbered ts number) ≡ false
-    → list_any (is_named name) (drop i ts) ≡ list_any (is_named name) (drop (i + 1) ts)
-any-step name ts i zero e h = absurd (omega (arith, e))
-any-step name ts i (suc n) e h =
-    let same : n ≡ i = omega (arith, e) in
-    any-at name ts i (ap (λ k. named_in name (slice_get ts k)) (sym same) ∙ h)
-
-any-found : (name : List ℕ) (ts : List Table) (n : ℕ) → named_in name (slice_get ts n) ≡ true → list_any (is_named name) (drop n ts) ≡ true
-any-found name [] zero h = cc
-any-found name [] (suc n) h = cc
-any-found name (t ∷ ts) zero h = ap (λ b. b || list_any (is_named name) ts) h
-any-found name (t ∷ ts) (suc n) h = any-found name ts n h
-
-pub any-here : (name : List ℕ) (ts : List Table) (i number : ℕ) → number ≡ i + 1 → named_in name (numbered ts number) ≡ true
-    → list_any (is_named name) (drop i ts) ≡ true
-any-here name ts i zero e h = absurd (omega (arith, e))
-any-here name ts i (suc n) e h =
-    let same : n ≡ i = omega (arith, e) in
-    any-found name ts i (ap (λ k. named_in name (slice_get ts k)) (sym same) ∙ h)
-
--- ---- the live tables
 
 infos-at : (ts : List Table) (n : ℕ) → live_infos (drop n ts) ≡ info_in (slice_get ts n) ++ live_infos (drop (n + 1) ts)
 infos-at [] zero = refl

@@ -1,5 +1,5 @@
 -- How far a transaction has come. Source: Hive Transactions (open, committed, aborted).
-use Rattle.std.specs.Prelude.{ℕ, ◌+◌, ◌==◌, ◌&&◌, Bool, true, false, not, is_none, is_some, Option, None, Some, List, []}
+use Rattle.std.specs.Prelude.{ℕ, ◌+◌, ◌==◌, ◌&&◌, Bool, true, false, is_none, is_some, Option, None, Some, List, []}
 use Rattle.hv_ast.specs.declared.statement.Stmt.{Stmt}
 use Rattle.hv_ast.specs.declared.statement.Stmt.TheVariants as stmt
 use Rattle.hv_ast.specs.declared.table.ColumnDefinition.{ColumnDefinition}
@@ -7,13 +7,11 @@ use Rattle.hv_ast.specs.declared.types.TypeName.{TypeName}
 use Rattle.hv_ast.specs.declared.types.TypeName.TheVariants as type_name
 use Rattle.hv_history.specs.declared.state.Transaction.{Transaction}
 use Rattle.hv_history.specs.declared.state.Ending.{Ending}
-use Rattle.hv_history.specs.declared.state.Table.{Table}
 use Rattle.hv_history.specs.declared.state.Ending.TheVariants.{Committed, Aborted, Made, Dropped}
 use Rattle.hv_history.specs.State.{State, numbered, given_in}
-use Rattle.hv_history.specs.Legal.{is_started, one_if, is_named}
+use Rattle.hv_history.specs.Legal.{is_started}
 use Rattle.hv_book.specs.declared.notes.End.{End}
 use Rattle.hv_book.specs.declared.notes.TransactionNote.{TransactionNote}
-use Rattle.hv_book.specs.declared.notes.JobNote.{JobNote}
 use Rattle.hv_book.specs.declared.notes.TableNote.{TableNote}
 use Rattle.hv_meta.specs.declared.facts.TxnState.{TxnState}
 use Rattle.hv_meta.specs.declared.facts.TxnState.TheVariants.{Unknown, Running, Ended}
@@ -53,13 +51,6 @@ abbrev pub is_running_note : Option TransactionNote → Bool
 is_running_note None = false
 is_running_note (Some note) = is_none note.ending && is_some note.started
 
--- a job that was picked and has not ended, by its note
-abbrev pub is_working_note : JobNote → Bool
-is_working_note job = job.is_picked && (not job.is_published && (not job.is_empty && not job.is_failed))
-
-abbrev pub working_note : JobNote → ℕ
-working_note job = one_if (is_working_note job)
-
 -- the table is live, and this is its next write id
 abbrev pub is_next_note : ℕ → Option TableNote → Bool
 is_next_note write None = false
@@ -81,8 +72,3 @@ is_flat_definition column = is_flat_name column.kind
 abbrev pub made_parts : Option Stmt → List ColumnDefinition
 made_parts (Some (stmt.CreateTable create)) = create.partitions
 made_parts _ = []
-
--- the table is there, is live and has this name
-abbrev pub named_in : List ℕ → Option Table → Bool
-named_in name None = false
-named_in name (Some table) = is_named name table

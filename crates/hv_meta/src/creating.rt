@@ -1,48 +1,19 @@
-ghost use Rattle.std.specs.Prelude.{◌≡◌, ◌↔◌, ◌+◌, ◌<◌, IsTrue, Option, None, Some, nat_eq};
-ghost use Rattle.std.specs.Option.{option_copied};
+ghost use Rattle.std.specs.Prelude.{◌≡◌, ◌↔◌, IsTrue};
 ghost use Rattle.std.specs.List.{list_all, list_any};
-ghost use Rattle.std.specs.Cmp.Lexicographic.{pointwise};
-ghost use Rattle.hv_history.specs.State.{state_of, numbered, created_shape};
-ghost use Rattle.hv_history.specs.Legal.{CreateFits, Of, is_named, is_create, made_name};
-ghost use Rattle.hv_book.specs.Briefs.{tree_in};
-ghost use Rattle.hv_meta.specs.States.{is_flat_definition, named_in};
+ghost use Rattle.hv_history.specs.State.{state_of};
+ghost use Rattle.hv_history.specs.Legal.{CreateFits, Of, is_named};
+ghost use Rattle.hv_meta.specs.States.{is_flat_definition};
 
 use crate::facts::is_running;
 use hv_ast::{ColumnDefinition, Stmt, TypeName};
 use hv_base::{TableId, Text, TxnId};
 use hv_book::Book;
-use hv_history::numbered;
-
-/// Whether the table that this text makes has this name.
-fn is_text_of(tree: Option<&Stmt>, name: &Text) -> bool
-    ensures { result ≡ pointwise nat_eq (created_shape (option_copied tree.entry)).name name.now }
-{
-    match tree {
-        Some(Stmt::CreateTable(create)) => create.table == *name,
-        _ => name.is_empty(),
-    }
-}
-
-/// Whether the table of this number is live and has this name.
-fn has_name(book: &Book, table: u64, name: &Text) -> bool
-    ensures { result ≡ named_in name.now (numbered (state_of book.now.entries).tables table) }
-{
-    match numbered(book.tables(), table) {
-        Some(note) => note.is_live && is_text_of(book.table_tree(table), name),
-        None => false,
-    }
-}
 
 /// Whether a live table has this name.
 pub fn has_named(book: &Book, name: &Text) -> bool
     ensures named { result ≡ list_any (is_named name.now) (state_of book.now.entries).tables }
 {
-    for i in 0..book.tables().len() {
-        if has_name(book, i as u64 + 1, name) {
-            return true;
-        }
-    }
-    false
+    book.has_named(name)
 }
 
 fn is_flat(column: &ColumnDefinition) -> bool

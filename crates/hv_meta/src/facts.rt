@@ -1,12 +1,12 @@
-ghost use Rattle.std.specs.Prelude.{◌≡◌, ◌↔◌, ◌+◌, ◌*◌, ◌^◌, ◌≤◌, IsTrue, IsSomeAnd, length, sum_by};
+ghost use Rattle.std.specs.Prelude.{◌≡◌, ◌↔◌, ◌+◌, ◌*◌, ◌^◌, ◌≤◌, IsTrue, IsSomeAnd, length};
 ghost use Rattle.std.specs.Option.{option_map};
 ghost use Rattle.hv_history.specs.State.{state_of, numbered};
 ghost use Rattle.hv_history.specs.Legal.{is_open, IsRunning, load, HasRoom, Of};
 ghost use Rattle.hv_book.specs.Briefs.{brief};
-ghost use Rattle.hv_meta.specs.States.{state_in, noted_state, is_unended_note, is_running_note, working_note, is_working_note};
+ghost use Rattle.hv_meta.specs.States.{state_in, noted_state, is_unended_note, is_running_note};
 
 use hv_base::{Limits, TxnId};
-use hv_book::{Book, JobNote, TransactionNote};
+use hv_book::{Book, TransactionNote};
 use hv_history::numbered;
 
 /// How far a transaction has come.
@@ -87,31 +87,12 @@ pub fn is_running(book: &Book, txn: TxnId) -> bool
     is_running_note(note_of(book, txn.0))
 }
 
-fn is_working(job: &JobNote) -> bool
-    ensures { result ≡ is_working_note job.now }
-{
-    job.is_picked && !job.is_published && !job.is_empty && !job.is_failed
-}
-
-fn working(jobs: &[JobNote]) -> u128
-    ensures count { result ≡ sum_by working_note jobs.now }
-    ensures bound { result ≤ length jobs.now }
-{
-    let mut count: u128 = 0;
-    for job in jobs {
-        count += u128::from(is_working(job));
-    }
-    count
-}
-
 /// The entries, and the one that each open transaction and each working job still needs.
 pub fn load(book: &Book) -> u128
     ensures load { result ≡ load (state_of book.now.entries) }
     ensures bound { result ≤ 3 * 2 ^ 64 }
 {
-    let entries = book.entries().len() as u128;
-    let ongoing = book.ongoing().len() as u128;
-    entries + ongoing + working(book.jobs())
+    book.load()
 }
 
 /// Whether so many more of the load stay within the limit.

@@ -1,15 +1,14 @@
-use Rattle.std.proofs.Common.{length, drop, ap, ◌∙◌, arith}
-use Rattle.std.proofs.lemmas.List.{length-map}
-use Rattle.hv_history.specs.State.{state_of}
-use Rattle.hv_book.specs.Briefs.{brief}
-use Rattle.hv_book.specs.Past.{total}
-use Rattle.hv_earlier.specs.Places.{opened_one}
-use Rattle.hv_earlier.proofs.PlaceLaws.{opened-before}
+use Rattle.std.proofs.Common.{rules, sym, ◌∙◌}
+use Rattle.std.specs.Prelude.{nat_lt}
+use Rattle.std.proofs.lemmas.List.Sorted.{IsPartitionPoint-from_clause}
+use Rattle.hv_earlier.proofs.WalkLaws.{places-parted, places-before}
 use Rattle.hv_earlier.proofs.counts.opened_at.Goals as goal
 
 pub returns : goal.returns
 returns c =
-    let before = opened-before c.args.book.now.entries c.args.position in
-    let now = ap length c.transactions.ensures.transactions ∙ length-map (state_of c.args.book.now.entries).transactions brief in
-    let behind = c.opened_in.ensures ∙ ap (total opened_one) (c.behind.ensures ∙ ap (drop c.args.position) c.entries.ensures.entries) in
-    record { opened = omega (arith, before, now, behind, c.saturating_sub.ensures) }
+    let places = c.opened.result.now in
+    let point =
+    IsPartitionPoint-from_clause (λ at. nat_lt at c.args.position) _ _ c.partition_point.ensures.partitioned
+    (places-parted c.args.position places c.opened.ensures.opened.rising) (λ a r q k. search rules)
+    in
+    record { opened = sym (places-before c.args.position places c.partition_point.result c.partition_point.ensures.bound point) ∙ c.opened.ensures.opened.count c.args.position }

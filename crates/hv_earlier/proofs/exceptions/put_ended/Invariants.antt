@@ -1,9 +1,17 @@
-use Rattle.std.proofs.Common.{◌≡◌, ◌++◌, drop}
-use Rattle.std.specs.List.{flat_map}
-use Rattle.hv_earlier.specs.Places.{ended_exceptions}
+use Rattle.std.proofs.Common.{◌≡◌, ◌+◌, ◌≤◌, ℕ, length, take}
+use Rattle.hv_wids.specs.declared.list.Exception.{Exception}
+use Rattle.hv_book.specs.Past.{total}
+use Rattle.hv_earlier.specs.Places.{weight_from}
+use Rattle.hv_earlier.proofs.WalkLaws.{IsStop}
 use Rattle.hv_earlier.proofs.exceptions.put_ended.Given as goal
 
-abbrev pub invariant-loop-ended : goal.invariant-loop-ended
-invariant-loop-ended l =
-    l.exceptions.items ++ flat_map (ended_exceptions l.notes l.forgotten l.spot) (drop l.ended-index l.ids)
-    ≡ l.fn.exceptions.items ++ flat_map (ended_exceptions l.notes l.forgotten l.spot) l.ids
+abbrev pub invariant-loop-number : goal.invariant-loop-number
+invariant-loop-number l =
+    ((weight : Exception → ℕ)
+    → total weight l.exceptions.items + total (weight_from l.notes l.forgotten l.spot l.from weight) (take l.number l.ids.ids)
+    ≡ total weight l.fn.exceptions.items + total (weight_from l.notes l.forgotten l.spot l.from weight) l.ids.ids)
+    × (l.number ≤ length l.ids.ids)
+    × IsStop l.spot.table l.ids.ids l.number
+
+abbrev pub decreases-loop-number : goal.decreases-loop-number
+decreases-loop-number l = l.number

@@ -9,6 +9,6 @@ use Rattle.hv_book.proofs.book.Book.jobs.Goals as goal
 pub returns : goal.returns
 returns c = record {
   jobs =
-      c.as_slice.ensures.value ∙ ap (λ (n : Notes). n.jobs) c.self.invariant.notes ∙ (follows c.self.inside.entries.items).jobs
+      c.as_slice.ensures.notes ∙ ap (λ (n : Notes). n.jobs) c.self.invariant.notes ∙ (follows c.self.inside.entries.items).jobs
       ∙ ap (λ (k : Kept). map brief_job (state_of k.entries).jobs) c.self.view_is;
 }

@@ -1,0 +1,12 @@
+//! Write ids, kept so that those of one table are found without the others.
+#![tactic(auto)]
+
+mod notes;
+mod pending;
+mod placed;
+#[cfg(test)]
+mod tests;
+
+pub use notes::{IdNote, PlacedId};
+pub use pending::PendingIds;
+pub use placed::PlacedIds;

@@ -1,0 +1,8 @@
+//! Links between the items of a list that are of one group, so that one group is walked without the others.
+#![tactic(auto)]
+
+mod links;
+#[cfg(test)]
+mod tests;
+
+pub use links::Links;
