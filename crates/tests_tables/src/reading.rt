@@ -135,7 +135,12 @@ static ONCE: [Case; 1] = [(
 fn list_of(alloc: Global, high: u64, except: Except) -> Result<WriteIdList, NoMemory> {
     match except {
         Some((write, aborted)) if write <= high => {
-            let exceptions = vec![in alloc; Exception { write: WriteId(write), aborted }]?;
+            let exceptions = vec![in alloc;
+                Exception {
+                    write: WriteId(write),
+                    aborted
+                },
+            ]?;
             Ok(WriteIdList::new(WriteId(high), exceptions))
         }
         _ => Ok(WriteIdList::new(WriteId(high), Vec::new(alloc))),
