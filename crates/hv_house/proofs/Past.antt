@@ -1,11 +1,14 @@
--- A table at a place of the book: it is found by its name, and of its write ids those are lost whose transactions haven't committed there.
-use Rattle.std.proofs.Common.{refl, ◌≡◌, ℕ, zero, suc, ◌+◌, ◌<◌, ◌==◌, Bool, true, false, cond, Option, Some, None, List, [], ◌∷◌, ◌++◌, map, ap, ◌∙◌, subst, arith, eq-eqb}
-use Rattle.std.proofs.lemmas.Bool.{ne_eqb}
-use Rattle.std.specs.Prelude.{◌&&◌, ◌||◌, nat_eq}
+-- A table at a place of the book: it is found by its name, and its list says of its write ids which are of transactions that have committed there.
+use Rattle.std.proofs.Common.{refl, ◌≡◌, ℕ, zero, suc, ◌+◌, ◌<◌, ◌==◌, Bool, true, false, cond, Option, Some, None, List, [], ◌∷◌, ◌++◌, length, map, sym, ap, ◌∙◌, subst, arith, eq-eqb}
+use Rattle.std.proofs.lemmas.Bool.{ne_eqb, and_parts}
+use Rattle.std.proofs.lemmas.Bool.Decides.{nat_tests}
+use Rattle.std.specs.Prelude.{◌≤◌, ◌&&◌, ◌||◌, not, nat_eq, nat_le}
 use Rattle.std.specs.Cmp.Lexicographic.{pointwise}
 use Rattle.std.specs.List.{slice_get, AllByRecursion}
 use Rattle.std.specs.Option.{option_map}
 use Rattle.hv_wids.specs.declared.list.Exception.{Exception}
+use Rattle.hv_wids.specs.Between.{has}
+use Rattle.hv_wids.specs.WriteIds.{WriteIds, ids_of, is_valid}
 use Rattle.hv_logic.specs.declared.catalog.TableInfo.{TableInfo}
 use Rattle.hv_history.specs.declared.state.Ending.{Ending}
 use Rattle.hv_history.specs.declared.state.Ending.TheVariants.{Committed, Aborted, Made, Dropped}
@@ -21,10 +24,9 @@ use Rattle.hv_earlier.specs.Lists.{exception_by, exceptions_from}
 use Rattle.hv_stands.specs.Files.{ending_of, IsUndone}
 use Rattle.hv_stands.specs.Sound.{IsLive, IsDone, KeepsAll}
 use Rattle.hv_stands.specs.Reading.{table_of_name}
-use Rattle.hv_stands.proofs.Numbers.{numbered-map}
-use Rattle.hv_tables.specs.Keys.{is_among}
-use Rattle.hv_tables.specs.Laws.{AreLost}
-use Rattle.hv_house.specs.Seeing.{write_of, lost_in, info_of_name}
+use Rattle.hv_stands.proofs.Numbers.{numbered-map, numbered-within}
+use Rattle.hv_tables.specs.Laws.{SaysCommitted}
+use Rattle.hv_house.specs.Seeing.{ids_in, info_of_name}
 
 -- ---- by its name
 
@@ -87,7 +89,7 @@ is_lost (Some fate.Committed) = false
 is_lost (Some fate.Aborted) = true
 
 among-here : (o : Option Fate) (k w : ℕ) (rest : List Exception)
-    → is_among (map write_of (exception_by [] k o ++ rest)) w ≡ (is_lost o && (k == w)) || is_among (map write_of rest) w
+    → has (ids_of (exception_by [] k o ++ rest)) w ≡ (is_lost o && (k == w)) || has (ids_of rest) w
 among-here None k w rest = refl
 among-here (Some fate.Open) k w rest = refl
 among-here (Some fate.Committed) k w rest = refl
@@ -103,35 +105,41 @@ one-of false = refl
 
 module _ (fates : List Fate) where
   abbrev lost-from : ℕ → List ℕ → List ℕ
-  lost-from k owners = map write_of (exceptions_from fates [] k owners)
+  lost-from k owners = ids_of (exceptions_from fates [] k owners)
 
   -- another id than the first one
-  among-next : (k w owner : ℕ) (owners : List ℕ) → (k ≡ w → ⊥) → is_among (lost-from k (owner ∷ owners)) w ≡ is_among (lost-from (k + 1) owners) w
+  among-next : (k w owner : ℕ) (owners : List ℕ) → (k ≡ w → ⊥) → has (lost-from k (owner ∷ owners)) w ≡ has (lost-from (k + 1) owners) w
   among-next k w owner owners other =
       among-here (numbered fates owner) k w (exceptions_from fates [] (k + 1) owners)
-      ∙ ap (λ b. (is_lost (numbered fates owner) && b) || is_among (lost-from (k + 1) owners) w) (ne_eqb k w other)
-      ∙ none-of (is_lost (numbered fates owner)) (is_among (lost-from (k + 1) owners) w)
+      ∙ ap (λ b. (is_lost (numbered fates owner) && b) || has (lost-from (k + 1) owners) w) (ne_eqb k w other)
+      ∙ none-of (is_lost (numbered fates owner)) (has (lost-from (k + 1) owners) w)
 
-  none-below : (owners : List ℕ) (k w : ℕ) → w < k → is_among (lost-from k owners) w ≡ false
+  none-below : (owners : List ℕ) (k w : ℕ) → w < k → has (lost-from k owners) w ≡ false
   none-below [] k w low = refl
   none-below (owner ∷ owners) k w low =
       among-next k w owner owners (λ same. omega (arith, same, low)) ∙ none-below owners (k + 1) w (omega (arith, low))
 
-  among-at : (owners : List ℕ) (k i w txn : ℕ) → w ≡ k + i → slice_get owners i ≡ Some txn → is_among (lost-from k owners) w ≡ is_lost (numbered fates txn)
+  among-at : (owners : List ℕ) (k i w txn : ℕ) → w ≡ k + i → slice_get owners i ≡ Some txn → has (lost-from k owners) w ≡ is_lost (numbered fates txn)
   among-at [] k i w txn is at = cc
   among-at (owner ∷ owners) k zero w txn is at =
       let same : owner ≡ txn = cc in
       among-here (numbered fates owner) k w (exceptions_from fates [] (k + 1) owners)
-      ∙ ap (λ b. (is_lost (numbered fates owner) && b) || is_among (lost-from (k + 1) owners) w) (eq-eqb k w (omega (arith, is)))
+      ∙ ap (λ b. (is_lost (numbered fates owner) && b) || has (lost-from (k + 1) owners) w) (eq-eqb k w (omega (arith, is)))
       ∙ ap (λ b. (is_lost (numbered fates owner) && true) || b) (none-below owners (k + 1) w (omega (arith, is)))
       ∙ one-of (is_lost (numbered fates owner))
       ∙ ap (λ n. is_lost (numbered fates n)) same
   among-at (owner ∷ owners) k (suc i) w txn is at =
       among-next k w owner owners (λ same. omega (arith, same, is)) ∙ among-at owners (k + 1) i w txn (omega (arith, is)) at
 
-  among-numbered : (owners : List ℕ) (write txn : ℕ) → numbered owners write ≡ Some txn → is_among (lost-from 1 owners) write ≡ is_lost (numbered fates txn)
+  among-numbered : (owners : List ℕ) (write txn : ℕ) → numbered owners write ≡ Some txn → has (lost-from 1 owners) write ≡ is_lost (numbered fates txn)
   among-numbered owners zero txn at = cc
   among-numbered owners (suc i) txn at = among-at owners 1 i (suc i) txn (omega arith) at
+
+le-true : (n m : ℕ) → nat_le n m ≡ true → n ≤ m
+le-true n m e = grind (arith, nat_tests, e)
+
+true-le : (n m : ℕ) → n ≤ m → nat_le n m ≡ true
+true-le n m h = grind (arith, nat_tests, h)
 
 undone-lost : (e : Option Ending) → IsUndone (Some e) → is_lost (Some (fate_by e)) ≡ true
 undone-lost None undone = refl
@@ -155,21 +163,43 @@ done-of : (o : Option Transaction) → IsDone (option_map ending_of o) → is_lo
 done-of None done = absurd done
 done-of (Some transaction) done = done-kept transaction.ending done
 
--- just those whose transactions haven't committed
-pub are-lost : (state : State) (table : Table) → numbered state.tables table.info.table.0 ≡ Some table → KeepsAll table
-    → AreLost state table (lost_in state table.info.table.0)
-are-lost state table here keeps =
+-- the list says which transactions have committed
+pub says-committed : (state : State) (table : Table) → numbered state.tables table.info.table.0 ≡ Some table → KeepsAll table
+    → SaysCommitted state table (ids_in state table.info.table.0)
+says-committed state table here keeps =
     let ts : List Transaction = state.transactions in
     let fates : List Fate = map fate_of ts in
-    let same : lost_in state table.info.table.0 ≡ lost-from fates 1 table.owners =
-    ap (λ (o : Option Table). map write_of (exceptions_from fates (forgotten_in o) 1 (owners_in o))) here
-    ∙ ap (λ forgotten. map write_of (exceptions_from fates forgotten 1 table.owners)) keeps
+    let number : ℕ = table.info.table.0 in
+    let same : ids_of (ids_in state number).exceptions ≡ lost-from fates 1 table.owners =
+    ap (λ (o : Option Table). ids_of (exceptions_from fates (forgotten_in o) 1 (owners_in o))) here
+    ∙ ap (λ forgotten. ids_of (exceptions_from fates forgotten 1 table.owners)) keeps
     in
+    let high : (ids_in state number).high.0 ≡ length table.owners = ap (λ (o : Option Table). length (owners_in o)) here in
     let among : (write txn : ℕ) → numbered table.owners write ≡ Some txn
-    → is_among (lost_in state table.info.table.0) write ≡ is_lost (option_map fate_of (numbered ts txn)) =
-    λ write txn at. ap (λ ids. is_among ids write) same ∙ among-numbered fates table.owners write txn at ∙ ap is_lost (numbered-map fate_of ts txn)
+    → has (ids_of (ids_in state number).exceptions) write ≡ is_lost (option_map fate_of (numbered ts txn)) =
+    λ write txn at. ap (λ ids. has ids write) same ∙ among-numbered fates table.owners write txn at ∙ ap is_lost (numbered-map fate_of ts txn)
     in
     record {
-      undone = λ write txn at undone. among write txn at ∙ undone-of (numbered ts txn) (subst IsUndone (numbered-map ending_of ts txn) undone);
-      done = λ write txn at done. among write txn at ∙ done-of (numbered ts txn) (subst IsDone (numbered-map ending_of ts txn) done);
+      undone = λ write txn at undone.
+          let lost = among write txn at ∙ undone-of (numbered ts txn) (subst IsUndone (numbered-map ending_of ts txn) undone) in
+          none-left (nat_le write (ids_in state number).high.0) (has (ids_of (ids_in state number).exceptions) write) lost;
+      done = λ write txn at done.
+          let kept = among write txn at ∙ done-of (numbered ts txn) (subst IsDone (numbered-map ending_of ts txn) done) in
+          let within = numbered-within table.owners write txn at in
+          both-left (nat_le write (ids_in state number).high.0) (has (ids_of (ids_in state number).exceptions) write)
+          (ap (nat_le write) high ∙ true-le write (length table.owners) within.1) kept;
+      given = λ write valid.
+          let parts = and_parts (nat_le write (ids_in state number).high.0) (not (has (ids_of (ids_in state number).exceptions) write)) valid in
+          le-true write (length table.owners) (sym (ap (nat_le write) high) ∙ parts.0);
     }
+  where
+    none-left : (a b : Bool) → b ≡ true → (a && not b) ≡ false
+    none-left true true e = refl
+    none-left false true e = refl
+    none-left true false e = cc
+    none-left false false e = refl
+
+    both-left : (a b : Bool) → a ≡ true → b ≡ false → (a && not b) ≡ true
+    both-left true false p q = refl
+    both-left true true p q = cc
+    both-left false b p q = cc

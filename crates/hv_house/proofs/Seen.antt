@@ -1,32 +1,30 @@
 -- What is seen of a table at a place of the book.
 use Rattle.std.proofs.Common.{refl, ◌≡◌, ℕ, ◌<◌, ◌≤◌, Bool, false, Option, Some, None, Result, Err, List, [], length, map, take, sym, ap, ◌∙◌, subst, arith}
-use Rattle.std.proofs.lemmas.List.{length-take}
 use Rattle.std.specs.Prelude.{IfErr}
 use Rattle.hv_base.specs.Told.{Tells}
 use Rattle.hv_shelf.specs.Disk.{Store, Tree}
 use Rattle.hv_logic.specs.declared.catalog.TableInfo.{TableInfo}
 use Rattle.hv_logic.specs.declared.effect.Found.{Found}
 use Rattle.hv_dirs.specs.Names.{write_end}
+use Rattle.hv_wids.specs.WriteIds.{WriteIds}
 use Rattle.hv_history.specs.declared.entry.Entry.{Entry}
 use Rattle.hv_history.specs.declared.state.Table.{Table}
 use Rattle.hv_history.specs.State.{State, numbered, content_of, state_of}
-use Rattle.hv_book.specs.Past.{owners_in}
 use Rattle.hv_meta.specs.Catalogs.{live_infos}
-use Rattle.hv_earlier.specs.Lists.{list_in, list_at, catalog_at}
+use Rattle.hv_earlier.specs.Lists.{list_at, catalog_at}
 use Rattle.hv_stands.specs.Files.{Stands}
-use Rattle.hv_stands.specs.Sound.{IsSound, HasFewOwners, KeepsAll}
+use Rattle.hv_stands.specs.Sound.{IsSound, KeepsAll}
 use Rattle.hv_stands.specs.Reading.{table_of_name}
 use Rattle.hv_stands.specs.Statements.{AllFitting}
 use Rattle.hv_stands.proofs.Fitting.{fitting-sound, fronts-fit}
-use Rattle.hv_stands.proofs.Behind.{entries-are}
 use Rattle.hv_stands.proofs.Tables.{named-numbered}
 use Rattle.hv_tables.specs.Reading.{AreRows, IsSpoiled as IsSpoiledOf}
 use Rattle.hv_tables.specs.Laws.{StoodAt}
 use Rattle.hv_tables.proofs.StoredRows.{rows-stood, none-was-spoiled}
 use Rattle.hv_house.specs.declared.fault.RowFault.{RowFault}
 use Rattle.hv_house.specs.Faults.{IsDamage}
-use Rattle.hv_house.specs.Seeing.{write_of, lost_in, info_of_name, AreRead, IsSeenOf, IsSpoiled}
-use Rattle.hv_house.proofs.Past.{named-some, named-none, all-named, are-lost}
+use Rattle.hv_house.specs.Seeing.{ids_in, info_of_name, AreRead, IsSeenOf, IsSpoiled}
+use Rattle.hv_house.proofs.Past.{named-some, named-none, all-named, says-committed}
 
 module _ (book : List Entry) (place : ℕ) (fit : AllFitting book) where
   abbrev then-state : State
@@ -35,14 +33,8 @@ module _ (book : List Entry) (place : ℕ) (fit : AllFitting book) where
   sound-then : IsSound then-state
   sound-then = fitting-sound (take place book) (fronts-fit book place fit)
 
-  -- the ids of a table of a name are few
-  few-owners : (name : List ℕ) (table : Table) → table_of_name name then-state.tables ≡ Some table → length table.owners ≤ length book
-  few-owners name table named =
-      let few : length table.owners ≤ then-state.entries = all-named (HasFewOwners then-state.entries) name then-state.tables table sound-then.tables.few named in
-      omega (arith, few, entries-are (take place book), length-take place book)
-
   pub stood-at : (files : Tree) (name : List ℕ) (table : Table) → length book < write_end → Stands (state_of book) files
-      → table_of_name name then-state.tables ≡ Some table → StoodAt book place files table (lost_in then-state table.info.table.0)
+      → table_of_name name then-state.tables ≡ Some table → StoodAt book place files table (ids_in then-state table.info.table.0)
   stood-at files name table few stands named =
       let here = named-numbered name then-state.tables table sound-then.tables.in_order named in
       record {
@@ -52,59 +44,47 @@ module _ (book : List Entry) (place : ℕ) (fit : AllFitting book) where
         few = few;
         stands = stands;
         here = here;
-        known = are-lost then-state table here (all-named KeepsAll name then-state.tables table sound-then.tables.keeping named);
+        says = says-committed then-state table here (all-named KeepsAll name then-state.tables table sound-then.tables.keeping named);
       }
 
   -- ---- what a call finds
 
-  pub record IsFound (name : List ℕ) (info : TableInfo) (given : ℕ) (lost : List ℕ) : Type 0 where
+  pub record IsFound (name : List ℕ) (info : TableInfo) (list : WriteIds) : Type 0 where
     pub table : Table
     pub named : table_of_name name then-state.tables ≡ Some table
     pub info_is : table.info ≡ info
-    pub given_is : length table.owners ≡ given
-    pub lost_is : lost_in then-state table.info.table.0 ≡ lost
-    pub few : given ≤ length book
+    pub list_is : ids_in then-state table.info.table.0 ≡ list
 
-  pub found : (name : List ℕ) (info : TableInfo) (given : ℕ) (lost : List ℕ) → Some info ≡ info_of_name name (live_infos then-state.tables)
-      → given ≡ (list_in then-state info.table.0).high.0 → lost ≡ map write_of (list_in then-state info.table.0).exceptions
-      → IsFound name info given lost
-  found name info given lost named high ids =
+  pub found : (name : List ℕ) (info : TableInfo) (list : WriteIds) → Some info ≡ info_of_name name (live_infos then-state.tables)
+      → list ≡ ids_in then-state info.table.0 → IsFound name info list
+  found name info list named listed =
       let is = named-some name then-state.tables info sound-then.tables.live named in
-      let here : numbered then-state.tables is.table.info.table.0 ≡ Some is.table = named-numbered name then-state.tables is.table sound-then.tables.in_order is.named in
       let number : is.table.info.table.0 ≡ info.table.0 = ap (λ (i : TableInfo). i.table.0) is.info_is in
-      let owners : length (owners_in (numbered then-state.tables info.table.0)) ≡ length is.table.owners =
-      ap (λ n. length (owners_in (numbered then-state.tables n))) (sym number) ∙ ap (λ (o : Option Table). length (owners_in o)) here in
-      let few = few-owners name is.table is.named in
       record {
         table = is.table;
         named = is.named;
         info_is = is.info_is;
-        given_is = sym (high ∙ owners);
-        lost_is = ap (lost_in then-state) number ∙ sym ids;
-        few = omega (arith, high, owners, few);
+        list_is = ap (ids_in then-state) number ∙ sym listed;
       }
 
   pub found-by : (entries : List Entry) → entries ≡ book → (name : List ℕ) (infos : List TableInfo) → infos ≡ catalog_at entries place
       → (o : Option TableInfo) → o ≡ info_of_name name infos → (info : TableInfo) → o ≡ Some info
-      → (given : ℕ) (ids lost : List ℕ) → given ≡ (list_at entries place info.table.0).high.0
-      → ids ≡ map write_of (list_at entries place info.table.0).exceptions → lost ≡ ids → IsFound name info given lost
-  found-by entries is name infos catalog o named info some given ids lost high exceptions same =
-      found name info given lost
+      → (list : WriteIds) → list ≡ list_at entries place info.table.0 → IsFound name info list
+  found-by entries is name infos catalog o named info some list listed =
+      found name info list
       (sym some ∙ named ∙ ap (info_of_name name) (catalog ∙ ap (λ b. catalog_at b place) is))
-      (high ∙ ap (λ b. (list_at b place info.table.0).high.0) is)
-      (same ∙ exceptions ∙ ap (λ b. map write_of (list_at b place info.table.0).exceptions) is)
+      (listed ∙ ap (λ b. list_at b place info.table.0) is)
 
-  pub seen-found : (told : Option Store) (reads : Bool) (name : List ℕ) (info : TableInfo) (given : ℕ) (lost : List ℕ) (rows : List Found) → IsFound name info given lost
-      → Tells told (AreRead reads info given lost rows) → (reads ≡ false → rows ≡ [])
+  pub seen-found : (told : Option Store) (reads : Bool) (name : List ℕ) (info : TableInfo) (list : WriteIds) (rows : List Found) → IsFound name info list
+      → Tells told (AreRead reads info list rows) → (reads ≡ false → rows ≡ [])
       → IsSeenOf told reads then-state (table_of_name name then-state.tables) (Some (record { info = info; rows = rows }))
-  seen-found told reads name info given lost rows is read none =
+  seen-found told reads name info list rows is read none =
       subst (λ (o : Option Table). IsSeenOf told reads then-state o (Some (record { info = info; rows = rows }))) (sym is.named) (
         rows,
         ap (λ (i : TableInfo). Some (record { info = i; rows = rows })) (sym is.info_is),
         record {
-          read = subst (λ (i : TableInfo). Tells told (AreRead reads i (length is.table.owners) (lost_in then-state is.table.info.table.0) rows)) (sym is.info_is)
-              (subst (λ n. Tells told (AreRead reads info n (lost_in then-state is.table.info.table.0) rows)) (sym is.given_is)
-              (subst (λ ids. Tells told (AreRead reads info given ids rows)) (sym is.lost_is) read));
+          read = subst (λ (i : TableInfo). Tells told (AreRead reads i (ids_in then-state is.table.info.table.0) rows)) (sym is.info_is)
+              (subst (λ ids. Tells told (AreRead reads info ids rows)) (sym is.list_is) read);
           none = none;
         },
       )
@@ -119,15 +99,14 @@ module _ (book : List Entry) (place : ℕ) (fit : AllFitting book) where
   seen-none-by entries is told reads name infos catalog o named none =
       seen-none told reads name (sym none ∙ named ∙ ap (info_of_name name) (catalog ∙ ap (λ b. catalog_at b place) is))
 
-  pub spoiled : (told : Option Store) (name : List ℕ) (info : TableInfo) (given : ℕ) (lost : List ℕ) → IsFound name info given lost
-      → Tells told (λ s. IsSpoiledOf info given lost s.tree) → IsSpoiled told then-state
-  spoiled told name info given lost is lacks = record {
+  pub spoiled : (told : Option Store) (name : List ℕ) (info : TableInfo) (list : WriteIds) → IsFound name info list
+      → Tells told (λ s. IsSpoiledOf info list s.tree) → IsSpoiled told then-state
+  spoiled told name info list is lacks = record {
     name = name;
     table = is.table;
     named = is.named;
-    lacks = subst (λ (i : TableInfo). Tells told (λ s. IsSpoiledOf i (length is.table.owners) (lost_in then-state is.table.info.table.0) s.tree)) (sym is.info_is)
-        (subst (λ n. Tells told (λ s. IsSpoiledOf info n (lost_in then-state is.table.info.table.0) s.tree)) (sym is.given_is)
-        (subst (λ ids. Tells told (λ s. IsSpoiledOf info given ids s.tree)) (sym is.lost_is) lacks));
+    lacks = subst (λ (i : TableInfo). Tells told (λ s. IsSpoiledOf i (ids_in then-state is.table.info.table.0) s.tree)) (sym is.info_is)
+        (subst (λ ids. Tells told (λ s. IsSpoiledOf info ids s.tree)) (sym is.list_is) lacks);
   }
 
 -- what is passed up of a fault
@@ -141,14 +120,14 @@ err-spoils {T = T} S result why same is e spoils =
 pub rows-content : (book : List Entry) (place : ℕ) (files : Tree) (name : List ℕ) (table : Table) (rows : List Found)
     → AllFitting book → length book < write_end → Stands (state_of book) files
     → table_of_name name (state_of (take place book)).tables ≡ Some table
-    → AreRows table.info (length table.owners) (lost_in (state_of (take place book)) table.info.table.0) files rows
+    → AreRows table.info (ids_in (state_of (take place book)) table.info.table.0) files rows
     → rows ≡ content_of table.writes
 rows-content book place files name table rows fit few stands named are =
-    rows-stood book place files table (lost_in (state_of (take place book)) table.info.table.0) rows (stood-at book place fit files name table few stands named) are
+    rows-stood book place files table (ids_in (state_of (take place book)) table.info.table.0) rows (stood-at book place fit files name table few stands named) are
 
 pub none-spoiled : (book : List Entry) (place : ℕ) (files : Tree) (name : List ℕ) (table : Table)
     → AllFitting book → length book < write_end → Stands (state_of book) files
     → table_of_name name (state_of (take place book)).tables ≡ Some table
-    → IsSpoiledOf table.info (length table.owners) (lost_in (state_of (take place book)) table.info.table.0) files → ⊥
+    → IsSpoiledOf table.info (ids_in (state_of (take place book)) table.info.table.0) files → ⊥
 none-spoiled book place files name table fit few stands named spoils =
-    none-was-spoiled book place files table (lost_in (state_of (take place book)) table.info.table.0) (stood-at book place fit files name table few stands named) spoils
+    none-was-spoiled book place files table (ids_in (state_of (take place book)) table.info.table.0) (stood-at book place fit files name table few stands named) spoils

@@ -9,7 +9,7 @@ ghost use Rattle.hv_stands.specs.Files.{Stands};
 ghost use Rattle.hv_stands.specs.Reading.{table_of_name};
 ghost use Rattle.hv_stands.specs.Statements.{AllFitting};
 ghost use Rattle.hv_tables.specs.Reading.{AreRows, IsSpoiled as IsSpoiledOf};
-ghost use Rattle.hv_house.specs.Seeing.{lost_in};
+ghost use Rattle.hv_house.specs.Seeing.{ids_in};
 
 /// What is read of a table at a place of the book, where its files stand, is what stood in it there, and no
 /// file of it is damaged.
@@ -17,10 +17,10 @@ pub fn seen_is_content()
     ensures rows { (book : List Entry) (place : ℕ) (files : Tree) (name : List ℕ) (table : Table) (rows : List Found)
         → AllFitting book → length book < write_end → Stands (state_of book) files
         → table_of_name name (state_of (take place book)).tables ≡ Some table
-        → AreRows table.info (length table.owners) (lost_in (state_of (take place book)) table.info.table.0) files rows
+        → AreRows table.info (ids_in (state_of (take place book)) table.info.table.0) files rows
         → rows ≡ content_of table.writes }
     ensures none { (book : List Entry) (place : ℕ) (files : Tree) (name : List ℕ) (table : Table)
         → AllFitting book → length book < write_end → Stands (state_of book) files
         → table_of_name name (state_of (take place book)).tables ≡ Some table
-        → IsSpoiledOf table.info (length table.owners) (lost_in (state_of (take place book)) table.info.table.0) files → ⊥ }
+        → IsSpoiledOf table.info (ids_in (state_of (take place book)) table.info.table.0) files → ⊥ }
 {}

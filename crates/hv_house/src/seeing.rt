@@ -1,7 +1,6 @@
-ghost use Rattle.std.specs.Prelude.{◌≡◌, ◌<◌, false, Some, [], take, IfOk, IfErr};
+ghost use Rattle.std.specs.Prelude.{◌≡◌, false, Some, [], take, IfOk, IfErr};
 ghost use Rattle.std.specs.Option.{option_copied};
 ghost use Rattle.hv_base.specs.Told.{Tells};
-ghost use Rattle.hv_dirs.specs.Names.{write_end};
 ghost use Rattle.hv_history.specs.State.{state_of};
 ghost use Rattle.hv_stands.specs.Reading.{table_of_name};
 ghost use Rattle.hv_tables.specs.Reading.{IsSpoiled as IsSpoiledOf};
@@ -16,11 +15,12 @@ ghost use Rattle.hv_house.specs.Seeing.{info_of_name, AreRead, IsSeenOf, IsSpoil
 use crate::fault::{HouseFault, RowFault};
 use crate::house::House;
 use hv_base::{Duplicate, List, NoMemory, Text, TxnId};
-use hv_earlier::{catalog_at, ids_at};
+use hv_earlier::{catalog_at, list_at};
 use hv_logic::{Found, Seen, TableInfo};
 use hv_shelf::Shelf;
 use hv_tables::read_rows;
 use hv_trail::{Mark, Reader};
+use hv_wids::WriteIdList;
 use std::alloc::Global;
 
 /// The first table of that name.
@@ -86,18 +86,16 @@ impl<D: Shelf> House<D> {
         by: TxnId,
         reads: bool,
         info: &TableInfo,
-        given: u64,
-        lost: &[u64],
+        list: &WriteIdList,
     ) -> Result<List<Found>, RowFault>
         requires ready { IsReady D.told self.old }
-        requires given { given < write_end }
         ensures asked { IsAsked D.told self.old self.new }
         ensures short { IfErr result IsShortDamage }
         ensures rows { IfOk result (λ rows. Tells (D.told self.old.shelf)
-            (AreRead reads info.now given lost.now rows)) }
+            (AreRead reads info.now list.now rows)) }
         ensures none { IfOk result (λ rows. reads ≡ false → rows ≡ []) }
         ensures damage { IfErr result (λ fault. IsDamage fault
-            → Tells (D.told self.old.shelf) (λ s. IsSpoiledOf info.now given lost.now s.tree)) }
+            → Tells (D.told self.old.shelf) (λ s. IsSpoiledOf info.now list.now s.tree)) }
         ensures gains { GainsBy (calls.Read (Some (Txn by))) (read_outcome result)
             self.old self.new }
         ensures cause { ReadCause (D.faults self.old.shelf) (D.faults self.new.shelf) result }
@@ -106,7 +104,7 @@ impl<D: Shelf> House<D> {
             return Ok(List::empty(alloc));
         }
         self.trail.reserve_mark()?;
-        match read_rows(alloc, &mut self.shelf, info, given, lost) {
+        match read_rows(alloc, &mut self.shelf, info, list) {
             Ok(rows) => Ok(List::from_vec(rows)),
             Err(fault) => Err(self.fail_read(by, fault)),
         }
@@ -141,8 +139,8 @@ impl<D: Shelf> House<D> {
         let catalog = catalog_at(alloc, book, place as usize)?;
         match info_in(alloc, name, catalog.tables.as_slice())? {
             Some(info) => {
-                let ids = ids_at(alloc, book, place as usize, info.table)?;
-                let rows = self.rows_for(alloc, by, reads, &info, ids.given, &ids.lost)?;
+                let list = list_at(alloc, book, place as usize, info.table)?;
+                let rows = self.rows_for(alloc, by, reads, &info, &list)?;
                 Ok(Some(Seen { info, rows }))
             }
             None => Ok(None),

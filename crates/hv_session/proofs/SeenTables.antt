@@ -36,7 +36,7 @@ use Rattle.hv_house.specs.declared.house.House.{House}
 use Rattle.hv_house.specs.declared.fault.RowFault.{RowFault}
 use Rattle.hv_house.specs.Faults.{IsDamage}
 use Rattle.hv_house.specs.House.{entries_of, IsAsked, IsReady, IsFaithful, Shows}
-use Rattle.hv_house.specs.Seeing.{lost_in, AreRead, SeesRows, IsSeenOf, IsSpoiled}
+use Rattle.hv_house.specs.Seeing.{ids_in, AreRead, SeesRows, IsSeenOf, IsSpoiled}
 use Rattle.hv_house.proofs.Seen.{rows-content, none-spoiled}
 use Rattle.hv_tables.specs.Reading.{IsSpoiled as IsSpoiledOf}
 use Rattle.hv_ending.specs.Ending.{CanEnd, CanChange}
@@ -190,9 +190,9 @@ module _ (told : Option Store) (book : List Entry) (place : ℕ) (tree : Stmt) (
     read-rows : (name : List ℕ) (table : Table) (rows : List Found) → table_of_name name tables ≡ Some table
         → SeesRows told (reads_rows tree) (state_of front) table rows → rows ≡ rows_seen tree table
     read-rows name table rows named sees =
-        let lost = lost_in (state_of front) table.info.table.0 in
-        let are : AreRead (reads_rows tree) table.info (length table.owners) lost rows s =
-        subst (λ (o : Option Store). Tells o (AreRead (reads_rows tree) table.info (length table.owners) lost rows)) tells sees.read in
+        let list = ids_in (state_of front) table.info.table.0 in
+        let are : AreRead (reads_rows tree) table.info list rows s =
+        subst (λ (o : Option Store). Tells o (AreRead (reads_rows tree) table.info list rows)) tells sees.read in
         rows-by (reads_rows tree) rows (content_of table.writes)
         (λ reads. rows-content book place s.tree name table rows fit small stands named (are reads))
         sees.none
@@ -220,7 +220,7 @@ module _ (told : Option Store) (book : List Entry) (place : ℕ) (tree : Stmt) (
     unspoiled spoiled =
         let table = spoiled.table in
         none-spoiled book place s.tree spoiled.name table fit small stands spoiled.named
-        (subst (λ (o : Option Store). Tells o (λ s. IsSpoiledOf table.info (length table.owners) (lost_in (state_of front) table.info.table.0) s.tree)) tells spoiled.lacks)
+        (subst (λ (o : Option Store). Tells o (λ s. IsSpoiledOf table.info (ids_in (state_of front) table.info.table.0) s.tree)) tells spoiled.lacks)
 
 -- what a look that failed leaves is what is handed on
 pub whole-residual : {T : Type 0} (o : Option Store) (why : RowFault) (r : Result T RowFault) → IsErrAnd r (λ y. y ≡ why) → Tells o (λ _. IsDamage why → ⊥)

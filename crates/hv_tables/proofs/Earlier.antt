@@ -1,28 +1,25 @@
 -- What lasts of a book's earlier states: a write that stands in a table now, of a transaction that had committed at an earlier
 -- state, stood there then.
-use Rattle.std.proofs.Common.{◌≡◌, ℕ, zero, suc, ◌+◌, ◌<◌, ◌≤◌, ◌==◌, ◌⊎◌, inl, inr, Bool, true, false, cond, Option, Some, None, List, [], ◌∷◌, ◌++◌, map, fold, take, drop, length, refl, sym, ap, ◌∙◌, subst, arith, eqb-true}
-use Rattle.std.specs.Prelude.{IsSomeAnd}
-use Rattle.std.specs.List.{slice_get, AllByRecursion}
+use Rattle.std.proofs.Common.{◌≡◌, ℕ, zero, suc, ◌+◌, ◌<◌, ◌≤◌, ◌==◌, ◌⊎◌, inl, inr, true, false, cond, Option, Some, None, List, [], ◌∷◌, ◌++◌, map, fold, length, refl, sym, ap, ◌∙◌, subst, arith, eqb-true}
+use Rattle.std.specs.List.{slice_get}
 use Rattle.std.specs.Option.{option_map}
 use Rattle.hv_base.specs.declared.ids.Limits.{Limits}
-use Rattle.hv_logic.specs.declared.catalog.TableInfo.{TableInfo}
 use Rattle.hv_history.specs.declared.entry.Entry.{Entry}
 use Rattle.hv_history.specs.declared.entry.Entry.TheVariants as entry
 use Rattle.hv_history.specs.declared.state.Ending.{Ending}
-use Rattle.hv_history.specs.declared.state.Ending.TheVariants.{Committed, Aborted, Made, Dropped}
 use Rattle.hv_history.specs.declared.state.Written.{Written}
 use Rattle.hv_history.specs.declared.state.Table.{Table}
 use Rattle.hv_history.specs.declared.state.Transaction.{Transaction}
 use Rattle.hv_history.specs.State.{State, nothing_yet, state_of, numbered, changed, changed_at, after, acted, owned, written_to, commits, tables_behind}
-use Rattle.hv_history.specs.Legal.{Fits, AllFit, CommitFits, GivenFits, CreateFits}
-use Rattle.hv_history.specs.Lasting.{IsFront, Later, TableLater, GoesOn}
+use Rattle.hv_history.specs.Legal.{Fits, AllFit, CommitFits}
+use Rattle.hv_history.specs.Lasting.{Later, TableLater, GoesOn}
 use Rattle.hv_history.proofs.LastingLaws.{goes-on, goes-on-all}
 use Rattle.hv_stands.specs.Files.{ending_of, IsUndone}
-use Rattle.hv_stands.specs.Sound.{info_in, given_of, owners_of, given_among, owner_among, IsDone, IsOfCommitted, AreOfCommitted, IsSound}
-use Rattle.hv_stands.proofs.Numbers.{one_value, same_one, none_is, found, either, numbered-changed, numbered-map, numbered-more}
+use Rattle.hv_stands.specs.Sound.{info_in, given_of, owners_of, given_among, IsDone, IsSound}
+use Rattle.hv_stands.proofs.Numbers.{one_value, same_one, found, either, numbered-changed, numbered-map, numbered-more}
 use Rattle.hv_stands.proofs.Soundness.{all-numbered}
-use Rattle.hv_stands.proofs.Keeping.{still-open, IsWriteOf, IsOneWrite, one-write, owner-table, sound-after}
-use Rattle.hv_tables.proofs.Members.{In, all-in, in-parts}
+use Rattle.hv_stands.proofs.Keeping.{still-open, IsOneWrite, one-write, owner-table, sound-after}
+use Rattle.hv_tables.proofs.Members.{In, in-parts}
 
 -- ---- numbers
 

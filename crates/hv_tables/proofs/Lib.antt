@@ -1,10 +1,11 @@
-pub mod Searching
 pub mod Names
 pub mod Fronts
 pub mod Sheets
 pub mod Puts
 pub mod Members
-pub mod KeyPlaces
+pub mod Onces
+pub mod OwnDirs
+pub mod TakenFiles
 pub mod Shown
 pub mod ReadContent
 pub mod Earlier

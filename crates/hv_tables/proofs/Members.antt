@@ -2,17 +2,17 @@
 use Rattle.std.proofs.Common.{◌≡◌, ◌||◌, ◌⊎◌, inl, inr, Bool, true, false, cond, List, [], ◌∷◌, ◌++◌, filter, map, refl, sym, ap, ◌∙◌, subst}
 use Rattle.std.specs.declared.cmp.Ordering.{Ordering}
 use Rattle.std.specs.declared.cmp.Ordering.TheVariants.{Less, Equal, Greater}
-use Rattle.std.specs.Ordering.{ordering_reverse}
+use Rattle.std.specs.Ordering.{is_eq, ordering_reverse}
 use Rattle.std.specs.Cmp.{IsTotalOrder}
 use Rattle.std.specs.List.{flat_map, list_any, AllByRecursion, Contains}
 use Rattle.std.specs.List.Sorted.{IsStrictlySortedBy}
 use Rattle.std.proofs.lemmas.List.Elements.{All-contains, All-from_recursion}
+use Rattle.hv_visible.specs.Members.{IsIn}
 use Rattle.hv_logic.specs.Sorting.{placed_by, put_by, sorted_by}
 
 module _ {X : Type 0} where
   abbrev pub In : X → List X → Type 0
-  In x [] = ⊥
-  In x (y ∷ ys) = (y ≡ x) ⊎ In x ys
+  In x xs = IsIn x xs
 
   pub in-left : (x : X) (xs ys : List X) → In x xs → In x (xs ++ ys)
   in-left x [] ys h = absurd h
@@ -146,6 +146,20 @@ module _ {X : Type 0} where
           let e : x ≡ y = heads x y xs ys a.0 b.0 (f x (inl refl)) (g y (inl refl)) in
           let rest : xs ≡ ys = same-rising xs ys a.1 b.1 (λ z h. tails x y z xs ys a.0 e h (f z (inr h))) (λ z h. tails y x z ys xs b.0 (sym e) h (g z (inr h))) in
           λ i. e i ∷ rest i
+
+      -- what ties in a list that rises strictly is one item
+      pub one-of-rising : (xs : List X) → IsStrictlySortedBy R xs → (x y : X) → In x xs → In y xs → is_eq (R x y) ≡ true → x ≡ y
+      unfolding IsStrictlySortedBy
+      one-of-rising [] up x y h g e = absurd h
+      one-of-rising (z ∷ zs) up x y (inl p) (inl q) e = sym p ∙ q
+      one-of-rising (z ∷ zs) up x y (inl p) (inr g) e =
+          let less : R x y ≡ Less = ap (λ w. R w y) (sym p) ∙ all-in (λ w. R z w ≡ Less) zs up.0 y g in
+          let never : true ≡ false = sym e ∙ ap is_eq less in cc
+      one-of-rising (z ∷ zs) up x y (inr h) (inl q) e =
+          let less : R y x ≡ Less = ap (λ w. R w x) (sym q) ∙ all-in (λ w. R z w ≡ Less) zs up.0 x h in
+          let more : R x y ≡ Greater = total.antisymm x y ∙ ap ordering_reverse less in
+          let never : true ≡ false = sym e ∙ ap is_eq more in cc
+      one-of-rising (z ∷ zs) up x y (inr h) (inr g) e = one-of-rising zs up.1 x y h g e
 
 module _ {A B : Type 0} where
   pub in-map : (f : A → B) (x : A) (xs : List A) → In x xs → In (f x) (map f xs)

@@ -1,18 +1,17 @@
 -- What is known of a table's commits and its files as they stood at a place of a book whose files stand.
-use Rattle.std.proofs.Common.{◌≡◌, ℕ, ◌+◌, ◌<◌, ◌≤◌, Bool, true, false, Option, Some, None, List, [], ◌∷◌, ◌++◌, length, map, fold, take, drop, option_map, refl, sym, ap, ◌∙◌, subst, arith}
+use Rattle.std.proofs.Common.{◌≡◌, ℕ, ◌<◌, ◌≤◌, true, false, Option, Some, None, List, [], ◌∷◌, ◌++◌, length, map, fold, take, drop, option_map, refl, sym, ap, ◌∙◌, subst, arith}
 use Rattle.std.proofs.lemmas.List.{take-append-drop}
 use Rattle.std.specs.FinMap as tree
 use Rattle.std.specs.List.{AllByRecursion}
-use Rattle.std.specs.List.Sorted.{IsStrictlySortedBy}
 use Rattle.hv_shelf.specs.Disk.{Tree}
 use Rattle.hv_shelf.specs.declared.place.Place.{Place}
-use Rattle.hv_logic.specs.Rows.{found_cmp}
 use Rattle.hv_logic.specs.declared.catalog.Shape.{Shape}
 use Rattle.hv_logic.specs.declared.effect.Found.{Found}
 use Rattle.hv_route.specs.Rising.{IsNumbered}
 use Rattle.hv_route.specs.Routes.{numbered_rows}
 use Rattle.hv_route.proofs.NumberedLemmas.{rows-are-numbered}
 use Rattle.hv_dirs.specs.Names.{write_end}
+use Rattle.hv_wids.specs.WriteIds.{WriteIds, is_valid}
 use Rattle.hv_history.specs.declared.state.Written.{Written}
 use Rattle.hv_history.specs.declared.state.Table.{Table}
 use Rattle.hv_base.specs.declared.ids.Limits.{Limits}
@@ -22,20 +21,19 @@ use Rattle.hv_history.specs.State.{State, nothing_yet, state_of, after, numbered
 use Rattle.hv_history.specs.Legal.{AllFit, profile}
 use Rattle.hv_history.specs.Lasting.{TableLater, GoesOn}
 use Rattle.hv_history.proofs.LastingLaws.{goes-on-all}
-use Rattle.hv_stands.specs.Files.{own_place, made_at, file_in, ending_of, IsUndone}
+use Rattle.hv_stands.specs.Files.{made_at, file_in, ending_of}
 use Rattle.hv_stands.specs.Laws.{HasItsFiles}
-use Rattle.hv_stands.specs.Sound.{given_of, owners_of, given_among, owner_among, IsDone, IsSound, IsRoutedWrite, HasSoundWrites, HasFewOwners, IsOfCommitted, AreOfCommitted}
+use Rattle.hv_stands.specs.Sound.{given_of, owners_of, given_among, owner_among, IsDone, IsRoutedWrite, HasSoundWrites, HasFewOwners, IsOfCommitted, AreOfCommitted}
 use Rattle.hv_stands.proofs.Numbers.{same_one, none_is, found, numbered-map, numbered-within}
 use Rattle.std.proofs.lemmas.List.Sums.{fold-append}
 use Rattle.hv_stands.proofs.Soundness.{all-numbered}
-use Rattle.hv_stands.proofs.MadeFiles.{own_dir-same, file-write}
+use Rattle.hv_stands.proofs.MadeFiles.{file-write}
 use Rattle.hv_stands.proofs.StandingFiles.{made-of-table, commits-have-files}
 use Rattle.hv_stands.proofs.StandingRows.{IsCounted, content-stands}
-use Rattle.hv_tables.specs.Keys.{is_among}
 use Rattle.hv_tables.specs.Laws.{StoodAt, RowsStood, NoneWasSpoiled}
 use Rattle.hv_tables.proofs.Members.{In, in-left, all-in, in-all}
 use Rattle.hv_tables.proofs.Earlier.{numbered-front, numbered-there, length-append, entries-are, undone-before, done-before, kept-all}
-use Rattle.hv_tables.proofs.Shown.{IsOf, IsReadable, Shows}
+use Rattle.hv_tables.proofs.Shown.{IsOf, IsReadable, IsOwnPlace, Shows}
 use Rattle.hv_tables.proofs.ReadContent.{rows-content, never-spoiled}
 
 row-of : (shape : Shape) (written : Written) (found : Found) → IsNumbered shape written.write written.statement found → IsOf shape written found
@@ -45,7 +43,7 @@ fit-behind : (limits : Limits) (s : State) (front more : List Entry) → AllFit 
 fit-behind limits s [] more fit = fit
 fit-behind limits s (event ∷ front) more fit = fit-behind limits (after s event) front more fit.1
 
-module _ (book : List Entry) (place : ℕ) (files : Tree) (table : Table) (lost : List ℕ) (stored : StoodAt book place files table lost) where
+module _ (book : List Entry) (place : ℕ) (files : Tree) (table : Table) (list : WriteIds) (stored : StoodAt book place files table list) where
   abbrev before : State
   before = state_of (take place book)
 
@@ -99,21 +97,20 @@ module _ (book : List Entry) (place : ℕ) (files : Tree) (table : Table) (lost 
       let is = all-in (IsOfCommitted (map ending_of before.transactions) table.owners) table.writes committed written h in
       let within = numbered-within table.owners written.write is.0 is.1 in within.0)
 
-  readable : (written : Written) → In written table.writes → IsReadable table.info.shape (length table.owners) lost written
+  readable : (written : Written) → In written table.writes → IsReadable table.info.shape list written
   readable written h =
       let is = all-in (IsOfCommitted (map ending_of before.transactions) table.owners) table.writes committed written h in
       let within = numbered-within table.owners written.write is.0 is.1 in
       let routed = all-in (IsRoutedWrite table.info.shape) table.writes writes-sound.each written h in
       let numbers = rows-are-numbered table.info.shape written.write written.statement routed.rows in record {
         first = within.0;
-        last = within.1;
-        kept = stored.known.done written.write is.0 is.1 is.2;
+        last = let few = few-now in let less = owners-few in omega (arith, within.1, few, less);
+        valid = stored.says.done written.write is.0 is.1 is.2;
         each = subst (AllByRecursion (IsOf table.info.shape written)) (sym routed.numbered)
             (in-all (IsOf table.info.shape written) (numbered_rows table.info.shape written.write written.statement routed.rows)
             (λ found g.
             row-of table.info.shape written found
             (all-in (IsNumbered table.info.shape written.write written.statement) (numbered_rows table.info.shape written.write written.statement routed.rows) numbers.each found g)));
-        up = subst (IsStrictlySortedBy found_cmp) (sym routed.numbered) numbers.rise;
       }
 
   -- ---- their files, as they stand now
@@ -159,72 +156,78 @@ module _ (book : List Entry) (place : ℕ) (files : Tree) (table : Table) (lost 
           ap (λ o. given_among o number) (numbered-map given_of before.transactions txn ∙ ap (option_map given_of) at) in
           absurd (none_is (given_among (numbered (map given_of before.transactions) txn) number) write none given)
 
-  -- and had committed then, where the id isn't lost
-  done-then : (write txn : ℕ) → numbered table.owners write ≡ Some txn → is_among lost write ≡ false → IsDone (numbered (map ending_of now.transactions) txn)
+  -- and had committed then, where the id is valid
+  done-then : (write txn : ℕ) → numbered table.owners write ≡ Some txn → is_valid list write ≡ true → IsDone (numbered (map ending_of now.transactions) txn)
       → IsDone (numbered (map ending_of before.transactions) txn)
-  done-then write txn owner kept done =
+  done-then write txn owner valid done =
       let there = transaction-then write txn owner in
       done-before before now goes txn there.0 there.1 done
-      (λ undone. let never : true ≡ false = sym (stored.known.undone write txn owner undone) ∙ kept in cc)
+      (λ undone. let never : true ≡ false = sym valid ∙ stored.says.undone write txn owner undone in cc)
 
-  -- a file of a write id that it had then and that wasn't lost is one that a commit made which stood then
-  only : (deletes : Bool) (partition : List ℕ) (write bucket : ℕ) (bytes : List ℕ) → 1 ≤ write → write ≤ length table.owners → is_among lost write ≡ false
-      → tree.get files (own_place number partition deletes write bucket) ≡ Some bytes → (written : Written) × In written table.writes × (written.write ≡ write)
-  only deletes partition write bucket bytes first last kept is = by (made_at now.tables there) refl
+  small : (write txn : ℕ) → numbered later.0.owners write ≡ Some txn → write < write_end
+  small write txn owner =
+      let within = numbered-within later.0.owners write txn owner in
+      let few = few-now in
+      omega (arith, within.1, few)
+
+  -- a file of the table is in an own directory, and where that is of a valid write id a commit made it which stood then
+  own : (there : Place) (bytes : List ℕ) → there.table.0 ≡ number → tree.get files there ≡ Some bytes → IsOwnPlace list table.writes there
+  own there bytes of is = by (made_at now.tables there) refl
     where
-      there : Place
-      there = own_place number partition deletes write bucket
+      at-number : numbered now.tables there.table.0 ≡ Some later.0
+      at-number = ap (numbered now.tables) of ∙ later.1
 
-      tiny : write < write_end
-      tiny = let few = few-now in let less = owners-few in omega (arith, last, few, less)
-
-      small : (other txn : ℕ) → numbered later.0.owners other ≡ Some txn → other < write_end
-      small other txn owner =
-          let within = numbered-within later.0.owners other txn owner in
-          let few = few-now in
-          omega (arith, within.1, few)
-
-      by : (o : Option (List ℕ)) → made_at now.tables there ≡ o → (written : Written) × In written table.writes × (written.write ≡ write)
+      by : (o : Option (List ℕ)) → made_at now.tables there ≡ o → IsOwnPlace list table.writes there
       by None unmade =
           let loose = stored.stands.other there bytes is unmade in
-          let same : loose.own.table ≡ later.0 = same_one (numbered now.tables number) loose.own.table later.0 loose.own.is later.1 in
-          let owner : numbered later.0.owners loose.own.write ≡ Some loose.txn = subst (λ (t : Table). numbered t.owners loose.own.write ≡ Some loose.txn) same loose.own.owner in
-          let names = own_dir-same loose.own.deletes deletes loose.own.write loose.own.statement write 0 (small loose.own.write loose.txn owner) tiny (sym loose.own.dir) in
-          let here : numbered later.0.owners write ≡ Some loose.txn = ap (numbered later.0.owners) (sym names.1) ∙ owner in
-          let old = owner-then write loose.txn last here in
-          let at = transaction-then write loose.txn old in
-          let gone : is_among lost write ≡ true = stored.known.undone write loose.txn old (undone-before before now goes loose.txn at.0 at.1 loose.undone) in
-          let never : true ≡ false = sym gone ∙ kept in cc
+          let same : loose.own.table ≡ later.0 = same_one (numbered now.tables there.table.0) loose.own.table later.0 loose.own.is at-number in
+          let owner : numbered later.0.owners loose.own.write ≡ Some loose.txn = subst (λ (t : Table). numbered t.owners loose.own.write ≡ Some loose.txn) same loose.own.owner in record {
+            deletes = loose.own.deletes;
+            write = loose.own.write;
+            statement = loose.own.statement;
+            dir = loose.own.dir;
+            last = small loose.own.write loose.txn owner;
+            commit = λ valid.
+                let old = owner-then loose.own.write loose.txn (stored.says.given loose.own.write valid) owner in
+                let at = transaction-then loose.own.write loose.txn old in
+                let gone : is_valid list loose.own.write ≡ false =
+                stored.says.undone loose.own.write loose.txn old (undone-before before now goes loose.txn at.0 at.1 loose.undone) in
+                let never : true ≡ false = sym valid ∙ gone in cc;
+          }
       by (Some made) some =
           let at = made-of-table now.tables there made some in
-          let same : at.0 ≡ later.0 = same_one (numbered now.tables number) at.0 later.0 at.1 later.1 in
-          let of = file-write later.0.info.shape (λ written. In written later.0.writes) later.0.writes there made
+          let same : at.0 ≡ later.0 = same_one (numbered now.tables there.table.0) at.0 later.0 at.1 at-number in
+          let from = file-write later.0.info.shape (λ written. In written later.0.writes) later.0.writes there made
           (subst (λ (t : Table). file_in t.info.shape t.writes there ≡ Some made) same at.2) (in-all (λ written. In written later.0.writes) later.0.writes (λ written h. h)) in
           let is_done = all-in (IsOfCommitted (map ending_of now.transactions) later.0.owners) later.0.writes
-          (all-numbered (AreOfCommitted (map ending_of now.transactions)) now.tables number later.0 later.1 stored.sound.committed) of.0 of.2 in
-          let names = own_dir-same of.1.deletes deletes of.0.write 0 write 0 (small of.0.write is_done.0 is_done.1) tiny (sym of.1.dir_is) in
-          let owner : numbered later.0.owners write ≡ Some is_done.0 = ap (numbered later.0.owners) (sym names.1) ∙ is_done.1 in
-          let old = owner-then write is_done.0 last owner in
-          let stood = kept-all profile more before more-fit stored.sound_then number table later.0 of.0 is_done.0 stored.here
-          (subst (λ s. numbered s.tables number ≡ Some later.0) split later.1) of.2 is_done.1
-          (done-then write is_done.0 old kept is_done.2) in
-          (of.0, stood, names.1)
+          (all-numbered (AreOfCommitted (map ending_of now.transactions)) now.tables number later.0 later.1 stored.sound.committed) from.0 from.2 in record {
+            deletes = from.1.deletes;
+            write = from.0.write;
+            statement = 0;
+            dir = from.1.dir_is;
+            last = small from.0.write is_done.0 is_done.1;
+            commit = λ valid.
+                let old = owner-then from.0.write is_done.0 (stored.says.given from.0.write valid) is_done.1 in
+                let stood = kept-all profile more before more-fit stored.sound_then number table later.0 from.0 is_done.0 stored.here
+                (subst (λ s. numbered s.tables number ≡ Some later.0) split later.1) from.2 is_done.1
+                (done-then from.0.write is_done.0 old valid is_done.2) in
+                (from.0, stood, refl, from.1.dir_is);
+          }
 
-  shows : Shows table.info (length table.owners) lost files table.writes
+  shows : Shows table.info list files table.writes
   shows = record {
-    few = let few = few-now in let less = owners-few in omega (arith, few, less);
     filed = filed;
     apart = writes-sound.apart;
-    readable = in-all (IsReadable table.info.shape (length table.owners) lost) table.writes readable;
-    only = only;
+    readable = in-all (IsReadable table.info.shape list) table.writes readable;
+    own = own;
   }
 
 pub rows-stood : RowsStood
-rows-stood book place files table lost rows stored are =
-    let up = content-stands table.info.shape table.writes (writes-sound book place files table lost stored).each (writes-sound book place files table lost stored).apart
-    (counted book place files table lost stored) in
-    rows-content table.info (length table.owners) lost files table.writes (shows book place files table lost stored) rows are up.up
+rows-stood book place files table list rows stored are =
+    let up = content-stands table.info.shape table.writes (writes-sound book place files table list stored).each (writes-sound book place files table list stored).apart
+    (counted book place files table list stored) in
+    rows-content table.info list files table.writes (shows book place files table list stored) rows are up.up
 
 pub none-was-spoiled : NoneWasSpoiled
-none-was-spoiled book place files table lost stored spoiled =
-    never-spoiled table.info (length table.owners) lost files table.writes (shows book place files table lost stored) spoiled
+none-was-spoiled book place files table list stored spoiled =
+    never-spoiled table.info list files table.writes (shows book place files table list stored) spoiled

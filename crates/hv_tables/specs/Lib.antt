@@ -1,6 +1,5 @@
 pub mod Faults
 pub mod Orders
-pub mod Keys
 pub mod Amiss
 pub mod Reading
 pub mod Damage

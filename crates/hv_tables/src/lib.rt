@@ -3,9 +3,9 @@
 
 mod amiss;
 mod fault;
-mod key;
-mod keys;
 mod laws;
+mod once;
+mod placed;
 mod putting;
 mod reading;
 mod row_at;

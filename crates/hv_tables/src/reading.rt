@@ -1,25 +1,24 @@
-ghost use Rattle.std.specs.Prelude.{◌≡◌, ◌≢◌, ◌<◌, true, false, IfOk, IfErr, IsErrOf, IsSorted};
-ghost use Rattle.std.specs.List.{AllByRecursion};
+ghost use Rattle.std.specs.Prelude.{◌≡◌, ◌≢◌, true, false, IfOk, IfErr, IsErrOf, IsSorted};
 ghost use Rattle.hv_base.specs.Told.{Tells};
-ghost use Rattle.hv_dirs.specs.Names.{write_end};
+ghost use Rattle.hv_choosing.specs.Dirs.{span_of};
 ghost use Rattle.hv_tables.specs.Faults.{StoreCause, IsShort, IsShortDamage, IsDamage};
 ghost use Rattle.hv_tables.specs.Damage.{told_place, TellsPlace, TellsFile, TellsOne, TellsDamage};
 ghost use Rattle.hv_tables.specs.declared.fault.RowFault.TheVariants.{Failed};
 ghost use Rattle.hv_tables.specs.Orders.{row_at_cmp};
-ghost use Rattle.hv_tables.specs.Keys.{HasName, key_place};
 ghost use Rattle.hv_tables.specs.Reading.{HoldsAt, Reads, deleted_in, left_in, AreRows, IsSpoiled};
 
 use crate::amiss::first_amiss;
 use crate::fault::RowFault;
-use crate::key::FileKey;
-use crate::keys::{key_place, keys_read};
+use crate::once::once;
 use crate::row_at::RowAt;
 use crate::rows::{Partition, push_all_deleted, push_rows, rows_rising};
-use hv_base::{Duplicate, NoMemory, TableId, Text};
+use hv_base::{Duplicate, NoMemory, Text};
+use hv_choosing::{DirFile, Span, list_files, take_files};
 use hv_history::FilePlace;
 use hv_logic::{Found, TableInfo};
 use hv_rowfile::{FileFault, Rec, decode};
 use hv_shelf::{Place, Shelf};
+use hv_wids::WriteIdList;
 use std::alloc::Global;
 
 /// The most bytes of a place's names that an entry takes.
@@ -61,19 +60,19 @@ fn damaged(alloc: Global, place: &Place, at: u64) -> RowFault
     }
 }
 
-/// The records of the file of a kind and a write id at this place.
-fn read_file<D: Shelf>(
+/// The records of the file of a kind and of these write ids at this place.
+fn read_at<D: Shelf>(
     alloc: Global,
     shelf: &mut D,
     deletes: bool,
-    write: u64,
+    span: Span,
     place: &Place,
 ) -> Result<Vec<Rec>, RowFault>
     ensures same { D.told shelf.new ≡ D.told shelf.old }
     ensures recs { IfOk result (λ recs. Tells (D.told shelf.old) (λ s.
-        HoldsAt s.tree place.now deletes write recs.items)) }
+        HoldsAt s.tree place.now deletes span recs.items)) }
     ensures damage { IfErr result (λ fault. Tells (D.told shelf.old) (λ s.
-        TellsFile s.tree place.now deletes write fault)) }
+        TellsFile s.tree place.now deletes span fault)) }
     ensures short { IfErr result IsShortDamage }
     ensures cause { StoreCause (D.faults shelf.old) (D.faults shelf.new) (IsErrOf result Failed) }
 {
@@ -82,7 +81,7 @@ fn read_file<D: Shelf>(
     };
     match decode(alloc, &bytes) {
         Ok((kind, other, recs)) => {
-            match first_amiss(alloc, deletes, place.bucket, write, kind, other, &recs)? {
+            match first_amiss(alloc, deletes, place.bucket, span, kind, other, &recs)? {
                 Some(at) => Err(damaged(alloc, place, at)),
                 None => Ok(recs),
             }
@@ -93,104 +92,96 @@ fn read_file<D: Shelf>(
 }
 
 /// The records of this file of a kind.
-fn read_key<D: Shelf>(
+fn read_file<D: Shelf>(
     alloc: Global,
     shelf: &mut D,
     deletes: bool,
-    table: TableId,
-    key: &FileKey,
+    file: &DirFile,
 ) -> Result<Vec<Rec>, RowFault>
-    requires { HasName key.now }
     ensures same { D.told shelf.new ≡ D.told shelf.old }
     ensures recs { IfOk result (λ recs. Tells (D.told shelf.old) (λ s.
-        HoldsAt s.tree (key_place table.0 deletes key.now) deletes key.now.write recs.items)) }
+        HoldsAt s.tree file.now.place deletes (span_of file.now.dir) recs.items)) }
     ensures damage { IfErr result (λ fault. Tells (D.told shelf.old) (λ s.
-        TellsFile s.tree (key_place table.0 deletes key.now) deletes key.now.write fault)) }
+        TellsFile s.tree file.now.place deletes (span_of file.now.dir) fault)) }
     ensures short { IfErr result IsShortDamage }
     ensures cause { StoreCause (D.faults shelf.old) (D.faults shelf.new) (IsErrOf result Failed) }
 {
-    let place = key_place(alloc, deletes, table, key)?;
-    read_file(alloc, shelf, deletes, key.write, &place)
+    read_at(alloc, shelf, deletes, file.dir.span(), &file.place)
 }
 
-/// Where the rows stand that these files delete.
+/// Where the rows stand that these files delete, by valid deleters.
 fn read_deleted<D: Shelf>(
     alloc: Global,
     shelf: &mut D,
-    table: TableId,
-    keys: &[FileKey],
+    list: &WriteIdList,
+    taken: &[DirFile],
 ) -> Result<Vec<RowAt>, RowFault>
-    requires { AllByRecursion HasName keys.now }
     ensures same { D.told shelf.new ≡ D.told shelf.old }
     ensures rows { IfOk result (λ rows. Tells (D.told shelf.old) (λ s.
-        Reads table.0 true s.tree keys.now deleted_in rows.items)) }
+        Reads true s.tree taken.now (deleted_in list.now) rows.items)) }
     ensures damage { IfErr result (λ fault. Tells (D.told shelf.old) (λ s.
-        TellsOne table.0 true s.tree keys.now fault)) }
+        TellsOne true s.tree taken.now fault)) }
     ensures short { IfErr result IsShortDamage }
     ensures cause { StoreCause (D.faults shelf.old) (D.faults shelf.new) (IsErrOf result Failed) }
 {
     let mut rows = Vec::new(alloc);
-    for key in keys {
-        let recs = read_key(alloc, shelf, true, table, key)?;
-        push_all_deleted(alloc, &key.partition, &recs, &mut rows)?;
+    for file in taken {
+        let recs = read_file(alloc, shelf, true, file)?;
+        push_all_deleted(alloc, list, &file.place.partition, &recs, &mut rows)?;
     }
     Ok(rows)
 }
 
-/// The rows that these files insert but for those that are gone.
+/// The rows that these files insert under valid write ids but for those that are gone.
 fn read_left<D: Shelf>(
     alloc: Global,
     shelf: &mut D,
     info: &TableInfo,
-    keys: &[FileKey],
+    list: &WriteIdList,
+    taken: &[DirFile],
     gone: &[RowAt],
 ) -> Result<Vec<Found>, RowFault>
-    requires names { AllByRecursion HasName keys.now }
-    requires gone { IsSorted row_at_cmp gone.now }
+    requires { IsSorted row_at_cmp gone.now }
     ensures same { D.told shelf.new ≡ D.told shelf.old }
     ensures rows { IfOk result (λ rows. Tells (D.told shelf.old) (λ s.
-        Reads info.now.table.0 false s.tree keys.now
-        (left_in gone.now info.now.shape) rows.items)) }
+        Reads false s.tree taken.now (left_in list.now gone.now info.now.shape) rows.items)) }
     ensures damage { IfErr result (λ fault. Tells (D.told shelf.old) (λ s.
-        TellsOne info.now.table.0 false s.tree keys.now fault)) }
+        TellsOne false s.tree taken.now fault)) }
     ensures short { IfErr result IsShortDamage }
     ensures cause { StoreCause (D.faults shelf.old) (D.faults shelf.new) (IsErrOf result Failed) }
 {
     let parts = info.shape.parts.as_slice();
     let mut rows = Vec::new(alloc);
     let mut partition = Partition::of(alloc, parts, &Text::of(alloc, "")?)?;
-    for key in keys {
-        let recs = read_key(alloc, shelf, false, info.table, key)?;
-        partition.turn(alloc, parts, &key.partition)?;
-        push_rows(alloc, &partition, gone, recs, &mut rows)?;
+    for file in taken {
+        let recs = read_file(alloc, shelf, false, file)?;
+        partition.turn(alloc, parts, &file.place.partition)?;
+        push_rows(alloc, list, &partition, gone, recs, &mut rows)?;
     }
     Ok(rows)
 }
 
-/// The rows that stand in a table, from its files of the write ids that were given in it but for those that
-/// are lost: those that were inserted, without those that were deleted, by partition and identifier where each
-/// file has rows of its write id alone.
+/// The rows of a table that its files show under a list of its write ids: those of the bases and deltas that are chosen in each partition
+/// whose write id is valid, without those that a chosen delete delta names with a valid deleter, by partition and identifier.
 pub fn read_rows<D: Shelf>(
     alloc: Global,
     shelf: &mut D,
     info: &TableInfo,
-    given: u64,
-    lost: &[u64],
+    list: &WriteIdList,
 ) -> Result<Vec<Found>, RowFault>
-    requires { given < write_end }
     ensures same { D.told shelf.new ≡ D.told shelf.old }
     ensures rows { IfOk result (λ rows. Tells (D.told shelf.old) (λ s.
-        AreRows info.now given lost.now s.tree rows.items)) }
+        AreRows info.now list.now s.tree rows.items)) }
     ensures damage { IfErr result (λ fault. IsDamage fault
-        → Tells (D.told shelf.old) (λ s. IsSpoiled info.now given lost.now s.tree)) }
+        → Tells (D.told shelf.old) (λ s. IsSpoiled info.now list.now s.tree)) }
     ensures place { IfErr result (λ fault. Tells (D.told shelf.old) (λ s.
-        TellsDamage info.now given lost.now s.tree fault)) }
+        TellsDamage info.now list.now s.tree fault)) }
     ensures short { IfErr result IsShortDamage }
     ensures cause { StoreCause (D.faults shelf.old) (D.faults shelf.new) (IsErrOf result Failed) }
 {
-    let places = shelf.list(alloc, info.table)?;
-    let deletes = keys_read(alloc, true, given, lost, &places)?;
-    let inserts = keys_read(alloc, false, given, lost, &places)?;
-    let gone = rows_rising(read_deleted(alloc, shelf, info.table, &deletes)?)?;
-    read_left(alloc, shelf, info, &inserts, &gone)
+    let files = list_files(alloc, shelf.list(alloc, info.table)?)?;
+    let taken = take_files(alloc, list, &files)?;
+    let gone = rows_rising(read_deleted(alloc, shelf, list, &taken.deletes)?)?;
+    let rows = read_left(alloc, shelf, info, list, &taken.inserts, &gone)?;
+    Ok(once(alloc, rows)?)
 }

@@ -10,6 +10,7 @@ use hv_logic::{Column, Found};
 use hv_route::partition_values;
 use hv_rowfile::Rec;
 use hv_value::{Row, Value};
+use hv_wids::WriteIdList;
 use std::alloc::Global;
 
 /// A partition's text with the values that it says.
@@ -65,9 +66,10 @@ fn is_gone(gone: &[RowAt], row: &RowAt) -> bool
     gone.binary_search(row).is_ok()
 }
 
-/// Appends the row that a record inserts, unless it is one of those that are gone.
+/// Appends the row that a record inserts under a valid write id, unless it is one of those that are gone.
 fn push_row(
     alloc: Global,
+    list: &WriteIdList,
     partition: &Partition,
     gone: &[RowAt],
     rec: Rec,
@@ -75,10 +77,13 @@ fn push_row(
 ) -> Result<(), NoMemory>
     requires { IsSorted row_at_cmp gone.now }
     ensures { OnOk result (rows.new.items ≡ rows.old.items
-        ++ left_of gone.now (found_with partition.now.text partition.now.values rec)) }
+        ++ left_of gone.now (found_with list.now partition.now.text partition.now.values rec)) }
 {
     match rec {
         Rec::Insert { id, row } => {
+            if !list.valid(id.write) {
+                return Ok(());
+            }
             let partition_text = partition.text.duplicate(alloc)?;
             let at = RowAt {
                 partition: partition_text,
@@ -95,9 +100,10 @@ fn push_row(
     }
 }
 
-/// Appends the rows that these records insert but for those that are gone.
+/// Appends the rows that these records insert under valid write ids but for those that are gone.
 pub fn push_rows(
     alloc: Global,
+    list: &WriteIdList,
     partition: &Partition,
     gone: &[RowAt],
     recs: Vec<Rec>,
@@ -105,43 +111,48 @@ pub fn push_rows(
 ) -> Result<(), NoMemory>
     requires { IsSorted row_at_cmp gone.now }
     ensures { OnOk result (rows.new.items ≡ rows.old.items ++ left_of gone.now
-        (flat_map (found_with partition.now.text partition.now.values) recs.items)) }
+        (flat_map (found_with list.now partition.now.text partition.now.values) recs.items)) }
 {
     for rec in recs {
-        push_row(alloc, partition, gone, rec, rows)?;
+        push_row(alloc, list, partition, gone, rec, rows)?;
     }
     Ok(())
 }
 
-/// Appends where the row stands that a record deletes.
+/// Appends where the row stands that a record with a valid deleter deletes.
 fn push_deleted(
     alloc: Global,
+    list: &WriteIdList,
     partition: &Text,
     rec: &Rec,
     gone: &mut Vec<RowAt>,
 ) -> Result<(), NoMemory>
-    ensures { OnOk result (gone.new.items ≡ gone.old.items ++ deleted_with partition.now rec.now) }
+    ensures { OnOk result (gone.new.items ≡ gone.old.items ++ deleted_with list.now partition.now rec.now) }
 {
     match rec {
         Rec::Insert { .. } => Ok(()),
-        Rec::Delete { id, .. } => {
+        Rec::Delete { id, by } => {
+            if !list.valid(*by) {
+                return Ok(());
+            }
             let partition = partition.duplicate(alloc)?;
             Ok(gone.push(RowAt { partition, id: *id })?)
         }
     }
 }
 
-/// Appends where the rows stand that these records delete.
+/// Appends where the rows stand that these records with valid deleters delete.
 pub fn push_all_deleted(
     alloc: Global,
+    list: &WriteIdList,
     partition: &Text,
     recs: &[Rec],
     gone: &mut Vec<RowAt>,
 ) -> Result<(), NoMemory>
-    ensures { OnOk result (gone.new.items ≡ gone.old.items ++ flat_map (deleted_with partition.now) recs.now) }
+    ensures { OnOk result (gone.new.items ≡ gone.old.items ++ flat_map (deleted_with list.now partition.now) recs.now) }
 {
     for rec in recs {
-        push_deleted(alloc, partition, rec, gone)?;
+        push_deleted(alloc, list, partition, rec, gone)?;
     }
     Ok(())
 }

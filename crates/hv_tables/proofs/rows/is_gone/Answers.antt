@@ -1,6 +1,6 @@
 use Rattle.std.proofs.Common.{◌∙◌}
 use Rattle.hv_tables.specs.Orders.{row_at_total}
-use Rattle.hv_tables.proofs.Searching.{searched}
+use Rattle.hv_choosing.proofs.Searching.{searched}
 use Rattle.hv_tables.proofs.rows.is_gone.Goals as goal
 
 pub returns : goal.returns

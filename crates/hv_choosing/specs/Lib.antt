@@ -1,0 +1,4 @@
+pub mod Dirs
+pub mod Listing
+pub mod Taken
+pub mod Laws
