@@ -1,5 +1,5 @@
 -- What one entry more of a statement says, and that the book stays faithful with it.
-use Rattle.std.proofs.Common.{◌≡◌, ℕ, ◌≤◌, inr, true, Option, Some, None, IsSomeAnd, List, [], ◌∷◌, ◌++◌, take, fold, refl, sym, ap, subst, arith}
+use Rattle.std.proofs.Common.{◌≡◌, ℕ, ◌≤◌, inr, Bool, true, Option, Some, None, IsSomeAnd, List, [], ◌∷◌, ◌++◌, length, take, fold, refl, sym, ap, subst, length-append, arith}
 use Rattle.std.proofs.lemmas.List.{take-append-le}
 use Rattle.hv_base.specs.declared.ids.Limits.{Limits}
 use Rattle.hv_base.specs.declared.ids.Touch.{Touch}
@@ -13,9 +13,10 @@ use Rattle.hv_history.specs.declared.state.Transaction.{Transaction}
 use Rattle.hv_history.specs.State.{State, nothing_yet, after, state_of, numbered, meaning}
 use Rattle.hv_history.specs.Legal.{Of, IsRunning, Fits, CauseFits, CauseIsTrue, IsTruthful, TouchesAreMeant, AllFit, AllTruthful, IsLegal, profile}
 use Rattle.hv_history.specs.Answers.{cause_text}
-use Rattle.hv_stands.specs.Running.{Asking, meant, snapshot_at, running, IsWaiting, IsUnderWay, HasAnswered}
-use Rattle.hv_stands.proofs.Answered.{aborts-answer, waiting-aborts-answer}
-use Rattle.hv_ending.specs.Ending.{KeepsCount, aborting, EndsUncommitted}
+use Rattle.hv_stands.specs.Running.{Asking, meant, snapshot_at, running, IsWaiting, IsUnderWay}
+use Rattle.hv_ending.proofs.Replied.{abort-replies, waiting-abort-replies}
+use Rattle.hv_ending.specs.declared.ready.Reply.{Reply}
+use Rattle.hv_ending.specs.Ending.{KeepsCount, aborting, EndsUncommitted, NamesLast, HasReplied}
 use Rattle.hv_ending.specs.Steps.{CauseIsMeant}
 
 -- ---- a legal book and one entry more
@@ -99,14 +100,28 @@ module _ (book : List Entry) (asking : Asking) (txn place : ℕ) (said : Stmt) (
   commit-true wrote are = of-here (λ (t : Transaction). TouchesAreMeant wrote (meaning t)) (state_of book) txn _ way.here are
 
   -- and its answer
-  pub abort-answered : (why : Cause) → EndsUncommitted why → HasAnswered (book ++ aborting txn why ∷ []) txn (cause_text None why) true
+  pub abort-answered : (why : Cause) → EndsUncommitted why
+      → HasReplied (book ++ aborting txn why ∷ []) txn (cause_text None why) true (Some (length book))
   abort-answered why uncommitted =
-      subst (λ (text : List ℕ). HasAnswered (book ++ aborting txn why ∷ []) txn text true) (one-line (Some (snapshot_at book place)) why uncommitted)
-      (aborts-answer book asking txn place said given why way)
+      subst (λ (text : List ℕ). HasReplied (book ++ aborting txn why ∷ []) txn text true (Some (length book))) (one-line (Some (snapshot_at book place)) why uncommitted)
+      (abort-replies book asking txn place said given way why)
 
 pub waiting-abort-answered : (book : List Entry) (asking : Asking) (txn : ℕ) (said : Stmt) (why : Cause) → IsWaiting book asking txn said
-    → HasAnswered (book ++ aborting txn why ∷ []) txn (cause_text None why) true
-waiting-abort-answered book asking txn said why waiting = waiting-aborts-answer book asking txn said why waiting
+    → HasReplied (book ++ aborting txn why ∷ []) txn (cause_text None why) true (Some (length book))
+waiting-abort-answered book asking txn said why waiting = waiting-abort-replies book asking txn said why waiting
+
+-- ---- the answer, as the reply
+
+pub as-replied : (book : List Entry) (txn : ℕ) (text : List ℕ) (refused : Bool) (ended : Option ℕ) (reply : Reply)
+    → reply.text ≡ text → reply.refused ≡ refused → reply.ended ≡ ended → HasReplied book txn text refused ended
+    → HasReplied book txn reply.text reply.refused reply.ended
+as-replied book txn text refused ended reply text_is refusal ended_is has =
+    subst (λ (line : List ℕ). HasReplied book txn line reply.refused reply.ended) (sym text_is)
+    (subst (λ (b : Bool). HasReplied book txn text b reply.ended) (sym refusal)
+    (subst (λ (o : Option ℕ). HasReplied book txn text refused o) (sym ended_is) has))
+
+pub names-last : (book now : List Entry) (event : Entry) (reply : Reply) → now ≡ book ++ event ∷ [] → reply.ended ≡ Some (length book) → NamesLast now reply
+names-last book now event reply is ended_is = (length book, ended_is, omega (arith, ap length is, length-append book (event ∷ [])))
 
 -- ---- a count that is kept was risen to behind an earlier one too
 

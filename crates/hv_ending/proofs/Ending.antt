@@ -20,9 +20,9 @@ use Rattle.hv_history.specs.Legal.{Of, Fits, ConflictFits, CauseIsTrue, Conflict
 use Rattle.hv_history.specs.Answers.{cause_text, committed_text, failed_line, after_space, name_of, name_at, ok_line}
 use Rattle.hv_journal.specs.Appending.{KeepsTree}
 use Rattle.hv_stands.specs.Files.{Stands}
-use Rattle.hv_stands.specs.Running.{Asking, IsOf, meant, snapshot_at, running, IsUnderWay, HasAnswered}
+use Rattle.hv_stands.specs.Running.{Asking, IsOf, meant, snapshot_at, running, IsUnderWay}
 use Rattle.hv_stands.specs.Statements.{AllFitting}
-use Rattle.hv_stands.proofs.Answered.{commits-answer, creates-answer, aborts-answer}
+use Rattle.hv_ending.proofs.Replied.{commit-replies, create-replies, abort-replies}
 use Rattle.hv_stands.proofs.Fitting.{fronts-fit}
 use Rattle.hv_stands.proofs.SeeingEnough.{changed-table-stood}
 use Rattle.hv_stands.proofs.StatementFiles.{quiet-entries-stand, other-entries-stand, commits-stand}
@@ -36,9 +36,9 @@ use Rattle.hv_ending.specs.declared.ready.Reply.{Reply}
 use Rattle.hv_ending.specs.declared.ready.Way.{Way}
 use Rattle.hv_ending.specs.declared.ready.End.TheVariants as end
 use Rattle.hv_ending.specs.declared.ready.Ready.{Ready}
-use Rattle.hv_ending.specs.Ending.{KeepsCount, IsUndamaged, IsNoEnd, aborting, committing, creating, IsChangeReady, IsTrulyReady}
+use Rattle.hv_ending.specs.Ending.{KeepsCount, IsUndamaged, IsNoEnd, aborting, committing, creating, IsChangeReady, IsTrulyReady, HasReplied}
 use Rattle.hv_ending.specs.Steps.{Goes, LacksMemory, AbortedOrLacks, DoneOrLacks, conflict_cause, conflict_text, Conclusion}
-use Rattle.hv_ending.proofs.Books.{of-here, legal-next, abort-true, commit-true, abort-answered}
+use Rattle.hv_ending.proofs.Books.{of-here, legal-next, abort-true, commit-true, abort-answered, as-replied, names-last}
 use Rattle.hv_ending.proofs.Touched.{touch-of-table}
 use Rattle.hv_ending.proofs.Readying.{told-on, same-stands}
 
@@ -74,11 +74,11 @@ module _ (book : List Entry) (files : Tree) (asking : Asking) (txn place : ℕ) 
           commits-stand book asking txn place said change.info change.effect change.write wrote files fit near fits
           (subst (λ (ids : List (ℕ × ℕ)). IsUnderWay book asking txn place said ids) change.id under) change.is_change change.put stands
 
-  pub commit-answered : (reply : Reply) → reply.text ≡ text → reply.refused ≡ false → HasAnswered (book ++ committing txn wrote ∷ []) txn reply.text reply.refused
-  commit-answered reply text_is accepted =
-      subst (λ (line : List ℕ). HasAnswered (book ++ committing txn wrote ∷ []) txn line reply.refused) (sym (text_is ∙ truly.truly.reply))
-      (subst (λ (b : Bool). HasAnswered (book ++ committing txn wrote ∷ []) txn (committed_text (meant (take place book) said) wrote) b) (sym accepted)
-      (commits-answer book asking txn place said given wrote under))
+  pub commit-answered : (reply : Reply) → reply.text ≡ text → reply.refused ≡ false → reply.ended ≡ Some (length book)
+      → HasReplied (book ++ committing txn wrote ∷ []) txn reply.text reply.refused reply.ended
+  commit-answered reply text_is accepted ended_is =
+      as-replied (book ++ committing txn wrote ∷ []) txn _ _ _ reply (text_is ∙ truly.truly.reply) accepted ended_is
+      (commit-replies book asking txn place said given under wrote)
 
   -- ---- a conflict
 
@@ -134,12 +134,12 @@ module _ (book : List Entry) (files : Tree) (asking : Asking) (txn place : ℕ) 
         ap (λ (n : List ℕ). failed_line 30 (codes "Conflict with " ++ decimal clash.by.0 ++ codes " on " ++ n ++ after_space touch.partition)) is
 
     pub conflict-answered : AllFitting book → (reply : Reply) → reply.text ≡ conflict_text clash.by.0 name touch.partition → reply.refused ≡ true
-        → HasAnswered (book ++ aborting txn (conflict_cause clash.by touch) ∷ []) txn reply.text reply.refused
-    conflict-answered fit reply text_is refusal =
-        subst (λ (line : List ℕ). HasAnswered (book ++ aborting txn (conflict_cause clash.by touch) ∷ []) txn line reply.refused)
-        (line-is (Some (snapshot_at book place)) (named fit) ∙ sym text_is)
-        (subst (λ (b : Bool). HasAnswered (book ++ aborting txn (conflict_cause clash.by touch) ∷ []) txn (cause_text (Some (snapshot_at book place)) (conflict_cause clash.by touch)) b)
-        (sym refusal) (aborts-answer book asking txn place said given (conflict_cause clash.by touch) under))
+        → reply.ended ≡ Some (length book)
+        → HasReplied (book ++ aborting txn (conflict_cause clash.by touch) ∷ []) txn reply.text reply.refused reply.ended
+    conflict-answered fit reply text_is refusal ended_is =
+        as-replied (book ++ aborting txn (conflict_cause clash.by touch) ∷ []) txn _ _ _ reply
+        (text_is ∙ sym (line-is (Some (snapshot_at book place)) (named fit))) refusal ended_is
+        (abort-replies book asking txn place said given under (conflict_cause clash.by touch))
 
 -- ---- one entry ended it
 
@@ -153,7 +153,8 @@ pub record EndsWell (way : Way) (ready : Ready) (book : List Entry) (event : Ent
   pub stands : (files : Tree) (asking : Asking) (said : Stmt) → IsTrulyReady book files asking way.txn.0 way.place said ready
       → Stands (state_of book) files → Stands (state_of (book ++ event ∷ [])) files
   pub answered : (files : Tree) (asking : Asking) (said : Stmt) → IsTrulyReady book files asking way.txn.0 way.place said ready
-      → HasAnswered (book ++ event ∷ []) way.txn.0 reply.text reply.refused
+      → HasReplied (book ++ event ∷ []) way.txn.0 reply.text reply.refused reply.ended
+  pub ended_is : reply.ended ≡ Some (length book)
 
 module _ {D : Type 0} (told : D → Option Store) (faults : D → ℕ) (way : Way) (ready : Ready) (before now : House D) where
   ended-conclusion : (event : Entry) (reply : Reply) → Goes told faults KeepsTree way.txn.0 before now (Ok reply)
@@ -172,10 +173,11 @@ module _ {D : Type 0} (told : D → Option Store) (faults : D → ℕ) (way : Wa
         truly shows;
     answered = λ asking said truly shows.
         told-on KeepsTree (λ s. IsTrulyReady (entries_of before) s.tree asking way.txn.0 way.place said ready) (IsFaithful (entries_of before))
-        (λ _. HasAnswered (entries_of now) way.txn.0 reply.text reply.refused)
+        (λ _. HasReplied (entries_of now) way.txn.0 reply.text reply.refused reply.ended)
         (told before.shelf) (told now.shelf) goes.moves
-        (λ x y same is faithful. subst (λ (b : List Entry). HasAnswered b way.txn.0 reply.text reply.refused) (sym book) (well.answered x.tree asking said is))
+        (λ x y same is faithful. subst (λ (b : List Entry). HasReplied b way.txn.0 reply.text reply.refused reply.ended) (sym book) (well.answered x.tree asking said is))
         truly shows;
+    last = names-last (entries_of before) (entries_of now) event reply book well.ended_is;
   }
 
   pub stopped-conclusion : (why : HouseFault) → Goes {T = Reply} told faults KeepsTree way.txn.0 before now (Err why) → Conclusion told faults way ready before now (Err why)
@@ -184,6 +186,7 @@ module _ {D : Type 0} (told : D → Option Store) (faults : D → ℕ) (way : Wa
     added = tt;
     shows = λ asking said truly shows. tt;
     answered = λ asking said truly shows. tt;
+    last = tt;
   }
 
   -- memory lacked
@@ -197,9 +200,9 @@ module _ {D : Type 0} (told : D → Option Store) (faults : D → ℕ) (way : Wa
     says = λ files asking said truly. abort-true (entries_of before) asking way.txn.0 way.place said truly.to_end.given truly.to_end.under_way cause.Memory tt;
     stands = λ files asking said truly stands. other-entries-stand (entries_of before) (aborting way.txn.0 cause.Memory) files go.fit lacks.fits tt stands;
     answered = λ files asking said truly.
-        subst (λ (line : List ℕ). HasAnswered (entries_of before ++ aborting way.txn.0 cause.Memory ∷ []) way.txn.0 line reply.refused) (sym lacks.text_is)
-        (subst (λ (b : Bool). HasAnswered (entries_of before ++ aborting way.txn.0 cause.Memory ∷ []) way.txn.0 (cause_text None cause.Memory) b) (sym lacks.refusal)
-        (abort-answered (entries_of before) asking way.txn.0 way.place said truly.to_end.given truly.to_end.under_way cause.Memory tt));
+        as-replied (entries_of before ++ aborting way.txn.0 cause.Memory ∷ []) way.txn.0 _ _ _ reply lacks.text_is lacks.refusal lacks.ended_is
+        (abort-answered (entries_of before) asking way.txn.0 way.place said truly.to_end.given truly.to_end.under_way cause.Memory tt);
+    ended_is = lacks.ended_is;
   }
 
   lacking : (reply : Reply) → IsReady told before → Goes told faults KeepsTree way.txn.0 before now (Ok reply)
@@ -230,7 +233,8 @@ module _ {D : Type 0} (told : D → Option Store) (faults : D → ℕ) (way : Wa
         ends = λ never. never;
         says = λ files asking said truly. commit-says (entries_of before) files asking way.txn.0 way.place said wrote name text truly;
         stands = λ files asking said truly stands. commit-stands (entries_of before) files asking way.txn.0 way.place said wrote name text truly go.fit near done.fits stands;
-        answered = λ files asking said truly. commit-answered (entries_of before) files asking way.txn.0 way.place said wrote name text truly reply done.text_is done.accepted;
+        answered = λ files asking said truly. commit-answered (entries_of before) files asking way.txn.0 way.place said wrote name text truly reply done.text_is done.accepted done.ended_is;
+        ended_is = done.ended_is;
       })
 
   pub conflict-conclusion : (wrote : List Touch) (name : List ℕ) (clash : Clash) (touch : Touch) (result : Result Reply HouseFault)
@@ -252,7 +256,8 @@ module _ {D : Type 0} (told : D → Option Store) (faults : D → ℕ) (way : Wa
         stands = λ files asking said truly stands.
             other-entries-stand (entries_of before) (aborting way.txn.0 (conflict_cause clash.by touch)) files go.fit done.fits tt stands;
         answered = λ files asking said truly.
-            conflict-answered (entries_of before) files asking way.txn.0 way.place said wrote name text truly clash touch met found go.fit reply done.text_is done.refusal;
+            conflict-answered (entries_of before) files asking way.txn.0 way.place said wrote name text truly clash touch met found go.fit reply done.text_is done.refusal done.ended_is;
+        ended_is = done.ended_is;
       })
 
   pub create-conclusion : (table : TableId) (result : Result Reply HouseFault) → Goes told faults KeepsTree way.txn.0 before now result
@@ -272,7 +277,7 @@ module _ {D : Type 0} (told : D → Option Store) (faults : D → ℕ) (way : Wa
             quiet-entries-stand (entries_of before) asking way.txn.0 way.place said truly.to_end.given (creating way.txn.0 table) files go.fit done.fits
             truly.to_end.under_way (refl, truly.truly.none) stands;
         answered = λ files asking said truly.
-            subst (λ (line : List ℕ). HasAnswered (entries_of before ++ creating way.txn.0 table ∷ []) way.txn.0 line reply.refused) (sym (done.text_is ∙ truly.truly.reply))
-            (subst (λ (b : Bool). HasAnswered (entries_of before ++ creating way.txn.0 table ∷ []) way.txn.0 ok_line b) (sym done.accepted)
-            (creates-answer (entries_of before) asking way.txn.0 way.place said truly.to_end.given table truly.to_end.under_way));
+            as-replied (entries_of before ++ creating way.txn.0 table ∷ []) way.txn.0 _ _ _ reply (done.text_is ∙ truly.truly.reply) done.accepted done.ended_is
+            (create-replies (entries_of before) asking way.txn.0 way.place said truly.to_end.given truly.to_end.under_way table);
+        ended_is = done.ended_is;
       })

@@ -1,4 +1,5 @@
 pub mod Runs
+pub mod Replied
 pub mod Books
 pub mod Touched
 pub mod Shorts

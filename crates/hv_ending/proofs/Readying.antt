@@ -1,5 +1,5 @@
 -- A statement that is prepared without a write id: it is ready, or it was aborted.
-use Rattle.std.proofs.Common.{◌≡◌, ℕ, ◌⊎◌, inl, inr, Bool, Option, Some, None, Result, Ok, Err, IfOk, List, [], ◌∷◌, ◌++◌, take, refl, sym, ap, ◌∙◌, subst, append-nil}
+use Rattle.std.proofs.Common.{◌≡◌, ℕ, ◌⊎◌, inl, inr, Option, Some, None, Result, Ok, Err, IfOk, List, [], ◌∷◌, ◌++◌, take, refl, sym, ap, ◌∙◌, subst, append-nil}
 use Rattle.hv_base.specs.Told.{Tells, Moves}
 use Rattle.hv_shelf.specs.Disk.{Store, Tree}
 use Rattle.std.specs.FinMap as tree
@@ -14,7 +14,7 @@ use Rattle.hv_history.specs.Legal.{Fits, TouchesAreMeant, profile}
 use Rattle.hv_history.specs.Answers.{cause_text, committed_text}
 use Rattle.hv_journal.specs.Appending.{KeepsTree}
 use Rattle.hv_stands.specs.Files.{Stands}
-use Rattle.hv_stands.specs.Running.{Asking, meant, IsUnderWay, HasAnswered, KeepsGiven}
+use Rattle.hv_stands.specs.Running.{Asking, meant, IsUnderWay, KeepsGiven}
 use Rattle.hv_stands.proofs.StatementFiles.{other-entries-stand}
 use Rattle.hv_house.specs.declared.fault.HouseFault.{HouseFault}
 use Rattle.hv_house.specs.declared.house.House.{House}
@@ -26,12 +26,12 @@ use Rattle.hv_ending.specs.declared.ready.End.TheVariants as end
 use Rattle.hv_ending.specs.declared.ready.Prepared.{Prepared}
 use Rattle.hv_ending.specs.declared.ready.Prepared.TheVariants as prepared
 use Rattle.hv_ending.specs.declared.ready.Ready.{Ready}
-use Rattle.hv_ending.specs.Ending.{KeepsCount, IsUndamaged, aborting, EndsUncommitted, Prepares, EndCanBeNoted, EndIsTrue, IsReadyToEnd, IsTrulyPrepared}
+use Rattle.hv_ending.specs.Ending.{KeepsCount, IsUndamaged, aborting, EndsUncommitted, Prepares, EndCanBeNoted, EndIsTrue, IsReadyToEnd, IsTrulyPrepared, HasReplied}
 use Rattle.hv_ending.specs.Steps.{Goes, HasAborted, LacksMemory, IsWithdrawn, CauseIsMeant, EndsBy, ended, IsMadeReady, Preparation}
 use Rattle.hv_ending.proofs.Runs.{goes-by, goes-ended}
 use Rattle.hv_ending.proofs.Shorts.{short_idle}
 use Rattle.hv_ending.proofs.Touched.{nothing-touched}
-use Rattle.hv_ending.proofs.Books.{legal-next, abort-true, abort-answered}
+use Rattle.hv_ending.proofs.Books.{legal-next, abort-true, abort-answered, as-replied, names-last}
 
 -- ---- aborts
 
@@ -117,12 +117,11 @@ module _ {D : Type 0} (told : D → Option Store) (faults : D → ℕ) (way : Wa
         means shows
 
     ended-answered : (asking : Asking) (said : Stmt) → IsUnderWay (entries_of before) asking way.txn.0 way.place said []
-        → HasAnswered (entries_of now) way.txn.0 reply.text reply.refused
+        → HasReplied (entries_of now) way.txn.0 reply.text reply.refused reply.ended
     ended-answered asking said under =
-        subst (λ (b : List Entry). HasAnswered b way.txn.0 reply.text reply.refused) (sym ends.done.book)
-        (subst (λ (text : List ℕ). HasAnswered (entries_of before ++ aborting way.txn.0 ends.why ∷ []) way.txn.0 text reply.refused) (sym ends.done.text_is)
-        (subst (λ (b : Bool). HasAnswered (entries_of before ++ aborting way.txn.0 ends.why ∷ []) way.txn.0 (cause_text None ends.why) b) (sym ends.done.refusal)
-        (abort-answered (entries_of before) asking way.txn.0 way.place said [] under ends.why ends.uncommitted)))
+        subst (λ (b : List Entry). HasReplied b way.txn.0 reply.text reply.refused reply.ended) (sym ends.done.book)
+        (as-replied (entries_of before ++ aborting way.txn.0 ends.why ∷ []) way.txn.0 _ _ _ reply ends.done.text_is ends.done.refusal ends.done.ended_is
+        (abort-answered (entries_of before) asking way.txn.0 way.place said [] under ends.why ends.uncommitted))
 
   pub always-told : (P : Type 0) (o : Option Store) → P → Tells o (λ _. P)
   always-told P None p = tt
@@ -138,6 +137,7 @@ module _ {D : Type 0} (told : D → Option Store) (faults : D → ℕ) (way : Wa
     stands = λ asking said under. tt;
     shows = λ asking said under means shows. ended-shows reply ends goes.moves asking said under means shows;
     truly = λ asking said under means shows. always-told _ (told now.shelf) (ended-answered reply ends asking said under);
+    last = names-last (entries_of before) (entries_of now) (aborting way.txn.0 ends.why) reply ends.done.book ends.done.ended_is;
   }
 
   -- ---- the run has stopped
@@ -150,6 +150,7 @@ module _ {D : Type 0} (told : D → Option Store) (faults : D → ℕ) (way : Wa
     stands = λ asking said under. tt;
     shows = λ asking said under means shows. tt;
     truly = λ asking said under means shows. tt;
+    last = tt;
   }
 
   -- ---- by its reply, or the run has stopped
@@ -230,6 +231,7 @@ module _ {D : Type 0} (told : D → Option Store) (faults : D → ℕ) (way : Wa
             truly = ready-true y.tree (meant (take way.place (entries_of now)) said) (ap (λ (b : List Entry). meant (take way.place b) said) same ∙ m) (truly y.tree);
           })
           means shows;
+      last = tt;
     }
 
   pub made-preparation : (last : End) (text : List ℕ) (result : Result Prepared HouseFault) → EndCanBeNoted way.txn.0 [] last

@@ -16,7 +16,7 @@ use Rattle.hv_house.specs.declared.house.House.{House}
 use Rattle.hv_house.specs.Faults.{FileCause, EndsRun, HasRisen}
 use Rattle.hv_house.specs.House.{entries_of, IsReady, IsHalted, Leaves}
 use Rattle.hv_ending.specs.declared.ready.Reply.{Reply}
-use Rattle.hv_ending.specs.Ending.{IsNoEnd, HasStopped, StopsAtOne}
+use Rattle.hv_ending.specs.Ending.{IsNoEnd, HasStopped}
 use Rattle.hv_ending.specs.Steps.{Goes, IsAdded, IsLeftOut, ended}
 
 -- ---- counts of faults
@@ -60,98 +60,74 @@ leaves-nothing (fault.Failed count) o book ends holds = absurd ends
 
 -- ---- the run stopped
 
-at-none : length {A = Entry} [] ≤ 1
-at-none = omega arith
-
-at-one : (event : Entry) → length (event ∷ []) ≤ 1
-at-one event = omega arith
-
--- what is said of the journal's further entries alone
-pub only-stopped : {D T : Type 0} (told : D → Option Store) (txn : ℕ) (before now : House D) (result : Result T HouseFault)
-    → IfErr result (λ why. StopsAtOne told txn why before now) → IfErr result (λ why. HasStopped told txn why before now)
-only-stopped told txn before now (Ok x) at = tt
-only-stopped told txn before now (Err why) at = at.stopped
-
 module _ {D : Type 0} (told : D → Option Store) where
   -- one entry was to be noted
   pub halted-stopped : (txn : ℕ) (event : Entry) (why : HouseFault) (before now : House D) → IsOf txn event → IsHalted told event why before now
-      → Fits profile (state_of (entries_of before)) event → StopsAtOne told txn why before now
+      → Fits profile (state_of (entries_of before)) event → HasStopped told txn why before now
   halted-stopped txn event why before now of_it halted fits = record {
-    stopped = record {
-      added = [];
-      book = halted.entries ∙ sym (append-nil (entries_of before));
-      of_it = tt;
-      legal = record { fit = tt; truthful = tt };
-      unended = tt;
-      further = event ∷ [];
-      further_of_it = (of_it, tt);
-      few = omega arith;
-      leaves = subst (Leaves why (event ∷ []) (told now.shelf)) (sym halted.entries) halted.leaves;
-    };
-    one = at-one event;
+    added = [];
+    book = halted.entries ∙ sym (append-nil (entries_of before));
+    of_it = tt;
+    legal = record { fit = tt; truthful = tt };
+    unended = tt;
+    further = event ∷ [];
+    further_of_it = (of_it, tt);
+    few = omega arith;
     fit = (subst (λ (b : List Entry). Fits profile (state_of b) event) (sym halted.entries) fits, tt);
+    leaves = subst (Leaves why (event ∷ []) (told now.shelf)) (sym halted.entries) halted.leaves;
   }
 
   -- nothing was
   pub kept-stopped : (txn : ℕ) (why : HouseFault) (before now : House D) → EndsRun why → entries_of now ≡ entries_of before → Holds (told now.shelf) (entries_of now)
-      → StopsAtOne told txn why before now
+      → HasStopped told txn why before now
   kept-stopped txn why before now ends same holds = record {
-    stopped = record {
-      added = [];
-      book = same ∙ sym (append-nil (entries_of before));
-      of_it = tt;
-      legal = record { fit = tt; truthful = tt };
-      unended = tt;
-      further = [];
-      further_of_it = tt;
-      few = omega arith;
-      leaves = leaves-nothing why (told now.shelf) (entries_of now) ends holds;
-    };
-    one = at-none;
+    added = [];
+    book = same ∙ sym (append-nil (entries_of before));
+    of_it = tt;
+    legal = record { fit = tt; truthful = tt };
+    unended = tt;
+    further = [];
+    further_of_it = tt;
+    few = omega arith;
     fit = tt;
+    leaves = leaves-nothing why (told now.shelf) (entries_of now) ends holds;
   }
 
   -- it stopped behind a house of the same book
-  pub stopped-earlier : (txn : ℕ) (why : HouseFault) (before mid now : House D) → entries_of mid ≡ entries_of before → StopsAtOne told txn why mid now
-      → StopsAtOne told txn why before now
+  pub stopped-earlier : (txn : ℕ) (why : HouseFault) (before mid now : House D) → entries_of mid ≡ entries_of before → HasStopped told txn why mid now
+      → HasStopped told txn why before now
   stopped-earlier txn why before mid now same at = record {
-    stopped = record {
-      added = at.stopped.added;
-      book = at.stopped.book ∙ ap (λ (b : List Entry). b ++ at.stopped.added) same;
-      of_it = at.stopped.of_it;
-      legal = subst (λ (b : List Entry). IsLegalFrom profile (state_of b) at.stopped.added) same at.stopped.legal;
-      unended = at.stopped.unended;
-      further = at.stopped.further;
-      further_of_it = at.stopped.further_of_it;
-      few = at.stopped.few;
-      leaves = at.stopped.leaves;
-    };
-    one = at.one;
+    added = at.added;
+    book = at.book ∙ ap (λ (b : List Entry). b ++ at.added) same;
+    of_it = at.of_it;
+    legal = subst (λ (b : List Entry). IsLegalFrom profile (state_of b) at.added) same at.legal;
+    unended = at.unended;
+    further = at.further;
+    further_of_it = at.further_of_it;
+    few = at.few;
     fit = at.fit;
+    leaves = at.leaves;
   }
 
   -- or behind one more entry, which ends nothing and says nothing
   pub stopped-behind : (txn : ℕ) (event : Entry) (why : HouseFault) (before mid now : House D) → entries_of mid ≡ entries_of before ++ event ∷ []
       → IsOf txn event → IsNoEnd event → Fits profile (state_of (entries_of before)) event → IsTruthful (state_of (entries_of before)) event
-      → StopsAtOne told txn why mid now → StopsAtOne told txn why before now
+      → HasStopped told txn why mid now → HasStopped told txn why before now
   stopped-behind txn event why before mid now book of_it unended fits truthful at =
       let next : state_of (entries_of mid) ≡ after (state_of (entries_of before)) event = ap state_of book ∙ one-behind (entries_of before) event in
-      let legal : IsLegalFrom profile (after (state_of (entries_of before)) event) at.stopped.added =
-      subst (λ (s : State). IsLegalFrom profile s at.stopped.added) next at.stopped.legal in
+      let legal : IsLegalFrom profile (after (state_of (entries_of before)) event) at.added =
+      subst (λ (s : State). IsLegalFrom profile s at.added) next at.legal in
       record {
-        stopped = record {
-          added = event ∷ at.stopped.added;
-          book = at.stopped.book ∙ ap (λ (b : List Entry). b ++ at.stopped.added) book ∙ append_assoc (entries_of before) (event ∷ []) at.stopped.added;
-          of_it = (of_it, at.stopped.of_it);
-          legal = record { fit = (fits, legal.fit); truthful = (truthful, legal.truthful) };
-          unended = (unended, at.stopped.unended);
-          further = at.stopped.further;
-          further_of_it = at.stopped.further_of_it;
-          few = at.stopped.few;
-          leaves = at.stopped.leaves;
-        };
-        one = at.one;
+        added = event ∷ at.added;
+        book = at.book ∙ ap (λ (b : List Entry). b ++ at.added) book ∙ append_assoc (entries_of before) (event ∷ []) at.added;
+        of_it = (of_it, at.of_it);
+        legal = record { fit = (fits, legal.fit); truthful = (truthful, legal.truthful) };
+        unended = (unended, at.unended);
+        further = at.further;
+        further_of_it = at.further_of_it;
+        few = at.few;
         fit = at.fit;
+        leaves = at.leaves;
       }
 
 -- ---- what comes of a call
@@ -168,7 +144,7 @@ module _ {D : Type 0} (told : D → Option Store) (faults : D → ℕ) where
   }
 
   pub goes-err : {T : Type 0} (step : Store → Store → Type 0) (txn : ℕ) (before now : House D) (why : HouseFault)
-      → Moves step (told before.shelf) (told now.shelf) → StopsAtOne told txn why before now → EndsRun why
+      → Moves step (told before.shelf) (told now.shelf) → HasStopped told txn why before now → EndsRun why
       → faults before.shelf ≤ faults now.shelf → HasRisen (faults before.shelf) (faults now.shelf) why
       → Goes {T = T} told faults step txn before now (Err why)
   goes-err step txn before now why moves stopped ends later risen = record {

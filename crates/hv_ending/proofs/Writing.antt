@@ -1,5 +1,5 @@
 -- A change of rows: its write id is noted and its files are put, and it is ready; or it has ended on the way.
-use Rattle.std.proofs.Common.{◌≡◌, ℕ, ◌+◌, ◌<◌, ◌≤◌, inr, Bool, Option, Some, None, Result, Ok, Err, IfOk, List, [], ◌∷◌, ◌++◌, length, take, refl, sym, ap, ◌∙◌, subst, append_assoc, length-append, arith}
+use Rattle.std.proofs.Common.{◌≡◌, ℕ, ◌+◌, ◌<◌, ◌≤◌, inr, Option, Some, None, Result, Ok, Err, IfOk, List, [], ◌∷◌, ◌++◌, length, take, refl, sym, ap, ◌∙◌, subst, append_assoc, length-append, arith}
 use Rattle.std.specs.List.{AllByRecursion}
 use Rattle.hv_base.specs.Faults.{Rose}
 use Rattle.hv_base.specs.Told.{Moves}
@@ -28,7 +28,7 @@ use Rattle.hv_history.specs.Answers.{cause_text, counts_line}
 use Rattle.hv_journal.specs.Appending.{KeepsTree}
 use Rattle.hv_stands.specs.Files.{with_files}
 use Rattle.hv_stands.specs.Laws.{HasFile, changes_in}
-use Rattle.hv_stands.specs.Running.{Asking, meant, IsUnderWay, HasAnswered, IsOfId, HasPut, KeepsGiven}
+use Rattle.hv_stands.specs.Running.{Asking, meant, IsUnderWay, IsOfId, HasPut, KeepsGiven}
 use Rattle.hv_stands.specs.Statements.{AllFitting}
 use Rattle.hv_stands.proofs.Begun.{ids-given}
 use Rattle.hv_stands.proofs.Fitting.{fitting-sound, one-more-fits}
@@ -48,10 +48,10 @@ use Rattle.hv_ending.specs.declared.ready.End.{End}
 use Rattle.hv_ending.specs.declared.ready.Prepared.{Prepared}
 use Rattle.hv_ending.specs.declared.ready.Prepared.TheVariants as prepared
 use Rattle.hv_ending.specs.declared.ready.Ready.{Ready}
-use Rattle.hv_ending.specs.Ending.{aborting, giving, EndCanBeNoted, EndIsTrue, IsReadyToEnd, IsTrulyPrepared}
+use Rattle.hv_ending.specs.Ending.{aborting, giving, EndCanBeNoted, EndIsTrue, IsReadyToEnd, IsTrulyPrepared, HasReplied}
 use Rattle.hv_ending.specs.Steps.{Goes, IsAdded, LacksMemory, IsWithdrawn, IsAnyway, EndsBy, ended, IsNextOf, KeepsOutside, Puts, BreaksOff, IsWritten, Writing, Preparation}
 use Rattle.hv_ending.proofs.Runs.{tree-same, goes-ok, goes-err, cause-ok, cause-err, kept-stopped, stopped-earlier, stopped-behind, risen-earlier}
-use Rattle.hv_ending.proofs.Books.{legal-next, means-still, abort-answered, counts-earlier}
+use Rattle.hv_ending.proofs.Books.{legal-next, means-still, abort-answered, as-replied, names-last, counts-earlier}
 use Rattle.hv_ending.proofs.Touched.{well-touched}
 use Rattle.hv_ending.proofs.Shorts.{short_change}
 use Rattle.hv_ending.proofs.Readying.{ends-for, ends-lacking, abort-faithful, told-on, always-told, stopped-preparation}
@@ -356,6 +356,7 @@ module _ {D : Type 0} (told : D → Option Store) (faults : D → ℕ) (way : Wa
                 (put-stands asking said under x y puts.0 m faithful done written);
           })
           means shows;
+      last = tt;
     }
 
   -- ---- or it has ended
@@ -367,6 +368,9 @@ module _ {D : Type 0} (told : D → Option Store) (faults : D → ℕ) (way : Wa
 
     same_ended : entries_of now ≡ with_id ++ ending ∷ []
     same_ended = ends.done.book ∙ ap (λ (b : List Entry). b ++ ending ∷ []) added.book
+
+    ended_is : reply.ended ≡ Some (length with_id)
+    ended_is = ends.done.ended_is ∙ ap (λ (b : List Entry). Some (length b)) added.book
 
     broken-preparation : Preparation told faults way (Change info effect) before now (Ok (prepared.Ended reply))
     broken-preparation = record {
@@ -391,11 +395,11 @@ module _ {D : Type 0} (told : D → Option Store) (faults : D → ℕ) (way : Wa
           (ends.meant ids (meant (take way.place with_id) said)) there.stands there))
           means shows;
       truly = λ asking said under means shows.
-          always-told told faults way (Change info effect) before now (HasAnswered (entries_of now) way.txn.0 reply.text reply.refused) (told now.shelf)
-          (subst (λ (b : List Entry). HasAnswered b way.txn.0 reply.text reply.refused) (sym same_ended)
-          (subst (λ (line : List ℕ). HasAnswered (with_id ++ ending ∷ []) way.txn.0 line reply.refused) (sym ends.done.text_is)
-          (subst (λ (b : Bool). HasAnswered (with_id ++ ending ∷ []) way.txn.0 (cause_text None ends.why) b) (sym ends.done.refusal)
-          (abort-answered with_id asking way.txn.0 way.place said ids (under_with asking said under) ends.why ends.uncommitted))));
+          always-told told faults way (Change info effect) before now (HasReplied (entries_of now) way.txn.0 reply.text reply.refused reply.ended) (told now.shelf)
+          (subst (λ (b : List Entry). HasReplied b way.txn.0 reply.text reply.refused reply.ended) (sym same_ended)
+          (as-replied (with_id ++ ending ∷ []) way.txn.0 _ _ _ reply ends.done.text_is ends.done.refusal ended_is
+          (abort-answered with_id asking way.txn.0 way.place said ids (under_with asking said under) ends.why ends.uncommitted)));
+      last = names-last with_id (entries_of now) ending reply same_ended ended_is;
     }
 
   pub given-preparation : (result : Result Prepared HouseFault) → Writing told faults way.txn.0 info effect write.0 wrote text mid now result

@@ -1,6 +1,6 @@
 -- How a started statement ends, beside others that are open: what is noted for it, which files it puts, and what it replies.
 -- Source: Hive Transactions (first committer wins); the replies are this project's profile.
-use Rattle.std.specs.Prelude.{◌≡◌, ◌⊎◌, ℕ, ◌+◌, ◌<◌, ◌≤◌, IsTrue, IsSome, Option, Some, Ok, List, [], ◌∷◌, ◌++◌, length, take}
+use Rattle.std.specs.Prelude.{◌≡◌, ◌⊎◌, ℕ, ◌+◌, ◌<◌, ◌≤◌, Bool, IsTrue, IsSome, Option, Some, Ok, List, [], ◌∷◌, ◌++◌, length, take}
 use Rattle.std.specs.List.{AllByRecursion}
 use Rattle.hv_base.specs.declared.ids.TableId.{TableId}
 use Rattle.hv_base.specs.declared.ids.WriteId.{WriteId}
@@ -27,10 +27,34 @@ use Rattle.hv_house.specs.declared.fault.HouseFault.{HouseFault}
 use Rattle.hv_house.specs.declared.house.House.{House}
 use Rattle.hv_house.specs.House.{entries_of, IsSmall, Leaves}
 use Rattle.hv_ending.specs.declared.ready.Ready.{Ready}
+use Rattle.hv_ending.specs.declared.ready.Reply.{Reply}
 use Rattle.hv_ending.specs.declared.ready.End.{End}
 use Rattle.hv_ending.specs.declared.ready.End.TheVariants as end
 use Rattle.hv_ending.specs.declared.ready.Prepared.{Prepared}
 use Rattle.hv_ending.specs.declared.ready.Prepared.TheVariants as prepared
+
+-- ---- the entry by which a transaction ends
+
+abbrev pub IsEndOf : ℕ → Entry → Type 0
+IsEndOf txn (entry.Commit other wrote) = other.0 ≡ txn
+IsEndOf txn (entry.Create other table) = other.0 ≡ txn
+IsEndOf txn (entry.Drop other table) = other.0 ≡ txn
+IsEndOf txn (entry.Abort other why) = other.0 ≡ txn
+IsEndOf txn event = ⊥
+
+-- the entry at this place of the book, from 0, is that by which it ended
+pub record HasEndedAt (book : List Entry) (txn : ℕ) (ended : Option ℕ) : Type 0 where
+  pub front : List Entry
+  pub event : Entry
+  pub rest : List Entry
+  pub book_is : book ≡ front ++ event ∷ rest
+  pub ends : IsEndOf txn event
+  pub place : ended ≡ Some (length front)
+
+-- it has ended: this is its answer, whether that is a refusal, and the place of the entry that ended it
+pub record HasReplied (book : List Entry) (txn : ℕ) (reply : List ℕ) (refused : Bool) (ended : Option ℕ) : Type 0 where
+  pub answered : HasAnswered book txn reply refused
+  pub ended_at : HasEndedAt book txn ended
 
 -- ---- entries of one statement
 
@@ -190,12 +214,22 @@ pub record IsTrulyReady (book : List Entry) (files : Tree) (asking : Asking) (tx
 
 abbrev pub IsTrulyPrepared : List Entry → Tree → Asking → ℕ → ℕ → Stmt → Prepared → Type 0
 IsTrulyPrepared book files asking txn place said (prepared.Ready ready) = IsTrulyReady book files asking txn place said ready
-IsTrulyPrepared book files asking txn place said (prepared.Ended reply) = HasAnswered book txn reply.text reply.refused
+IsTrulyPrepared book files asking txn place said (prepared.Ended reply) = HasReplied book txn reply.text reply.refused reply.ended
+
+-- ---- where it ended
+
+-- the reply names the place of the book's last entry
+abbrev pub NamesLast : List Entry → Reply → Type 0
+NamesLast now reply = (place : ℕ) × (reply.ended ≡ Some place) × (length now ≡ place + 1)
+
+abbrev pub EndedNamesLast : List Entry → Prepared → Type 0
+EndedNamesLast now (prepared.Ready ready) = Unit {0}
+EndedNamesLast now (prepared.Ended reply) = NamesLast now reply
 
 -- ---- the run stopped in a statement
 
 -- Its entries so far are legal behind the book, and none ends it. The journal reads to the book, or where the store failed, to the
--- book or to the book and further entries of it.
+-- book or to the book and one entry more of it, which fits behind the book.
 pub record HasStopped {D : Type 0} (told : D → Option Store) (txn : ℕ) (why : HouseFault) (before now : House D) : Type 0 where
   pub added : List Entry
   pub book : entries_of now ≡ entries_of before ++ added
@@ -204,11 +238,6 @@ pub record HasStopped {D : Type 0} (told : D → Option Store) (txn : ℕ) (why 
   pub unended : AllByRecursion IsNoEnd added
   pub further : List Entry
   pub further_of_it : AreOf txn further
-  pub few : length further ≤ 2
+  pub few : length further ≤ 1
+  pub fit : AllFit profile (state_of (entries_of now)) further
   pub leaves : Leaves why further (told now.shelf) (entries_of now)
-
--- it stopped at one entry: the journal may have no other, and that one fits behind the book
-pub record StopsAtOne {D : Type 0} (told : D → Option Store) (txn : ℕ) (why : HouseFault) (before now : House D) : Type 0 where
-  pub stopped : HasStopped told txn why before now
-  pub one : length stopped.further ≤ 1
-  pub fit : AllFit profile (state_of (entries_of now)) stopped.further

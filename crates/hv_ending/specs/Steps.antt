@@ -26,7 +26,7 @@ use Rattle.hv_history.specs.Legal.{Fits, IsRefusedAs, NeedsId, profile}
 use Rattle.std.specs.Fmt.{decimal}
 use Rattle.hv_history.specs.Answers.{cause_text, failed_line, after_space}
 use Rattle.hv_stands.specs.Laws.{HasFile}
-use Rattle.hv_stands.specs.Running.{Asking, meant, IsUnderWay, HasAnswered, IsOfId, KeepsGiven}
+use Rattle.hv_stands.specs.Running.{Asking, meant, IsUnderWay, IsOfId, KeepsGiven}
 use Rattle.hv_house.specs.declared.fault.HouseFault.{HouseFault}
 use Rattle.hv_house.specs.declared.house.House.{House}
 use Rattle.hv_house.specs.Faults.{FileCause, EndsRun, HasRisen}
@@ -38,7 +38,7 @@ use Rattle.hv_ending.specs.declared.ready.End.TheVariants as end
 use Rattle.hv_ending.specs.declared.ready.Prepared.{Prepared}
 use Rattle.hv_ending.specs.declared.ready.Prepared.TheVariants as prepared
 use Rattle.hv_ending.specs.declared.ready.Ready.{Ready}
-use Rattle.hv_ending.specs.Ending.{KeepsCount, IsUndamaged, aborting, EndsUncommitted, Prepares, Concludes, IsPreparedIn, IsTrulyPrepared, IsTrulyReady, StopsAtOne}
+use Rattle.hv_ending.specs.Ending.{KeepsCount, IsUndamaged, aborting, EndsUncommitted, Prepares, Concludes, IsPreparedIn, IsTrulyPrepared, IsTrulyReady, NamesLast, EndedNamesLast, HasStopped, HasReplied}
 
 -- ---- whatever comes of a call
 
@@ -46,7 +46,7 @@ use Rattle.hv_ending.specs.Ending.{KeepsCount, IsUndamaged, aborting, EndsUncomm
 pub record Goes {D T : Type 0} (told : D → Option Store) (faults : D → ℕ) (step : Store → Store → Type 0) (txn : ℕ) (before now : House D) (result : Result T HouseFault) : Type 0 where
   pub ready : IfOk result (λ _. IsReady told now)
   pub moves : Moves step (told before.shelf) (told now.shelf)
-  pub stopped : IfErr result (λ why. StopsAtOne told txn why before now)
+  pub stopped : IfErr result (λ why. HasStopped told txn why before now)
   pub ends : IfErr result EndsRun
   pub cause : FileCause (faults before.shelf) (faults now.shelf) result
 
@@ -76,6 +76,7 @@ pub record HasAborted (txn : ℕ) (why : Cause) (text : List ℕ) (before now : 
   pub fits : Fits profile (state_of before) (aborting txn why)
   pub text_is : reply.text ≡ text
   pub refusal : reply.refused ≡ true
+  pub ended_is : reply.ended ≡ Some (length before)
 
 abbrev pub LacksMemory : ℕ → List Entry → List Entry → Reply → Type 0
 LacksMemory txn before now reply = HasAborted txn cause.Memory (cause_text None cause.Memory) before now reply
@@ -151,7 +152,7 @@ pub record BreaksOff {D : Type 0} (told : D → Option Store) (faults : D → �
   pub ended : IfOk result (EndsBy IsAnyway txn low (faults now.shelf) (entries_of before) (entries_of now))
   pub ready : IfOk result (λ _. IsReady told now)
   pub tree : Moves KeepsTree (told before.shelf) (told now.shelf)
-  pub stopped : IfErr result (λ why. StopsAtOne told txn why before now)
+  pub stopped : IfErr result (λ why. HasStopped told txn why before now)
   pub ends : IfErr result EndsRun
   pub cause : FileCause low (faults now.shelf) result
 
@@ -181,6 +182,7 @@ pub record HasDone (event : Entry) (text : List ℕ) (before now : List Entry) (
   pub fits : Fits profile (state_of before) event
   pub text_is : reply.text ≡ text
   pub accepted : reply.refused ≡ false
+  pub ended_is : reply.ended ≡ Some (length before)
 
 abbrev pub DoneOrLacks : ℕ → Entry → List ℕ → List Entry → List Entry → Reply → Type 0
 DoneOrLacks txn event text before now reply = HasDone event text before now reply ⊎ LacksMemory txn before now reply
@@ -210,6 +212,7 @@ pub record Preparation {D : Type 0} (told : D → Option Store) (faults : D → 
       → Tells (told before.shelf) (λ _. meant (take way.place (entries_of before)) said ≡ Some meaning)
       → Shows told before (entries_of before)
       → IfOk result (λ found. Tells (told now.shelf) (λ s. IsTrulyPrepared (entries_of now) s.tree asking way.txn.0 way.place said found))
+  pub last : IfOk result (EndedNamesLast (entries_of now))
 
 pub record Conclusion {D : Type 0} (told : D → Option Store) (faults : D → ℕ) (way : Way) (ready : Ready) (before now : House D) (result : Result Reply HouseFault) : Type 0 where
   pub goes : Goes told faults KeepsTree way.txn.0 before now result
@@ -220,4 +223,5 @@ pub record Conclusion {D : Type 0} (told : D → Option Store) (faults : D → �
   pub answered : (asking : Asking) (said : Stmt)
       → Tells (told before.shelf) (λ s. IsTrulyReady (entries_of before) s.tree asking way.txn.0 way.place said ready)
       → Shows told before (entries_of before)
-      → IfOk result (λ reply. Tells (told now.shelf) (λ _. HasAnswered (entries_of now) way.txn.0 reply.text reply.refused))
+      → IfOk result (λ reply. Tells (told now.shelf) (λ _. HasReplied (entries_of now) way.txn.0 reply.text reply.refused reply.ended))
+  pub last : IfOk result (NamesLast (entries_of now))

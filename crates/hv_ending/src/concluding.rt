@@ -10,17 +10,17 @@ ghost use Rattle.hv_history.specs.declared.entry.Cause.TheVariants.{Memory};
 ghost use Rattle.hv_journal.specs.Appending.{KeepsTree};
 ghost use Rattle.hv_base.specs.declared.ids.Touch.{Touch};
 ghost use Rattle.hv_history.specs.Book.{tree_of_entry};
-ghost use Rattle.hv_stands.specs.Running.{Asking, IsOf, HasAnswered};
+ghost use Rattle.hv_stands.specs.Running.{Asking, IsOf};
 ghost use Rattle.hv_conflicts.specs.Clashes.{IsClash};
 ghost use Rattle.hv_house.specs.Faults.{FileCause, EndsRun};
 ghost use Rattle.hv_house.specs.House.{entries_of, IsSmall, IsReady, Shows};
 ghost use Rattle.hv_house.specs.Steps.{IsMarked};
 ghost use Rattle.hv_ending.specs.declared.ready.End.TheVariants as last;
-ghost use Rattle.hv_ending.specs.Ending.{aborting, committing, creating, Concludes, IsReadyToEnd, IsTrulyReady, HasStopped, StopsAtOne};
+ghost use Rattle.hv_ending.specs.Ending.{aborting, committing, creating, Concludes, IsReadyToEnd, IsTrulyReady, NamesLast, HasStopped, HasReplied};
 ghost use Rattle.hv_ending.specs.Steps.{Goes, IsAdded, IsLeftOut, HasDone, DoneOrLacks, AbortedOrLacks, IsConflictOf, conflict_cause, conflict_text, Conclusion};
 
 use crate::ready::{End, Ready, Reply, Way};
-use crate::refusing::{abort_with, end_without, lack_memory, note};
+use crate::refusing::{abort_with, end_without, lack_memory, next_place, note};
 use hv_base::{Duplicate, List, NoMemory, TableId, Text, Touch, TxnId};
 use hv_book::Book;
 use hv_conflicts::{Clash, clash};
@@ -44,10 +44,12 @@ fn note_last<D: Shelf>(
     ensures added { IfOk result (λ _. IsAdded D.told D.faults entry house.old house.new) }
     ensures left { IfErr result (λ why. IsLeftOut D.told D.faults entry why house.old house.new) }
 {
+    let place = next_place(house);
     match note(house, entry) {
         Ok(()) => Ok(Reply {
             text,
             refused: false,
+            ended: Some(place),
         }),
         Err(fault) => Err(fault),
     }
@@ -293,14 +295,13 @@ pub fn conclude<D: Shelf>(
         → Tells (D.told house.old.shelf) (λ s. IsTrulyReady
         (entries_of house.old) s.tree asking way.txn.0 way.place said ready)
         → Shows D.told house.old (entries_of house.old)
-        → IfOk result (λ reply. Tells (D.told house.new.shelf) (λ _. HasAnswered
-        (entries_of house.new) way.txn.0 reply.text reply.refused)) }
+        → IfOk result (λ reply. Tells (D.told house.new.shelf) (λ _. HasReplied
+        (entries_of house.new) way.txn.0 reply.text reply.refused reply.ended)) }
+    ensures ended { IfOk result (NamesLast (entries_of house.new)) }
     ensures tree { Moves KeepsTree (D.told house.old.shelf) (D.told house.new.shelf) }
     ensures tells { StaysTold (D.told house.old.shelf) (D.told house.new.shelf) }
     ensures stopped { IfErr result (λ why.
         HasStopped D.told way.txn.0 why house.old house.new) }
-    ensures further { IfErr result (λ why.
-        StopsAtOne D.told way.txn.0 why house.old house.new) }
     ensures ends { IfErr result EndsRun }
     ensures cause { FileCause (D.faults house.old.shelf) (D.faults house.new.shelf) result }
 {

@@ -19,7 +19,7 @@ ghost use Rattle.hv_house.specs.Faults.{FileCause, EndsRun, HasRisen};
 ghost use Rattle.hv_house.specs.House.{entries_of, IsSmall, IsReady, Shows};
 ghost use Rattle.hv_ending.specs.declared.ready.End.TheVariants as last;
 ghost use Rattle.hv_ending.specs.declared.ready.Prepared.TheVariants as found;
-ghost use Rattle.hv_ending.specs.Ending.{giving, aborting, CanChange, CanEnd, Prepares, IsPreparedIn, IsTrulyPrepared, HasStopped, StopsAtOne};
+ghost use Rattle.hv_ending.specs.Ending.{giving, aborting, CanChange, CanEnd, Prepares, IsPreparedIn, IsTrulyPrepared, EndedNamesLast, HasStopped};
 ghost use Rattle.hv_ending.specs.Steps.{ended, Goes, IsMadeReady, IsWithdrawn, IsNextOf, Puts, BreaksOff, Writing, Preparation};
 
 use crate::ready::{End, Prepared, Ready, Reply, Way};
@@ -423,13 +423,12 @@ pub fn prepare<D: Shelf>(
         → Shows D.told house.old (entries_of house.old)
         → IfOk result (λ found. Tells (D.told house.new.shelf) (λ s. IsTrulyPrepared
         (entries_of house.new) s.tree asking way.txn.0 way.place said found)) }
+    ensures ended { IfOk result (EndedNamesLast (entries_of house.new)) }
     ensures keeps { Moves (KeepsGiven (state_of (entries_of house.old)).tables)
         (D.told house.old.shelf) (D.told house.new.shelf) }
     ensures tells { StaysTold (D.told house.old.shelf) (D.told house.new.shelf) }
     ensures stopped { IfErr result (λ why.
         HasStopped D.told way.txn.0 why house.old house.new) }
-    ensures further { IfErr result (λ why.
-        StopsAtOne D.told way.txn.0 why house.old house.new) }
     ensures ends { IfErr result EndsRun }
     ensures cause { FileCause (D.faults house.old.shelf) (D.faults house.new.shelf) result }
 {

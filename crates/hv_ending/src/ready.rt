@@ -1,10 +1,12 @@
 use hv_base::{List, Text, Touch, TxnId};
 
-/// What is printed for a statement, and whether it was refused.
+/// What is printed for a statement, whether it was refused, and the place in the book of the entry that ended its
+/// transaction; None for a statement that was never opened.
 #[derive(Debug, Drop)]
 pub struct Reply {
     pub text: List<u8>,
     pub refused: bool,
+    pub ended: Option<u64>,
 }
 
 /// A started statement: its transaction, and the place of its Start in the book.

@@ -1,4 +1,4 @@
-ghost use Rattle.std.specs.Prelude.{◌≡◌, ◌↔◌, ℕ, List, None, IsTrue, IfOk, IfErr};
+ghost use Rattle.std.specs.Prelude.{◌≡◌, ◌↔◌, ℕ, List, None, IsTrue, IfOk, IfErr, length};
 ghost use Rattle.hv_base.specs.Told.{Tells, Moves, StaysTold};
 ghost use Rattle.hv_ast.specs.declared.statement.Stmt.{Stmt};
 ghost use Rattle.hv_history.specs.declared.entry.Entry.{Entry};
@@ -9,11 +9,11 @@ ghost use Rattle.hv_history.specs.State.{state_of};
 ghost use Rattle.hv_history.specs.Legal.{Fits, IsTruthful, profile};
 ghost use Rattle.hv_history.specs.declared.entry.Cause.TheVariants.{Memory};
 ghost use Rattle.hv_journal.specs.Appending.{KeepsTree};
-ghost use Rattle.hv_stands.specs.Running.{Asking, IsOf, IsWaiting, IsUnderWay, HasAnswered};
+ghost use Rattle.hv_stands.specs.Running.{Asking, IsOf, IsWaiting, IsUnderWay};
 ghost use Rattle.hv_house.specs.Faults.{FileCause, EndsRun};
 ghost use Rattle.hv_house.specs.House.{entries_of, IsSmall, IsReady, StaysReady, Shows};
 ghost use Rattle.hv_house.specs.Steps.{IsMarked};
-ghost use Rattle.hv_ending.specs.Ending.{aborting, EndsUncommitted, IsAborted, HasStopped, StopsAtOne};
+ghost use Rattle.hv_ending.specs.Ending.{aborting, EndsUncommitted, IsAborted, NamesLast, HasStopped, HasReplied};
 ghost use Rattle.hv_ending.specs.Steps.{Goes, IsAdded, IsLeftOut, HasAborted, LacksMemory, IsWithdrawn};
 
 use crate::ready::Reply;
@@ -36,6 +36,13 @@ pub fn note<D: Shelf>(house: &mut House<D>, entry: Entry) -> Result<(), HouseFau
     house.note(entry, None)
 }
 
+/// The place of the entry that is noted next.
+pub fn next_place<D: Shelf>(house: &House<D>) -> u64
+    ensures { result ≡ length (entries_of house.now) }
+{
+    house.book().entries().len() as u64
+}
+
 /// Aborts an open transaction for this cause, with this text as its reply.
 pub fn abort_with<D: Shelf>(
     house: &mut House<D>,
@@ -54,10 +61,12 @@ pub fn abort_with<D: Shelf>(
     ensures left { IfErr result (λ why.
         IsLeftOut D.told D.faults (aborting txn.0 cause) why house.old house.new) }
 {
+    let place = next_place(house);
     match note(house, Entry::Abort { txn, cause }) {
         Ok(()) => Ok(Reply {
             text: List::from_vec(text),
             refused: true,
+            ended: Some(place),
         }),
         Err(fault) => Err(fault),
     }
@@ -173,10 +182,11 @@ pub fn refuse<D: Shelf>(
         IsAborted txn.0 cause (entries_of house.old) (entries_of house.new)) }
     ensures answered { (asking : Asking) (place : ℕ) (said : Stmt) (given : List (ℕ × ℕ))
         → IsUnderWay (entries_of house.old) asking txn.0 place said given
-        → IfOk result (λ reply. HasAnswered (entries_of house.new) txn.0 reply.text reply.refused) }
+        → IfOk result (λ reply. HasReplied (entries_of house.new) txn.0 reply.text reply.refused reply.ended) }
     ensures waiting { (asking : Asking) (said : Stmt)
         → IsWaiting (entries_of house.old) asking txn.0 said
-        → IfOk result (λ reply. HasAnswered (entries_of house.new) txn.0 reply.text reply.refused) }
+        → IfOk result (λ reply. HasReplied (entries_of house.new) txn.0 reply.text reply.refused reply.ended) }
+    ensures ended { IfOk result (NamesLast (entries_of house.new)) }
     ensures shows { Tells (D.told house.old.shelf)
         (λ _. IsTruthful (state_of (entries_of house.old)) (aborting txn.0 cause))
         → Shows D.told house.old (entries_of house.old)
@@ -184,7 +194,6 @@ pub fn refuse<D: Shelf>(
     ensures tree { Moves KeepsTree (D.told house.old.shelf) (D.told house.new.shelf) }
     ensures tells { StaysTold (D.told house.old.shelf) (D.told house.new.shelf) }
     ensures stopped { IfErr result (λ why. HasStopped D.told txn.0 why house.old house.new) }
-    ensures further { IfErr result (λ why. StopsAtOne D.told txn.0 why house.old house.new) }
     ensures ends { IfErr result EndsRun }
     ensures cause { FileCause (D.faults house.old.shelf) (D.faults house.new.shelf) result }
 {

@@ -1,12 +1,12 @@
 -- What is asked of the book before an entry is noted.
 use Rattle.std.proofs.Common.{refl, ◌≡◌, ℕ, ◌+◌, ◌≤◌, Bool, true, false, Option, Some, None, List, [], ◌∷◌, ◌++◌, length, map, sym, ap, ◌∙◌, subst, arith, append-nil}
-use Rattle.std.specs.Prelude.{◌||◌, if◌then◌else◌, not, is_some, IsSomeAnd, sum_by}
+use Rattle.std.specs.Prelude.{◌||◌, if◌then◌else◌, IsSomeAnd, sum_by}
 use Rattle.std.specs.List.{list_any}
 use Rattle.std.specs.Option.{option_map}
 use Rattle.std.proofs.lemmas.List.Sums.{sum_by-append, sum_by-cons}
-use Rattle.hv_base.specs.declared.ids.TxnId.{TxnId}
 use Rattle.hv_ast.specs.declared.statement.Stmt.{Stmt}
 use Rattle.hv_locks.specs.declared.table.Lock.{Lock}
+use Rattle.hv_locks.specs.declared.table.LockState.TheVariants.{Granted}
 use Rattle.hv_built.specs.Running.{Runs}
 use Rattle.hv_grammar.specs.Texts.{tree_of}
 use Rattle.hv_logic.specs.Names.{names_in}
@@ -25,6 +25,7 @@ use Rattle.hv_stands.proofs.Numbers.{numbered-map}
 use Rattle.hv_stands.proofs.Soundness.{all-numbered}
 use Rattle.hv_stands.proofs.Behind.{one-behind, opened-there}
 use Rattle.hv_house.specs.House.{BeginFits}
+use Rattle.hv_house.specs.Asking.{holder_against, lock_state}
 
 -- ---- locks
 
@@ -85,6 +86,23 @@ module _ (s : State) (session : List ℕ) (number : ℕ) (text : List ℕ) where
     room = omega (arith, load-opened, room);
   }
 
+-- behind an Opened the load is two more, and the same transaction is the lowest that holds a lock against a statement
+pub load-behind-opened : (book : List Entry) (asking : Asking) → load (state_of (book ++ opening book asking ∷ [])) ≡ load (state_of book) + 2
+load-behind-opened book asking =
+    ap load (one-behind book (opening book asking)) ∙ load-opened (state_of book) asking.session asking.number asking.text
+
+holder-more : (locks : List Lock) (number : ℕ) (ts : List Transaction) (session : List ℕ) (n : ℕ) (text : List ℕ)
+    → first_holder locks number (ts ++ opened session n text ∷ []) ≡ first_holder locks number ts
+holder-more locks number [] session n text = refl
+holder-more locks number (t ∷ ts) session n text =
+    ap (λ (rest : Option ℕ). if holds_against locks t then Some number else rest) (holder-more locks (number + 1) ts session n text)
+
+pub holder-behind-opened : (book : List Entry) (asking : Asking) (tree : Stmt) → holder_against (book ++ opening book asking ∷ []) tree ≡ holder_against book tree
+holder-behind-opened book asking tree =
+    ap (λ (s : State). first_holder (names_in tree) 1 s.transactions) (one-behind book (opening book asking))
+    ∙ ap (first_holder (names_in tree) 1) (behind-opened (state_of book) asking.session asking.number asking.text)
+    ∙ holder-more (names_in tree) 1 (state_of book).transactions asking.session asking.number asking.text
+
 -- where there is room for three, and no lock stands against it, a statement may be opened and started at once
 pub begin-fits : (book : List Entry) (tree : Stmt) → load (state_of book) + 3 ≤ 131072 → first_holder (names_in tree) 1 (state_of book).transactions ≡ None
     → (asking : Asking) → Runs asking.text tree → BeginFits book asking
@@ -98,13 +116,9 @@ begin-fits book tree room free asking runs =
 
 -- ---- what a call answers
 
-none-is : (o : Option TxnId) → is_some o ≡ not true → option_map (λ (txn : TxnId). txn.0) o ≡ None
-none-is None e = refl
-none-is (Some txn) e = cc
-
-pub free-of : (o : Option TxnId) (locks : List Lock) (ts : List Transaction) (b : Bool) → is_some o ≡ not b → b ≡ true
-    → option_map (λ (txn : TxnId). txn.0) o ≡ first_holder locks 1 ts → first_holder locks 1 ts ≡ None
-free-of o locks ts b e is same = sym same ∙ none-is o (e ∙ ap not is)
+pub free-of : (o : Option ℕ) → lock_state o ≡ Granted → o ≡ None
+free-of None granted = refl
+free-of (Some txn) granted = cc
 
 next-in : (o : Option Table) (note : TableNote) → Some note ≡ option_map brief_table o → Some (note.high + 1) ≡ option_map (λ (t : Table). length t.owners + 1) o
 next-in None note e = cc

@@ -1,3 +1,4 @@
+pub mod Asking
 pub mod Booting
 pub mod Faults
 pub mod House

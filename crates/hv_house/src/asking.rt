@@ -1,12 +1,13 @@
 ghost use Rattle.std.specs.Prelude.{◌≡◌, ◌↔◌, ◌+◌, ◌≤◌, true, IsTrue, length, option_map};
 ghost use Rattle.std.specs.Option.{option_copied};
-ghost use Rattle.hv_logic.specs.Names.{names_in};
+ghost use Rattle.hv_locks.specs.declared.table.LockState.TheVariants.{Granted};
 ghost use Rattle.hv_history.specs.State.{state_of, numbered};
-ghost use Rattle.hv_history.specs.Legal.{Fits, profile, first_holder};
+ghost use Rattle.hv_history.specs.Legal.{Fits, profile};
 ghost use Rattle.hv_built.specs.Running.{Runs};
 ghost use Rattle.hv_stands.specs.Running.{Asking, next_number};
 ghost use Rattle.hv_fits.specs.Texts.{IsHanded};
 ghost use Rattle.hv_house.specs.House.{entries_of, IsReady, BeginFits};
+ghost use Rattle.hv_house.specs.Asking.{holder_against, lock_state, CanBegin};
 
 use crate::house::{House, LIMITS};
 use hv_ast::Stmt;
@@ -14,6 +15,7 @@ use hv_base::{TableId, TxnId, WriteId};
 use hv_book::Book;
 use hv_fits::first_holder;
 use hv_history::{Entry, numbered};
+use hv_locks::LockState;
 use hv_meta::{has_room, next_txn};
 use hv_shelf::Shelf;
 
@@ -25,6 +27,15 @@ fn next_id(given: u64, entries: &[Entry]) -> WriteId
     // The entries are in memory, so that one more than their number is no more than a u64 holds.
     let _most = entries.len() as u64 + 1;
     WriteId(given + 1)
+}
+
+fn is_granted(state: LockState) -> bool
+    ensures granted { IsTrue result ↔ (state ≡ Granted) }
+{
+    match state {
+        LockState::Granted => true,
+        LockState::Waiting { .. } => false,
+    }
 }
 
 impl<D: Shelf> House<D> {
@@ -44,27 +55,30 @@ impl<D: Shelf> House<D> {
         hv_fits::fits(self.trail.book(), &LIMITS, entry, tree)
     }
 
-    /// Whether a statement of this tree could be opened and started at once: there is room for both, and no
-    /// lock stands against it.
+    /// Whether a statement of this tree could be opened and started at once: there is room for both and for its
+    /// end, and no lock is held against it.
     pub fn can_begin(&self, tree: &Stmt) -> bool
         requires ready { IsReady D.told self.now }
-        ensures can { result ≡ true
+        ensures can { IsTrue result ↔ CanBegin (entries_of self.now) tree.now }
+        ensures fits { result ≡ true
             → (asking : Asking) → Runs asking.text tree.now → BeginFits (entries_of self.now) asking }
     {
         let room = has_room(self.trail.book(), &LIMITS, 3);
-        let free = self.blocker(tree).is_none();
+        let free = is_granted(self.check(tree));
         room && free
     }
 
-    /// The lowest open started transaction whose locks stand against a statement of this tree.
-    pub fn blocker(&self, tree: &Stmt) -> Option<TxnId>
+    /// Whether a statement of this tree has the locks that its Start asks for, or has to wait: for the lowest
+    /// open started transaction that holds one against it. The book says who holds which locks.
+    pub fn check(&self, tree: &Stmt) -> LockState
         requires ready { IsReady D.told self.now }
-        ensures blocker { option_map (λ txn. txn.0) result
-            ≡ first_holder (names_in tree.now) 1 (state_of (entries_of self.now)).transactions }
+        ensures state { result ≡ lock_state (holder_against (entries_of self.now) tree.now) }
     {
         match first_holder(self.trail.book(), tree) {
-            Some(txn) => Some(TxnId(txn)),
-            None => None,
+            Some(txn) => LockState::Waiting {
+                blocker: TxnId(txn),
+            },
+            None => LockState::Granted,
         }
     }
 

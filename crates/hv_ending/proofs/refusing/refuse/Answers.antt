@@ -1,6 +1,5 @@
 use Rattle.hv_house.specs.House.{entries_of}
-use Rattle.hv_ending.proofs.Runs.{only-stopped}
-use Rattle.hv_ending.proofs.Refused.{refused-answered, refused-waiting, refused-shows}
+use Rattle.hv_ending.proofs.Refused.{refused-answered, refused-waiting, refused-last, refused-shows}
 use Rattle.hv_ending.proofs.refusing.refuse.Goals as goal
 
 pub returns-clause-answered : goal.returns-clause-answered
@@ -16,6 +15,6 @@ returns-clause-shows g c =
     refused-shows g.D.Shelf.told c.args.house.now c.withdraw.new.house c.args.txn.0 c.args.cause c.withdraw.result c.requires.ready
     c.withdraw.ensures.goes.moves c.withdraw.ensures.withdrawn
 
-pub returns-clause-stopped : goal.returns-clause-stopped
-returns-clause-stopped g c =
-    only-stopped g.D.Shelf.told c.args.txn.0 c.args.house.now c.withdraw.new.house c.withdraw.result c.withdraw.ensures.goes.stopped
+pub returns-clause-ended : goal.returns-clause-ended
+returns-clause-ended g c =
+    refused-last (entries_of c.args.house.now) (entries_of c.withdraw.new.house) c.args.txn.0 c.args.cause c.withdraw.result c.withdraw.ensures.withdrawn

@@ -4,7 +4,7 @@ use Rattle.hv_history.specs.Legal.{profile}
 use Rattle.hv_fits.specs.Texts.{TextsRun}
 use Rattle.hv_fits.proofs.LockLemmas.{texts-run}
 use Rattle.hv_house.specs.House.{entries_of}
-use Rattle.hv_house.proofs.house.House.blocker.Goals as goal
+use Rattle.hv_house.proofs.house.House.check.Goals as goal
 
 pub first_holder-requires : goal.first_holder-requires
 first_holder-requires g c = record {
