@@ -1,0 +1,3 @@
+pub mod Meetings
+pub mod Nexts
+pub mod Going
