@@ -5,18 +5,20 @@ use Rattle.std.proofs.lemmas.List.Sums.{fold-append}
 use Rattle.hv_base.specs.declared.ids.Limits.{Limits}
 use Rattle.hv_base.specs.declared.gate.Stage.{Stage}
 use Rattle.hv_history.specs.declared.entry.Entry.{Entry}
+use Rattle.hv_history.specs.declared.entry.Entry.TheVariants as entry
+use Rattle.hv_history.specs.declared.entry.Cause.TheVariants as cause
 use Rattle.hv_history.specs.declared.state.Ending.{Ending}
 use Rattle.hv_history.specs.declared.state.Transaction.{Transaction}
 use Rattle.hv_history.specs.State.{State, numbered, nothing_yet, after, state_of}
 use Rattle.hv_history.specs.Legal.{AllFit, AllTruthful, IsLegalFrom, IsLegal, is_started, profile}
 use Rattle.hv_stands.specs.Sound.{IsSound}
-use Rattle.hv_stands.specs.Running.{AreOf}
+use Rattle.hv_stands.specs.Running.{IsOf, AreOf}
 use Rattle.hv_stands.proofs.Behind.{one-behind, numbered-behind}
 use Rattle.hv_stands.proofs.Keeping.{sound-after}
 use Rattle.hv_stands.proofs.Fitting.{fitting-sound}
 use Rattle.hv_next.specs.Next.{comes_before, if_before, due_of, due, with_one, steps, carried_on, by_ending, next_of}
 use Rattle.hv_next.specs.Order.{AllInOrder}
-use Rattle.hv_next.specs.Carrying.{started_of, AreBefore, GoesOnBy, CarriesOn}
+use Rattle.hv_next.specs.Carrying.{started_of, AreBefore, IsRunningStore, GoesOnBy, CarriesOn}
 use Rattle.hv_next.proofs.Nexts.{rank, rank-within, HasFewer, IsGood, IsNext, next-is}
 
 -- ---- entries that are good one behind another
@@ -54,6 +56,19 @@ unfolding next_of
 ended-due hold s txn t e at ends =
     ap (due_of hold s txn) at ∙ ap (λ o. if_before hold (is_started t) (by_ending s txn t o)) ends
 
+-- ---- the store runs on
+
+pub runs-on : (s : State) (event : Entry) (txn : ℕ) → IsOf txn event → IsRunningStore s → IsRunningStore (after s event)
+runs-on s (entry.Boot run) txn whose running = let never : None ≡ Some txn = whose in cc
+runs-on s (entry.Failed job why) txn whose running = let never : None ≡ Some txn = whose in cc
+runs-on s (entry.Abort id cause.Lost) txn whose running = running
+runs-on s (entry.Abort id why) txn whose running = refl
+runs-on s event txn whose running = refl
+
+pub runs-on-all : (s : State) (events : List Entry) (txn : ℕ) → AreOf txn events → IsRunningStore s → IsRunningStore (fold after s events)
+runs-on-all s [] txn whose running = running
+runs-on-all s (event ∷ events) txn whose running = runs-on-all (after s event) events txn whose.1 (runs-on s event txn whose.0 running)
+
 -- ---- it goes on
 
 is-due : (hold : Option Stage) (txn : ℕ) (book : List Entry) (t : Transaction) (event : Entry) → numbered (state_of book).transactions txn ≡ Some t
@@ -65,30 +80,31 @@ is-due hold txn book t event at next before =
     ∙ ap (λ b. if b then Some event else None) (sym (ap (λ o. comes_before hold (started_of o) event) at) ∙ before)
 
 goes-on : (n : ℕ) (hold : Option Stage) (txn : ℕ) (book added : List Entry) (t : Transaction) → numbered (state_of book).transactions txn ≡ Some t
-    → IsSound (state_of book) → AreGood txn book added → AreBefore hold txn book added → rank t ≤ n → due hold (state_of (book ++ added)) txn ≡ None
+    → IsSound (state_of book) → IsRunningStore (state_of book) → AreGood txn book added → AreBefore hold txn book added → rank t ≤ n → due hold (state_of (book ++ added)) txn ≡ None
     → steps n hold txn book ≡ book ++ added
-goes-on n hold txn book [] t at sound good before most none =
+goes-on n hold txn book [] t at sound running good before most none =
     idle n hold txn book (ap (λ xs. due hold (state_of xs) txn) (sym (append-nil book)) ∙ none) ∙ sym (append-nil book)
-goes-on zero hold txn book (event ∷ more) t at sound good before most none =
-    let next = next-is book txn t event at sound good.0 in
+goes-on zero hold txn book (event ∷ more) t at sound running good before most none =
+    let next = next-is book txn t event at sound running good.0 in
     let fewer = next.later.fewer in
     absurd (omega (arith, fewer, most))
-goes-on (suc n) hold txn book (event ∷ more) t at sound good before most none =
-    let next = next-is book txn t event at sound good.0 in
+goes-on (suc n) hold txn book (event ∷ more) t at sound running good before most none =
+    let next = next-is book txn t event at sound running good.0 in
     let fewer = next.later.fewer in
     ap (λ o. steps n hold txn (with_one book o)) (is-due hold txn book t event at next.next before.0)
     ∙ goes-on n hold txn (book ++ event ∷ []) more next.later.t
     (numbered-behind book event txn (Some next.later.t) next.later.there)
     (subst IsSound (sym (one-behind book event)) (sound-after profile (state_of book) event good.0.fits sound))
+    (subst IsRunningStore (sym (one-behind book event)) (runs-on (state_of book) event txn good.0.of_it running))
     good.1 before.1 (omega (arith, fewer, most))
     (ap (λ xs. due hold (state_of xs) txn) (append_assoc book (event ∷ []) more) ∙ none)
     ∙ append_assoc book (event ∷ []) more
 
 pub carries-on : (hold : Option Stage) (txn : ℕ) (book added : List Entry) (t : Transaction) → numbered (state_of book).transactions txn ≡ Some t
-    → IsSound (state_of book) → AreGood txn book added → AreBefore hold txn book added → due hold (state_of (book ++ added)) txn ≡ None
+    → IsSound (state_of book) → IsRunningStore (state_of book) → AreGood txn book added → AreBefore hold txn book added → due hold (state_of (book ++ added)) txn ≡ None
     → carried_on hold txn book ≡ book ++ added
 unfolding carried_on
-carries-on hold txn book added t at sound good before none = goes-on 3 hold txn book added t at sound good before (rank-within t) none
+carries-on hold txn book added t at sound running good before none = goes-on 3 hold txn book added t at sound running good before (rank-within t) none
 
 -- ---- a legal book in two parts
 
@@ -123,5 +139,5 @@ legal-parts book more legal =
 pub carries-on-by : CarriesOn
 carries-on-by hold txn book added goes =
     let legal = legal-parts book added goes.legal in
-    carries-on hold txn book added goes.there.0 goes.there.1 (fitting-sound book legal.front.fit)
+    carries-on hold txn book added goes.there.0 goes.there.1 (fitting-sound book legal.front.fit) goes.running
     (are-good txn book added goes.of_it legal.behind.fit legal.behind.truthful goes.in_order) goes.before goes.no_more

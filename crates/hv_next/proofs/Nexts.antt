@@ -41,6 +41,7 @@ use Rattle.hv_stands.proofs.Soundness.{all-mapped, all-numbered}
 use Rattle.hv_stands.proofs.Keeping.{still-open, open-here}
 use Rattle.hv_next.specs.Next.{start, abort, commit, lacks_room, starting, first_met, needs_id, next_write, giving, ending_change, changing, by_meaning, by_start, by_ending, next_of}
 use Rattle.hv_next.specs.Order.{IsOfTable, AsksForId, HasItsId, IsUnheld, CauseInOrder, IsInOrder}
+use Rattle.hv_next.specs.Carrying.{IsRunningStore}
 use Rattle.hv_next.proofs.Meetings.{none-met, first-is-met, the_one}
 
 -- ---- tests
@@ -331,30 +332,30 @@ module _ (book : List Entry) (txn : ℕ) (t : Transaction) (at : numbered (state
       by (Some RowLimit) is asks = absurd (other-needs t.given (Some RowLimit) (subst (NeedsId t.given) is needs) tt)
       by (Some PartitionLimit) is asks = absurd (other-needs t.given (Some PartitionLimit) (subst (NeedsId t.given) is needs) tt)
 
-  abort-next : (why : Cause) → IsSound s → CauseFits profile s txn why t → CauseIsTrue s why t → CauseInOrder s why t → next_of s txn t ≡ Some (abort txn why)
-  abort-next (cause.Refused number) sound fits truth order = refused-next number fits truth
-  abort-next (cause.Conflict other table partition) sound fits truth order = conflict-next other table partition fits.running truth order
-  abort-next (cause.Request other) sound fits truth order =
+  abort-next : (why : Cause) → IsSound s → IsRunningStore s → CauseFits profile s txn why t → CauseIsTrue s why t → CauseInOrder s why t → next_of s txn t ≡ Some (abort txn why)
+  abort-next (cause.Refused number) sound running fits truth order = refused-next number fits truth
+  abort-next (cause.Conflict other table partition) sound running fits truth order = conflict-next other table partition fits.running truth order
+  abort-next (cause.Request other) sound running fits truth order =
       let f = found (λ asker. IsRunning asker × IsTrue (asks_to_abort txn (opening_tree asker))) (numbered s.transactions other.0) fits.asks in
       absurd (single-asks-nothing (map info_in s.tables) f.0 txn
       (all-numbered (IsSingle (map info_in s.tables)) s.transactions other.0 f.0 f.1 sound.single) f.2.1)
-  abort-next cause.Full sound fits truth order = by (is_started t) refl truth
+  abort-next cause.Full sound running fits truth order = by (is_started t) refl truth
     where
       by : (b : Bool) → is_started t ≡ b → IsFalse (is_started t) ⊎ NeedsId t.given (meaning t) → next_of s txn t ≡ Some (abort txn cause.Full)
       by false is either = full-unstarted fits order is
       by true is (inl unstarted) = absurd (never (is_started t) unstarted is)
       by true is (inr needs) = full-asked fits needs is
-  abort-next (cause.Twice partition row) sound fits truth order = absurd truth
-  abort-next (cause.Blocked holder) sound fits truth order =
+  abort-next (cause.Twice partition row) sound running fits truth order = absurd truth
+  abort-next (cause.Blocked holder) sound running fits truth order =
       opens (still-open t fits.waiting.unended) false fits.waiting.unstarted
       ∙ ap (λ o. Some (starting s txn o)) fits.held
-  abort-next (cause.ReadFault count) sound fits truth order = absurd order
-  abort-next (cause.WriteFault count) sound fits truth order = absurd order
-  abort-next (cause.Damaged place) sound fits truth order = absurd order
-  abort-next cause.RowLimit sound fits truth order = means (abort txn cause.RowLimit) fits (Some RowLimit) truth refl
-  abort-next cause.PartitionLimit sound fits truth order = means (abort txn cause.PartitionLimit) fits (Some PartitionLimit) truth refl
-  abort-next cause.Memory sound fits truth order = absurd order
-  abort-next cause.Lost sound fits truth order = absurd order
+  abort-next (cause.ReadFault count) sound running fits truth order = absurd order
+  abort-next (cause.WriteFault count) sound running fits truth order = absurd order
+  abort-next (cause.Damaged place) sound running fits truth order = absurd order
+  abort-next cause.RowLimit sound running fits truth order = means (abort txn cause.RowLimit) fits (Some RowLimit) truth refl
+  abort-next cause.PartitionLimit sound running fits truth order = means (abort txn cause.PartitionLimit) fits (Some PartitionLimit) truth refl
+  abort-next cause.Memory sound running fits truth order = absurd order
+  abort-next cause.Lost sound running fits truth order = absurd (never s.openings.only_lost running fits.behind)
 
   -- ---- how many are left
 
@@ -433,42 +434,42 @@ pub record IsGood (txn : ℕ) (s : State) (event : Entry) : Type 0 where
   pub in_order : IsInOrder s event
 
 pub next-is : (book : List Entry) (txn : ℕ) (t : Transaction) (event : Entry) → numbered (state_of book).transactions txn ≡ Some t → IsSound (state_of book)
-    → IsGood txn (state_of book) event → IsNext book txn t event
-next-is book txn t (entry.Start id statement) at sound good =
+    → IsRunningStore (state_of book) → IsGood txn (state_of book) event → IsNext book txn t event
+next-is book txn t (entry.Start id statement) at sound running good =
     let same : id.0 ≡ txn = one_value id.0 txn good.of_it in
     let fits = here book txn t at (StartFits profile (state_of book) statement) id same good.fits in
     subst (λ n. IsNext book txn t (entry.Start (record { 0 = n }) statement)) (sym same)
     (record { next = start-next book txn t at statement fits; later = start-fewer book txn t at statement fits })
-next-is book txn t (entry.Given id table write) at sound good =
+next-is book txn t (entry.Given id table write) at sound running good =
     let same : id.0 ≡ txn = one_value id.0 txn good.of_it in
     let fits = here book txn t at (GivenFits profile (state_of book) table.0 write.0) id same good.fits in
     let asks = here book txn t at (AsksForId table) id same good.in_order in
     subst (λ n. IsNext book txn t (entry.Given (record { 0 = n }) table write)) (sym same)
     (record { next = given-next book txn t at table write fits asks; later = given-fewer book txn t at table write fits asks })
-next-is book txn t (entry.Commit id wrote) at sound good =
+next-is book txn t (entry.Commit id wrote) at sound running good =
     let same : id.0 ≡ txn = one_value id.0 txn good.of_it in
     let fits = here book txn t at (CommitFits (state_of book) wrote) id same good.fits in
     let truth = here book txn t at (λ x. TouchesAreMeant wrote (meaning x)) id same good.truth in
     subst (λ n. IsNext book txn t (entry.Commit (record { 0 = n }) wrote)) (sym same)
     (record { next = commit-next book txn t at wrote fits truth; later = commit-fewer book txn t at wrote fits })
-next-is book txn t (entry.Create id table) at sound good =
+next-is book txn t (entry.Create id table) at sound running good =
     let same : id.0 ≡ txn = one_value id.0 txn good.of_it in
     let fits = here book txn t at (CreateFits (state_of book) table.0) id same good.fits in
     let truth = here book txn t at (λ x. IsMake (meaning x)) id same good.truth in
     subst (λ n. IsNext book txn t (entry.Create (record { 0 = n }) table)) (sym same)
     (record { next = create-next book txn t at table fits truth; later = create-fewer book txn t at table fits })
-next-is book txn t (entry.Abort id why) at sound good =
+next-is book txn t (entry.Abort id why) at sound running good =
     let same : id.0 ≡ txn = one_value id.0 txn good.of_it in
     let fits0 = here book txn t at (CauseFits profile (state_of book) id.0 why) id same good.fits in
     let fits : CauseFits profile (state_of book) txn why t = subst (λ n. CauseFits profile (state_of book) n why t) same fits0 in
     let truth = here book txn t at (CauseIsTrue (state_of book) why) id same good.truth in
     let order = here book txn t at (CauseInOrder (state_of book) why) id same good.in_order in
     subst (λ n. IsNext book txn t (entry.Abort (record { 0 = n }) why)) (sym same)
-    (record { next = abort-next book txn t at why sound fits truth order; later = abort-fewer book txn t at why fits })
-next-is book txn t (entry.Opened id session number text) at sound good =
+    (record { next = abort-next book txn t at why sound running fits truth order; later = abort-fewer book txn t at why fits })
+next-is book txn t (entry.Opened id session number text) at sound running good =
     let same : id.0 ≡ txn = one_value id.0 txn good.of_it in
     let next = good.fits.next in
     let within = (numbered-within (state_of book).transactions txn t at).1 in
     absurd (omega (arith, same, next, within))
-next-is book txn t (entry.Boot run) at sound good = let never_ : None ≡ Some txn = good.of_it in cc
-next-is book txn t event at sound good = absurd good.fits
+next-is book txn t (entry.Boot run) at sound running good = let never_ : None ≡ Some txn = good.of_it in cc
+next-is book txn t event at sound running good = absurd good.fits

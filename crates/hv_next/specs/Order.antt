@@ -14,13 +14,12 @@ use Rattle.hv_next.specs.Next.{needs_id}
 
 -- ---- no fault
 
--- an abort for want of memory, for a fault of the store, or for a run that stopped
+-- no abort for want of memory or for a fault of the store
 abbrev pub IsFaultless : Cause → Type 0
 IsFaultless cause.Memory = ⊥
 IsFaultless (cause.ReadFault count) = ⊥
 IsFaultless (cause.WriteFault count) = ⊥
 IsFaultless (cause.Damaged place) = ⊥
-IsFaultless cause.Lost = ⊥
 IsFaultless why = Unit {0}
 
 -- ---- in the order of a statement's way

@@ -3,4 +3,4 @@
 
 mod laws;
 
-pub use laws::carries_on;
+pub use laws::{carries_on, stays_at_hold};

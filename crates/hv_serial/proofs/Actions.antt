@@ -19,6 +19,8 @@ use Rattle.hv_stands.proofs.Numbers.{found, one_value, same_one, none_is, number
 use Rattle.hv_stands.proofs.Soundness.{all-mapped, all-more}
 use Rattle.hv_stands.proofs.Behind.{one-behind, opened-there, numbered-behind}
 use Rattle.hv_stands.proofs.Others.{others-leave}
+use Rattle.hv_next.specs.Carrying.{IsRunningStore}
+use Rattle.hv_next.proofs.Going.{runs-on}
 use Rattle.hv_session.specs.Taking.{HoldsAt}
 use Rattle.hv_program.specs.Doing.{Waiting, Standing, waiting_in, without, is_session, asking_of, WentOn, RepliesAtOnce, IsHeldNow, Replies, IsPutOff, GoesOnHeld, ReleasesOne, IsDone, AreDone}
 
@@ -36,7 +38,8 @@ AreApart [] = Unit {0}
 AreApart (one ∷ more) = AreOthers one.txn more × AreApart more
 
 abbrev pub IsThere : List Entry → Waiting → Type 0
-IsThere book waiting = (t : Transaction) × (numbered (state_of book).transactions waiting.txn ≡ Some t)
+IsThere book waiting =
+    (t : Transaction) × (numbered (state_of book).transactions waiting.txn ≡ Some t) × IsRunningStore (state_of book)
 
 pub record IsSettled (standing : Standing) : Type 0 where
   pub there : AllByRecursion (IsThere standing.book) standing.waiting
@@ -83,13 +86,40 @@ apart-more [] w h others = (tt, tt)
 apart-more (x ∷ ws) w h others =
     (all-more (IsOther x.txn) ws w h.0 (λ same. others.0 (sym same)), apart-more ws w h.1 others.1)
 
--- ---- the book grows
+-- ---- the book grows, by entries of transactions
+
+abbrev pub IsOwned : Entry → Type 0
+IsOwned event = (txn : ℕ) × IsOf txn event
+
+abbrev pub AreOwned : List Entry → Type 0
+AreOwned events = AllByRecursion IsOwned events
 
 abbrev pub Grown : List Entry → List Entry → Type 0
-Grown before now = (added : List Entry) × (now ≡ before ++ added)
+Grown before now = (added : List Entry) × (now ≡ before ++ added) × AreOwned added
 
 same-grown : (before now : List Entry) → now ≡ before → Grown before now
-same-grown before now same = ([], same ∙ sym (append-nil before))
+same-grown before now same = ([], same ∙ sym (append-nil before), tt)
+
+owned-of : (txn : ℕ) (events : List Entry) → AreOf txn events → AreOwned events
+owned-of txn events h = all-mapped (IsOf txn) IsOwned (λ event whose. (txn, whose)) events h
+
+owned-more : (events more : List Entry) → AreOwned events → AreOwned more → AreOwned (events ++ more)
+owned-more [] more h later = later
+owned-more (event ∷ events) more h later = (h.0, owned-more events more h.1 later)
+
+runs-on-by : (s : State) (events : List Entry) → AreOwned events → IsRunningStore s → IsRunningStore (fold after s events)
+runs-on-by s [] h running = running
+runs-on-by s (event ∷ events) h running = runs-on-by (after s event) events h.1 (runs-on s event h.0.0 h.0.1 running)
+
+-- what is held has added entries of its own alone
+pub held-of : (hold : Option Stage) (txn : ℕ) (added : List Entry) → HoldsAt hold txn added → AreOf txn added
+held-of None txn added h = absurd h
+held-of (Some stage.Start) txn added h = subst (AreOf txn) (sym h) (refl, tt)
+held-of (Some stage.Read) txn added h = subst (AreOf txn) (sym h) (refl, tt)
+held-of (Some stage.Commit) txn added (inl h) = subst (AreOf txn) (sym h) (refl, tt)
+held-of (Some stage.Commit) txn added (inr h) = subst (AreOf txn) (sym h.2) (refl, (refl, tt))
+held-of (Some stage.Taken) txn added h = absurd h
+held-of (Some stage.Replied) txn added h = absurd h
 
 pub grows-one : (start book : List Entry) (before now : Standing) (action : Action) (output : List ℕ) (refused : Bool)
     → IsDone start book before now action output refused → Grown before.book now.book
@@ -97,16 +127,24 @@ grows-one start book before now (action.Announce session) output refused done = 
 grows-one start book before now (action.Run statement) output refused (inl replies) = by replies.goes
   where
     by : RepliesAtOnce start book before.book now.book (asking_of statement) statement.hold output refused → Grown before.book now.book
-    by (inl went) = (opening before.book (asking_of statement) ∷ went.added, went.goes)
+    by (inl went) =
+        (opening before.book (asking_of statement) ∷ went.added, went.goes, ((next_number before.book, refl), owned-of (next_number before.book) went.added went.of_it))
     by (inr (inl text)) = same-grown before.book now.book text.0
     by (inr (inr (inl full))) = same-grown before.book now.book full.0
     by (inr (inr (inr memory))) = same-grown before.book now.book memory.0
-grows-one start book before now (action.Run statement) output refused (inr off) = (opening before.book (asking_of statement) ∷ off.goes.added, off.goes.goes)
+grows-one start book before now (action.Run statement) output refused (inr off) = (
+  opening before.book (asking_of statement) ∷ off.goes.added,
+  off.goes.goes,
+  (
+    (next_number before.book, refl),
+    owned-of (next_number before.book) off.goes.added (held-of statement.hold (next_number before.book) off.goes.added off.goes.at_hold),
+  ),
+)
 grows-one start book before now (action.Release session) output refused done = by (waiting_in session.name before.waiting) done
   where
     by : (o : Option Waiting) → ReleasesOne start book before now session.name o output refused → Grown before.book now.book
     by None done = same-grown before.book now.book (ap (λ (s : Standing). s.book) done.0)
-    by (Some w) done = (done.0.added, done.0.goes)
+    by (Some w) done = (done.0.added, done.0.goes, owned-of w.txn done.0.added done.0.of_it)
 
 pub grows-all : (start book : List Entry) (before now : Standing) (actions : List Action) (output : List ℕ) (refused : Bool)
     → AreDone start book before now actions output refused → Grown before.book now.book
@@ -114,21 +152,29 @@ grows-all start book before now [] output refused done = same-grown before.book 
 grows-all start book before now (first ∷ more) output refused done =
     let one = grows-one start book before done.0 first done.1 done.3 done.5 in
     let rest = grows-all start book done.0 now more done.2 done.4 done.6 in
-    (one.0 ++ rest.0, rest.1 ∙ ap (λ xs. xs ++ rest.0) one.1 ∙ append_assoc before.book one.0 rest.0)
+    (one.0 ++ rest.0, rest.1 ∙ ap (λ xs. xs ++ rest.0) one.1 ∙ append_assoc before.book one.0 rest.0, owned-more one.0 rest.0 one.2 rest.2)
 
 -- what is there stays there
-pub there-later : (before now : List Entry) (txn : ℕ) (t : Transaction) → Grown before now → numbered (state_of before).transactions txn ≡ Some t
+pub there-later : (before now added : List Entry) (txn : ℕ) (t : Transaction) → now ≡ before ++ added → numbered (state_of before).transactions txn ≡ Some t
     → (later : Transaction) × (numbered (state_of now).transactions txn ≡ Some later)
-there-later before now txn t grown at =
-    let here = found (Later t) (numbered (fold after (state_of before) grown.0).transactions txn) ((goes-on-all grown.0 (state_of before)).transactions txn t at) in
+there-later before now added txn t goes at =
+    let here = found (Later t) (numbered (fold after (state_of before) added).transactions txn) ((goes-on-all added (state_of before)).transactions txn t at) in
     (
       here.0,
-      ap (λ xs. numbered (state_of xs).transactions txn) grown.1
-      ∙ ap (λ (s : State). numbered s.transactions txn) (fold-append after nothing_yet before grown.0) ∙ here.1,
+      ap (λ xs. numbered (state_of xs).transactions txn) goes
+      ∙ ap (λ (s : State). numbered s.transactions txn) (fold-append after nothing_yet before added) ∙ here.1,
     )
 
+running-later : (before now : List Entry) → Grown before now → IsRunningStore (state_of before) → IsRunningStore (state_of now)
+running-later before now grown running =
+    subst IsRunningStore (sym (ap (λ xs. state_of xs) grown.1 ∙ fold-append after nothing_yet before grown.0)) (runs-on-by (state_of before) grown.0 grown.2 running)
+
+is-there-later : (before now : List Entry) (w : Waiting) → Grown before now → IsThere before w → IsThere now w
+is-there-later before now w grown is =
+    let later = there-later before now grown.0 w.txn is.0 grown.1 is.1 in (later.0, later.1, running-later before now grown is.2)
+
 there-all : (before now : List Entry) (ws : List Waiting) → Grown before now → AllByRecursion (IsThere before) ws → AllByRecursion (IsThere now) ws
-there-all before now ws grown h = all-mapped (IsThere before) (IsThere now) (λ w is. there-later before now w.txn is.0 grown is.1) ws h
+there-all before now ws grown h = all-mapped (IsThere before) (IsThere now) (λ w is. is-there-later before now w grown is) ws h
 
 -- ---- entries of another leave it as it is
 
@@ -143,16 +189,6 @@ left-alone before now added n txn t goes whose apart at =
     ap (λ xs. numbered (state_of xs).transactions txn) goes
     ∙ ap (λ (s : State). numbered s.transactions txn) (fold-append after nothing_yet before added)
     ∙ others-leave added (state_of before) txn t (not-of-other n txn apart added whose) at
-
--- what is held has added entries of its own alone
-pub held-of : (hold : Option Stage) (txn : ℕ) (added : List Entry) → HoldsAt hold txn added → AreOf txn added
-held-of None txn added h = absurd h
-held-of (Some stage.Start) txn added h = subst (AreOf txn) (sym h) (refl, tt)
-held-of (Some stage.Read) txn added h = subst (AreOf txn) (sym h) (refl, tt)
-held-of (Some stage.Commit) txn added (inl h) = subst (AreOf txn) (sym h) (refl, tt)
-held-of (Some stage.Commit) txn added (inr h) = subst (AreOf txn) (sym h.2) (refl, (refl, tt))
-held-of (Some stage.Taken) txn added h = absurd h
-held-of (Some stage.Replied) txn added h = absurd h
 
 -- the next number is of none that is there
 pub next-other : (book : List Entry) (txn : ℕ) (t : Transaction) → numbered (state_of book).transactions txn ≡ Some t → next_number book ≡ txn → ⊥
@@ -224,8 +260,16 @@ opened-in before asking =
 pub opened-later : (before now added : List Entry) (asking : Asking) → now ≡ before ++ opening before asking ∷ added
     → (t : Transaction) × (numbered (state_of now).transactions (next_number before) ≡ Some t)
 opened-later before now added asking goes =
-    there-later (before ++ opening before asking ∷ []) now (next_number before) (opened asking.session asking.number asking.text)
-    (added, goes ∙ sym (append_assoc before (opening before asking ∷ []) added)) (opened-in before asking)
+    there-later (before ++ opening before asking ∷ []) now added (next_number before) (opened asking.session asking.number asking.text)
+    (goes ∙ sym (append_assoc before (opening before asking ∷ []) added)) (opened-in before asking)
+
+-- and the store runs on there
+pub running-opened : (before : List Entry) (asking : Asking) → IsRunningStore (state_of (before ++ opening before asking ∷ []))
+running-opened before asking = subst IsRunningStore (sym (one-behind before (opening before asking))) refl
+
+running-behind : (before now added : List Entry) (asking : Asking) → now ≡ before ++ opening before asking ∷ added → AreOwned added → IsRunningStore (state_of now)
+running-behind before now added asking goes owned =
+    running-later (before ++ opening before asking ∷ []) now (added, goes ∙ sym (append_assoc before (opening before asking ∷ []) added), owned) (running-opened before asking)
 
 pub next-others : (book : List Entry) (ws : List Waiting) → AllByRecursion (IsThere book) ws → AreOthers (next_number book) ws
 next-others book ws h = all-mapped (IsThere book) (IsOther (next_number book)) (λ w is same. next-other book w.txn is.0 is.1 (sym same)) ws h
@@ -247,10 +291,12 @@ settled-one start book before now (action.Run statement) output refused (inl rep
 settled-one start book before now (action.Run statement) output refused (inr off) settled =
     let w : Waiting = record { session = (asking_of statement).session; txn = next_number before.book } in
     let grown = grows-one start book before now (action.Run statement) output refused (inr off) in
+    let there = opened-later before.book now.book off.goes.added (asking_of statement) off.goes.goes in
     record {
       there = subst (AllByRecursion (IsThere now.book)) (sym off.waits)
           (all-more (IsThere now.book) before.waiting w (there-all before.book now.book before.waiting grown settled.there)
-          (opened-later before.book now.book off.goes.added (asking_of statement) off.goes.goes));
+          (there.0, there.1, running-behind before.book now.book off.goes.added (asking_of statement) off.goes.goes
+          (owned-of (next_number before.book) off.goes.added (held-of statement.hold (next_number before.book) off.goes.added off.goes.at_hold))));
       apart = subst AreApart (sym off.waits) (apart-more before.waiting w settled.apart (next-others before.book before.waiting settled.there));
     }
 settled-one start book before now (action.Release session) output refused done settled = by (waiting_in session.name before.waiting) refl done
@@ -260,6 +306,6 @@ settled-one start book before now (action.Release session) output refused done s
     by (Some w) is done = record {
       there = subst (AllByRecursion (IsThere now.book)) (sym done.1)
           (all-without (IsThere now.book) session.name before.waiting
-          (there-all before.book now.book before.waiting (done.0.added, done.0.goes) settled.there));
+          (there-all before.book now.book before.waiting (done.0.added, done.0.goes, owned-of w.txn done.0.added done.0.of_it) settled.there));
       apart = subst AreApart (sym done.1) (apart-without session.name before.waiting settled.apart);
     }

@@ -1,6 +1,6 @@
 -- A statement of a run in which no device failed and memory was found is taken up, held and released as by one thread.
 use Rattle.std.proofs.Common.{◌≡◌, ℕ, ◌+◌, ◌<◌, ◌⊎◌, inl, inr, Option, Some, None, List, [], ◌∷◌, ◌++◌, refl, sym, ap, ◌∙◌, subst, append_assoc}
-use Rattle.std.specs.Prelude.{Bool, true, false, not, ◌||◌, is_none}
+use Rattle.std.specs.Prelude.{Bool, true, false, not, ◌||◌, is_none, is_some}
 use Rattle.std.proofs.lemmas.Bool.{le-ltb, lt-ltb}
 use Rattle.hv_base.specs.declared.gate.Stage.{Stage}
 use Rattle.hv_base.specs.declared.gate.Stage.TheVariants as stage
@@ -17,23 +17,25 @@ use Rattle.hv_history.specs.declared.entry.Entry.TheVariants as entry
 use Rattle.hv_history.specs.declared.entry.Cause.{Cause}
 use Rattle.hv_history.specs.declared.entry.Cause.TheVariants as cause
 use Rattle.hv_history.specs.declared.state.Ending.{Ending}
+use Rattle.hv_history.specs.declared.state.Snapshot.{Snapshot}
 use Rattle.hv_history.specs.declared.state.Transaction.{Transaction}
-use Rattle.hv_history.specs.State.{State, numbered, opened, started, given_id, after, state_of}
-use Rattle.hv_history.specs.Legal.{OpenedFits, IsStatement, IsLegal, load, profile}
+use Rattle.hv_history.specs.State.{State, numbered, meaning, opened, first_of, started, given_id, after, state_of}
+use Rattle.hv_history.specs.Legal.{OpenedFits, IsStatement, IsRunning, IsLegal, is_started, load, profile}
 use Rattle.hv_history.specs.Answers.{answer, answer_in, answer_of}
 use Rattle.hv_stands.specs.Running.{Asking, next_number, opening, starting, AreOf}
 use Rattle.hv_stands.proofs.Numbers.{found}
 use Rattle.hv_stands.proofs.Behind.{one-behind, numbered-behind, started-there, given-there}
 use Rattle.hv_next.specs.Next.{lacks_room, comes_before, due, carried_on}
 use Rattle.hv_next.specs.Order.{CauseInOrder, IsInOrder, AllInOrder}
-use Rattle.hv_next.specs.Carrying.{started_of, AreBefore}
+use Rattle.hv_next.specs.Carrying.{started_of, AreBefore, IsAtHold}
+use Rattle.hv_next.proofs.Holding.{stays-at-hold}
 use Rattle.hv_next.proofs.Going.{all-before, ended-due, legal-parts, carries-on-by}
 use Rattle.hv_ending.specs.Ending.{EndsUncommitted}
 use Rattle.hv_session.specs.Taking.{EndsEarly, EndsBefore, HoldsAt}
 use Rattle.hv_program.specs.Doing.{Waiting, Standing, without, WentOn, RepliesAtOnce, Replies, IsPutOff, GoesOnHeld}
 use Rattle.hv_serial.specs.Serial.{tree_runs, text_runs, is_open_one, waits_if, stood, if_room, if_runs, taken_up, released}
 use Rattle.hv_serial.specs.History.{AddsInOrder, memory_line}
-use Rattle.hv_serial.proofs.Actions.{AreOthers, IsSettled, IsThere, Stays, there-later, held-of, opened-in, opened-later, next-others}
+use Rattle.hv_serial.proofs.Actions.{AreOthers, IsSettled, IsThere, Stays, there-later, held-of, opened-in, opened-later, running-opened, next-others}
 
 -- ---- what a reply says: its transaction has ended
 
@@ -152,17 +154,12 @@ module _ (txn : ℕ) (book : List Entry) (fresh : started_of (numbered (state_of
 
 -- ---- what is held is open
 
+-- it is open, and has started
 record IsOpenIn (book : List Entry) (txn : ℕ) : Type 0 where
   pub t : Transaction
   pub at : numbered (state_of book).transactions txn ≡ Some t
   pub unended : t.ending ≡ None
-
-starts-open : (book : List Entry) (txn : ℕ) → IsOpenIn book txn → IsOpenIn (book ++ starting txn ∷ []) txn
-starts-open book txn is = record {
-  t = started (state_of book) 0 is.t;
-  at = numbered-behind book (starting txn) txn (Some (started (state_of book) 0 is.t)) (started-there (state_of book) txn is.t is.at is.unended);
-  unended = is.unended;
-}
+  pub started : is_started t ≡ true
 
 gives-open : (book : List Entry) (txn : ℕ) (table : TableId) (write : WriteId) → IsOpenIn book txn → IsOpenIn (book ++ entry.Given (record { 0 = txn }) table write ∷ []) txn
 gives-open book txn table write is = record {
@@ -170,23 +167,34 @@ gives-open book txn table write is = record {
   at = numbered-behind book (entry.Given (record { 0 = txn }) table write) txn (Some (given_id table.0 write.0 is.t))
       (given-there (state_of book) txn is.t is.at is.unended table write);
   unended = is.unended;
+  started = is.started;
 }
 
-started-open : (book added : List Entry) (txn : ℕ) → IsOpenIn book txn → added ≡ starting txn ∷ [] → IsOpenIn (book ++ added) txn
-started-open book added txn is just = subst (λ xs. IsOpenIn (book ++ xs) txn) (sym just) (starts-open book txn is)
+module _ (book : List Entry) (txn : ℕ) (t : Transaction) (there : numbered (state_of book).transactions txn ≡ Some t)
+    (unended : t.ending ≡ None) (unstarted : t.snapshot ≡ None) where
+  starts-open : IsOpenIn (book ++ starting txn ∷ []) txn
+  starts-open = record {
+    t = started (state_of book) 0 t;
+    at = numbered-behind book (starting txn) txn (Some (started (state_of book) 0 t)) (started-there (state_of book) txn t there unended);
+    unended = unended;
+    started = ap (λ (o : Option Snapshot). is_some (first_of o (record { place = (state_of book).entries; tables = (state_of book).tables }))) unstarted;
+  }
 
-holds-open : (hold : Option Stage) (book added : List Entry) (txn : ℕ) → IsOpenIn book txn → HoldsAt hold txn added → IsOpenIn (book ++ added) txn
-holds-open None book added txn is holds = absurd holds
-holds-open (Some stage.Start) book added txn is holds = started-open book added txn is holds
-holds-open (Some stage.Read) book added txn is holds = started-open book added txn is holds
-holds-open (Some stage.Commit) book added txn is (inl holds) = started-open book added txn is holds
-holds-open (Some stage.Commit) book added txn is (inr holds) =
-    let given : Entry = entry.Given (record { 0 = txn }) holds.0 holds.1 in
-    subst (λ xs. IsOpenIn (book ++ xs) txn) (sym holds.2)
-    (subst (λ xs. IsOpenIn xs txn) (append_assoc book (starting txn ∷ []) (given ∷ []))
-    (gives-open (book ++ starting txn ∷ []) txn holds.0 holds.1 (starts-open book txn is)))
-holds-open (Some stage.Taken) book added txn is holds = absurd holds
-holds-open (Some stage.Replied) book added txn is holds = absurd holds
+  just-open : (added : List Entry) → added ≡ starting txn ∷ [] → IsOpenIn (book ++ added) txn
+  just-open added just = subst (λ xs. IsOpenIn (book ++ xs) txn) (sym just) starts-open
+
+  holds-open : (hold : Option Stage) (added : List Entry) → HoldsAt hold txn added → IsOpenIn (book ++ added) txn
+  holds-open None added holds = absurd holds
+  holds-open (Some stage.Start) added holds = just-open added holds
+  holds-open (Some stage.Read) added holds = just-open added holds
+  holds-open (Some stage.Commit) added (inl holds) = just-open added holds
+  holds-open (Some stage.Commit) added (inr holds) =
+      let given : Entry = entry.Given (record { 0 = txn }) holds.0 holds.1 in
+      subst (λ xs. IsOpenIn (book ++ xs) txn) (sym holds.2)
+      (subst (λ xs. IsOpenIn xs txn) (append_assoc book (starting txn ∷ []) (given ∷ []))
+      (gives-open (book ++ starting txn ∷ []) txn holds.0 holds.1 starts-open))
+  holds-open (Some stage.Taken) added holds = absurd holds
+  holds-open (Some stage.Replied) added holds = absurd holds
 
 -- ---- a statement is taken up
 
@@ -222,6 +230,7 @@ module _ (start book : List Entry) (before between : Standing) (asking : Asking)
       carried : carried_on hold txn first_book ≡ between.book
       carried =
           carries-on-by hold txn first_book added (record {
+            running = running-opened before.book asking;
             there = (opened asking.session asking.number asking.text, opened-in before.book asking);
             legal = subst (IsLegal profile) (sym split) legal;
             of_it = whose;
@@ -255,14 +264,18 @@ module _ (start book : List Entry) (before between : Standing) (asking : Asking)
       (same ∙ sym (ap (λ b. waits_if b waiter before.waiting) shut))
 
   -- it is held
-  off : (output : List ℕ) (refused : Bool) → IsPutOff start book before between asking hold output refused → due hold (state_of between.book) txn ≡ None
-      → between ≡ taken_up before asking hold
-  off output refused w none =
+  abbrev pub IsThereAtHold : Type 0
+  IsThereAtHold = (t : Transaction) → numbered (state_of between.book).transactions txn ≡ Some t → IsRunning t → IsAtHold hold t.given (meaning t)
+
+  pub put-off : (output : List ℕ) (refused : Bool) → IsPutOff start book before between asking hold output refused → IsThereAtHold → between ≡ taken_up before asking hold
+  put-off output refused w held =
       let added : List Entry = w.goes.added in
       let is : IsOpenIn (first_book ++ added) txn =
-      holds-open hold first_book added txn (record { t = opened asking.session asking.number asking.text; at = opened-in before.book asking; unended = refl }) w.goes.at_hold in
+      holds-open first_book txn (opened asking.session asking.number asking.text) (opened-in before.book asking) refl refl hold added w.goes.at_hold in
       let at : numbered (state_of between.book).transactions txn ≡ Some is.t =
       sym (ap (λ xs. numbered (state_of xs).transactions txn) (split added w.goes.goes)) ∙ is.at in
+      let runs : IsRunning is.t = record { unended = ap is_none is.unended; started = is.started } in
+      let none : due hold (state_of between.book) txn ≡ None = stays-at-hold hold (state_of between.book) txn is.t at runs (held is.t at runs) in
       let open_ : is_open_one (numbered (state_of between.book).transactions txn) ≡ true = ap is_open_one at ∙ ap is_none is.unended in
       stands added w.goes.goes (held-of hold txn added w.goes.at_hold) (holds-before txn first_book (fresh added w.goes.goes) hold added w.goes.at_hold) none
       (w.waits ∙ sym (ap (λ b. waits_if b waiter before.waiting) open_))
@@ -293,10 +306,6 @@ module _ (start book : List Entry) (before between : Standing) (asking : Asking)
       by (inr (inr (inl full))) = lacks full.0 replies.waiting_same full.1
       by (inr (inr (inr memory))) = absurd (in_memory memory.1.line_is)
 
-  pub put-off : (output : List ℕ) (refused : Bool) → IsPutOff start book before between asking hold output refused
-      → due hold (state_of between.book) txn ≡ None → between ≡ taken_up before asking hold
-  put-off = off
-
 -- ---- one that waits is released
 
 pub goes-on-held : (start book : List Entry) (before between : Standing) (name : List ℕ) (w : Waiting) (output : List ℕ) (refused : Bool)
@@ -304,13 +313,14 @@ pub goes-on-held : (start book : List Entry) (before between : Standing) (name :
     → GoesOnHeld start book before.book between.book w.txn output refused → between.waiting ≡ without name before.waiting
     → between ≡ released before name (Some w)
 goes-on-held start book before between name w output refused stay apart there legal order goes waits =
-    let later = there-later before.book between.book w.txn there.0 (goes.added, goes.goes) there.1 in
+    let later = there-later before.book between.book goes.added w.txn there.0 goes.goes there.1 in
     let ended = ended-there book w.txn later.0 output (stay w.txn later.0 (record { at = later.1; apart = apart }))
     (held-answers start book before.book between.book w.txn output refused goes) in
     let none : due None (state_of between.book) w.txn ≡ None = ended-due None (state_of between.book) w.txn later.0 ended.0 later.1 ended.1 in
     let carried : carried_on None w.txn before.book ≡ before.book ++ goes.added =
     carries-on-by None w.txn before.book goes.added (record {
-      there = there;
+      running = there.2;
+      there = (there.0, there.1);
       legal = subst (IsLegal profile) goes.goes legal;
       of_it = goes.of_it;
       in_order = order goes.added goes.goes;

@@ -1,15 +1,16 @@
 -- What is proved of the serial history: where no device fails and memory is found, a run makes it.
-use Rattle.std.specs.Prelude.{◌≡◌, ℕ, Bool, Option, None, List, [], ◌∷◌, ◌++◌}
+use Rattle.std.specs.Prelude.{◌≡◌, ℕ, Bool, Option, Some, None, List, [], ◌∷◌, ◌++◌}
 use Rattle.hv_directives.specs.declared.actions.Action.{Action}
 use Rattle.hv_directives.specs.declared.actions.Action.TheVariants as action
 use Rattle.hv_history.specs.declared.entry.Entry.{Entry}
 use Rattle.hv_history.specs.declared.entry.Cause.TheVariants as cause
-use Rattle.hv_history.specs.State.{state_of}
-use Rattle.hv_history.specs.Legal.{IsLegal, profile}
+use Rattle.hv_history.specs.declared.state.Transaction.{Transaction}
+use Rattle.hv_history.specs.State.{numbered, meaning, state_of}
+use Rattle.hv_history.specs.Legal.{IsLegal, IsRunning, profile}
 use Rattle.hv_history.specs.Answers.{cause_text}
 use Rattle.hv_stands.specs.Running.{next_number}
-use Rattle.hv_next.specs.Next.{due}
 use Rattle.hv_next.specs.Order.{AllInOrder}
+use Rattle.hv_next.specs.Carrying.{IsAtHold}
 use Rattle.hv_program.specs.Doing.{Standing, IsDone, AreDone}
 use Rattle.hv_program.specs.Running.{beginning}
 use Rattle.hv_serial.specs.Serial.{serial}
@@ -28,10 +29,12 @@ AreInMemory start book before now [] output refused done = Unit {0}
 AreInMemory start book before now (first ∷ more) output refused done =
     (done.1 ≡ memory_line → ⊥) × AreInMemory start book done.0 now more done.2 done.4 done.6
 
--- a statement that was taken up went on as far as its hold: nothing of it that comes before the hold is left
+-- a statement that was taken up went on as far as its hold: where it is open, it is there
 abbrev pub IsUpToHold : Standing → Standing → Action → Type 0
 IsUpToHold before now (action.Announce session) = Unit {0}
-IsUpToHold before now (action.Run statement) = due statement.hold (state_of now.book) (next_number before.book) ≡ None
+IsUpToHold before now (action.Run statement) =
+    (transaction : Transaction) → numbered (state_of now.book).transactions (next_number before.book) ≡ Some transaction → IsRunning transaction
+    → IsAtHold statement.hold transaction.given (meaning transaction)
 IsUpToHold before now (action.Release session) = Unit {0}
 
 abbrev pub AreUpToHolds : (start book : List Entry) (before now : Standing) (actions : List Action) (output : List ℕ) (refused : Bool)
