@@ -1,7 +1,6 @@
 -- A transaction that goes on by legal entries in order goes on as one thread carries it on.
-use Rattle.std.proofs.Common.{◌≡◌, ℕ, zero, suc, ◌+◌, ◌<◌, ◌≤◌, Option, Some, None, List, [], ◌∷◌, ◌++◌, refl, sym, ap, ◌∙◌, subst, append-nil, append_assoc, fold, arith}
-use Rattle.std.specs.Prelude.{Bool, true, false, if◌then◌else◌}
-use Rattle.std.proofs.lemmas.List.Sums.{fold-append}
+use Rattle.std.proofs.Common.{◌≡◌, ℕ, zero, suc, ◌≤◌, Option, Some, None, List, [], ◌∷◌, ◌++◌, refl, sym, ap, ◌∙◌, subst, append-nil, append_assoc, fold, arith}
+use Rattle.std.specs.Prelude.{true, if◌then◌else◌}
 use Rattle.hv_base.specs.declared.ids.Limits.{Limits}
 use Rattle.hv_base.specs.declared.gate.Stage.{Stage}
 use Rattle.hv_history.specs.declared.entry.Entry.{Entry}
@@ -18,8 +17,8 @@ use Rattle.hv_stands.proofs.Keeping.{sound-after}
 use Rattle.hv_stands.proofs.Fitting.{fitting-sound}
 use Rattle.hv_next.specs.Next.{comes_before, if_before, due_of, due, with_one, steps, carried_on, by_ending, next_of}
 use Rattle.hv_next.specs.Order.{AllInOrder}
-use Rattle.hv_next.specs.Carrying.{started_of, AreBefore, IsRunningStore, GoesOnBy, CarriesOn}
-use Rattle.hv_next.proofs.Nexts.{rank, rank-within, HasFewer, IsGood, IsNext, next-is}
+use Rattle.hv_next.specs.Carrying.{started_of, AreBefore, IsRunningStore, CarriesOn}
+use Rattle.hv_next.proofs.Nexts.{rank, rank-within, IsGood, next-is}
 
 -- ---- entries that are good one behind another
 

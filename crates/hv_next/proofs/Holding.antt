@@ -1,5 +1,5 @@
 -- A started statement that is at its hold stays there.
-use Rattle.std.proofs.Common.{◌≡◌, ℕ, Option, Some, None, List, refl, sym, ap, ◌∙◌}
+use Rattle.std.proofs.Common.{◌≡◌, ℕ, Option, Some, None, List, refl, ap, ◌∙◌}
 use Rattle.std.specs.Prelude.{Bool, true, false, if◌then◌else◌}
 use Rattle.hv_base.specs.declared.gate.Stage.{Stage}
 use Rattle.hv_base.specs.declared.gate.Stage.TheVariants as stage
@@ -13,7 +13,7 @@ use Rattle.hv_history.specs.declared.entry.Entry.{Entry}
 use Rattle.hv_history.specs.declared.entry.Cause.TheVariants as cause
 use Rattle.hv_history.specs.declared.state.Transaction.{Transaction}
 use Rattle.hv_history.specs.State.{State, meaning}
-use Rattle.hv_history.specs.Legal.{IsRunning, is_started, place_of_snapshot}
+use Rattle.hv_history.specs.Legal.{IsRunning, place_of_snapshot}
 use Rattle.hv_stands.proofs.Keeping.{still-open}
 use Rattle.hv_next.specs.Next.{Meeting, abort, first_met, lacks_room, needs_id, giving, ending_change, changing, by_meaning, by_start, by_ending, next_of, if_before, due_of}
 use Rattle.hv_next.specs.Carrying.{IsUnrefused, IsToCommit, IsAtHold, StaysAtHold}

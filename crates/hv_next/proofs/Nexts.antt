@@ -1,10 +1,9 @@
 -- Each entry of a transaction that is legal, and in order, is the one that one thread adds next for it; behind it fewer are left.
-use Rattle.std.proofs.Common.{◌≡◌, ℕ, zero, suc, ◌+◌, ◌<◌, ◌≤◌, ◌⊎◌, inl, inr, Option, Some, None, List, [], ◌∷◌, ◌++◌, length, map, refl, sym, ap, ◌∙◌, subst, arith}
-use Rattle.std.specs.Prelude.{Bool, true, false, ◌&&◌, ◌||◌, if◌then◌else◌, nat_lt, IsTrue, IsFalse, IsSome, IsSomeAnd, is_some, is_none}
+use Rattle.std.proofs.Common.{◌≡◌, ℕ, ◌+◌, ◌<◌, ◌≤◌, ◌⊎◌, inl, inr, Option, Some, None, List, [], ◌∷◌, ◌++◌, length, map, refl, sym, ap, ◌∙◌, subst, arith}
+use Rattle.std.specs.Prelude.{Bool, true, false, ◌||◌, if◌then◌else◌, IsTrue, IsFalse, IsSome, IsSomeAnd, is_some}
 use Rattle.std.specs.List.{list_any, AllByRecursion}
-use Rattle.std.proofs.lemmas.Bool.{le-ltb, lt-ltb, ltb-true, ltb-false}
+use Rattle.std.proofs.lemmas.Bool.{le-ltb, lt-ltb}
 use Rattle.hv_base.specs.Refusals as refusals
-use Rattle.hv_base.specs.declared.refusal.Refusal.{Refusal}
 use Rattle.hv_base.specs.declared.ids.Limits.{Limits}
 use Rattle.hv_base.specs.declared.ids.TxnId.{TxnId}
 use Rattle.hv_base.specs.declared.ids.TableId.{TableId}
@@ -14,8 +13,6 @@ use Rattle.hv_locks.specs.declared.table.Lock.{Lock}
 use Rattle.hv_ast.specs.declared.statement.Stmt.{Stmt}
 use Rattle.hv_ast.specs.declared.statement.Stmt.TheVariants as stmt
 use Rattle.hv_analysis.specs.Analysis.{is_form}
-use Rattle.hv_built.specs.Running.{Runs}
-use Rattle.hv_grammar.specs.Texts.{tree_of}
 use Rattle.hv_logic.specs.declared.catalog.TableInfo.{TableInfo}
 use Rattle.hv_logic.specs.declared.effect.Effect.{Effect}
 use Rattle.hv_logic.specs.declared.meaning.Meaning.{Meaning}
@@ -27,22 +24,22 @@ use Rattle.hv_history.specs.declared.entry.Entry.TheVariants as entry
 use Rattle.hv_history.specs.declared.entry.Cause.{Cause}
 use Rattle.hv_history.specs.declared.entry.Cause.TheVariants as cause
 use Rattle.hv_history.specs.declared.state.Ending.{Ending}
-use Rattle.hv_history.specs.declared.state.Ending.TheVariants.{Committed, Aborted, Made, Dropped}
+use Rattle.hv_history.specs.declared.state.Ending.TheVariants.{Committed, Aborted, Made}
 use Rattle.hv_history.specs.declared.state.Statement.{Statement}
 use Rattle.hv_history.specs.declared.state.Table.{Table}
 use Rattle.hv_history.specs.declared.state.Snapshot.{Snapshot}
 use Rattle.hv_history.specs.declared.state.Transaction.{Transaction}
 use Rattle.hv_history.specs.State.{State, numbered, meaning, opening_tree, statement_tree, statement_of, given_in, first_of, started, given_id, committed, ended, changed, while_open, acted, after, state_of}
-use Rattle.hv_history.specs.Legal.{Of, Fits, IsTruthful, is_open, is_started, locks_of, holds_against, first_holder, first_shared, IsRunning, IsWaiting, IsOwnTouch, StartFits, GivenFits, CommitFits, CreateFits, CauseFits, ConflictFits, BlockedFits, FullFits, RequestFits, CauseIsTrue, TouchesAreMeant, IsMake, NeedsId, IsRefusedAs, ConflictIsTrue, IsFirstConflict, asks_to_abort, place_of_snapshot, HasRoom, load, profile}
+use Rattle.hv_history.specs.Legal.{Of, Fits, IsTruthful, is_open, is_started, locks_of, holds_against, first_holder, IsRunning, IsOwnTouch, StartFits, GivenFits, CommitFits, CreateFits, CauseFits, FullFits, CauseIsTrue, TouchesAreMeant, IsMake, NeedsId, IsRefusedAs, ConflictIsTrue, IsFirstConflict, asks_to_abort, place_of_snapshot, HasRoom, load, profile}
 use Rattle.hv_stands.specs.Sound.{IsSound, IsSingle, info_in}
-use Rattle.hv_stands.specs.Running.{IsOf, owner_of}
+use Rattle.hv_stands.specs.Running.{IsOf}
 use Rattle.hv_stands.proofs.Numbers.{found, one_value, numbered-within}
 use Rattle.hv_stands.proofs.Soundness.{all-mapped, all-numbered}
 use Rattle.hv_stands.proofs.Keeping.{still-open, open-here}
 use Rattle.hv_next.specs.Next.{start, abort, commit, lacks_room, starting, first_met, needs_id, next_write, giving, ending_change, changing, by_meaning, by_start, by_ending, next_of}
 use Rattle.hv_next.specs.Order.{IsOfTable, AsksForId, HasItsId, IsUnheld, CauseInOrder, IsInOrder}
 use Rattle.hv_next.specs.Carrying.{IsRunningStore}
-use Rattle.hv_next.proofs.Meetings.{none-met, first-is-met, the_one}
+use Rattle.hv_next.proofs.Meetings.{none-met, first-is-met}
 
 -- ---- tests
 

@@ -1,6 +1,6 @@
 -- The entry that one thread adds next for a statement: a function of the book before it, by how far the statement has come.
 -- Source: Hive Transactions (snapshots, locks, first committer wins); the journal's room is this project's.
-use Rattle.std.specs.Prelude.{ℕ, zero, suc, ◌+◌, Bool, true, false, ◌&&◌, ◌||◌, not, if◌then◌else◌, nat_lt, Option, Some, None, List, [], ◌∷◌, ◌++◌, length}
+use Rattle.std.specs.Prelude.{ℕ, zero, suc, ◌+◌, Bool, true, false, ◌||◌, not, if◌then◌else◌, nat_lt, Option, Some, None, List, [], ◌∷◌, ◌++◌, length}
 use Rattle.std.specs.Option.{option_map}
 use Rattle.hv_base.specs.Refusals as refusals
 use Rattle.hv_base.specs.declared.gate.Stage.{Stage}

@@ -3,4 +3,4 @@
 
 mod laws;
 
-pub use laws::{carries_on, stays_at_hold};
+pub use laws::{carries_on, stays_at_hold, worked_by_hand};
