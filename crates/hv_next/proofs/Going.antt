@@ -16,7 +16,7 @@ use Rattle.hv_stands.proofs.Behind.{one-behind, numbered-behind}
 use Rattle.hv_stands.proofs.Keeping.{sound-after}
 use Rattle.hv_stands.proofs.Fitting.{fitting-sound}
 use Rattle.hv_next.specs.Next.{comes_before, if_before, due_of, due, with_one, steps, carried_on, by_ending, next_of}
-use Rattle.hv_next.specs.Order.{AllInOrder}
+use Rattle.hv_next.specs.Order.{AreSteady, AllInOrder}
 use Rattle.hv_next.specs.Carrying.{started_of, AreBefore, IsRunningStore, CarriesOn}
 use Rattle.hv_next.proofs.Nexts.{rank, rank-within, IsGood, next-is}
 
@@ -27,13 +27,14 @@ AreGood txn book [] = Unit {0}
 AreGood txn book (event ∷ more) = IsGood txn (state_of book) event × AreGood txn (book ++ event ∷ []) more
 
 pub are-good : (txn : ℕ) (book added : List Entry) → AreOf txn added → AllFit profile (state_of book) added → AllTruthful (state_of book) added
-    → AllInOrder (state_of book) added → AreGood txn book added
-are-good txn book [] whose fit truthful in_order = tt
-are-good txn book (event ∷ more) whose fit truthful in_order = (
-  record { of_it = whose.0; fits = fit.0; truth = truthful.0; in_order = in_order.0 },
+    → AreSteady added → AllInOrder (state_of book) added → AreGood txn book added
+are-good txn book [] whose fit truthful steady in_order = tt
+are-good txn book (event ∷ more) whose fit truthful steady in_order = (
+  record { of_it = whose.0; fits = fit.0; truth = truthful.0; steady = steady.0; in_order = in_order.0 },
   are-good txn (book ++ event ∷ []) more whose.1
       (subst (λ s. AllFit profile s more) (sym (one-behind book event)) fit.1)
       (subst (λ s. AllTruthful s more) (sym (one-behind book event)) truthful.1)
+      steady.1
       (subst (λ s. AllInOrder s more) (sym (one-behind book event)) in_order.1),
 )
 
@@ -139,4 +140,4 @@ pub carries-on-by : CarriesOn
 carries-on-by hold txn book added goes =
     let legal = legal-parts book added goes.legal in
     carries-on hold txn book added goes.there.0 goes.there.1 (fitting-sound book legal.front.fit) goes.running
-    (are-good txn book added goes.of_it legal.behind.fit legal.behind.truthful goes.in_order) goes.before goes.no_more
+    (are-good txn book added goes.of_it legal.behind.fit legal.behind.truthful goes.steady goes.in_order) goes.before goes.no_more

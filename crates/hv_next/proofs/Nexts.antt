@@ -37,7 +37,7 @@ use Rattle.hv_stands.proofs.Numbers.{found, one_value, numbered-within}
 use Rattle.hv_stands.proofs.Soundness.{all-mapped, all-numbered}
 use Rattle.hv_stands.proofs.Keeping.{still-open, open-here}
 use Rattle.hv_next.specs.Next.{start, abort, commit, lacks_room, starting, first_met, needs_id, next_write, giving, ending_change, changing, by_meaning, by_start, by_ending, next_of}
-use Rattle.hv_next.specs.Order.{IsOfTable, AsksForId, HasItsId, IsUnheld, CauseInOrder, IsInOrder}
+use Rattle.hv_next.specs.Order.{IsOfTable, AsksForId, HasItsId, IsUnheld, IsFaultless, IsSteady, CauseInOrder, IsInOrder}
 use Rattle.hv_next.specs.Carrying.{IsRunningStore}
 use Rattle.hv_next.proofs.Meetings.{none-met, first-is-met}
 
@@ -329,30 +329,30 @@ module _ (book : List Entry) (txn : ℕ) (t : Transaction) (at : numbered (state
       by (Some RowLimit) is asks = absurd (other-needs t.given (Some RowLimit) (subst (NeedsId t.given) is needs) tt)
       by (Some PartitionLimit) is asks = absurd (other-needs t.given (Some PartitionLimit) (subst (NeedsId t.given) is needs) tt)
 
-  abort-next : (why : Cause) → IsSound s → IsRunningStore s → CauseFits profile s txn why t → CauseIsTrue s why t → CauseInOrder s why t → next_of s txn t ≡ Some (abort txn why)
-  abort-next (cause.Refused number) sound running fits truth order = refused-next number fits truth
-  abort-next (cause.Conflict other table partition) sound running fits truth order = conflict-next other table partition fits.running truth order
-  abort-next (cause.Request other) sound running fits truth order =
+  abort-next : (why : Cause) → IsSound s → IsRunningStore s → CauseFits profile s txn why t → CauseIsTrue s why t → IsFaultless why → CauseInOrder s why t → next_of s txn t ≡ Some (abort txn why)
+  abort-next (cause.Refused number) sound running fits truth steady order = refused-next number fits truth
+  abort-next (cause.Conflict other table partition) sound running fits truth steady order = conflict-next other table partition fits.running truth order
+  abort-next (cause.Request other) sound running fits truth steady order =
       let f = found (λ asker. IsRunning asker × IsTrue (asks_to_abort txn (opening_tree asker))) (numbered s.transactions other.0) fits.asks in
       absurd (single-asks-nothing (map info_in s.tables) f.0 txn
       (all-numbered (IsSingle (map info_in s.tables)) s.transactions other.0 f.0 f.1 sound.single) f.2.1)
-  abort-next cause.Full sound running fits truth order = by (is_started t) refl truth
+  abort-next cause.Full sound running fits truth steady order = by (is_started t) refl truth
     where
       by : (b : Bool) → is_started t ≡ b → IsFalse (is_started t) ⊎ NeedsId t.given (meaning t) → next_of s txn t ≡ Some (abort txn cause.Full)
       by false is either = full-unstarted fits order is
       by true is (inl unstarted) = absurd (never (is_started t) unstarted is)
       by true is (inr needs) = full-asked fits needs is
-  abort-next (cause.Twice partition row) sound running fits truth order = absurd truth
-  abort-next (cause.Blocked holder) sound running fits truth order =
+  abort-next (cause.Twice partition row) sound running fits truth steady order = absurd truth
+  abort-next (cause.Blocked holder) sound running fits truth steady order =
       opens (still-open t fits.waiting.unended) false fits.waiting.unstarted
       ∙ ap (λ o. Some (starting s txn o)) fits.held
-  abort-next (cause.ReadFault count) sound running fits truth order = absurd order
-  abort-next (cause.WriteFault count) sound running fits truth order = absurd order
-  abort-next (cause.Damaged place) sound running fits truth order = absurd order
-  abort-next cause.RowLimit sound running fits truth order = means (abort txn cause.RowLimit) fits (Some RowLimit) truth refl
-  abort-next cause.PartitionLimit sound running fits truth order = means (abort txn cause.PartitionLimit) fits (Some PartitionLimit) truth refl
-  abort-next cause.Memory sound running fits truth order = absurd order
-  abort-next cause.Lost sound running fits truth order = absurd (never s.openings.only_lost running fits.behind)
+  abort-next (cause.ReadFault count) sound running fits truth steady order = absurd steady
+  abort-next (cause.WriteFault count) sound running fits truth steady order = absurd steady
+  abort-next (cause.Damaged place) sound running fits truth steady order = absurd steady
+  abort-next cause.RowLimit sound running fits truth steady order = means (abort txn cause.RowLimit) fits (Some RowLimit) truth refl
+  abort-next cause.PartitionLimit sound running fits truth steady order = means (abort txn cause.PartitionLimit) fits (Some PartitionLimit) truth refl
+  abort-next cause.Memory sound running fits truth steady order = absurd steady
+  abort-next cause.Lost sound running fits truth steady order = absurd (never s.openings.only_lost running fits.behind)
 
   -- ---- how many are left
 
@@ -428,6 +428,7 @@ pub record IsGood (txn : ℕ) (s : State) (event : Entry) : Type 0 where
   pub of_it : IsOf txn event
   pub fits : Fits profile s event
   pub truth : IsTruthful s event
+  pub steady : IsSteady event
   pub in_order : IsInOrder s event
 
 pub next-is : (book : List Entry) (txn : ℕ) (t : Transaction) (event : Entry) → numbered (state_of book).transactions txn ≡ Some t → IsSound (state_of book)
@@ -462,7 +463,7 @@ next-is book txn t (entry.Abort id why) at sound running good =
     let truth = here book txn t at (CauseIsTrue (state_of book) why) id same good.truth in
     let order = here book txn t at (CauseInOrder (state_of book) why) id same good.in_order in
     subst (λ n. IsNext book txn t (entry.Abort (record { 0 = n }) why)) (sym same)
-    (record { next = abort-next book txn t at why sound running fits truth order; later = abort-fewer book txn t at why fits })
+    (record { next = abort-next book txn t at why sound running fits truth good.steady order; later = abort-fewer book txn t at why fits })
 next-is book txn t (entry.Opened id session number text) at sound running good =
     let same : id.0 ≡ txn = one_value id.0 txn good.of_it in
     let next = good.fits.next in

@@ -10,7 +10,7 @@ use Rattle.hv_history.specs.State.{State, numbered, meaning, state_of}
 use Rattle.hv_history.specs.Legal.{IsLegal, IsRunning, is_started, profile}
 use Rattle.hv_stands.specs.Running.{AreOf}
 use Rattle.hv_next.specs.Next.{needs_id, comes_before, due, carried_on}
-use Rattle.hv_next.specs.Order.{AllInOrder}
+use Rattle.hv_next.specs.Order.{AreSteady, AllInOrder}
 
 abbrev pub started_of : Option Transaction → Bool
 started_of None = false
@@ -26,13 +26,14 @@ AreBefore hold txn book (event ∷ more) =
 abbrev pub IsRunningStore : State → Type 0
 IsRunningStore state = state.openings.only_lost ≡ false
 
--- A transaction of the book goes on by these entries, up to its hold or its end: they are legal behind the book, in order, and come
--- before the hold; none that does is left.
+-- A transaction of the book goes on by these entries, up to its hold or its end: no device fails and
+-- memory is found, they are legal behind the book and in order, and come before the hold; none that does is left.
 pub record GoesOnBy (hold : Option Stage) (txn : ℕ) (book added : List Entry) : Type 0 where
   pub running : IsRunningStore (state_of book)
   pub there : (transaction : Transaction) × (numbered (state_of book).transactions txn ≡ Some transaction)
   pub legal : IsLegal profile (book ++ added)
   pub of_it : AreOf txn added
+  pub steady : AreSteady added
   pub in_order : AllInOrder (state_of book) added
   pub before : AreBefore hold txn book added
   pub no_more : due hold (state_of (book ++ added)) txn ≡ None

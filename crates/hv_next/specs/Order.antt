@@ -1,5 +1,6 @@
--- What of a statement's way no legal book fixes: of its entries the ones that one thread adds when no device fails and memory is found.
+-- What of a statement's way no legal book fixes: that no device fails and memory is found, and in which order its entries come.
 use Rattle.std.specs.Prelude.{◌≡◌, true, false, Option, Some, None, List, [], ◌∷◌}
+use Rattle.std.specs.List.{AllByRecursion}
 use Rattle.hv_base.specs.declared.ids.TableId.{TableId}
 use Rattle.hv_logic.specs.declared.meaning.Meaning.{Meaning}
 use Rattle.hv_logic.specs.declared.meaning.Meaning.TheVariants.{Change}
@@ -21,6 +22,13 @@ IsFaultless (cause.ReadFault count) = ⊥
 IsFaultless (cause.WriteFault count) = ⊥
 IsFaultless (cause.Damaged place) = ⊥
 IsFaultless why = Unit {0}
+
+abbrev pub IsSteady : Entry → Type 0
+IsSteady (entry.Abort txn why) = IsFaultless why
+IsSteady event = Unit {0}
+
+abbrev pub AreSteady : List Entry → Type 0
+AreSteady book = AllByRecursion IsSteady book
 
 -- ---- in the order of a statement's way
 
@@ -45,7 +53,7 @@ IsUnheld state transaction = is_started transaction ≡ false → first_holder (
 abbrev pub CauseInOrder : State → Cause → Transaction → Type 0
 CauseInOrder state (cause.Conflict by_ table partition) transaction = HasItsId transaction
 CauseInOrder state cause.Full transaction = IsUnheld state transaction
-CauseInOrder state why transaction = IsFaultless why
+CauseInOrder state why transaction = Unit {0}
 
 abbrev pub IsInOrder : State → Entry → Type 0
 IsInOrder state (entry.Given txn table write) = Of state txn.0 (AsksForId table)

@@ -158,11 +158,10 @@ grows-all start book before now (first ∷ more) output refused done =
 pub there-later : (before now added : List Entry) (txn : ℕ) (t : Transaction) → now ≡ before ++ added → numbered (state_of before).transactions txn ≡ Some t
     → (later : Transaction) × (numbered (state_of now).transactions txn ≡ Some later)
 there-later before now added txn t goes at =
-    let here = found (Later t) (numbered (fold after (state_of before) added).transactions txn) ((goes-on-all added (state_of before)).transactions txn t at) in
-    (
+    let here = found (Later t) (numbered (fold after (state_of before) added).transactions txn) ((goes-on-all added (state_of before)).transactions txn t at) in (
       here.0,
       ap (λ xs. numbered (state_of xs).transactions txn) goes
-      ∙ ap (λ (s : State). numbered s.transactions txn) (fold-append after nothing_yet before added) ∙ here.1,
+          ∙ ap (λ (s : State). numbered s.transactions txn) (fold-append after nothing_yet before added) ∙ here.1,
     )
 
 running-later : (before now : List Entry) → Grown before now → IsRunningStore (state_of before) → IsRunningStore (state_of now)
@@ -294,9 +293,12 @@ settled-one start book before now (action.Run statement) output refused (inr off
     let there = opened-later before.book now.book off.goes.added (asking_of statement) off.goes.goes in
     record {
       there = subst (AllByRecursion (IsThere now.book)) (sym off.waits)
-          (all-more (IsThere now.book) before.waiting w (there-all before.book now.book before.waiting grown settled.there)
-          (there.0, there.1, running-behind before.book now.book off.goes.added (asking_of statement) off.goes.goes
-          (owned-of (next_number before.book) off.goes.added (held-of statement.hold (next_number before.book) off.goes.added off.goes.at_hold))));
+          (all-more (IsThere now.book) before.waiting w (there-all before.book now.book before.waiting grown settled.there) (
+            there.0,
+            there.1,
+            running-behind before.book now.book off.goes.added (asking_of statement) off.goes.goes
+                (owned-of (next_number before.book) off.goes.added (held-of statement.hold (next_number before.book) off.goes.added off.goes.at_hold)),
+          ));
       apart = subst AreApart (sym off.waits) (apart-more before.waiting w settled.apart (next-others before.book before.waiting settled.there));
     }
 settled-one start book before now (action.Release session) output refused done settled = by (waiting_in session.name before.waiting) refl done

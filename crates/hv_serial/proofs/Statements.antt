@@ -23,10 +23,9 @@ use Rattle.hv_history.specs.State.{State, numbered, meaning, opened, first_of, s
 use Rattle.hv_history.specs.Legal.{OpenedFits, IsStatement, IsRunning, IsLegal, is_started, load, profile}
 use Rattle.hv_history.specs.Answers.{answer, answer_in, answer_of}
 use Rattle.hv_stands.specs.Running.{Asking, next_number, opening, starting, AreOf}
-use Rattle.hv_stands.proofs.Numbers.{found}
 use Rattle.hv_stands.proofs.Behind.{one-behind, numbered-behind, started-there, given-there}
 use Rattle.hv_next.specs.Next.{lacks_room, comes_before, due, carried_on}
-use Rattle.hv_next.specs.Order.{CauseInOrder, IsInOrder, AllInOrder}
+use Rattle.hv_next.specs.Order.{IsFaultless, AreSteady, AllInOrder}
 use Rattle.hv_next.specs.Carrying.{started_of, AreBefore, IsAtHold}
 use Rattle.hv_next.proofs.Holding.{stays-at-hold}
 use Rattle.hv_next.proofs.Going.{all-before, ended-due, legal-parts, carries-on-by}
@@ -34,7 +33,7 @@ use Rattle.hv_ending.specs.Ending.{EndsUncommitted}
 use Rattle.hv_session.specs.Taking.{EndsEarly, EndsBefore, HoldsAt}
 use Rattle.hv_program.specs.Doing.{Waiting, Standing, without, WentOn, RepliesAtOnce, Replies, IsPutOff, GoesOnHeld}
 use Rattle.hv_serial.specs.Serial.{tree_runs, text_runs, is_open_one, waits_if, stood, if_room, if_runs, taken_up, released}
-use Rattle.hv_serial.specs.History.{AddsInOrder, memory_line}
+use Rattle.hv_serial.specs.History.{AddsSteadily, AddsInOrder, memory_line}
 use Rattle.hv_serial.proofs.Actions.{AreOthers, IsSettled, IsThere, Stays, there-later, held-of, opened-in, opened-later, running-opened, next-others}
 
 -- ---- what a reply says: its transaction has ended
@@ -93,13 +92,12 @@ or-true : (b : Bool) → (b || true) ≡ true
 or-true true = refl
 or-true false = refl
 
-early-before : (s : State) (id : TxnId) (why : Cause) (t : Transaction) (b : Bool) → EndsEarly why → CauseInOrder s why t
-    → comes_before (Some stage.Read) b (entry.Abort id why) ≡ true
-early-before s id (cause.Refused number) t b early order = or-true (not b)
-early-before s id (cause.ReadFault count) t b early order = absurd order
-early-before s id (cause.Damaged place) t b early order = absurd order
-early-before s id cause.Memory t b early order = absurd order
-early-before s id why t b early order = absurd early
+early-before : (id : TxnId) (why : Cause) (b : Bool) → EndsEarly why → IsFaultless why → comes_before (Some stage.Read) b (entry.Abort id why) ≡ true
+early-before id (cause.Refused number) b early steady = or-true (not b)
+early-before id (cause.ReadFault count) b early steady = absurd steady
+early-before id (cause.Damaged place) b early steady = absurd steady
+early-before id cause.Memory b early steady = absurd steady
+early-before id why b early steady = absurd early
 
 uncommitted-before : (id : TxnId) (why : Cause) (b : Bool) → EndsUncommitted why → comes_before (Some stage.Commit) b (entry.Abort id why) ≡ true
 uncommitted-before id (cause.Conflict by_ table partition) b ends = absurd ends
@@ -112,25 +110,23 @@ module _ (txn : ℕ) (book : List Entry) (fresh : started_of (numbered (state_of
   abbrev there : List Entry → Bool
   there xs = started_of (numbered (state_of xs).transactions txn)
 
-  pub ends-before : (hold : Option Stage) (added : List Entry) → EndsBefore hold txn added → AllInOrder (state_of book) added → AreBefore hold txn book added
-  ends-before None added ends order = all-before txn book added
-  ends-before (Some stage.Start) added ends order = subst (AreBefore (Some stage.Start) txn book) (sym ends.1) (first (Some stage.Start) (entry.Abort (record { 0 = txn }) ends.0), tt)
-  ends-before (Some stage.Read) added (inl ends) order = subst (AreBefore (Some stage.Read) txn book) (sym ends.1) (first (Some stage.Read) (entry.Abort (record { 0 = txn }) ends.0), tt)
-  ends-before (Some stage.Read) added (inr ends) order =
-      let in_order : AllInOrder (state_of book) (starting txn ∷ entry.Abort (record { 0 = txn }) ends.0 ∷ []) = subst (AllInOrder (state_of book)) ends.2 order in
-      let s : State = after (state_of book) (starting txn) in
-      let here = found (CauseInOrder s ends.0) (numbered s.transactions txn) in_order.1.0 in
+  pub ends-before : (hold : Option Stage) (added : List Entry) → EndsBefore hold txn added → AreSteady added → AreBefore hold txn book added
+  ends-before None added ends steady = all-before txn book added
+  ends-before (Some stage.Start) added ends steady = subst (AreBefore (Some stage.Start) txn book) (sym ends.1) (first (Some stage.Start) (entry.Abort (record { 0 = txn }) ends.0), tt)
+  ends-before (Some stage.Read) added (inl ends) steady = subst (AreBefore (Some stage.Read) txn book) (sym ends.1) (first (Some stage.Read) (entry.Abort (record { 0 = txn }) ends.0), tt)
+  ends-before (Some stage.Read) added (inr ends) steady =
+      let all : AreSteady (starting txn ∷ entry.Abort (record { 0 = txn }) ends.0 ∷ []) = subst AreSteady ends.2 steady in
       subst (AreBefore (Some stage.Read) txn book) (sym ends.2) (
         first (Some stage.Read) (starting txn),
-        (early-before s (record { 0 = txn }) ends.0 here.0 (there (book ++ starting txn ∷ [])) ends.1 here.2, tt),
+        (early-before (record { 0 = txn }) ends.0 (there (book ++ starting txn ∷ [])) ends.1 all.1.0, tt),
       )
-  ends-before (Some stage.Commit) added (inl ends) order = subst (AreBefore (Some stage.Commit) txn book) (sym ends.1) (first (Some stage.Commit) (entry.Abort (record { 0 = txn }) ends.0), tt)
-  ends-before (Some stage.Commit) added (inr (inl ends)) order =
+  ends-before (Some stage.Commit) added (inl ends) steady = subst (AreBefore (Some stage.Commit) txn book) (sym ends.1) (first (Some stage.Commit) (entry.Abort (record { 0 = txn }) ends.0), tt)
+  ends-before (Some stage.Commit) added (inr (inl ends)) steady =
       subst (AreBefore (Some stage.Commit) txn book) (sym ends.2) (
         first (Some stage.Commit) (starting txn),
         (uncommitted-before (record { 0 = txn }) ends.0 (there (book ++ starting txn ∷ [])) ends.1, tt),
       )
-  ends-before (Some stage.Commit) added (inr (inr ends)) order =
+  ends-before (Some stage.Commit) added (inr (inr ends)) steady =
       let given : Entry = entry.Given (record { 0 = txn }) ends.1 ends.2 in
       subst (AreBefore (Some stage.Commit) txn book) (sym ends.4) (
         first (Some stage.Commit) (starting txn),
@@ -139,8 +135,8 @@ module _ (txn : ℕ) (book : List Entry) (fresh : started_of (numbered (state_of
           (uncommitted-before (record { 0 = txn }) ends.0 (there ((book ++ starting txn ∷ []) ++ given ∷ [])) ends.3, tt),
         ),
       )
-  ends-before (Some stage.Taken) added ends order = absurd ends
-  ends-before (Some stage.Replied) added ends order = absurd ends
+  ends-before (Some stage.Taken) added ends steady = absurd ends
+  ends-before (Some stage.Replied) added ends steady = absurd ends
 
   pub holds-before : (hold : Option Stage) (added : List Entry) → HoldsAt hold txn added → AreBefore hold txn book added
   holds-before None added holds = absurd holds
@@ -202,7 +198,8 @@ abbrev pub StaysIn : List Entry → Standing → Type 0
 StaysIn book between = (txn : ℕ) (t : Transaction) → Stays txn t between → numbered (state_of book).transactions txn ≡ Some t
 
 module _ (start book : List Entry) (before between : Standing) (asking : Asking) (hold : Option Stage) (stay : StaysIn book between)
-    (settled : IsSettled before) (legal : IsLegal profile between.book) (order : AddsInOrder before.book between.book) where
+    (settled : IsSettled before) (legal : IsLegal profile between.book)
+    (steady : AddsSteadily before.book between.book) (order : AddsInOrder before.book between.book) where
   abbrev txn : ℕ
   txn = next_number before.book
 
@@ -234,6 +231,7 @@ module _ (start book : List Entry) (before between : Standing) (asking : Asking)
             there = (opened asking.session asking.number asking.text, opened-in before.book asking);
             legal = subst (IsLegal profile) (sym split) legal;
             of_it = whose;
+            steady = (steady (opening before.book asking ∷ added) goes).1;
             in_order = ordered;
             before = comes;
             no_more = ap (λ xs. due hold (state_of xs) txn) split ∙ none;
@@ -260,7 +258,7 @@ module _ (start book : List Entry) (before between : Standing) (asking : Asking)
       (went-answers start book before.book between.book asking hold reply refused w) in
       let none : due hold (state_of between.book) txn ≡ None = ended-due hold (state_of between.book) txn there.0 ended.0 there.1 ended.1 in
       let shut : is_open_one (numbered (state_of between.book).transactions txn) ≡ false = ap is_open_one there.1 ∙ ap is_none ended.1 in
-      stands w.added w.goes w.of_it (ends-before txn first_book (fresh w.added w.goes) hold w.added w.in_time (ordered w.added w.goes)) none
+      stands w.added w.goes w.of_it (ends-before txn first_book (fresh w.added w.goes) hold w.added w.in_time (steady (opening before.book asking ∷ w.added) w.goes).1) none
       (same ∙ sym (ap (λ b. waits_if b waiter before.waiting) shut))
 
   -- it is held
@@ -309,10 +307,10 @@ module _ (start book : List Entry) (before between : Standing) (asking : Asking)
 -- ---- one that waits is released
 
 pub goes-on-held : (start book : List Entry) (before between : Standing) (name : List ℕ) (w : Waiting) (output : List ℕ) (refused : Bool)
-    → StaysIn book between → AreOthers w.txn between.waiting → IsThere before.book w → IsLegal profile between.book → AddsInOrder before.book between.book
+    → StaysIn book between → AreOthers w.txn between.waiting → IsThere before.book w → IsLegal profile between.book → AddsSteadily before.book between.book → AddsInOrder before.book between.book
     → GoesOnHeld start book before.book between.book w.txn output refused → between.waiting ≡ without name before.waiting
     → between ≡ released before name (Some w)
-goes-on-held start book before between name w output refused stay apart there legal order goes waits =
+goes-on-held start book before between name w output refused stay apart there legal steady order goes waits =
     let later = there-later before.book between.book goes.added w.txn there.0 goes.goes there.1 in
     let ended = ended-there book w.txn later.0 output (stay w.txn later.0 (record { at = later.1; apart = apart }))
     (held-answers start book before.book between.book w.txn output refused goes) in
@@ -323,6 +321,7 @@ goes-on-held start book before between name w output refused stay apart there le
       there = (there.0, there.1);
       legal = subst (IsLegal profile) goes.goes legal;
       of_it = goes.of_it;
+      steady = steady goes.added goes.goes;
       in_order = order goes.added goes.goes;
       before = all-before w.txn before.book goes.added;
       no_more = sym (ap (λ xs. due None (state_of xs) w.txn) goes.goes) ∙ none;

@@ -9,13 +9,17 @@ use Rattle.hv_history.specs.State.{numbered, meaning, state_of}
 use Rattle.hv_history.specs.Legal.{IsLegal, IsRunning, profile}
 use Rattle.hv_history.specs.Answers.{cause_text}
 use Rattle.hv_stands.specs.Running.{next_number}
-use Rattle.hv_next.specs.Order.{AllInOrder}
+use Rattle.hv_next.specs.Order.{AreSteady, AllInOrder}
 use Rattle.hv_next.specs.Carrying.{IsAtHold}
 use Rattle.hv_program.specs.Doing.{Standing, IsDone, AreDone}
 use Rattle.hv_program.specs.Running.{beginning}
 use Rattle.hv_serial.specs.Serial.{serial}
 
--- what was added behind a book keeps no fault and no want of memory, and is in the order of each statement's way
+-- no entry that was added behind a book is an abort for want of memory or for a fault of the store
+abbrev pub AddsSteadily : List Entry → List Entry → Type 0
+AddsSteadily start book = (added : List Entry) → book ≡ start ++ added → AreSteady added
+
+-- and they are in the order of each statement's way
 abbrev pub AddsInOrder : List Entry → List Entry → Type 0
 AddsInOrder start book = (added : List Entry) → book ≡ start ++ added → AllInOrder (state_of start) added
 
@@ -47,6 +51,7 @@ AreUpToHolds start book before now (first ∷ more) output refused done =
 pub record RanSteadily (start : List Entry) (now : Standing) (actions : List Action) (output : List ℕ) (refused : Bool)
     (done : AreDone start now.book (beginning start) now actions output refused) : Type 0 where
   pub legal : IsLegal profile now.book
+  pub steady : AddsSteadily start now.book
   pub in_order : AddsInOrder start now.book
   pub in_memory : AreInMemory start now.book (beginning start) now actions output refused done
   pub up_to_holds : AreUpToHolds start now.book (beginning start) now actions output refused done
