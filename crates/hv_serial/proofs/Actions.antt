@@ -1,6 +1,6 @@
 -- What actions leave of the transactions that are there: the book grows, those that don't wait stay as they are, and those that wait are
 -- there, each once.
-use Rattle.std.proofs.Common.{◌≡◌, ℕ, ◌+◌, ◌<◌, ◌≤◌, ◌⊎◌, inl, inr, Option, Some, None, List, [], ◌∷◌, ◌++◌, length, fold, refl, sym, ap, ◌∙◌, subst, append-nil, append_assoc, arith}
+use Rattle.std.proofs.Common.{◌≡◌, ℕ, inl, inr, Option, Some, None, List, [], ◌∷◌, ◌++◌, fold, refl, sym, ap, ◌∙◌, subst, append-nil, append_assoc, arith}
 use Rattle.std.specs.Prelude.{Bool, true, false, if◌then◌else◌}
 use Rattle.std.specs.List.{AllByRecursion}
 use Rattle.std.proofs.lemmas.List.Sums.{fold-append}
@@ -9,20 +9,19 @@ use Rattle.hv_base.specs.declared.gate.Stage.TheVariants as stage
 use Rattle.hv_directives.specs.declared.actions.Action.{Action}
 use Rattle.hv_directives.specs.declared.actions.Action.TheVariants as action
 use Rattle.hv_history.specs.declared.entry.Entry.{Entry}
-use Rattle.hv_history.specs.declared.entry.Entry.TheVariants as entry
 use Rattle.hv_history.specs.declared.state.Transaction.{Transaction}
 use Rattle.hv_history.specs.State.{State, nothing_yet, numbered, opened, after, state_of}
 use Rattle.hv_history.specs.Lasting.{Later}
 use Rattle.hv_history.proofs.LastingLaws.{goes-on-all}
-use Rattle.hv_stands.specs.Running.{Asking, next_number, opening, starting, owner_of, IsOf, AreOf, IsNotOf, AreNotOf}
-use Rattle.hv_stands.proofs.Numbers.{found, one_value, same_one, none_is, numbered-within}
+use Rattle.hv_stands.specs.Running.{Asking, next_number, opening, IsOf, AreOf, AreNotOf}
+use Rattle.hv_stands.proofs.Numbers.{found, one_value, numbered-within}
 use Rattle.hv_stands.proofs.Soundness.{all-mapped, all-more}
 use Rattle.hv_stands.proofs.Behind.{one-behind, opened-there, numbered-behind}
 use Rattle.hv_stands.proofs.Others.{others-leave}
 use Rattle.hv_next.specs.Carrying.{IsRunningStore}
 use Rattle.hv_next.proofs.Going.{runs-on}
 use Rattle.hv_session.specs.Taking.{HoldsAt}
-use Rattle.hv_program.specs.Doing.{Waiting, Standing, waiting_in, without, is_session, asking_of, WentOn, RepliesAtOnce, IsHeldNow, Replies, IsPutOff, GoesOnHeld, ReleasesOne, IsDone, AreDone}
+use Rattle.hv_program.specs.Doing.{Waiting, Standing, waiting_in, without, is_session, asking_of, RepliesAtOnce, ReleasesOne, IsDone, AreDone}
 
 -- ---- those that wait
 

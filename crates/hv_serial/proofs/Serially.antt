@@ -1,20 +1,19 @@
 -- A run in which no device failed and memory was found makes the serial history.
-use Rattle.std.proofs.Common.{◌≡◌, ℕ, inl, inr, Option, Some, None, List, [], ◌∷◌, ◌++◌, fold, refl, sym, ap, ◌∙◌, subst, append_assoc}
+use Rattle.std.proofs.Common.{◌≡◌, ℕ, inl, inr, Option, Some, None, List, [], ◌∷◌, ◌++◌, refl, sym, ap, ◌∙◌, subst, append_assoc}
 use Rattle.std.specs.Prelude.{Bool}
 use Rattle.std.proofs.lemmas.List.Sums.{fold-append}
 use Rattle.hv_directives.specs.declared.actions.Action.{Action}
 use Rattle.hv_directives.specs.declared.actions.Action.TheVariants as action
 use Rattle.hv_history.specs.declared.entry.Entry.{Entry}
-use Rattle.hv_history.specs.declared.state.Transaction.{Transaction}
-use Rattle.hv_history.specs.State.{State, nothing_yet, after, state_of}
+use Rattle.hv_history.specs.State.{nothing_yet, after, state_of}
 use Rattle.hv_history.specs.Legal.{IsLegal, profile}
 use Rattle.hv_next.specs.Order.{AreSteady, AllInOrder}
 use Rattle.hv_next.proofs.Going.{order-parts, legal-parts}
-use Rattle.hv_program.specs.Doing.{Waiting, Standing, waiting_in, without, asking_of, ReleasesOne, IsDone, AreDone}
+use Rattle.hv_program.specs.Doing.{Waiting, Standing, waiting_in, asking_of, ReleasesOne, IsDone, AreDone}
 use Rattle.hv_program.specs.Running.{beginning}
 use Rattle.hv_serial.specs.Serial.{released, serial_one, serial}
-use Rattle.hv_serial.specs.History.{AddsSteadily, AddsInOrder, memory_line, AreInMemory, IsUpToHold, AreUpToHolds, RanSteadily, SerialHistory}
-use Rattle.hv_serial.proofs.Actions.{Grown, AreOthers, IsSettled, IsThere, Stays, all-found, taken-apart, grows-one, grows-all, all-stay, settled-one}
+use Rattle.hv_serial.specs.History.{AddsSteadily, AddsInOrder, memory_line, AreInMemory, IsUpToHold, AreUpToHolds, SerialHistory}
+use Rattle.hv_serial.proofs.Actions.{Grown, AreOthers, IsSettled, IsThere, all-found, taken-apart, grows-one, grows-all, all-stay, settled-one}
 use Rattle.hv_serial.proofs.Statements.{StaysIn, at-once, put-off, goes-on-held}
 
 -- one action

@@ -1,5 +1,5 @@
 -- A statement of a run in which no device failed and memory was found is taken up, held and released as by one thread.
-use Rattle.std.proofs.Common.{◌≡◌, ℕ, ◌+◌, ◌<◌, ◌⊎◌, inl, inr, Option, Some, None, List, [], ◌∷◌, ◌++◌, refl, sym, ap, ◌∙◌, subst, append_assoc}
+use Rattle.std.proofs.Common.{◌≡◌, ℕ, ◌+◌, ◌<◌, inl, inr, Option, Some, None, List, [], ◌∷◌, ◌++◌, refl, sym, ap, ◌∙◌, subst, append_assoc}
 use Rattle.std.specs.Prelude.{Bool, true, false, not, ◌||◌, is_none, is_some}
 use Rattle.std.proofs.lemmas.Bool.{le-ltb, lt-ltb}
 use Rattle.hv_base.specs.declared.gate.Stage.{Stage}
@@ -19,12 +19,12 @@ use Rattle.hv_history.specs.declared.entry.Cause.TheVariants as cause
 use Rattle.hv_history.specs.declared.state.Ending.{Ending}
 use Rattle.hv_history.specs.declared.state.Snapshot.{Snapshot}
 use Rattle.hv_history.specs.declared.state.Transaction.{Transaction}
-use Rattle.hv_history.specs.State.{State, numbered, meaning, opened, first_of, started, given_id, after, state_of}
+use Rattle.hv_history.specs.State.{numbered, meaning, opened, first_of, started, given_id, state_of}
 use Rattle.hv_history.specs.Legal.{OpenedFits, IsStatement, IsRunning, IsLegal, is_started, load, profile}
 use Rattle.hv_history.specs.Answers.{answer, answer_in, answer_of}
 use Rattle.hv_stands.specs.Running.{Asking, next_number, opening, starting, AreOf}
 use Rattle.hv_stands.proofs.Behind.{one-behind, numbered-behind, started-there, given-there}
-use Rattle.hv_next.specs.Next.{lacks_room, comes_before, due, carried_on}
+use Rattle.hv_next.specs.Next.{comes_before, due, carried_on}
 use Rattle.hv_next.specs.Order.{IsFaultless, AreSteady, AllInOrder}
 use Rattle.hv_next.specs.Carrying.{started_of, AreBefore, IsAtHold}
 use Rattle.hv_next.proofs.Holding.{stays-at-hold}

@@ -1,5 +1,5 @@
 -- What is proved of the serial history: where no device fails and memory is found, a run makes it.
-use Rattle.std.specs.Prelude.{◌≡◌, ℕ, Bool, Option, Some, None, List, [], ◌∷◌, ◌++◌}
+use Rattle.std.specs.Prelude.{◌≡◌, ℕ, Bool, Some, None, List, [], ◌∷◌, ◌++◌}
 use Rattle.hv_directives.specs.declared.actions.Action.{Action}
 use Rattle.hv_directives.specs.declared.actions.Action.TheVariants as action
 use Rattle.hv_history.specs.declared.entry.Entry.{Entry}
@@ -11,7 +11,7 @@ use Rattle.hv_history.specs.Answers.{cause_text}
 use Rattle.hv_stands.specs.Running.{next_number}
 use Rattle.hv_next.specs.Order.{AreSteady, AllInOrder}
 use Rattle.hv_next.specs.Carrying.{IsAtHold}
-use Rattle.hv_program.specs.Doing.{Standing, IsDone, AreDone}
+use Rattle.hv_program.specs.Doing.{Standing, AreDone}
 use Rattle.hv_program.specs.Running.{beginning}
 use Rattle.hv_serial.specs.Serial.{serial}
 

@@ -3,4 +3,4 @@
 
 mod laws;
 
-pub use laws::serial_history;
+pub use laws::{script_history, serial_history};
