@@ -1,0 +1,4 @@
+pub mod Meetings
+pub mod Nexts
+pub mod Going
+pub mod Holding

@@ -1,0 +1,4 @@
+pub mod Actions
+pub mod Statements
+pub mod Serially
+pub mod Whole
