@@ -1,7 +1,7 @@
 ghost use Rattle.std.specs.Prelude.{IfOk};
 ghost use Rattle.hv_eval.specs.Frames.{frames_values};
 ghost use Rattle.hv_order.specs.First.{IsEnough};
-ghost use Rattle.hv_query.specs.Rows.{shown};
+ghost use Rattle.hv_query.specs.Rows.{kept, shown};
 ghost use Rattle.hv_exec.specs.Tables.{select_rows};
 
 use crate::groups::grouped_rows;
@@ -30,6 +30,23 @@ fn shown<'a>(
     }
 }
 
+/// What a select makes of the rows of its FROM on which WHERE is true, as far as it is wanted.
+pub(crate) fn rows_over<'a>(
+    alloc: Global,
+    select: &'a TypedSelect,
+    met: Vec<Frame<'a>>,
+    front: Option<Front<'a>>,
+) -> Result<Vec<Row>, NoMemory>
+    ensures { IfOk result (λ rows. IsEnough front.entry rows.items (kept select.now.distinct (shown select.now.items select.now.groups (frames_values met.entry.items)))) }
+{
+    let items = select.items.as_slice();
+    if select.distinct {
+        let rows = shown(alloc, items, &select.groups, met, None)?;
+        return once(alloc, rows);
+    }
+    shown(alloc, items, &select.groups, met, front)
+}
+
 /// What a select makes of the rows of its FROM, as far as it is wanted.
 #[tactic(auto, unfolding(crate::specs::Tables::select_rows))]
 pub(crate) fn select_rows<'a>(
@@ -41,10 +58,5 @@ pub(crate) fn select_rows<'a>(
     ensures { IfOk result (λ rows. IsEnough front.entry rows.items (select_rows select.now (frames_values frames.entry.items))) }
 {
     let met = filtered(alloc, &select.filter, frames)?;
-    let items = select.items.as_slice();
-    if select.distinct {
-        let rows = shown(alloc, items, &select.groups, met, None)?;
-        return once(alloc, rows);
-    }
-    shown(alloc, items, &select.groups, met, front)
+    rows_over(alloc, select, met, front)
 }
