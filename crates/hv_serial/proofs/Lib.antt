@@ -2,3 +2,4 @@ pub mod Actions
 pub mod Statements
 pub mod Serially
 pub mod Whole
+pub mod Worked

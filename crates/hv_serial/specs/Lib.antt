@@ -1,3 +1,4 @@
 pub mod Serial
 pub mod History
 pub mod Scripts
+pub mod Worked

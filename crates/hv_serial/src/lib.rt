@@ -3,4 +3,4 @@
 
 mod laws;
 
-pub use laws::{script_history, serial_history};
+pub use laws::{script_history, serial_history, worked_by_hand};
