@@ -11,6 +11,9 @@ use Rattle.hv_base.specs.Told.{Tells, Moves, StaysTold}
 use Rattle.hv_base.proofs.ToldLemmas.{stays_by, stays_stays}
 use Rattle.hv_shelf.specs.Disk.{Store, Tree}
 use Rattle.hv_ast.specs.declared.statement.Stmt.{Stmt}
+use Rattle.hv_locks.specs.declared.table.Lock.{Lock}
+use Rattle.hv_grammar.specs.Texts.{tree_of}
+use Rattle.hv_logic.specs.Names.{names_in}
 use Rattle.hv_built.specs.Running.{Runs}
 use Rattle.hv_history.specs.declared.entry.Entry.{Entry}
 use Rattle.hv_history.specs.declared.entry.Entry.TheVariants as entry
@@ -20,10 +23,10 @@ use Rattle.hv_history.specs.declared.state.Transaction.{Transaction}
 use Rattle.hv_history.specs.Book.{tree_of_entry}
 use Rattle.hv_history.specs.Answers.{cause_text}
 use Rattle.hv_history.specs.State.{State, state_of, opened, meaning, nothing_yet, after}
-use Rattle.hv_history.specs.Legal.{Fits, AllFit, IsLegal, IsLegalFrom, IsTruthful, Of, is_open, is_started, NeedsId, load, profile}
+use Rattle.hv_history.specs.Legal.{Fits, FullFits, BlockedFits, AllFit, IsLegal, IsTruthful, Of, is_started, NeedsId, first_holder, locks_of, locks_of_tree, load, profile}
 use Rattle.hv_journal.specs.Appending.{KeepsTree}
 use Rattle.hv_stands.specs.Files.{Stands}
-use Rattle.hv_stands.specs.Running.{Asking, next_number, opening, starting, IsOf, AreOf, IsWaiting, IsUnderWay, HasAnswered, KeepsGiven}
+use Rattle.hv_stands.specs.Running.{Asking, next_number, opening, starting, IsOf, AreOf, IsWaiting, IsUnderWay, KeepsGiven}
 use Rattle.hv_stands.specs.Statements.{AllFitting, CommitsNothing}
 use Rattle.hv_stands.proofs.Begun.{opens, begins}
 use Rattle.hv_stands.proofs.StatementFiles.{other-entries-stand}
@@ -31,22 +34,23 @@ use Rattle.hv_house.specs.declared.fault.HouseFault.{HouseFault}
 use Rattle.hv_house.specs.declared.fault.HouseFault.TheVariants as fault
 use Rattle.hv_house.specs.declared.house.House.{House}
 use Rattle.hv_house.specs.Faults.{FileCause, EndsRun}
-use Rattle.hv_house.specs.House.{entries_of, IsReady, IsSmall, IsFaithful, Shows, AreNoted, AreHalted, StaysReady, Leaves}
+use Rattle.hv_house.specs.House.{entries_of, IsReady, IsSmall, IsFaithful, Shows, AreNoted, AreHalted, StaysReady, Leaves, BeginFits, beginning_of}
+use Rattle.hv_house.specs.Asking.{CanBegin, holder_against}
+use Rattle.hv_house.proofs.Beginning.{load-behind-opened, holder-behind-opened}
 use Rattle.hv_house.specs.Steps.{IsMarked}
 use Rattle.hv_ending.specs.declared.ready.Way.{Way}
 use Rattle.hv_ending.specs.declared.ready.Reply.{Reply}
-use Rattle.hv_ending.specs.Ending.{KeepsCount, IsUndamaged, EndsUncommitted, IsAborted, HasStopped, aborting}
+use Rattle.hv_ending.specs.Ending.{KeepsCount, IsUndamaged, EndsUncommitted, IsAborted, HasStopped, aborting, HasReplied}
 use Rattle.hv_base.specs.declared.ids.TxnId.{TxnId}
-use Rattle.hv_session.proofs.Shorts.{short_blocked, short_full, short_memory}
+use Rattle.hv_session.proofs.Shorts.{short_blocked, short_full}
 use Rattle.hv_session.specs.declared.paused.Taken.{Taken}
 use Rattle.hv_session.specs.declared.paused.Taken.TheVariants as taken
-use Rattle.hv_session.specs.declared.opening.Copies.{Copies}
 use Rattle.hv_session.specs.Lines.{IsLine, IsFullLine, IsTextLine}
-use Rattle.hv_session.specs.Taking.{EndsBefore, IsHold, IsHeld, IsTrulyHeld, IsFinished, IsReplied, IsKeptIn, IsTakenAs}
-use Rattle.hv_session.specs.Ways.{IsPart, IsTrueOf, ShowsAnd, GoesInTime, StandsHeld, StandsTruly, asking_of, AreCopies, IsTurnedAway, Hinders, IsHindered, AbortsOpened}
+use Rattle.hv_session.specs.Taking.{IsWhyNot, EndsBefore, IsHold, IsHeld, IsTrulyHeld, IsFinished, IsReplied, IsKeptIn, IsTakenAs}
+use Rattle.hv_session.specs.Ways.{IsPart, IsTaking, StopsAtBeginning, IsTrueOf, ShowsAnd, GoesInTime, StandsHeld, StandsTruly, IsTurnedAway, hindrance_of, LacksRoom, AbortsOpened}
 use Rattle.hv_session.proofs.Books.{all-append, IsBegun, fit-behind, begun-true, begun-undamaged, one-legal}
 use Rattle.hv_session.proofs.Telling.{told-map, told-both, told-behind}
-use Rattle.hv_session.proofs.Passing.{HasPassed, part-behind, passed-part, same-files}
+use Rattle.hv_session.proofs.Passing.{HasPassed, part-taking, passed-part, same-files}
 
 -- ---- a faithful book goes on by entries that begin a statement
 
@@ -130,54 +134,96 @@ module _ {D : Type 0} (told : D → Option Store) (before now : House D) where
         (told before.shelf) (told now.shelf) halted.tree shows
 
   -- or the run ends
-  pub halted-stopped : (txn : ℕ) (events : List Entry) (why : HouseFault) → AreHalted told events why before now → AreOf txn events → length events ≤ 2 → HasStopped told txn why before now
-  halted-stopped txn events why halted of_it few = record {
+  pub halted-stopped : (txn : ℕ) (event : Entry) (why : HouseFault) → AreHalted told (event ∷ []) why before now → IsOf txn event
+      → Fits profile (state_of (entries_of before)) event → HasStopped told txn why before now
+  halted-stopped txn event why halted of_it fits = record {
     added = [];
     book = halted.entries ∙ sym (append-nil (entries_of before));
     of_it = tt;
     legal = record { fit = tt; truthful = tt };
     unended = tt;
-    further = events;
-    further_of_it = of_it;
-    few = few;
-    leaves = subst (λ (b : List Entry). Leaves why events (told now.shelf) b) (sym halted.entries) halted.leaves;
+    further = event ∷ [];
+    further_of_it = (of_it, tt);
+    few = omega arith;
+    fit = (subst (λ (b : List Entry). Fits profile (state_of b) event) (sym halted.entries) fits, tt);
+    leaves = subst (λ (b : List Entry). Leaves why (event ∷ []) (told now.shelf) b) (sym halted.entries) halted.leaves;
+  }
+
+  -- where two entries were to be noted at once
+  pub halted-beginning : (asking : Asking) (why : HouseFault) → AreHalted told (beginning_of (entries_of before) asking) why before now
+      → BeginFits (entries_of before) asking → StopsAtBeginning told asking why before now
+  halted-beginning asking why halted fits = record {
+    book = halted.entries;
+    fits = fits;
+    leaves = subst (λ (b : List Entry). Leaves why (beginning_of (entries_of before) asking) (told now.shelf) b) (sym halted.entries) halted.leaves;
   }
 
 -- it wasn't opened
 pub memory-away : (first now : List Entry) (asking : Asking) (reply : Reply) → now ≡ first → IsLine (cause_text None cause.Memory) reply → IsTurnedAway first now asking reply
-memory-away first now asking reply same line hold is = inr (inr (inr (record { book = same; is_refused = line.refusal; line = line.line_is })))
+memory-away first now asking reply same line hold is = inr (inr (inr (record { book = same; unended = line.unended; is_refused = line.refusal; line = line.line_is })))
 
 -- ---- where the note of an opening was refused
 
-module _ {D : Type 0} (told : D → Option Store) (faults : D → ℕ) (txn : ℕ) (before now : House D) (events : List Entry) (of_it : AreOf txn events) (few : length events ≤ 2) where
-  -- memory lacked, and the reply says so; or the run ends
-  pub unopened-part : {T : Type 0} (why : HouseFault) (result : Result Reply HouseFault) → AreHalted told events why before now → StaysReady told why now
+module _ {D : Type 0} (told : D → Option Store) (faults : D → ℕ) (before now : House D) where
+  abbrev its_number : ℕ
+  its_number = next_number (entries_of before)
+
+  -- memory lacked, and the reply says so
+  unopened-ok : (events : List Entry) (why : HouseFault) (reply : Reply) → AreHalted told events why before now → StaysReady told why now
+      → faults before.shelf ≤ faults now.shelf → why ≡ fault.NoMemory → IsPart told faults its_number before now (Ok reply)
+  unopened-ok events why reply halted stays later is =
+      passed-part told faults its_number before now reply
+      (lacks-passed told before now faults its_number events
+      (subst (λ (w : HouseFault). AreHalted told events w before now) is halted) (subst (λ (w : HouseFault). StaysReady told w now) is stays) later)
+
+  -- or the run ends
+  pub unopened-part : {T : Type 0} (event : Entry) (why : HouseFault) (result : Result Reply HouseFault) → IsOf its_number event → Fits profile (state_of (entries_of before)) event
+      → AreHalted told (event ∷ []) why before now → StaysReady told why now
       → StaysTold (told before.shelf) (told now.shelf) → EndsRun why → FileCause {T = T} (faults before.shelf) (faults now.shelf) (Err why)
       → IfOk result (λ reply. (why ≡ fault.NoMemory) × IsLine (cause_text None cause.Memory) reply) → IfErr result (λ failed. failed ≡ why)
-      → IsPart told faults txn before now result
-  unopened-part why (Ok reply) halted stays tells ends cause memory failed =
-      passed-part told faults txn before now reply
-      (lacks-passed told before now faults txn events
-      (subst (λ (w : HouseFault). AreHalted told events w before now) memory.0 halted) (subst (λ (w : HouseFault). StaysReady told w now) memory.0 stays) cause.later)
-  unopened-part {T = T} why (Err other) halted stays tells ends cause memory failed =
-      subst (λ (w : HouseFault). IsPart {T = Reply} told faults txn before now (Err w)) (sym failed) (record {
+      → IsPart told faults its_number before now result
+  unopened-part event why (Ok reply) of_it fits halted stays tells ends cause memory failed = unopened-ok (event ∷ []) why reply halted stays cause.later memory.0
+  unopened-part {T = T} event why (Err other) of_it fits halted stays tells ends cause memory failed =
+      subst (λ (w : HouseFault). IsPart {T = Reply} told faults its_number before now (Err w)) (sym failed) (record {
         done = tt;
         keeps = same-files (state_of (entries_of before)).tables (told before.shelf) (told now.shelf) halted.tree;
         tells = tells;
-        stopped = halted-stopped told before now txn events why halted of_it few;
+        stopped = halted-stopped told before now its_number event why halted of_it fits;
         ends = ends;
         cause = record { later = cause.later; failed = cause.failed };
       })
 
-  pub unopened-truly : (asking : Asking) (why : HouseFault) (result : Result Reply HouseFault) → AreHalted told events why before now → StaysReady told why now
+  pub unbegun-taking : {T : Type 0} (asking : Asking) (why : HouseFault) (result : Result Reply HouseFault) → BeginFits (entries_of before) asking
+      → AreHalted told (beginning_of (entries_of before) asking) why before now → StaysReady told why now
+      → StaysTold (told before.shelf) (told now.shelf) → EndsRun why → FileCause {T = T} (faults before.shelf) (faults now.shelf) (Err why)
+      → IfOk result (λ reply. (why ≡ fault.NoMemory) × IsLine (cause_text None cause.Memory) reply) → IfErr result (λ failed. failed ≡ why)
+      → IsTaking told faults asking before now result
+  unbegun-taking asking why (Ok reply) fits halted stays tells ends cause memory failed =
+      part-taking told faults asking before now (Ok reply) (unopened-ok (beginning_of (entries_of before) asking) why reply halted stays cause.later memory.0)
+  unbegun-taking {T = T} asking why (Err other) fits halted stays tells ends cause memory failed =
+      subst (λ (w : HouseFault). IsTaking {T = Reply} told faults asking before now (Err w)) (sym failed) (record {
+        done = tt;
+        keeps = same-files (state_of (entries_of before)).tables (told before.shelf) (told now.shelf) halted.tree;
+        tells = tells;
+        stopped = inr (halted-beginning told before now asking why halted fits);
+        ends = ends;
+        cause = record { later = cause.later; failed = cause.failed };
+      })
+
+  pub unopened-truly : (events : List Entry) (asking : Asking) (why : HouseFault) (result : Result Reply HouseFault) → AreHalted told events why before now → StaysReady told why now
       → IfOk result (λ reply. (why ≡ fault.NoMemory) × IsLine (cause_text None cause.Memory) reply) → Shows told before (entries_of before)
       → IfOk result (λ reply. ShowsAnd told now (λ _. IsTurnedAway (entries_of before) (entries_of now) asking reply))
-  unopened-truly asking why (Err other) halted stays memory shows = tt
-  unopened-truly asking why (Ok reply) halted stays memory shows =
-      lacks-shows told before now faults txn events
+  unopened-truly events asking why (Err other) halted stays memory shows = tt
+  unopened-truly events asking why (Ok reply) halted stays memory shows =
+      lacks-shows told before now faults its_number events
       (subst (λ (w : HouseFault). AreHalted told events w before now) memory.0 halted) (subst (λ (w : HouseFault). StaysReady told w now) memory.0 stays)
       (IsTurnedAway (entries_of before) (entries_of now) asking reply)
       (memory-away (entries_of before) (entries_of now) asking reply halted.entries memory.1) shows
+
+-- a text has one tree
+one-tree : (text : List ℕ) (a b : Stmt) → Runs text a → Runs text b → a ≡ b
+one-tree text a b one other =
+    let e : Some a ≡ Some b = sym one.read ∙ other.read in cc
 
 -- ---- it began: what it goes on to is what it was taken up to
 
@@ -189,20 +235,26 @@ module _ (first before now : List Entry) (asking : Asking) (book : before ≡ fi
   same-added : (xs ys : List Entry) → now ≡ before ++ xs → now ≡ before ++ ys → xs ≡ ys
   same-added xs ys x y = append_cancel_left before xs ys (sym x ∙ y)
 
-  pub goes-taken : (hold : Option Stage) (files : Tree) (way : Taken) → GoesInTime hold (next_number first) before now way
+  pub goes-taken : (hold : Option Stage) (files : Tree) (tree : Stmt) (way : Taken) → Runs asking.text tree → CanBegin first tree → StandsHeld now asking way
+      → GoesInTime hold (next_number first) before now way
       → StandsTruly before now files (next_number first) way → IsTakenAs first now files asking hold way
-  goes-taken hold files (taken.Replied reply) goes truly = inl (record {
+  goes-taken hold files tree (taken.Replied reply) runs can stands goes truly = inl (record {
     added = starting (next_number first) ∷ truly.added;
     book = begun-book truly.added truly.book;
+    tree = tree;
+    runs = runs;
+    starts = inl (can, (truly.added, refl));
     of_it = (refl, truly.of_it);
     in_time = subst (λ (es : List Entry). EndsBefore hold (next_number first) (starting (next_number first) ∷ es)) (same-added goes.added truly.added goes.book truly.book) goes.in_time;
     undamaged = (tt, truly.undamaged);
     answered = truly.answered;
   })
-  goes-taken hold files (taken.Kept paused) goes truly = record {
+  goes-taken hold files tree (taken.Kept paused) runs can stands goes truly = record {
     added = starting (next_number first) ∷ goes.added;
     book = begun-book goes.added goes.book;
     txn_is = goes.in_time.0;
+    runs = stands.under_way.runs;
+    can = subst (CanBegin first) (one-tree asking.text tree paused.tree runs stands.under_way.runs) can;
     at_hold = goes.in_time.1;
     truly = truly;
   }
@@ -213,6 +265,23 @@ module _ (first before now : List Entry) (asking : Asking) (book : before ≡ fi
 
 -- ---- it is turned away
 
+-- it can't start, though no lock is held against it: there is no room
+cannot-lacks : (book : List Entry) (tree : Stmt) → (CanBegin book tree → ⊥) → holder_against book tree ≡ None → profile.entries < load (state_of book) + 3
+cannot-lacks book tree cannot free = by (nat_lt profile.entries (load (state_of book) + 3)) refl
+  where
+    by : (b : Bool) → nat_lt profile.entries (load (state_of book) + 3) ≡ b → profile.entries < load (state_of book) + 3
+    by true is = grind (arith, nat_tests, is)
+    by false is = absurd (cannot (grind (arith, nat_tests, is), free))
+
+-- nor behind its Opened
+pub lacks-behind : (book now : List Entry) (asking : Asking) (tree : Stmt) → now ≡ book ++ opening book asking ∷ [] → (CanBegin book tree → ⊥) → LacksRoom now tree
+lacks-behind book now asking tree is cannot free =
+    let before : holder_against book tree ≡ None =
+    sym (ap (λ (b : List Entry). holder_against b tree) is ∙ holder-behind-opened book asking tree) ∙ free in
+    let few = cannot-lacks book tree cannot before in
+    let more : load (state_of now) ≡ load (state_of book) + 2 = ap (λ (b : List Entry). load (state_of b)) is ∙ load-behind-opened book asking in
+    omega (arith, few, more)
+
 module _ (first before now : List Entry) (asking : Asking) (book : before ≡ first ++ opening first asking ∷ []) where
   never-started : (hold : Option Stage) (why : Cause) → IsHold hold → EndsBefore hold (next_number first) (aborting (next_number first) why ∷ [])
   never-started None why is = tt
@@ -222,26 +291,42 @@ module _ (first before now : List Entry) (asking : Asking) (book : before ≡ fi
   never-started (Some stage.Taken) why is = absurd is
   never-started (Some stage.Replied) why is = absurd is
 
-  hinders-whole : (why : Cause) → Hinders why → IsUndamaged (aborting (next_number first) why)
-  hinders-whole (cause.Blocked holder) hinders = tt
-  hinders-whole cause.Full hinders = tt
-  hinders-whole cause.Memory hinders = tt
-  hinders-whole why hinders = absurd hinders
+  hindrance-whole : (holder : Option ℕ) (why : Cause) → (why ≡ hindrance_of holder) ⊎ (why ≡ cause.Memory) → IsUndamaged (aborting (next_number first) why)
+  hindrance-whole holder why (inr memory) = subst (λ (w : Cause). IsUndamaged (aborting (next_number first) w)) (sym memory) tt
+  hindrance-whole None why (inl is) = subst (λ (w : Cause). IsUndamaged (aborting (next_number first) w)) (sym is) tt
+  hindrance-whole (Some holder) why (inl is) = subst (λ (w : Cause). IsUndamaged (aborting (next_number first) w)) (sym is) tt
 
-  pub hindered-away : (reply : Reply) → IsHindered (next_number first) before now → HasAnswered now (next_number first) reply.text reply.refused → IsTurnedAway first now asking reply
-  hindered-away reply hindered answered hold is = inl (record {
-    added = aborting (next_number first) hindered.why ∷ [];
-    book = hindered.book ∙ ap (λ (b : List Entry). b ++ aborting (next_number first) hindered.why ∷ []) book
-        ∙ append_assoc first (opening first asking ∷ []) (aborting (next_number first) hindered.why ∷ []);
-    of_it = (refl, tt);
-    in_time = never-started hold hindered.why is;
-    undamaged = (hinders-whole hindered.why hindered.hinders, tt);
-    answered = answered;
-  })
+  -- it is aborted for what stands in its way
+  why-not : (tree : Stmt) → (CanBegin first tree → ⊥) → (holder : Option ℕ) → holder_against first tree ≡ holder → (why : Cause)
+      → (why ≡ hindrance_of holder) ⊎ (why ≡ cause.Memory) → IsWhyNot first tree why
+  why-not tree cannot holder here why (inr memory) = subst (IsWhyNot first tree) (sym memory) cannot
+  why-not tree cannot None here why (inl is) = subst (IsWhyNot first tree) (sym is) (here, cannot-lacks first tree cannot here)
+  why-not tree cannot (Some holder) here why (inl is) = subst (IsWhyNot first tree) (sym is) here
+
+  pub aborted-away : (tree : Stmt) (reply : Reply) → Runs asking.text tree → (CanBegin first tree → ⊥)
+      → IsAborted (next_number first) (hindrance_of (holder_against before tree)) before now
+      → HasReplied now (next_number first) reply.text reply.refused reply.ended → IsTurnedAway first now asking reply
+  aborted-away tree reply runs cannot aborted answered hold is =
+      let same : holder_against before tree ≡ holder_against first tree =
+      ap (λ (b : List Entry). holder_against b tree) book ∙ holder-behind-opened first asking tree in
+      let why : (aborted.of ≡ hindrance_of (holder_against first tree)) ⊎ (aborted.of ≡ cause.Memory) =
+      subst (λ (h : Option ℕ). (aborted.of ≡ hindrance_of h) ⊎ (aborted.of ≡ cause.Memory)) same aborted.is in
+      inl (record {
+        added = aborting (next_number first) aborted.of ∷ [];
+        book = aborted.book ∙ ap (λ (b : List Entry). b ++ aborting (next_number first) aborted.of ∷ []) book
+            ∙ append_assoc first (opening first asking ∷ []) (aborting (next_number first) aborted.of ∷ []);
+        tree = tree;
+        runs = runs;
+        starts = inr (aborted.of, why-not tree cannot (holder_against first tree) refl aborted.of why, refl);
+        of_it = (refl, tt);
+        in_time = never-started hold aborted.of is;
+        undamaged = (hindrance-whole (holder_against first tree) aborted.of why, tt);
+        answered = answered;
+      })
 
 pub full-away : (book : List Entry) (asking : Asking) (reply : Reply) → profile.entries < load (state_of book) + 2 → IsFullLine reply → IsTurnedAway book book asking reply
-full-away book asking reply lacks (inl line) hold is = inr (inr (inl (record { book = refl; lacks = lacks; is_refused = line.refusal; line = line.line_is })))
-full-away book asking reply lacks (inr line) hold is = inr (inr (inr (record { book = refl; is_refused = line.refusal; line = line.line_is })))
+full-away book asking reply lacks (inl line) hold is = inr (inr (inl (record { book = refl; unended = line.unended; lacks = lacks; is_refused = line.refusal; line = line.line_is })))
+full-away book asking reply lacks (inr line) hold is = inr (inr (inr (record { book = refl; unended = line.unended; is_refused = line.refusal; line = line.line_is })))
 
 -- its Opened doesn't fit, since there is no room
 pub lacks-room : (book : List Entry) (asking : Asking) (tree : Stmt) → Runs asking.text tree → (Fits profile (state_of book) (opening book asking) → ⊥)
@@ -261,97 +346,90 @@ module _ (book : List Entry) (asking : Asking) (txn : ℕ) (said : Stmt) (waits 
   of-waiting : (P : Transaction → Type 0) → P (waiting_here asking) → Of (state_of book) txn P
   of-waiting P p = subst (λ (o : Option Transaction). IsSomeAnd o P) (sym waits.here) p
 
-  pub waiting-memory : Fits profile (state_of book) (aborting txn cause.Memory)
-  waiting-memory = of-waiting (λ (t : Transaction). IsTrue (is_open t)) refl
+  -- the lock set of a text is what its tree names
+  locks-are : locks_of (waiting_here asking) ≡ names_in said
+  locks-are = append-nil (locks_of_tree (tree_of asking.text)) ∙ ap locks_of_tree waits.runs.read
 
-  pub hinders-true : (why : Cause) → Hinders why → IsTruthful (state_of book) (aborting txn why)
-  hinders-true (cause.Blocked holder) hinders = of-waiting (λ (t : Transaction). Unit {0}) tt
-  hinders-true cause.Full hinders = of-waiting (λ (t : Transaction). IsFalse (is_started t) ⊎ NeedsId t.given (meaning t)) (inl refl)
-  hinders-true cause.Memory hinders = of-waiting (λ (t : Transaction). Unit {0}) tt
-  hinders-true why hinders = absurd hinders
+  pub hindrance-fits : LacksRoom book said → (holder : Option ℕ) → holder_against book said ≡ holder → Fits profile (state_of book) (aborting txn (hindrance_of holder))
+  hindrance-fits lacks None here = of-waiting (FullFits profile (state_of book)) (record { unended = refl; full = lacks here })
+  hindrance-fits lacks (Some holder) here =
+      of-waiting (BlockedFits (state_of book) holder) (record {
+        waiting = record { unended = refl; unstarted = refl };
+        held = ap (λ (locks : List Lock). first_holder locks 1 (state_of book).transactions) locks-are ∙ here;
+      })
 
-pub hinders-told : (book : List Entry) (asking : Asking) (txn : ℕ) (said : Stmt) → IsWaiting book asking txn said → (why : Cause) → Hinders why → (o : Option Store)
-    → Tells o (λ _. IsTruthful (state_of book) (aborting txn why))
-hinders-told book asking txn said waits why hinders None = tt
-hinders-told book asking txn said waits why hinders (Some s) = hinders-true book asking txn said waits why hinders
+  pub hindrance-true : (holder : Option ℕ) → IsTruthful (state_of book) (aborting txn (hindrance_of holder))
+  hindrance-true (Some holder) = of-waiting (λ (t : Transaction). Unit {0}) tt
+  hindrance-true None = of-waiting (λ (t : Transaction). IsFalse (is_started t) ⊎ NeedsId t.given (meaning t)) (inl refl)
 
-pub hinders-small : (txn : TxnId) (why : Cause) → Hinders why → IsSmall (aborting txn.0 why)
-hinders-small txn (cause.Blocked holder) hinders = short_blocked txn holder
-hinders-small txn cause.Full hinders = short_full txn
-hinders-small txn cause.Memory hinders = short_memory txn
-hinders-small txn why hinders = absurd hinders
+pub hindrance-told : (book : List Entry) (asking : Asking) (txn : ℕ) (said : Stmt) → IsWaiting book asking txn said → (holder : Option ℕ) → (o : Option Store)
+    → Tells o (λ _. IsTruthful (state_of book) (aborting txn (hindrance_of holder)))
+hindrance-told book asking txn said waits holder None = tt
+hindrance-told book asking txn said waits holder (Some s) = hindrance-true book asking txn said waits holder
 
-pub hinders-uncommitted : (why : Cause) → Hinders why → EndsUncommitted why
-hinders-uncommitted (cause.Blocked holder) hinders = tt
-hinders-uncommitted cause.Full hinders = tt
-hinders-uncommitted cause.Memory hinders = tt
-hinders-uncommitted why hinders = absurd hinders
+pub hindrance-small : (txn : TxnId) (holder : Option ℕ) → IsSmall (aborting txn.0 (hindrance_of holder))
+hindrance-small txn (Some holder) = short_blocked txn (record { 0 = holder })
+hindrance-small txn None = short_full txn
 
-pub hinders-marked : {D : Type 0} (house : House D) (txn : ℕ) (why : Cause) → Hinders why → IsMarked house (aborting txn why)
-hinders-marked house txn (cause.Blocked holder) hinders = tt
-hinders-marked house txn cause.Full hinders = tt
-hinders-marked house txn cause.Memory hinders = tt
-hinders-marked house txn why hinders = absurd hinders
+pub hindrance-uncommitted : (holder : Option ℕ) → EndsUncommitted (hindrance_of holder)
+hindrance-uncommitted (Some holder) = tt
+hindrance-uncommitted None = tt
 
-module _ (why : Cause) (hinders : Hinders why) where
-  hinders-of : (of : Cause) → ((of ≡ why) ⊎ (of ≡ cause.Memory)) → Hinders of
-  hinders-of of (inl is) = subst Hinders (sym is) hinders
-  hinders-of of (inr is) = subst Hinders (sym is) tt
+pub hindrance-marked : {D : Type 0} (house : House D) (txn : ℕ) (holder : Option ℕ) → IsMarked house (aborting txn (hindrance_of holder))
+hindrance-marked house txn (Some holder) = tt
+hindrance-marked house txn None = tt
 
-  hinders-counts : (low high txn : ℕ) (of : Cause) → Hinders of → KeepsCount low high (aborting txn of)
-  hinders-counts low high txn (cause.Blocked holder) is = tt
-  hinders-counts low high txn cause.Full is = tt
-  hinders-counts low high txn cause.Memory is = tt
-  hinders-counts low high txn of is = absurd is
+hindrance-counts : (low high txn : ℕ) (holder : Option ℕ) (of : Cause) → (of ≡ hindrance_of holder) ⊎ (of ≡ cause.Memory) → KeepsCount low high (aborting txn of)
+hindrance-counts low high txn holder of (inr memory) = subst (λ (w : Cause). KeepsCount low high (aborting txn w)) (sym memory) tt
+hindrance-counts low high txn None of (inl is) = subst (λ (w : Cause). KeepsCount low high (aborting txn w)) (sym is) tt
+hindrance-counts low high txn (Some holder) of (inl is) = subst (λ (w : Cause). KeepsCount low high (aborting txn w)) (sym is) tt
 
-  pub hindered-by : (txn : ℕ) (before now : List Entry) (result : Result Reply HouseFault) → IfOk result (λ _. IsAborted txn why before now) → IfOk result (λ _. IsHindered txn before now)
-  hindered-by txn before now (Ok reply) aborted = record { why = aborted.of; hinders = hinders-of aborted.of aborted.is; book = aborted.book }
-  hindered-by txn before now (Err failed) aborted = tt
-
-  module _ {D : Type 0} (told : D → Option Store) (faults : D → ℕ) (txn : ℕ) (before now : House D) where
-    pub aborted-part : (result : Result Reply HouseFault) → IfOk result (λ _. IsReady told now) → IfOk result (λ _. IsAborted txn why (entries_of before) (entries_of now))
-        → Moves KeepsTree (told before.shelf) (told now.shelf) → StaysTold (told before.shelf) (told now.shelf)
-        → IfErr result (λ failed. HasStopped told txn failed before now) → IfErr result EndsRun → FileCause (faults before.shelf) (faults now.shelf) result
-        → IsPart told faults txn before now result
-    aborted-part (Ok reply) ready aborted tree tells stopped ends cause = record {
-      done = record {
-        ready = ready;
-        added = record {
-          added = aborting txn aborted.of ∷ [];
-          book = aborted.book;
-          of_it = (refl, tt);
-          counts = (hinders-counts (faults before.shelf) (faults now.shelf) txn aborted.of (hinders-of aborted.of aborted.is), tt);
-        };
+module _ (holder : Option ℕ) {D : Type 0} (told : D → Option Store) (faults : D → ℕ) (txn : ℕ) (before now : House D) where
+  pub aborted-part : (result : Result Reply HouseFault) → IfOk result (λ _. IsReady told now)
+      → IfOk result (λ _. IsAborted txn (hindrance_of holder) (entries_of before) (entries_of now))
+      → Moves KeepsTree (told before.shelf) (told now.shelf) → StaysTold (told before.shelf) (told now.shelf)
+      → IfErr result (λ failed. HasStopped told txn failed before now) → IfErr result EndsRun → FileCause (faults before.shelf) (faults now.shelf) result
+      → IsPart told faults txn before now result
+  aborted-part (Ok reply) ready aborted tree tells stopped ends cause = record {
+    done = record {
+      ready = ready;
+      added = record {
+        added = aborting txn aborted.of ∷ [];
+        book = aborted.book;
+        of_it = (refl, tt);
+        counts = (hindrance-counts (faults before.shelf) (faults now.shelf) txn holder aborted.of aborted.is, tt);
       };
-      keeps = same-files (state_of (entries_of before)).tables (told before.shelf) (told now.shelf) tree;
-      tells = tells;
-      stopped = tt;
-      ends = tt;
-      cause = cause;
-    }
-    aborted-part (Err failed) ready aborted tree tells stopped ends cause = record {
-      done = tt;
-      keeps = same-files (state_of (entries_of before)).tables (told before.shelf) (told now.shelf) tree;
-      tells = tells;
-      stopped = stopped;
-      ends = ends;
-      cause = cause;
-    }
+    };
+    keeps = same-files (state_of (entries_of before)).tables (told before.shelf) (told now.shelf) tree;
+    tells = tells;
+    stopped = tt;
+    ends = tt;
+    cause = cause;
+  }
+  aborted-part (Err failed) ready aborted tree tells stopped ends cause = record {
+    done = tt;
+    keeps = same-files (state_of (entries_of before)).tables (told before.shelf) (told now.shelf) tree;
+    tells = tells;
+    stopped = stopped;
+    ends = ends;
+    cause = cause;
+  }
 
 -- ---- behind its Opened it is turned away
 
 pub turned-away : {D : Type 0} (told : D → Option Store) (faults : D → ℕ) (txn : ℕ) (before between now : House D) (asking : Asking) (said : Stmt) (result : Result Reply HouseFault)
     → entries_of between ≡ entries_of before ++ opening (entries_of before) asking ∷ [] → txn ≡ next_number (entries_of before)
-    → IsWaiting (entries_of between) asking txn said → AbortsOpened told faults txn between now result → Shows told between (entries_of between)
+    → (CanBegin (entries_of before) said → ⊥)
+    → IsWaiting (entries_of between) asking txn said → AbortsOpened told faults said txn between now result → Shows told between (entries_of between)
     → IfOk result (λ reply. ShowsAnd told now (λ _. IsTurnedAway (entries_of before) (entries_of now) asking reply))
-turned-away told faults txn before between now asking said (Err why) book is waits aborts shows = tt
-turned-away told faults txn before between now asking said (Ok reply) book is waits aborts shows =
+turned-away told faults txn before between now asking said (Err why) book is cannot waits aborts shows = tt
+turned-away told faults txn before between now asking said (Ok reply) book is cannot waits aborts shows =
     told-map (IsFaithful (entries_of now)) (IsTrueOf (entries_of now) (λ _. IsTurnedAway (entries_of before) (entries_of now) asking reply))
     (λ s faithful. record {
       faithful = faithful;
-      true_of = hindered-away (entries_of before) (entries_of between) (entries_of now) asking book reply
-          (subst (λ (n : ℕ). IsHindered n (entries_of between) (entries_of now)) is aborts.hindered)
-          (subst (λ (n : ℕ). HasAnswered (entries_of now) n reply.text reply.refused) is (aborts.answered asking said waits));
+      true_of = aborted-away (entries_of before) (entries_of between) (entries_of now) asking book said reply waits.runs cannot
+          (subst (λ (n : ℕ). IsAborted n (hindrance_of (holder_against (entries_of between) said)) (entries_of between) (entries_of now)) is aborts.aborted)
+          (subst (λ (n : ℕ). HasReplied (entries_of now) n reply.text reply.refused reply.ended) is (aborts.answered asking said waits));
     })
     (told now.shelf) (aborts.shows shows)
 
@@ -406,15 +484,16 @@ kept-on first before now asking book txn is hold (Ok way) goes stands =
 
 pub goes-on : {D : Type 0} (told : D → Option Store) (first before now : House D) (asking : Asking)
     → entries_of before ≡ entries_of first ++ opening (entries_of first) asking ∷ starting (next_number (entries_of first)) ∷ [] → (txn : ℕ) → txn ≡ next_number (entries_of first)
-    → (hold : Option Stage) (result : Result Taken HouseFault) → IfOk result (GoesInTime hold txn (entries_of before) (entries_of now))
+    → (hold : Option Stage) (tree : Stmt) (result : Result Taken HouseFault) → Runs asking.text tree → CanBegin (entries_of first) tree
+    → IfOk result (StandsHeld (entries_of now) asking) → IfOk result (GoesInTime hold txn (entries_of before) (entries_of now))
     → IfOk result (λ way. ShowsAnd told now (λ s. StandsTruly (entries_of before) (entries_of now) s.tree txn way))
     → IfOk result (λ way. ShowsAnd told now (λ s. IsTakenAs (entries_of first) (entries_of now) s.tree asking hold way))
-goes-on told first before now asking book txn is hold (Err why) goes truly = tt
-goes-on told first before now asking book txn is hold (Ok way) goes truly =
+goes-on told first before now asking book txn is hold tree (Err why) runs can stands goes truly = tt
+goes-on told first before now asking book txn is hold tree (Ok way) runs can stands goes truly =
     told-map (IsTrueOf (entries_of now) (λ s. StandsTruly (entries_of before) (entries_of now) s.tree txn way)) (IsTrueOf (entries_of now) (λ s. IsTakenAs (entries_of first) (entries_of now) s.tree asking hold way))
     (λ s both. record {
       faithful = both.faithful;
-      true_of = goes-taken (entries_of first) (entries_of before) (entries_of now) asking book hold s.tree way
+      true_of = goes-taken (entries_of first) (entries_of before) (entries_of now) asking book hold s.tree tree way runs can stands
           (subst (λ (n : ℕ). GoesInTime hold n (entries_of before) (entries_of now) way) is goes)
           (subst (λ (n : ℕ). StandsTruly (entries_of before) (entries_of now) s.tree n way) is both.true_of);
     })
@@ -433,16 +512,13 @@ turned-taken told before now asking hold is reply truly =
 
 -- ---- one that wasn't opened is taken so
 
-pub same-asking : (copies : Copies) (number : ℕ) (session text : List ℕ) → AreCopies session text copies → asking_of copies number ≡ record { session = session; number = number; text = text }
-same-asking copies number session text are = λ i. record { session = are.session_is i; number = number; text = are.text_is i }
-
 pub memory-taken : (book : List Entry) (files : Tree) (asking : Asking) (hold : Option Stage) (reply : Reply) → IsLine (cause_text None cause.Memory) reply
     → IsTakenAs book book files asking hold (taken.Replied reply)
-memory-taken book files asking hold reply line = inr (inr (inr (record { book = refl; is_refused = line.refusal; line = line.line_is })))
+memory-taken book files asking hold reply line = inr (inr (inr (record { book = refl; unended = line.unended; is_refused = line.refusal; line = line.line_is })))
 
 pub text-taken : (book : List Entry) (files : Tree) (asking : Asking) (hold : Option Stage) (reply : Reply) → IsTextLine asking.text reply
     → IsTakenAs book book files asking hold (taken.Replied reply)
-text-taken book files asking hold reply (inl line) = inr (inl (record { book = refl; is_refused = line.refusal; fault = line.fault }))
+text-taken book files asking hold reply (inl line) = inr (inl (record { book = refl; unended = line.unended; is_refused = line.refusal; fault = line.fault }))
 text-taken book files asking hold reply (inr line) = memory-taken book files asking hold reply line
 
 -- where the test says so, no opening fits

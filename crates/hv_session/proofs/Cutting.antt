@@ -19,7 +19,7 @@ use Rattle.hv_history.specs.declared.state.Transaction.{Transaction}
 use Rattle.hv_history.specs.State.{State, state_of, meaning}
 use Rattle.hv_history.specs.Legal.{Of, is_open, IsRunning, Fits, IsTruthful, IsRefusedAs, IsLegalFrom, profile}
 use Rattle.hv_journal.specs.Appending.{Holds, HoldsMore, ReadsMore, KeepsTree}
-use Rattle.hv_stands.specs.Running.{Asking, meant, running, snapshot_at, IsUnderWay, HasAnswered, KeepsGiven}
+use Rattle.hv_stands.specs.Running.{Asking, meant, running, snapshot_at, IsUnderWay, KeepsGiven}
 use Rattle.hv_house.specs.declared.fault.HouseFault.{HouseFault}
 use Rattle.hv_house.specs.declared.fault.HouseFault.TheVariants as halts
 use Rattle.hv_house.specs.declared.fault.RowFault.{RowFault}
@@ -29,7 +29,7 @@ use Rattle.hv_house.specs.Faults.{FileCause, HasRisen, HasRisenReading, EndsRun,
 use Rattle.hv_house.specs.House.{entries_of, IsReady, IsAsked, IsFaithful, Leaves, Shows}
 use Rattle.hv_ending.specs.declared.ready.Way.{Way}
 use Rattle.hv_ending.specs.declared.ready.Reply.{Reply}
-use Rattle.hv_ending.specs.Ending.{KeepsCount, IsUndamaged, IsAborted, HasStopped, aborting}
+use Rattle.hv_ending.specs.Ending.{KeepsCount, IsUndamaged, IsAborted, HasStopped, aborting, HasReplied}
 use Rattle.hv_session.proofs.Passing.{cause-from, same-files, asked-shows}
 use Rattle.hv_session.specs.Ways.{IsPart, IsTrueOf, ShowsAnd, CutsOff, IsCauseOfRows, IsAbortedFor, EndsFor, ComesTo, ComesTruly}
 use Rattle.hv_session.specs.declared.ends.Outcome.{Outcome}
@@ -93,6 +93,7 @@ nothing-stopped told txn why before now ends holds same = record {
   further = [];
   further_of_it = tt;
   few = omega arith;
+  fit = tt;
   leaves = nothing-leaves told now why ends holds;
 }
 
@@ -206,6 +207,7 @@ module _ {D : Type 0} (told : D → Option Store) (faults : D → ℕ) (way : Wa
       further = stopped.further;
       further_of_it = stopped.further_of_it;
       few = stopped.few;
+      fit = stopped.fit;
       leaves = stopped.leaves;
     }
 
@@ -256,7 +258,7 @@ module _ {D : Type 0} (told : D → Option Store) (faults : D → ℕ) (way : Wa
         → ShowsAnd told now (λ _. ComesTruly (entries_of first) (entries_of now) way said (outcome.Ended reply))
     ended-truly reply asking said ends under shows undamaged =
         let aborted = ends.aborted.aborted in
-        told-both (IsFaithful (entries_of now)) (λ _. IsDamage fault → ⊥) (IsTrueOf (entries_of now) (λ _. IsFinished (entries_of first) (entries_of now) way.txn.0 reply.text reply.refused))
+        told-both (IsFaithful (entries_of now)) (λ _. IsDamage fault → ⊥) (IsTrueOf (entries_of now) (λ _. IsFinished (entries_of first) (entries_of now) way.txn.0 reply.text reply.refused reply.ended))
         (λ s faithful none. record {
           faithful = faithful;
           true_of = record {

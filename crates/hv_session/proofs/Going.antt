@@ -17,7 +17,7 @@ use Rattle.hv_history.specs.declared.entry.Cause.TheVariants as cause
 use Rattle.hv_history.specs.State.{state_of}
 use Rattle.hv_history.specs.Legal.{IsTruthful}
 use Rattle.hv_journal.specs.Appending.{KeepsTree}
-use Rattle.hv_stands.specs.Running.{Asking, AreOf, IsOf, meant, IsUnderWay, HasAnswered, KeepsGiven}
+use Rattle.hv_stands.specs.Running.{Asking, AreOf, IsOf, meant, IsUnderWay, KeepsGiven}
 use Rattle.hv_house.specs.declared.fault.HouseFault.{HouseFault}
 use Rattle.hv_house.specs.declared.house.House.{House}
 use Rattle.hv_house.specs.Faults.{FileCause, EndsRun}
@@ -27,7 +27,7 @@ use Rattle.hv_ending.specs.declared.ready.Ready.{Ready}
 use Rattle.hv_ending.specs.declared.ready.Reply.{Reply}
 use Rattle.hv_ending.specs.declared.ready.Prepared.{Prepared}
 use Rattle.hv_ending.specs.declared.ready.Prepared.TheVariants as prepared
-use Rattle.hv_ending.specs.Ending.{CanEnd, KeepsCount, IsUndamaged, EndsUncommitted, AddsNoneOrId, Prepares, Concludes, IsReadyToEnd, IsPreparedIn, IsTrulyReady, IsTrulyPrepared, HasStopped, aborting, giving}
+use Rattle.hv_ending.specs.Ending.{CanEnd, KeepsCount, IsUndamaged, EndsUncommitted, AddsNoneOrId, Prepares, Concludes, IsReadyToEnd, IsPreparedIn, IsTrulyReady, IsTrulyPrepared, HasStopped, aborting, giving, HasReplied}
 use Rattle.hv_session.specs.declared.ends.Outcome.{Outcome}
 use Rattle.hv_session.specs.declared.ends.Outcome.TheVariants as outcome
 use Rattle.hv_session.specs.Taking.{EndsEarly, IsFinished}
@@ -155,7 +155,7 @@ module _ {D : Type 0} (told : D → Option Store) (house : House D) (asking : As
 
   pub told-prepared-ended : (reply : Reply) → found ≡ prepared.Ended reply
       → Tells (told house.shelf) (λ s. IsTrulyPrepared (entries_of house) s.tree asking way.txn.0 way.place said found)
-      → Tells (told house.shelf) (λ _. HasAnswered (entries_of house) way.txn.0 reply.text reply.refused)
+      → Tells (told house.shelf) (λ _. HasReplied (entries_of house) way.txn.0 reply.text reply.refused reply.ended)
   told-prepared-ended reply is truly =
       subst (λ (f : Prepared). Tells (told house.shelf) (λ s. IsTrulyPrepared (entries_of house) s.tree asking way.txn.0 way.place said f)) is truly
 
@@ -166,12 +166,12 @@ module _ {D : Type 0} (told : D → Option Store) (txn low mid high : ℕ) (befo
   pub concluded-truly : (ready : Ready) → Prepares txn low mid (entries_of before) (entries_of between) (prepared.Ready ready) → (result : Result Reply HouseFault)
       → IfOk result (λ _. Concludes txn mid high (entries_of between) (entries_of now))
       → IfOk result (λ _. Shows told now (entries_of now))
-      → IfOk result (λ reply. Tells (told now.shelf) (λ _. HasAnswered (entries_of now) txn reply.text reply.refused))
-      → IfOk result (λ reply. ShowsAnd told now (λ _. IsFinished (entries_of before) (entries_of now) txn reply.text reply.refused))
+      → IfOk result (λ reply. Tells (told now.shelf) (λ _. HasReplied (entries_of now) txn reply.text reply.refused reply.ended))
+      → IfOk result (λ reply. ShowsAnd told now (λ _. IsFinished (entries_of before) (entries_of now) txn reply.text reply.refused reply.ended))
   concluded-truly ready prepares (Err why) concludes shows answered = tt
   concluded-truly ready prepares (Ok reply) concludes shows answered =
-      told-both (IsFaithful (entries_of now)) (λ _. HasAnswered (entries_of now) txn reply.text reply.refused)
-      (IsTrueOf (entries_of now) (λ _. IsFinished (entries_of before) (entries_of now) txn reply.text reply.refused))
+      told-both (IsFaithful (entries_of now)) (λ _. HasReplied (entries_of now) txn reply.text reply.refused reply.ended)
+      (IsTrueOf (entries_of now) (λ _. IsFinished (entries_of before) (entries_of now) txn reply.text reply.refused reply.ended))
       (λ s faithful answer. record {
         faithful = faithful;
         true_of = record {
@@ -187,11 +187,11 @@ module _ {D : Type 0} (told : D → Option Store) (txn low mid high : ℕ) (befo
 -- while it was prepared
 pub prepared-truly : {D : Type 0} (told : D → Option Store) (txn low high : ℕ) (before now : House D) (reply : Reply)
     → Prepares txn low high (entries_of before) (entries_of now) (prepared.Ended reply) → Shows told now (entries_of now)
-    → Tells (told now.shelf) (λ _. HasAnswered (entries_of now) txn reply.text reply.refused)
-    → ShowsAnd told now (λ _. IsFinished (entries_of before) (entries_of now) txn reply.text reply.refused)
+    → Tells (told now.shelf) (λ _. HasReplied (entries_of now) txn reply.text reply.refused reply.ended)
+    → ShowsAnd told now (λ _. IsFinished (entries_of before) (entries_of now) txn reply.text reply.refused reply.ended)
 prepared-truly told txn low high before now reply prepares shows answered =
-    told-both (IsFaithful (entries_of now)) (λ _. HasAnswered (entries_of now) txn reply.text reply.refused)
-    (IsTrueOf (entries_of now) (λ _. IsFinished (entries_of before) (entries_of now) txn reply.text reply.refused))
+    told-both (IsFaithful (entries_of now)) (λ _. HasReplied (entries_of now) txn reply.text reply.refused reply.ended)
+    (IsTrueOf (entries_of now) (λ _. IsFinished (entries_of before) (entries_of now) txn reply.text reply.refused reply.ended))
     (λ s faithful answer. record {
       faithful = faithful;
       true_of = record { added = prepares.added; book = prepares.book; of_it = prepares.of_it; undamaged = prepares.undamaged; answered = answer };
@@ -211,8 +211,8 @@ shows-more told house P Q more shows =
     told-map (IsTrueOf (entries_of house) P) (IsTrueOf (entries_of house) Q) (λ s both. record { faithful = both.faithful; true_of = more s both.true_of }) (told house.shelf) shows
 
 -- behind a part that noted nothing
-pub finished-behind : (before between now : List Entry) (txn : ℕ) (reply : Reply) → between ≡ before → IsFinished between now txn reply.text reply.refused → IsFinished before now txn reply.text reply.refused
-finished-behind before between now txn reply same finished = subst (λ (b : List Entry). IsFinished b now txn reply.text reply.refused) same finished
+pub finished-behind : (before between now : List Entry) (txn : ℕ) (reply : Reply) → between ≡ before → IsFinished between now txn reply.text reply.refused reply.ended → IsFinished before now txn reply.text reply.refused reply.ended
+finished-behind before between now txn reply same finished = subst (λ (b : List Entry). IsFinished b now txn reply.text reply.refused reply.ended) same finished
 
 -- ---- a refusal that ends at once
 
@@ -266,7 +266,7 @@ module _ {D : Type 0} (told : D → Option Store) (faults : D → ℕ) (way : Wa
       → Shows told before (entries_of before)
       → ShowsAnd told now (λ _. ComesTruly (entries_of before) (entries_of now) way said (outcome.Ended reply))
   refused-truly reply asking said cuts under truly shows =
-      told-map (IsFaithful (entries_of now)) (IsTrueOf (entries_of now) (λ _. IsFinished (entries_of before) (entries_of now) way.txn.0 reply.text reply.refused))
+      told-map (IsFaithful (entries_of now)) (IsTrueOf (entries_of now) (λ _. IsFinished (entries_of before) (entries_of now) way.txn.0 reply.text reply.refused reply.ended))
       (λ s faithful. record {
         faithful = faithful;
         true_of = record {
@@ -322,7 +322,7 @@ module _ {D : Type 0} (told : D → Option Store) (faults : D → ℕ) (way : Wa
     pub comes-ended : Comes → ComesTo way.txn.0 (entries_of before) (entries_of between) (outcome.Ended reply)
     comes-ended comes = subst (λ (f : Outcome). ComesTo way.txn.0 (entries_of before) (entries_of between) f) is comes
 
-    pub truly-ended : Truly → ShowsAnd told between (λ _. IsFinished (entries_of before) (entries_of between) way.txn.0 reply.text reply.refused)
+    pub truly-ended : Truly → ShowsAnd told between (λ _. IsFinished (entries_of before) (entries_of between) way.txn.0 reply.text reply.refused reply.ended)
     truly-ended truly = subst (λ (f : Outcome). ShowsAnd told between (λ _. ComesTruly (entries_of before) (entries_of between) way tree f)) is truly
 
 -- ---- all but its end

@@ -6,19 +6,19 @@ use Rattle.hv_shelf.specs.Disk.{Store, Tree}
 use Rattle.hv_logic.specs.declared.meaning.Meaning.{Meaning}
 use Rattle.hv_history.specs.declared.entry.Entry.{Entry}
 use Rattle.hv_history.specs.declared.state.Transaction.{Transaction}
-use Rattle.hv_stands.specs.Running.{Asking, meant, running, snapshot_at, IsUnderWay, HasAnswered}
+use Rattle.hv_stands.specs.Running.{Asking, next_number, meant, running, snapshot_at, IsUnderWay}
 use Rattle.hv_stands.proofs.Numbers.{one_value}
 use Rattle.hv_house.specs.declared.fault.HouseFault.{HouseFault}
 use Rattle.hv_house.specs.declared.house.House.{House}
 use Rattle.hv_house.specs.House.{entries_of, IsReady, IsFaithful, Shows}
 use Rattle.hv_ending.specs.declared.ready.Ready.{Ready}
 use Rattle.hv_ending.specs.declared.ready.Reply.{Reply}
-use Rattle.hv_ending.specs.Ending.{AddsOf, CanEnd, EndIsTrue, Concludes, IsReadyToEnd, IsTrulyReady}
+use Rattle.hv_ending.specs.Ending.{AddsOf, CanEnd, EndIsTrue, Concludes, IsReadyToEnd, IsTrulyReady, HasReplied}
 use Rattle.hv_session.specs.declared.paused.Point.{Point}
 use Rattle.hv_session.specs.declared.paused.Point.TheVariants as point
 use Rattle.hv_session.specs.declared.paused.Paused.{Paused}
 use Rattle.hv_session.specs.Taking.{HasNone, CanEndAt, PointIsTrue, IsHeld, IsTrulyHeld, IsFinished}
-use Rattle.hv_session.specs.Ways.{IsPart, IsTrueOf, ShowsAnd}
+use Rattle.hv_session.specs.Ways.{IsPart, IsTaking, IsTrueOf, ShowsAnd}
 use Rattle.hv_session.proofs.Telling.{told-map, told-both}
 
 -- ---- what a whole says by its parts
@@ -32,6 +32,16 @@ module _ {D T : Type 0} (told : D → Option Store) (faults : D → ℕ) (txn : 
       → IfOk result (λ _. AddsOf txn (faults before.shelf) (faults now.shelf) (entries_of before) (entries_of now))
   part-added (Ok x) part = part.done.added
   part-added (Err why) part = tt
+
+module _ {D T : Type 0} (told : D → Option Store) (faults : D → ℕ) (asking : Asking) (before now : House D) where
+  pub taking-ready : (result : Result T HouseFault) → IsTaking told faults asking before now result → IfOk result (λ _. IsReady told now)
+  taking-ready (Ok x) taking = taking.done.ready
+  taking-ready (Err why) taking = tt
+
+  pub taking-added : (result : Result T HouseFault) → IsTaking told faults asking before now result
+      → IfOk result (λ _. AddsOf (next_number (entries_of before)) (faults before.shelf) (faults now.shelf) (entries_of before) (entries_of now))
+  taking-added (Ok x) taking = taking.done.added
+  taking-added (Err why) taking = tt
 
 module _ {D T : Type 0} (told : D → Option Store) (house : House D) (P : T → Store → Type 0) where
   pub shown-ok : (result : Result T HouseFault) → IfOk result (λ x. ShowsAnd told house (P x)) → IfOk result (λ _. Shows told house (entries_of house))
@@ -90,12 +100,12 @@ module _ (book : List Entry) (asking : Asking) (paused : Paused) (held : IsHeld 
 
 pub concluded-shows : {D : Type 0} (told : D → Option Store) (txn low high : ℕ) (before now : House D) (result : Result Reply HouseFault)
     → IfOk result (λ _. Concludes txn low high (entries_of before) (entries_of now)) → IfOk result (λ _. Shows told now (entries_of now))
-    → IfOk result (λ reply. Tells (told now.shelf) (λ _. HasAnswered (entries_of now) txn reply.text reply.refused))
-    → IfOk result (λ reply. ShowsAnd told now (λ _. IsFinished (entries_of before) (entries_of now) txn reply.text reply.refused))
+    → IfOk result (λ reply. Tells (told now.shelf) (λ _. HasReplied (entries_of now) txn reply.text reply.refused reply.ended))
+    → IfOk result (λ reply. ShowsAnd told now (λ _. IsFinished (entries_of before) (entries_of now) txn reply.text reply.refused reply.ended))
 concluded-shows told txn low high before now (Err why) concludes shows answered = tt
 concluded-shows told txn low high before now (Ok reply) concludes shows answered =
-    told-both (IsFaithful (entries_of now)) (λ _. HasAnswered (entries_of now) txn reply.text reply.refused)
-    (IsTrueOf (entries_of now) (λ _. IsFinished (entries_of before) (entries_of now) txn reply.text reply.refused))
+    told-both (IsFaithful (entries_of now)) (λ _. HasReplied (entries_of now) txn reply.text reply.refused reply.ended)
+    (IsTrueOf (entries_of now) (λ _. IsFinished (entries_of before) (entries_of now) txn reply.text reply.refused reply.ended))
     (λ s faithful answer. record {
       faithful = faithful;
       true_of = record { added = concludes.added; book = concludes.book; of_it = concludes.of_it; undamaged = concludes.undamaged; answered = answer };

@@ -2,6 +2,7 @@ mod Books
 mod Shorts
 mod Telling
 mod Passing
+mod Again
 mod SeenTables
 mod Cutting
 mod Going

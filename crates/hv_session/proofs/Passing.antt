@@ -1,5 +1,5 @@
 -- One part of a statement's way behind another.
-use Rattle.std.proofs.Common.{◌≡◌, ℕ, ◌+◌, ◌-◌, ◌^◌, ◌<◌, ◌≤◌, min, Option, Some, None, List, [], ◌∷◌, ◌++◌, Result, Ok, Err, length, refl, sym, ap, ◌∙◌, subst, arith, append_assoc, append-nil}
+use Rattle.std.proofs.Common.{◌≡◌, ℕ, ◌+◌, ◌-◌, ◌^◌, ◌<◌, ◌≤◌, min, Option, Some, None, List, [], ◌∷◌, ◌++◌, Result, Ok, Err, inl, length, refl, sym, ap, ◌∙◌, subst, arith, append_assoc, append-nil}
 use Rattle.std.specs.Prelude.{IsErrAnd}
 use Rattle.std.specs.List.{AllByRecursion}
 use Rattle.std.specs.FinMap as tree
@@ -13,7 +13,7 @@ use Rattle.hv_history.specs.declared.state.Table.{Table}
 use Rattle.hv_history.specs.State.{State, state_of, after}
 use Rattle.hv_history.specs.Legal.{IsLegalFrom, profile}
 use Rattle.hv_journal.specs.Appending.{Holds, KeepsTree}
-use Rattle.hv_stands.specs.Running.{IsOf, AreOf, IsGiven, KeepsGiven}
+use Rattle.hv_stands.specs.Running.{Asking, next_number, IsOf, AreOf, IsGiven, KeepsGiven}
 use Rattle.hv_stands.specs.Statements.{AllFitting}
 use Rattle.hv_stands.proofs.StatementFiles.{earlier-ids-kept}
 use Rattle.hv_house.specs.declared.fault.HouseFault.{HouseFault}
@@ -24,7 +24,7 @@ use Rattle.hv_house.specs.declared.house.House.{House}
 use Rattle.hv_house.specs.Faults.{FileCause, ReadCause, HasRisen, HasRisenReading, EndsRun}
 use Rattle.hv_house.specs.House.{entries_of, IsReady, IsAsked, IsFaithful, Shows}
 use Rattle.hv_ending.specs.Ending.{AddsOf, KeepsCount, IsNoEnd, HasStopped}
-use Rattle.hv_session.specs.Ways.{IsDone, IsPart, IsTrueOf, ShowsAnd}
+use Rattle.hv_session.specs.Ways.{IsDone, IsPart, IsTaking, IsTrueOf, ShowsAnd}
 use Rattle.hv_session.proofs.Telling.{told-map}
 use Rattle.hv_session.proofs.Books.{all-append, all-map, IsBegun, begun-counts, begun-unended, begun-legal, counts-from, legal-from, state-behind}
 
@@ -113,6 +113,7 @@ module _ {D : Type 0} (told : D → Option Store) (faults : D → ℕ) (txn : �
     further = stopped.further;
     further_of_it = stopped.further_of_it;
     few = stopped.few;
+    fit = stopped.fit;
     leaves = stopped.leaves;
   }
 
@@ -192,6 +193,40 @@ passed-part told faults txn before now x passed = record {
   cause = record { later = passed.later; failed = tt };
 }
 
+-- ---- a part of taking up a statement
+
+module _ {D T : Type 0} (told : D → Option Store) (faults : D → ℕ) (asking : Asking) (before now : House D) where
+  pub part-taking : (result : Result T HouseFault) → IsPart told faults (next_number (entries_of before)) before now result → IsTaking told faults asking before now result
+  part-taking (Ok x) part = record { done = part.done; keeps = part.keeps; tells = part.tells; stopped = tt; ends = tt; cause = part.cause }
+  part-taking (Err why) part =
+      record { done = tt; keeps = part.keeps; tells = part.tells; stopped = inl part.stopped; ends = part.ends; cause = part.cause }
+
+  pub taking-ok : {U : Type 0} (x : U) (y : T) → IsTaking told faults asking before now (Ok x) → IsTaking told faults asking before now (Ok y)
+  taking-ok x y taking = record {
+    done = taking.done;
+    keeps = taking.keeps;
+    tells = taking.tells;
+    stopped = tt;
+    ends = tt;
+    cause = record { later = taking.cause.later; failed = tt };
+  }
+
+  taking-err : {U : Type 0} (why : HouseFault) → IsTaking {T = U} told faults asking before now (Err why) → IsTaking {T = T} told faults asking before now (Err why)
+  taking-err why taking = record {
+    done = tt;
+    keeps = taking.keeps;
+    tells = taking.tells;
+    stopped = taking.stopped;
+    ends = taking.ends;
+    cause = record { later = taking.cause.later; failed = taking.cause.failed };
+  }
+
+  pub taking-residual : {U : Type 0} (why : HouseFault) (r : Result T HouseFault) → IsErrAnd r (λ y. y ≡ why)
+      → IsTaking {T = U} told faults asking before now (Err why) → IsTaking told faults asking before now r
+  taking-residual why (Ok x) left taking = absurd left
+  taking-residual {U = U} why (Err y) left taking =
+      subst (λ (w : HouseFault). IsTaking {T = T} told faults asking before now (Err w)) (sym left) (taking-err {U = U} why taking)
+
 -- ---- parts in which nothing was noted
 
 module _ {D : Type 0} (told : D → Option Store) (before now : House D) (asked : IsAsked told before now) where
@@ -248,6 +283,7 @@ module _ {D : Type 0} (told : D → Option Store) (house : House D) where
           further = [];
           further_of_it = tt;
           few = omega arith;
+          fit = tt;
           leaves = ready.kept.reads;
         };
         ends = tt;

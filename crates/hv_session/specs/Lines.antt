@@ -8,11 +8,13 @@ use Rattle.hv_session.specs.Faults.{IsFaultLine}
 -- the reply is a refusal of this line
 pub record IsLine (wanted : List ℕ) (reply : Reply) : Type 0 where
   pub line_is : reply.text ≡ wanted
+  pub unended : reply.ended ≡ None
   pub refusal : reply.refused ≡ true
 
 -- the reply to a text that is refused: its fault's line
 pub record IsRefusalLine (text : List ℕ) (reply : Reply) : Type 0 where
   pub fault : IsFaultLine text reply.text
+  pub unended : reply.ended ≡ None
   pub refusal : reply.refused ≡ true
 
 -- or that memory lacked

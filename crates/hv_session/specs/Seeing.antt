@@ -34,6 +34,10 @@ AreSeen told state reads (lock ∷ locks) seen =
     (first : Option Seen) × (rest : List Seen) × (seen ≡ option_to_list first ++ rest)
     × IsSeenOf told reads state (table_of_name lock.name state.tables) first × AreSeen told state reads locks rest
 
+-- they are seen of some names
+abbrev pub AreSeenOfSome : Option Store → State → Bool → List Seen → Type 0
+AreSeenOfSome told state reads seen = (locks : List Lock) × AreSeen told state reads locks seen
+
 abbrev pub IsSeen : Option Store → State → Stmt → List Seen → Type 0
 IsSeen told state tree seen = AreSeen told state (reads_rows tree) (names_in tree) seen
 

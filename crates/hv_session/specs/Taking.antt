@@ -8,6 +8,8 @@ use Rattle.hv_base.specs.declared.gate.Stage.TheVariants as stage
 use Rattle.hv_base.specs.declared.ids.TableId.{TableId}
 use Rattle.hv_base.specs.declared.ids.WriteId.{WriteId}
 use Rattle.hv_shelf.specs.Disk.{Store, Tree}
+use Rattle.hv_ast.specs.declared.statement.Stmt.{Stmt}
+use Rattle.hv_built.specs.Running.{Runs}
 use Rattle.hv_logic.specs.declared.meaning.Meaning.{Meaning}
 use Rattle.hv_logic.specs.declared.meaning.Meaning.TheVariants.{Refused}
 use Rattle.hv_history.specs.declared.entry.Entry.{Entry}
@@ -17,14 +19,38 @@ use Rattle.hv_history.specs.declared.entry.Cause.TheVariants as cause
 use Rattle.hv_history.specs.State.{state_of}
 use Rattle.hv_history.specs.Legal.{TouchesAreMeant, IsMake, HasRoom, IsLegalFrom, load, profile}
 use Rattle.hv_history.specs.Answers.{committed_text, ok_line, cause_text}
-use Rattle.hv_stands.specs.Running.{Asking, next_number, opening, AreOf, meant, IsUnderWay, HasAnswered, HasPut}
-use Rattle.hv_ending.specs.Ending.{IsUndamaged, EndsUncommitted, CanEnd, EndCanBeNoted, EndIsTrue}
+use Rattle.hv_stands.specs.Running.{Asking, next_number, opening, starting, AreOf, meant, IsUnderWay, HasPut}
+use Rattle.hv_ending.specs.Ending.{IsUndamaged, EndsUncommitted, CanEnd, EndCanBeNoted, EndIsTrue, aborting, HasReplied}
+use Rattle.hv_house.specs.Asking.{holder_against, CanBegin}
 use Rattle.hv_session.specs.Faults.{IsFaultLine}
+use Rattle.hv_session.specs.declared.asking.Asking.{Asking as Handed}
 use Rattle.hv_session.specs.declared.paused.Point.{Point}
 use Rattle.hv_session.specs.declared.paused.Point.TheVariants as point
 use Rattle.hv_session.specs.declared.paused.Paused.{Paused}
 use Rattle.hv_session.specs.declared.paused.Taken.{Taken}
 use Rattle.hv_session.specs.declared.paused.Taken.TheVariants as taken
+
+-- ---- who asks for it
+
+-- what the book keeps of it
+abbrev pub asked_of : Handed → Asking
+asked_of handed = record { session = handed.session; number = handed.number; text = handed.text }
+
+-- ---- whether it starts
+
+-- Why a statement of this tree can't start behind this book: this transaction is the lowest that holds a lock against it; or none holds
+-- one, and there is no room. Where memory lacked to say so, that is said.
+abbrev pub IsWhyNot : List Entry → Stmt → Cause → Type 0
+IsWhyNot book tree (cause.Blocked holder) = holder_against book tree ≡ Some holder.0
+IsWhyNot book tree cause.Full = (holder_against book tree ≡ None) × (profile.entries < load (state_of book) + 3)
+IsWhyNot book tree cause.Memory = CanBegin book tree → ⊥
+IsWhyNot book tree why = ⊥
+
+-- behind its Opened stands its Start where it can start, and else just its abort, for what stands in its way
+abbrev pub StartsIfItCan : List Entry → Stmt → ℕ → List Entry → Type 0
+StartsIfItCan book tree txn added =
+    (CanBegin book tree × ((rest : List Entry) × (added ≡ starting txn ∷ rest)))
+    ⊎ ((why : Cause) × IsWhyNot book tree why × (added ≡ aborting txn why ∷ []))
 
 -- ---- where it may be held, and which ends come before that
 
@@ -125,49 +151,57 @@ pub record IsTrulyHeld (book : List Entry) (files : Tree) (paused : Paused) : Ty
 
 -- ---- what a statement that was taken up comes to, over a book of which all is told
 
--- it went through the book as a transaction, whose answer is the reply
-pub record WentThrough (before now : List Entry) (asking : Asking) (hold : Option Stage) (reply : List ℕ) (refused : Bool) : Type 0 where
+-- It went through the book as a transaction, whose answer is the reply. It started at once where it could.
+pub record WentThrough (before now : List Entry) (asking : Asking) (hold : Option Stage) (reply : List ℕ) (refused : Bool) (ended : Option ℕ) : Type 0 where
   pub added : List Entry
   pub book : now ≡ before ++ opening before asking ∷ added
+  pub tree : Stmt
+  pub runs : Runs asking.text tree
+  pub starts : StartsIfItCan before tree (next_number before) added
   pub of_it : AreOf (next_number before) added
   pub in_time : EndsBefore hold (next_number before) added
   pub undamaged : AllByRecursion IsUndamaged added
-  pub answered : HasAnswered now (next_number before) reply refused
+  pub answered : HasReplied now (next_number before) reply refused ended
 
 -- its text is refused: nothing was noted, and the reply is its fault's line
-pub record IsNoStatement (before now : List Entry) (text reply : List ℕ) (refused : Bool) : Type 0 where
+pub record IsNoStatement (before now : List Entry) (text reply : List ℕ) (refused : Bool) (ended : Option ℕ) : Type 0 where
   pub book : now ≡ before
+  pub unended : ended ≡ None
   pub is_refused : refused ≡ true
   pub fault : IsFaultLine text reply
 
 -- there is no room for its opening and its end
-pub record IsFull (before now : List Entry) (reply : List ℕ) (refused : Bool) : Type 0 where
+pub record IsFull (before now : List Entry) (reply : List ℕ) (refused : Bool) (ended : Option ℕ) : Type 0 where
   pub book : now ≡ before
+  pub unended : ended ≡ None
   pub lacks : profile.entries < load (state_of before) + 2
   pub is_refused : refused ≡ true
   pub line : reply ≡ cause_text None cause.Full
 
 -- memory lacked before its opening
-pub record LacksMemory (before now : List Entry) (reply : List ℕ) (refused : Bool) : Type 0 where
+pub record LacksMemory (before now : List Entry) (reply : List ℕ) (refused : Bool) (ended : Option ℕ) : Type 0 where
   pub book : now ≡ before
+  pub unended : ended ≡ None
   pub is_refused : refused ≡ true
   pub line : reply ≡ cause_text None cause.Memory
 
-abbrev pub IsReplied : List Entry → List Entry → Asking → Option Stage → List ℕ → Bool → Type 0
-IsReplied before now asking hold reply refused =
-    WentThrough before now asking hold reply refused ⊎ IsNoStatement before now asking.text reply refused
-    ⊎ IsFull before now reply refused ⊎ LacksMemory before now reply refused
+abbrev pub IsReplied : List Entry → List Entry → Asking → Option Stage → List ℕ → Bool → Option ℕ → Type 0
+IsReplied before now asking hold reply refused ended =
+    WentThrough before now asking hold reply refused ended ⊎ IsNoStatement before now asking.text reply refused ended
+    ⊎ IsFull before now reply refused ended ⊎ LacksMemory before now reply refused ended
 
 -- it is held, with its transaction open
 pub record IsKept (before now : List Entry) (files : Tree) (asking : Asking) (hold : Option Stage) (paused : Paused) : Type 0 where
   pub added : List Entry
   pub book : now ≡ before ++ opening before asking ∷ added
   pub txn_is : paused.txn.0 ≡ next_number before
+  pub runs : Runs asking.text paused.tree
+  pub can : CanBegin before paused.tree
   pub at_hold : HoldsAt hold (next_number before) added
   pub truly : IsTrulyHeld now files paused
 
 abbrev pub IsTakenAs : List Entry → List Entry → Tree → Asking → Option Stage → Taken → Type 0
-IsTakenAs before now files asking hold (taken.Replied reply) = IsReplied before now asking hold reply.text reply.refused
+IsTakenAs before now files asking hold (taken.Replied reply) = IsReplied before now asking hold reply.text reply.refused reply.ended
 IsTakenAs before now files asking hold (taken.Kept paused) = IsKept before now files asking hold paused
 
 -- what stands of one that is held whatever is told
@@ -176,9 +210,9 @@ IsKeptIn before now asking (taken.Replied reply) = Unit {0}
 IsKeptIn before now asking (taken.Kept paused) = (paused.txn.0 ≡ next_number before) × IsHeld now asking paused
 
 -- a started statement went on to its end, by entries of it alone, none of which says that a file is damaged
-pub record IsFinished (before now : List Entry) (txn : ℕ) (reply : List ℕ) (refused : Bool) : Type 0 where
+pub record IsFinished (before now : List Entry) (txn : ℕ) (reply : List ℕ) (refused : Bool) (ended : Option ℕ) : Type 0 where
   pub added : List Entry
   pub book : now ≡ before ++ added
   pub of_it : AreOf txn added
   pub undamaged : AllByRecursion IsUndamaged added
-  pub answered : HasAnswered now txn reply refused
+  pub answered : HasReplied now txn reply refused ended

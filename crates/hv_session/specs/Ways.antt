@@ -1,34 +1,33 @@
 -- A part of a statement's way: what is noted by it, and what stands behind it.
-use Rattle.std.specs.Prelude.{◌≡◌, ℕ, ◌≤◌, Option, Some, List, [], ◌∷◌, ◌++◌, take, Result, IfOk, IfErr}
+use Rattle.std.specs.Prelude.{◌≡◌, ◌⊎◌, ℕ, ◌+◌, ◌<◌, ◌≤◌, Option, Some, None, List, [], ◌∷◌, ◌++◌, take, Result, IfOk, IfErr}
 use Rattle.hv_base.specs.Told.{Tells, Moves, StaysTold}
 use Rattle.hv_base.specs.declared.gate.Stage.{Stage}
 use Rattle.hv_shelf.specs.Disk.{Store, Tree}
 use Rattle.hv_ast.specs.declared.statement.Stmt.{Stmt}
-use Rattle.hv_built.specs.Running.{Runs}
 use Rattle.hv_logic.specs.declared.meaning.Meaning.{Meaning}
 use Rattle.hv_history.specs.declared.entry.Entry.{Entry}
 use Rattle.hv_history.specs.declared.entry.Cause.{Cause}
 use Rattle.hv_history.specs.declared.entry.Cause.TheVariants as cause
 use Rattle.hv_history.specs.State.{state_of}
-use Rattle.hv_history.specs.Legal.{Fits, IsTruthful, profile}
+use Rattle.hv_history.specs.Legal.{IsTruthful, load, profile}
 use Rattle.hv_journal.specs.Appending.{KeepsTree}
-use Rattle.hv_stands.specs.Running.{Asking, starting, meant, IsWaiting, IsUnderWay, HasAnswered, KeepsGiven}
+use Rattle.hv_stands.specs.Running.{Asking, next_number, starting, meant, IsWaiting, IsUnderWay, KeepsGiven}
 use Rattle.hv_house.specs.declared.fault.HouseFault.{HouseFault}
 use Rattle.hv_house.specs.declared.fault.HouseFault.TheVariants as fault
 use Rattle.hv_house.specs.declared.fault.RowFault.{RowFault}
 use Rattle.hv_house.specs.declared.fault.RowFault.TheVariants as row_fault
 use Rattle.hv_house.specs.declared.house.House.{House}
 use Rattle.hv_house.specs.Faults.{FileCause, EndsRun, HasRisenReading}
-use Rattle.hv_house.specs.House.{entries_of, IsReady, IsFaithful, Shows}
+use Rattle.hv_house.specs.House.{entries_of, IsReady, IsFaithful, Shows, Leaves, BeginFits, beginning_of}
+use Rattle.hv_house.specs.Asking.{holder_against}
 use Rattle.hv_ending.specs.declared.ready.Way.{Way}
 use Rattle.hv_ending.specs.declared.ready.Ready.{Ready}
 use Rattle.hv_ending.specs.declared.ready.Reply.{Reply}
 use Rattle.hv_ending.specs.declared.ready.Prepared.{Prepared}
 use Rattle.hv_ending.specs.declared.ready.Prepared.TheVariants as prepared
-use Rattle.hv_ending.specs.Ending.{AddsOf, CanEnd, HasStopped, IsAborted, PreparesBy, IsPreparedIn, IsTrulyPrepared, aborting}
+use Rattle.hv_ending.specs.Ending.{AddsOf, CanEnd, HasStopped, IsAborted, PreparesBy, IsPreparedIn, IsTrulyPrepared, aborting, HasReplied}
 use Rattle.hv_session.specs.declared.ends.Outcome.{Outcome}
 use Rattle.hv_session.specs.declared.ends.Outcome.TheVariants as outcome
-use Rattle.hv_session.specs.declared.opening.Copies.{Copies}
 use Rattle.hv_session.specs.declared.paused.Point.{Point}
 use Rattle.hv_session.specs.declared.paused.Point.TheVariants as point
 use Rattle.hv_session.specs.declared.paused.Paused.{Paused}
@@ -72,7 +71,7 @@ pub record CutsOff {D : Type 0} (told : D → Option Store) (faults : D → ℕ)
   pub ready : IfOk result (λ _. IsReady told now)
   pub aborted : IfOk result (λ _. IsAborted way.txn.0 why (entries_of before) (entries_of now))
   pub answered : (asking : Asking) (said : Stmt) (given : List (ℕ × ℕ)) → IsUnderWay (entries_of before) asking way.txn.0 way.place said given
-      → IfOk result (λ reply. HasAnswered (entries_of now) way.txn.0 reply.text reply.refused)
+      → IfOk result (λ reply. HasReplied (entries_of now) way.txn.0 reply.text reply.refused reply.ended)
   pub shows : Tells (told before.shelf) (λ _. IsTruthful (state_of (entries_of before)) (aborting way.txn.0 why))
       → Shows told before (entries_of before) → IfOk result (λ _. Shows told now (entries_of now))
   pub tree : Moves KeepsTree (told before.shelf) (told now.shelf)
@@ -101,7 +100,7 @@ pub record EndsFor {D : Type 0} (told : D → Option Store) (faults : D → ℕ)
   pub ready : IfOk result (λ _. IsReady told now)
   pub aborted : IfOk result (λ _. IsAbortedFor way.txn.0 fault (entries_of before) (entries_of now))
   pub answered : (asking : Asking) (said : Stmt) (given : List (ℕ × ℕ)) → IsUnderWay (entries_of before) asking way.txn.0 way.place said given
-      → IfOk result (λ reply. HasAnswered (entries_of now) way.txn.0 reply.text reply.refused)
+      → IfOk result (λ reply. HasReplied (entries_of now) way.txn.0 reply.text reply.refused reply.ended)
   pub shows : Shows told before (entries_of before) → IfOk result (λ _. Shows told now (entries_of now))
   pub tree : Moves KeepsTree (told before.shelf) (told now.shelf)
   pub tells : StaysTold (told before.shelf) (told now.shelf)
@@ -119,7 +118,7 @@ ComesTo txn before now (outcome.Ended reply) = (why : Cause) × EndsEarly why ×
 
 abbrev pub ComesTruly : List Entry → List Entry → Way → Stmt → Outcome → Type 0
 ComesTruly before now way said (outcome.Means meaning) = meant (take way.place now) said ≡ Some meaning
-ComesTruly before now way said (outcome.Ended reply) = IsFinished before now way.txn.0 reply.text reply.refused
+ComesTruly before now way said (outcome.Ended reply) = IsFinished before now way.txn.0 reply.text reply.refused reply.ended
 
 abbrev pub ComesUnrefused : Outcome → Type 0
 ComesUnrefused (outcome.Means meaning) = IsUnrefused meaning
@@ -133,7 +132,7 @@ pub record GoesToCommit (txn : ℕ) (before now : List Entry) (found : Prepared)
 
 abbrev pub GoesTruly : List Entry → List Entry → Tree → Asking → Way → Stmt → Prepared → Type 0
 GoesTruly before now files asking way said (prepared.Ready ready) = IsTrulyPrepared now files asking way.txn.0 way.place said (prepared.Ready ready)
-GoesTruly before now files asking way said (prepared.Ended reply) = IsFinished before now way.txn.0 reply.text reply.refused
+GoesTruly before now files asking way said (prepared.Ended reply) = IsFinished before now way.txn.0 reply.text reply.refused reply.ended
 
 -- ---- where it is held
 
@@ -164,45 +163,49 @@ StandsHeld now asking (taken.Replied reply) = Unit {0}
 StandsHeld now asking (taken.Kept paused) = IsHeld now asking paused
 
 abbrev pub StandsTruly : List Entry → List Entry → Tree → ℕ → Taken → Type 0
-StandsTruly before now files txn (taken.Replied reply) = IsFinished before now txn reply.text reply.refused
+StandsTruly before now files txn (taken.Replied reply) = IsFinished before now txn reply.text reply.refused reply.ended
 StandsTruly before now files txn (taken.Kept paused) = IsTrulyHeld now files paused
 
 -- ---- the parts of a statement that is taken up
 
--- what the book keeps of it
-abbrev pub asking_of : Copies → ℕ → Asking
-asking_of copies number = record { session = copies.session; number = number; text = copies.text }
+-- The run stopped where the statement was to be opened and started at once: the journal reads to the book, or where the store failed,
+-- to the book or to it with just these two entries, which fit.
+pub record StopsAtBeginning {D : Type 0} (told : D → Option Store) (asking : Asking) (why : HouseFault) (before now : House D) : Type 0 where
+  pub book : entries_of now ≡ entries_of before
+  pub fits : BeginFits (entries_of before) asking
+  pub leaves : Leaves why (beginning_of (entries_of before) asking) (told now.shelf) (entries_of now)
 
-pub record AreCopies (session text : List ℕ) (copies : Copies) : Type 0 where
-  pub session_is : copies.session ≡ session
-  pub text_is : copies.text ≡ text
-  pub runs : Runs text copies.tree
+abbrev pub StopsTaken : {D : Type 0} → (D → Option Store) → Asking → HouseFault → House D → House D → Type 0
+StopsTaken told asking why before now =
+    HasStopped told (next_number (entries_of before)) why before now ⊎ StopsAtBeginning told asking why before now
+
+-- a statement was taken up, or the run stopped in that
+pub record IsTaking {D T : Type 0} (told : D → Option Store) (faults : D → ℕ) (asking : Asking) (before now : House D) (result : Result T HouseFault) : Type 0 where
+  pub done : IfOk result (λ _. IsDone told faults (next_number (entries_of before)) before now)
+  pub keeps : Moves (KeepsGiven (state_of (entries_of before)).tables) (told before.shelf) (told now.shelf)
+  pub tells : StaysTold (told before.shelf) (told now.shelf)
+  pub stopped : IfErr result (λ why. StopsTaken told asking why before now)
+  pub ends : IfErr result EndsRun
+  pub cause : FileCause (faults before.shelf) (faults now.shelf) result
 
 -- it isn't opened, or it is opened and aborted
 abbrev pub IsTurnedAway : List Entry → List Entry → Asking → Reply → Type 0
 IsTurnedAway before now asking reply =
-    (hold : Option Stage) → IsHold hold → IsReplied before now asking hold reply.text reply.refused
+    (hold : Option Stage) → IsHold hold → IsReplied before now asking hold reply.text reply.refused reply.ended
 
--- what stands in the way of a statement that was opened
-abbrev pub Hinders : Cause → Type 0
-Hinders (cause.Blocked holder) = Unit {0}
-Hinders cause.Full = Unit {0}
-Hinders cause.Memory = Unit {0}
-Hinders why = ⊥
+-- the cause by which an opened statement that can't start is aborted: the lock that this transaction holds, or want of room
+abbrev pub hindrance_of : Option ℕ → Cause
+hindrance_of None = cause.Full
+hindrance_of (Some holder) = cause.Blocked (record { 0 = holder })
 
-pub record IsHindrance (book : List Entry) (txn : ℕ) (why : Cause) : Type 0 where
-  pub hinders : Hinders why
-  pub fits : Fits profile (state_of book) (aborting txn why)
+-- it can't start: where no lock is held against it there is no room for its Start
+abbrev pub LacksRoom : List Entry → Stmt → Type 0
+LacksRoom book tree = holder_against book tree ≡ None → profile.entries < load (state_of book) + 1
 
 -- an opened statement is aborted for what stands in its way
-pub record IsHindered (txn : ℕ) (before now : List Entry) : Type 0 where
-  pub why : Cause
-  pub hinders : Hinders why
-  pub book : now ≡ before ++ aborting txn why ∷ []
-
-pub record AbortsOpened {D : Type 0} (told : D → Option Store) (faults : D → ℕ) (txn : ℕ) (before now : House D) (result : Result Reply HouseFault) : Type 0 where
+pub record AbortsOpened {D : Type 0} (told : D → Option Store) (faults : D → ℕ) (tree : Stmt) (txn : ℕ) (before now : House D) (result : Result Reply HouseFault) : Type 0 where
   pub part : IsPart told faults txn before now result
-  pub hindered : IfOk result (λ _. IsHindered txn (entries_of before) (entries_of now))
+  pub aborted : IfOk result (λ _. IsAborted txn (hindrance_of (holder_against (entries_of before) tree)) (entries_of before) (entries_of now))
   pub answered : (asking : Asking) (said : Stmt) → IsWaiting (entries_of before) asking txn said
-      → IfOk result (λ reply. HasAnswered (entries_of now) txn reply.text reply.refused)
+      → IfOk result (λ reply. HasReplied (entries_of now) txn reply.text reply.refused reply.ended)
   pub shows : Shows told before (entries_of before) → IfOk result (λ _. Shows told now (entries_of now))

@@ -158,7 +158,7 @@ pub fn end_as<D: Shelf>(
         (λ _. meant (take way.place (entries_of house.old)) said ≡ Some meaning)
         → Shows D.told house.old (entries_of house.old)
         → IfOk result (λ reply. ShowsAnd D.told house.new (λ _. IsFinished
-        (entries_of house.old) (entries_of house.new) way.txn.0 reply.text reply.refused)) }
+        (entries_of house.old) (entries_of house.new) way.txn.0 reply.text reply.refused reply.ended)) }
 {
     match prepare(alloc, house, way, meaning)? {
         Prepared::Ready(ready) => conclude(alloc, house, way, ready),
@@ -180,7 +180,7 @@ pub fn go_to_end<D: Shelf>(
         → IsUnderWay (entries_of house.old) asking way.txn.0 way.place tree.now []
         → Shows D.told house.old (entries_of house.old)
         → IfOk result (λ reply. ShowsAnd D.told house.new (λ _. IsFinished
-        (entries_of house.old) (entries_of house.new) way.txn.0 reply.text reply.refused)) }
+        (entries_of house.old) (entries_of house.new) way.txn.0 reply.text reply.refused reply.ended)) }
 {
     match come_to(alloc, house, way, tree)? {
         Outcome::Means(meaning) => end_as(alloc, house, way, meaning),

@@ -127,7 +127,7 @@ pub fn end_started<D: Shelf>(
         → IsUnderWay (entries_of house.old) asking way.txn.0 way.place tree []
         → Shows D.told house.old (entries_of house.old)
         → IfOk result (λ reply. ShowsAnd D.told house.new (λ _. IsFinished
-        (entries_of house.old) (entries_of house.new) way.txn.0 reply.text reply.refused)) }
+        (entries_of house.old) (entries_of house.new) way.txn.0 reply.text reply.refused reply.ended)) }
 {
     let result = go_to_end(alloc, house, way, &tree);
     discard(tree);

@@ -54,6 +54,7 @@ fn refused(line: Vec<u8>) -> Reply
     Reply {
         text: List::from_vec(line),
         refused: true,
+        ended: None,
     }
 }
 

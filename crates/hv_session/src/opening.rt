@@ -1,56 +1,33 @@
 //! How a statement is opened: with its Start at once, or, where something stands in the way, with its abort.
 
-ghost use Rattle.std.specs.Prelude.{◌≡◌, ◌≤◌, ◌↔◌, IsTrue, None, length, IfOk, IfErr};
-ghost use Rattle.hv_ast.specs.declared.statement.Stmt.{Stmt as Tree};
+ghost use Rattle.std.specs.Prelude.{◌≡◌, ◌≤◌, None, length, IfOk, IfErr};
 ghost use Rattle.hv_built.specs.Running.{Runs};
 ghost use Rattle.hv_history.specs.declared.entry.Cause.TheVariants as cause;
 ghost use Rattle.hv_history.specs.Answers.{cause_text};
 ghost use Rattle.hv_history.specs.Legal.{Fits, profile};
 ghost use Rattle.hv_history.specs.State.{state_of};
-ghost use Rattle.hv_stands.specs.Running.{Asking, next_number, opening, IsWaiting};
+ghost use Rattle.hv_stands.specs.Running.{Asking as Asked, next_number, opening, IsWaiting};
 ghost use Rattle.hv_house.specs.Faults.{EndsRun};
 ghost use Rattle.hv_house.specs.House.{entries_of, BeginFits, IsReady, Shows};
+ghost use Rattle.hv_house.specs.Asking.{CanBegin, holder_against};
 ghost use Rattle.hv_house.specs.declared.fault.HouseFault.TheVariants.{NoMemory as OutOfMemory};
-ghost use Rattle.hv_ending.specs.Ending.{aborting};
 ghost use Rattle.hv_session.specs.Lines.{IsLine};
-ghost use Rattle.hv_session.specs.Taking.{IsHold, IsKeptIn, IsTakenAs};
-ghost use Rattle.hv_session.specs.Ways.{IsPart, ShowsAnd, asking_of, AreCopies, IsTurnedAway, IsHindrance, AbortsOpened};
+ghost use Rattle.hv_session.specs.Taking.{asked_of, IsHold, IsKeptIn, IsTakenAs};
+ghost use Rattle.hv_session.specs.Ways.{IsPart, IsTaking, ShowsAnd, IsTurnedAway, hindrance_of, LacksRoom, AbortsOpened};
 
+use crate::asking::Asking;
 use crate::holds::go;
 use crate::lines::{full_reply, memory_reply};
 use crate::paused::Taken;
 use hv_ast::{Stmt, discard};
-use hv_base::{Duplicate, NoMemory, Stage, Text, TxnId};
+use hv_base::TxnId;
 use hv_ending::{Reply, Way, refuse};
 use hv_history::{Cause, Entry};
 use hv_house::{House, HouseFault};
+use hv_locks::LockState;
 use hv_reading::read_statement;
 use hv_shelf::Shelf;
 use std::alloc::Global;
-
-/// What the book keeps of a statement.
-#[derive(Drop)]
-struct Copies {
-    session: Text,
-    text: Text,
-    tree: Stmt,
-}
-
-/// Copies a statement, and reads it once more for the book's tree. Since the text runs, only memory may lack there.
-fn copies_of(alloc: Global, session: &Text, text: &Text) -> Result<Copies, NoMemory>
-    ensures copies { IfOk result (AreCopies session.now text.now) }
-{
-    let session = session.duplicate(alloc)?;
-    let copy = text.duplicate(alloc)?;
-    match read_statement(alloc, text) {
-        Ok(tree) => Ok(Copies {
-            session,
-            text: copy,
-            tree,
-        }),
-        Err(_) => Err(NoMemory),
-    }
-}
 
 /// Replies where the statement wasn't opened: for want of memory, where it was that.
 fn unopened(alloc: Global, fault: HouseFault) -> Result<Reply, HouseFault>
@@ -64,47 +41,14 @@ fn unopened(alloc: Global, fault: HouseFault) -> Result<Reply, HouseFault>
     }
 }
 
-fn abort_fits<D: Shelf>(house: &House<D>, txn: TxnId, cause: Cause) -> bool
+/// What stands in the way of an opened statement that can't start: a lock, or else want of room.
+fn hindrance<D: Shelf>(house: &House<D>, tree: &Stmt) -> Cause
     requires ready { IsReady D.told house.now }
-    ensures fits { IsTrue result ↔ Fits profile (state_of (entries_of house.now)) (aborting txn.0 cause) }
+    ensures cause { result ≡ hindrance_of (holder_against (entries_of house.now) tree.now) }
 {
-    let entry = Entry::Abort { txn, cause };
-    house.fits(&entry, None)
-}
-
-fn full_or_memory<D: Shelf>(house: &House<D>, txn: TxnId) -> Cause
-    requires ready { IsReady D.told house.now }
-    requires waiting { (asking : Asking) × (said : Tree) × IsWaiting (entries_of house.now) asking txn.0 said }
-    ensures hinders { IsHindrance (entries_of house.now) txn.0 result }
-{
-    if abort_fits(house, txn, Cause::Full) {
-        Cause::Full
-    } else {
-        Cause::Memory
-    }
-}
-
-fn blocked_or_full<D: Shelf>(house: &House<D>, txn: TxnId, holder: TxnId) -> Cause
-    requires ready { IsReady D.told house.now }
-    requires waiting { (asking : Asking) × (said : Tree) × IsWaiting (entries_of house.now) asking txn.0 said }
-    ensures hinders { IsHindrance (entries_of house.now) txn.0 result }
-{
-    if abort_fits(house, txn, Cause::Blocked { holder }) {
-        Cause::Blocked { holder }
-    } else {
-        full_or_memory(house, txn)
-    }
-}
-
-/// What stands in the way of an opened statement: a lock, or want of room.
-fn hindrance<D: Shelf>(house: &House<D>, txn: TxnId, tree: &Stmt) -> Cause
-    requires ready { IsReady D.told house.now }
-    requires waiting { (asking : Asking) × (said : Tree) × IsWaiting (entries_of house.now) asking txn.0 said }
-    ensures hinders { IsHindrance (entries_of house.now) txn.0 result }
-{
-    match house.blocker(tree) {
-        Some(holder) => blocked_or_full(house, txn, holder),
-        None => full_or_memory(house, txn),
+    match house.check(tree) {
+        LockState::Waiting { blocker } => Cause::Blocked { holder: blocker },
+        LockState::Granted => Cause::Full,
     }
 }
 
@@ -116,10 +60,11 @@ fn abort_opened<D: Shelf>(
     tree: &Stmt,
 ) -> Result<Reply, HouseFault>
     requires ready { IsReady D.told house.old }
-    requires waiting { (asking : Asking) × (said : Tree) × IsWaiting (entries_of house.old) asking txn.0 said }
-    ensures aborts { AbortsOpened D.told D.faults txn.0 house.old house.new result }
+    requires waiting { (asking : Asked) × IsWaiting (entries_of house.old) asking txn.0 tree.now }
+    requires lacks { LacksRoom (entries_of house.old) tree.now }
+    ensures aborts { AbortsOpened D.told D.faults tree.now txn.0 house.old house.new result }
 {
-    let cause = hindrance(house, txn, tree);
+    let cause = hindrance(house, tree);
     refuse(alloc, house, txn, cause)
 }
 
@@ -132,11 +77,12 @@ fn note_and_abort<D: Shelf>(
     tree: &Stmt,
 ) -> Result<Reply, HouseFault>
     requires ready { IsReady D.told house.old }
-    requires opened { (asking : Asking) × (opened ≡ opening (entries_of house.old) asking)
-        × Runs asking.text kept × (length asking.text ≤ 32768) × (length asking.session ≤ 32) }
+    requires opened { (asking : Asked) × (opened ≡ opening (entries_of house.old) asking)
+        × Runs asking.text kept × Runs asking.text tree.now × (length asking.text ≤ 32768) × (length asking.session ≤ 32) }
+    requires cannot { CanBegin (entries_of house.old) tree.now → ⊥ }
     requires fits { Fits profile (state_of (entries_of house.old)) opened }
     ensures part { IsPart D.told D.faults (next_number (entries_of house.old)) house.old house.new result }
-    ensures truly { (asking : Asking) → opened ≡ opening (entries_of house.old) asking → Shows D.told house.old (entries_of house.old)
+    ensures truly { (asking : Asked) → opened ≡ opening (entries_of house.old) asking → Shows D.told house.old (entries_of house.old)
         → IfOk result (λ reply. ShowsAnd D.told house.new (λ _. IsTurnedAway
         (entries_of house.old) (entries_of house.new) asking reply)) }
 {
@@ -147,29 +93,32 @@ fn note_and_abort<D: Shelf>(
     }
 }
 
-/// Turns away a statement that can't start: it is opened and aborted, where there is room for that.
+/// Turns away a statement that can't start: it is opened and aborted, where there is room for that. `kept` is its
+/// tree once more, for the book.
 fn turn_away<D: Shelf>(
     alloc: Global,
     house: &mut House<D>,
-    number: u64,
-    copies: Copies,
+    asking: Asking,
+    kept: Stmt,
     tree: &Stmt,
 ) -> Result<Reply, HouseFault>
     requires ready { IsReady D.told house.old }
-    requires runs { Runs copies.text copies.tree }
-    requires tree { Runs copies.text tree.now }
-    requires short { length copies.text ≤ 32768 }
-    requires named { length copies.session ≤ 32 }
+    requires kept { Runs asking.text kept }
+    requires tree { Runs asking.text tree.now }
+    requires short { length asking.text ≤ 32768 }
+    requires named { length asking.session ≤ 32 }
+    requires cannot { CanBegin (entries_of house.old) tree.now → ⊥ }
     ensures part { IsPart D.told D.faults (next_number (entries_of house.old)) house.old house.new result }
     ensures truly { Shows D.told house.old (entries_of house.old)
         → IfOk result (λ reply. ShowsAnd D.told house.new (λ _. IsTurnedAway
-        (entries_of house.old) (entries_of house.new) (asking_of copies number) reply)) }
+        (entries_of house.old) (entries_of house.new) (asked_of asking) reply)) }
 {
-    let Copies {
+    let Asking {
         session,
+        number,
         text,
-        tree: kept,
-    } = copies;
+        ..
+    } = asking;
     let opened = Entry::Opened {
         txn: house.next_txn(),
         session,
@@ -184,33 +133,35 @@ fn turn_away<D: Shelf>(
     }
 }
 
-/// Opens and starts a statement, and goes on with it.
+/// Opens and starts a statement, and goes on with it. `kept` is its tree once more, for the book.
 fn begin<D: Shelf>(
     alloc: Global,
     house: &mut House<D>,
-    number: u64,
-    copies: Copies,
+    asking: Asking,
+    kept: Stmt,
     tree: Stmt,
-    hold: Option<Stage>,
 ) -> Result<Taken, HouseFault>
     requires ready { IsReady D.told house.old }
-    requires runs { Runs copies.text copies.tree }
-    requires tree { Runs copies.text tree }
-    requires short { length copies.text ≤ 32768 }
-    requires named { length copies.session ≤ 32 }
-    requires hold { IsHold hold }
-    requires can { BeginFits (entries_of house.old) (asking_of copies number) }
-    ensures part { IsPart D.told D.faults (next_number (entries_of house.old)) house.old house.new result }
-    ensures held { IfOk result (IsKeptIn (entries_of house.old) (entries_of house.new) (asking_of copies number)) }
+    requires kept { Runs asking.text kept }
+    requires tree { Runs asking.text tree }
+    requires short { length asking.text ≤ 32768 }
+    requires named { length asking.session ≤ 32 }
+    requires hold { IsHold asking.hold }
+    requires can { CanBegin (entries_of house.old) tree }
+    requires fits { BeginFits (entries_of house.old) (asked_of asking) }
+    ensures taking { IsTaking D.told D.faults (asked_of asking) house.old house.new result }
+    ensures held { IfOk result (IsKeptIn (entries_of house.old) (entries_of house.new) (asked_of asking)) }
     ensures truly { Shows D.told house.old (entries_of house.old)
         → IfOk result (λ taken. ShowsAnd D.told house.new (λ s. IsTakenAs
-        (entries_of house.old) (entries_of house.new) s.tree (asking_of copies number) hold taken)) }
+        (entries_of house.old) (entries_of house.new) s.tree (asked_of asking) asking.hold taken)) }
 {
-    let Copies {
+    let Asking {
         session,
+        number,
         text,
-        tree: kept,
-    } = copies;
+        hold,
+        ..
+    } = asking;
     match house.begin(session, number, text, kept) {
         Ok((txn, place)) => go(alloc, house, Way { txn, place }, tree, hold),
         Err(fault) => {
@@ -220,59 +171,55 @@ fn begin<D: Shelf>(
     }
 }
 
-/// Opens a statement of which there are copies.
-fn take_copies<D: Shelf>(
+/// Opens a statement whose tree was read for the book too.
+fn take_read<D: Shelf>(
     alloc: Global,
     house: &mut House<D>,
-    number: u64,
-    copies: Copies,
+    asking: Asking,
+    kept: Stmt,
     tree: Stmt,
-    hold: Option<Stage>,
 ) -> Result<Taken, HouseFault>
     requires ready { IsReady D.told house.old }
-    requires runs { Runs copies.text copies.tree }
-    requires tree { Runs copies.text tree }
-    requires short { length copies.text ≤ 32768 }
-    requires named { length copies.session ≤ 32 }
-    requires hold { IsHold hold }
-    ensures part { IsPart D.told D.faults (next_number (entries_of house.old)) house.old house.new result }
-    ensures held { IfOk result (IsKeptIn (entries_of house.old) (entries_of house.new) (asking_of copies number)) }
+    requires kept { Runs asking.text kept }
+    requires tree { Runs asking.text tree }
+    requires short { length asking.text ≤ 32768 }
+    requires named { length asking.session ≤ 32 }
+    requires hold { IsHold asking.hold }
+    ensures taking { IsTaking D.told D.faults (asked_of asking) house.old house.new result }
+    ensures held { IfOk result (IsKeptIn (entries_of house.old) (entries_of house.new) (asked_of asking)) }
     ensures truly { Shows D.told house.old (entries_of house.old)
         → IfOk result (λ taken. ShowsAnd D.told house.new (λ s. IsTakenAs
-        (entries_of house.old) (entries_of house.new) s.tree (asking_of copies number) hold taken)) }
+        (entries_of house.old) (entries_of house.new) s.tree (asked_of asking) asking.hold taken)) }
 {
     if house.can_begin(&tree) {
-        return begin(alloc, house, number, copies, tree, hold);
+        return begin(alloc, house, asking, kept, tree);
     }
-    let result = turn_away(alloc, house, number, copies, &tree);
+    let result = turn_away(alloc, house, asking, kept, &tree);
     discard(tree);
     Ok(Taken::Replied(result?))
 }
 
-/// Takes up a statement of this tree.
+/// Takes up a statement of this tree. It is read once more, for the book: since its text runs, only memory may lack there.
 pub fn take_statement<D: Shelf>(
     alloc: Global,
     house: &mut House<D>,
-    session: &Text,
-    number: u64,
-    text: &Text,
+    asking: Asking,
     tree: Stmt,
-    hold: Option<Stage>,
 ) -> Result<Taken, HouseFault>
     requires ready { IsReady D.told house.old }
-    requires tree { Runs text.now tree }
-    requires short { length text.now ≤ 32768 }
-    requires named { length session.now ≤ 32 }
-    requires hold { IsHold hold }
-    ensures part { IsPart D.told D.faults (next_number (entries_of house.old)) house.old house.new result }
-    ensures held { IfOk result (IsKeptIn (entries_of house.old) (entries_of house.new) (record { session = session.now; number = number; text = text.now })) }
+    requires tree { Runs asking.text tree }
+    requires short { length asking.text ≤ 32768 }
+    requires named { length asking.session ≤ 32 }
+    requires hold { IsHold asking.hold }
+    ensures taking { IsTaking D.told D.faults (asked_of asking) house.old house.new result }
+    ensures held { IfOk result (IsKeptIn (entries_of house.old) (entries_of house.new) (asked_of asking)) }
     ensures truly { Shows D.told house.old (entries_of house.old)
         → IfOk result (λ taken. ShowsAnd D.told house.new (λ s. IsTakenAs
-        (entries_of house.old) (entries_of house.new) s.tree (record { session = session.now; number = number; text = text.now }) hold taken)) }
+        (entries_of house.old) (entries_of house.new) s.tree (asked_of asking) asking.hold taken)) }
 {
-    match copies_of(alloc, session, text) {
-        Ok(copies) => take_copies(alloc, house, number, copies, tree, hold),
-        Err(NoMemory) => {
+    match read_statement(alloc, &asking.text) {
+        Ok(kept) => take_read(alloc, house, asking, kept, tree),
+        Err(_) => {
             discard(tree);
             Ok(Taken::Replied(memory_reply(alloc)?))
         }

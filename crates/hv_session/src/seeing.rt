@@ -1,6 +1,6 @@
 //! What a started statement sees, and what it comes to.
 
-ghost use Rattle.std.specs.Prelude.{◌≡◌, ◌≤◌, ◌++◌, ◌∷◌, [], Some, IfOk, OnOk, IfErr, length, take, true};
+ghost use Rattle.std.specs.Prelude.{◌≡◌, ◌≤◌, ◌++◌, ◌∷◌, [], Some, IfOk, OnOk, IfErr, IsSome, length, take, true};
 ghost use Rattle.hv_base.specs.Told.{Tells};
 ghost use Rattle.hv_built.specs.Built.{IsBuilt};
 ghost use Rattle.hv_changes.specs.Columns.{columns_of};
@@ -10,15 +10,17 @@ ghost use Rattle.hv_stands.specs.Running.{meant};
 ghost use Rattle.hv_house.specs.Faults.{ReadCause, IsShortDamage, IsDamage};
 ghost use Rattle.hv_house.specs.House.{entries_of, IsAsked, IsReady, StaysRead, Shows};
 ghost use Rattle.hv_house.specs.Steps.{IsMarkedFor};
-ghost use Rattle.hv_house.specs.Seeing.{IsSpoiled};
+ghost use Rattle.hv_house.specs.Seeing.{IsSeenOf, IsSpoiled};
+ghost use Rattle.hv_logic.specs.Tables.{named};
+ghost use Rattle.hv_stands.specs.Reading.{table_of_name};
 ghost use Rattle.hv_ending.specs.Ending.{CanEnd};
-ghost use Rattle.hv_session.specs.Seeing.{AddsSeen, IsSeen, IsNarrow, state_at};
+ghost use Rattle.hv_session.specs.Seeing.{AddsSeen, AreSeenOfSome, IsSeen, IsNarrow, state_at};
 
 use hv_ast::{Rows, Stmt};
-use hv_base::{NoMemory, Text, TxnId};
+use hv_base::{Duplicate, NoMemory, Text, TxnId};
 use hv_effect::meaning_in;
 use hv_house::{House, RowFault};
-use hv_logic::{Meaning, Seen, TableInfo};
+use hv_logic::{Meaning, Seen, TableInfo, named};
 use hv_names::names_in;
 use hv_shelf::Shelf;
 use std::alloc::Global;
@@ -50,6 +52,50 @@ fn put(table: Seen, seen: &mut Vec<Seen>) -> Result<(), NoMemory>
     Ok(())
 }
 
+/// A copy of the table of that name, where it was seen.
+fn seen_before(alloc: Global, name: &Text, seen: &[Seen]) -> Result<Option<Seen>, NoMemory>
+    ensures { IfOk result (λ copy. copy ≡ named name.now seen.now) }
+{
+    match named(name, seen) {
+        Some(table) => Ok(Some(Seen {
+            info: table.info.duplicate(alloc)?,
+            rows: table.rows.duplicate(alloc)?,
+        })),
+        None => Ok(None),
+    }
+}
+
+/// The table of a name, as it stood at a place of the book, for a transaction. Where it was seen for an earlier name
+/// its rows are copied, and no file is read again.
+fn look<D: Shelf>(
+    alloc: Global,
+    house: &mut House<D>,
+    by: TxnId,
+    place: u64,
+    name: &Text,
+    reads: bool,
+    seen: &[Seen],
+) -> Result<Option<Seen>, RowFault>
+    requires ready { IsReady D.told house.old }
+    requires seen { AreSeenOfSome (D.told house.old.shelf) (state_at (entries_of house.old) place) reads seen.now }
+    ensures asked { IsAsked D.told house.old house.new }
+    ensures short { IfErr result IsShortDamage }
+    ensures seen { IfOk result (λ found. IsSeenOf (D.told house.old.shelf) reads (state_at (entries_of house.old) place)
+        (table_of_name name.now (state_at (entries_of house.old) place).tables) found) }
+    ensures once { IsSome (named name.now seen.now) → house.new ≡ house.old }
+    ensures damage { IfErr result (λ fault. IsDamage fault
+        → IsSpoiled (D.told house.old.shelf) (state_at (entries_of house.old) place)) }
+    ensures ready { IfOk result (λ _. IsReady D.told house.new) }
+    ensures stays { IfErr result (λ why. StaysRead D.told why house.new) }
+    ensures marked { IfErr result (IsMarkedFor house.new by) }
+    ensures cause { ReadCause (D.faults house.old.shelf) (D.faults house.new.shelf) result }
+{
+    match seen_before(alloc, name, seen)? {
+        Some(table) => Ok(Some(table)),
+        None => house.see(alloc, by, place, name, reads),
+    }
+}
+
 /// Looks at the table of one more name, as it stood at a place of the book, for a transaction.
 fn see_next<D: Shelf>(
     alloc: Global,
@@ -61,6 +107,7 @@ fn see_next<D: Shelf>(
     seen: &mut Vec<Seen>,
 ) -> Result<(), RowFault>
     requires ready { IsReady D.told house.old }
+    requires seen { AreSeenOfSome (D.told house.old.shelf) (state_at (entries_of house.old) place) reads seen.old.items }
     ensures asked { IsAsked D.told house.old house.new }
     ensures short { IfErr result IsShortDamage }
     ensures seen { OnOk result (AddsSeen (D.told house.old.shelf) (state_at (entries_of house.old) place) reads
@@ -72,13 +119,14 @@ fn see_next<D: Shelf>(
     ensures marked { IfErr result (IsMarkedFor house.new by) }
     ensures cause { ReadCause (D.faults house.old.shelf) (D.faults house.new.shelf) result }
 {
-    if let Some(table) = house.see(alloc, by, place, name, reads)? {
+    if let Some(table) = look(alloc, house, by, place, name, reads, seen)? {
         put(table, seen)?;
     }
     Ok(())
 }
 
 /// The tables that a statement names, as they stood at a place of the book, each with its rows where the statement reads rows.
+/// A table's files are read once, however often it is named.
 fn seen<D: Shelf>(
     alloc: Global,
     house: &mut House<D>,

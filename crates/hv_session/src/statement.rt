@@ -1,63 +1,61 @@
-ghost use Rattle.std.specs.Prelude.{◌≡◌, ◌≤◌, length, IfOk, IfErr};
+ghost use Rattle.std.specs.Prelude.{◌≡◌, ◌≤◌, false, length, IfOk, IfErr};
 ghost use Rattle.hv_base.specs.Told.{Tells, Moves, StaysTold};
 ghost use Rattle.hv_history.specs.State.{state_of};
 ghost use Rattle.hv_stands.specs.Running.{next_number, KeepsGiven};
 ghost use Rattle.hv_house.specs.Faults.{FileCause, EndsRun};
 ghost use Rattle.hv_house.specs.House.{entries_of, IsReady, Shows};
 ghost use Rattle.hv_ending.specs.Ending.{AddsOf, HasStopped};
-ghost use Rattle.hv_session.specs.Taking.{IsHold, IsHeldBySome, IsTrulyHeld, IsKeptIn, IsTakenAs, IsFinished};
+ghost use Rattle.hv_session.specs.Taking.{asked_of, IsHold, IsHeldBySome, IsTrulyHeld, IsKeptIn, IsTakenAs, IsFinished};
+ghost use Rattle.hv_session.specs.Ways.{StopsTaken};
 
+use crate::asking::{Asking, How};
 use crate::ends::end_as;
 use crate::holds::end_started;
 use crate::lines::text_reply;
 use crate::opening::take_statement;
 use crate::paused::{Paused, Point, Taken};
 use hv_ast::discard;
-use hv_base::{Stage, Text};
 use hv_ending::{Reply, Way, conclude};
 use hv_house::{House, HouseFault};
 use hv_reading::read_statement;
 use hv_shelf::Shelf;
 use std::alloc::Global;
 
-/// Takes up a statement, and does it to its end, or to the place where it is to be held.
+/// Takes up a statement, and does it to its end, or to the place where it is to be held. Nobody else acts on the
+/// house meanwhile, so one that has to wait for a lock is refused.
 ///
 /// # Errors
 /// `Store` where the journal failed, `NoMemory` where memory lacked even for a refusal; no `Failed`: a fault of files ends the statement.
 pub fn take_up<D: Shelf>(
     alloc: Global,
     house: &mut House<D>,
-    session: &Text,
-    number: u64,
-    text: &Text,
-    hold: Option<Stage>,
+    asking: Asking,
+    how: How,
 ) -> Result<Taken, HouseFault>
     requires ready { IsReady D.told house.old }
-    requires short { length text.now ≤ 32768 }
-    requires named { length session.now ≤ 32 }
-    requires hold { IsHold hold }
+    requires short { length asking.text ≤ 32768 }
+    requires named { length asking.session ≤ 32 }
+    requires hold { IsHold asking.hold }
+    requires run { how.waits ≡ false }
     ensures ready { IfOk result (λ _. IsReady D.told house.new) }
     ensures added { IfOk result (λ _. AddsOf (next_number (entries_of house.old))
         (D.faults house.old.shelf) (D.faults house.new.shelf)
         (entries_of house.old) (entries_of house.new)) }
-    ensures held { IfOk result (IsKeptIn (entries_of house.old) (entries_of house.new)
-        (record { session = session.now; number = number; text = text.now })) }
+    ensures held { IfOk result (IsKeptIn (entries_of house.old) (entries_of house.new) (asked_of asking)) }
     ensures shows { Shows D.told house.old (entries_of house.old)
         → IfOk result (λ _. Shows D.told house.new (entries_of house.new)) }
     ensures taken { Shows D.told house.old (entries_of house.old)
         → IfOk result (λ taken. Tells (D.told house.new.shelf) (λ s. IsTakenAs
-        (entries_of house.old) (entries_of house.new) s.tree
-        (record { session = session.now; number = number; text = text.now }) hold taken)) }
+        (entries_of house.old) (entries_of house.new) s.tree (asked_of asking) asking.hold taken)) }
     ensures keeps { Moves (KeepsGiven (state_of (entries_of house.old)).tables)
         (D.told house.old.shelf) (D.told house.new.shelf) }
     ensures tells { StaysTold (D.told house.old.shelf) (D.told house.new.shelf) }
-    ensures stopped { IfErr result (λ why. HasStopped D.told
-        (next_number (entries_of house.old)) why house.old house.new) }
+    ensures stopped { IfErr result (λ why. StopsTaken D.told (asked_of asking) why house.old house.new) }
     ensures ends { IfErr result EndsRun }
     ensures cause { FileCause (D.faults house.old.shelf) (D.faults house.new.shelf) result }
 {
-    match read_statement(alloc, text) {
-        Ok(tree) => take_statement(alloc, house, session, number, text, tree, hold),
+    match read_statement(alloc, &asking.text) {
+        Ok(tree) => take_statement(alloc, house, asking, tree),
         Err(fault) => Ok(Taken::Replied(text_reply(alloc, fault)?)),
     }
 }
@@ -70,8 +68,10 @@ pub fn finish<D: Shelf>(
     alloc: Global,
     house: &mut House<D>,
     paused: Paused,
+    how: How,
 ) -> Result<Reply, HouseFault>
     requires ready { IsReady D.told house.old }
+    requires run { how.waits ≡ false }
     requires held { IsHeldBySome (entries_of house.old) paused }
     ensures ready { IfOk result (λ _. IsReady D.told house.new) }
     ensures added { IfOk result (λ _. AddsOf paused.txn.0
@@ -83,7 +83,7 @@ pub fn finish<D: Shelf>(
     ensures finished { Shows D.told house.old (entries_of house.old)
         → Tells (D.told house.old.shelf) (λ s. IsTrulyHeld (entries_of house.old) s.tree paused)
         → IfOk result (λ reply. Tells (D.told house.new.shelf) (λ _. IsFinished
-        (entries_of house.old) (entries_of house.new) paused.txn.0 reply.text reply.refused)) }
+        (entries_of house.old) (entries_of house.new) paused.txn.0 reply.text reply.refused reply.ended)) }
     ensures keeps { Moves (KeepsGiven (state_of (entries_of house.old)).tables)
         (D.told house.old.shelf) (D.told house.new.shelf) }
     ensures tells { StaysTold (D.told house.old.shelf) (D.told house.new.shelf) }

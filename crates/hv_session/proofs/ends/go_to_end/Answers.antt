@@ -32,7 +32,7 @@ returns-in-Means-clause-part g c =
 pub returns-in-Means-clause-truly : goal.returns-in-Means-clause-truly
 returns-in-Means-clause-truly g c = λ asking under shows.
     comes-then g.D.Shelf.told g.D.Shelf.faults c.args.way c.args.house.now c.come_to.new.house c.args.tree.now c.in_ok-meaning.field-0 c.in-Means.meaning c.in-Means.is c.in_ok-meaning.ensures.comes
-    (λ b reply. ShowsAnd g.D.Shelf.told c.end_as.new.house (λ _. IsFinished b (entries_of c.end_as.new.house) c.args.way.txn.0 reply.text reply.refused))
+    (λ b reply. ShowsAnd g.D.Shelf.told c.end_as.new.house (λ _. IsFinished b (entries_of c.end_as.new.house) c.args.way.txn.0 reply.text reply.refused reply.ended))
     c.end_as.result asking (c.end_as.ensures.truly asking c.args.tree.now) under (c.in_ok-meaning.ensures.truly asking under shows)
 
 pub returns-in-Ended-clause-part : goal.returns-in-Ended-clause-part

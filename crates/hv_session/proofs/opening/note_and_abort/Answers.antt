@@ -1,8 +1,8 @@
-use Rattle.std.proofs.Common.{◌++◌, ◌∷◌, [], sym, ap, ◌∙◌, subst, arith}
+use Rattle.std.proofs.Common.{◌++◌, ◌∷◌, [], sym, ap, ◌∙◌, subst}
 use Rattle.hv_house.specs.House.{entries_of}
 use Rattle.hv_house.specs.Steps.{IsMarked}
 use Rattle.hv_session.proofs.Shorts.{small-opened}
-use Rattle.hv_session.proofs.Beginning.{opened-tree, opened-waits, opened-runs, opened-of, opened-begun, noted-passed, noted-shows, unopened-part, unopened-truly, turned-away, renumbered}
+use Rattle.hv_session.proofs.Beginning.{opened-tree, opened-waits, opened-runs, opened-of, opened-begun, lacks-behind, noted-passed, noted-shows, unopened-part, unopened-truly, turned-away, renumbered}
 use Rattle.hv_session.proofs.Passing.{part-behind}
 use Rattle.hv_session.proofs.opening.note_and_abort.Goals as goal
 
@@ -12,7 +12,7 @@ note-requires-clause-tree g c =
 
 pub note-requires-clause-small : goal.note-requires-clause-small
 note-requires-clause-small g c =
-    let opened = c.requires.opened in small-opened (entries_of c.args.house.now) opened.0 c.args.opened opened.1 opened.4 opened.3
+    let opened = c.requires.opened in small-opened (entries_of c.args.house.now) opened.0 c.args.opened opened.1 opened.5 opened.4
 
 pub note-requires-clause-marked : goal.note-requires-clause-marked
 note-requires-clause-marked g c = subst (λ e. IsMarked c.args.house.now e) (sym c.requires.opened.1) tt
@@ -21,9 +21,14 @@ pub abort_opened-requires-clause-waiting : goal.abort_opened-requires-clause-wai
 abort_opened-requires-clause-waiting g c =
     let opened = c.requires.opened in (
       opened.0,
-      c.args.kept,
-      opened-waits (entries_of c.args.house.now) (entries_of c.note.new.self) opened.0 c.args.opened c.args.kept c.next_txn-txn.result.0 opened.1 opened.2 c.in-Ok.ensures.noted.entries c.next_txn-txn.ensures.next,
+      opened-waits (entries_of c.args.house.now) (entries_of c.note.new.self) opened.0 c.args.opened c.args.tree.now c.next_txn-txn.result.0 opened.1 opened.3 c.in-Ok.ensures.noted.entries c.next_txn-txn.ensures.next,
     )
+
+pub abort_opened-requires-clause-lacks : goal.abort_opened-requires-clause-lacks
+abort_opened-requires-clause-lacks g c =
+    let opened = c.requires.opened in
+    lacks-behind (entries_of c.args.house.now) (entries_of c.note.new.self) opened.0 c.args.tree.now
+    (c.in-Ok.ensures.noted.entries ∙ ap (λ e. entries_of c.args.house.now ++ e ∷ []) opened.1) c.requires.cannot
 
 pub returns-in-Ok-clause-part : goal.returns-in-Ok-clause-part
 returns-in-Ok-clause-part g c =
@@ -37,9 +42,10 @@ returns-in-Ok-clause-part g c =
 pub returns-in-Ok-clause-truly : goal.returns-in-Ok-clause-truly
 returns-in-Ok-clause-truly g c = λ asking is shows.
     let opened = c.requires.opened in
-    turned-away g.D.Shelf.told g.D.Shelf.faults c.next_txn-txn.result.0 c.args.house.now c.note.new.self c.abort_opened.new.house asking c.args.kept c.abort_opened.result
+    turned-away g.D.Shelf.told g.D.Shelf.faults c.next_txn-txn.result.0 c.args.house.now c.note.new.self c.abort_opened.new.house asking c.args.tree.now c.abort_opened.result
     (c.in-Ok.ensures.noted.entries ∙ ap (λ e. entries_of c.args.house.now ++ e ∷ []) is) c.next_txn-txn.ensures.next
-    (opened-waits (entries_of c.args.house.now) (entries_of c.note.new.self) asking c.args.opened c.args.kept c.next_txn-txn.result.0 is (opened-runs (entries_of c.args.house.now) opened.0 asking c.args.opened c.args.kept opened.1 is opened.2)
+    c.requires.cannot
+    (opened-waits (entries_of c.args.house.now) (entries_of c.note.new.self) asking c.args.opened c.args.tree.now c.next_txn-txn.result.0 is (opened-runs (entries_of c.args.house.now) opened.0 asking c.args.opened c.args.tree.now opened.1 is opened.3)
     c.in-Ok.ensures.noted.entries c.next_txn-txn.ensures.next)
     c.abort_opened.ensures.aborts
     (noted-shows g.D.Shelf.told c.args.house.now c.note.new.self _ c.in-Ok.ensures.ready c.in-Ok.ensures.noted (opened-begun (entries_of c.args.house.now) opened.0 c.args.opened opened.1) shows)
@@ -47,11 +53,10 @@ returns-in-Ok-clause-truly g c = λ asking is shows.
 pub returns-in-Err-clause-part : goal.returns-in-Err-clause-part
 returns-in-Err-clause-part g c =
     let opened = c.requires.opened in
-    unopened-part g.D.Shelf.told g.D.Shelf.faults _ c.args.house.now c.note.new.self _ (opened-of (entries_of c.args.house.now) opened.0 c.args.opened opened.1) (omega arith)
-    c.in-Err.fault c.unopened.result c.in-Err.ensures.halted c.in-Err.ensures.stays c.in-Err.ensures.tells c.in-Err.ensures.ends c.in-Err.ensures.cause c.unopened.ensures.memory c.unopened.ensures.failed
+    unopened-part g.D.Shelf.told g.D.Shelf.faults c.args.house.now c.note.new.self c.args.opened
+    c.in-Err.fault c.unopened.result (opened-of (entries_of c.args.house.now) opened.0 c.args.opened opened.1).0 c.requires.fits c.in-Err.ensures.halted c.in-Err.ensures.stays c.in-Err.ensures.tells c.in-Err.ensures.ends c.in-Err.ensures.cause c.unopened.ensures.memory c.unopened.ensures.failed
 
 pub returns-in-Err-clause-truly : goal.returns-in-Err-clause-truly
 returns-in-Err-clause-truly g c = λ asking is shows.
-    let opened = c.requires.opened in
-    unopened-truly g.D.Shelf.told g.D.Shelf.faults _ c.args.house.now c.note.new.self _ (opened-of (entries_of c.args.house.now) opened.0 c.args.opened opened.1) (omega arith) asking
+    unopened-truly g.D.Shelf.told g.D.Shelf.faults c.args.house.now c.note.new.self _ asking
     c.in-Err.fault c.unopened.result c.in-Err.ensures.halted c.in-Err.ensures.stays c.unopened.ensures.memory shows

@@ -2,16 +2,18 @@ use Rattle.std.proofs.Common.{List, ℕ}
 use Rattle.hv_house.specs.declared.fault.HouseFault.TheVariants as fault
 use Rattle.hv_stands.specs.Running.{next_number}
 use Rattle.hv_house.specs.House.{entries_of}
-use Rattle.hv_session.specs.Ways.{asking_of, IsTurnedAway}
+use Rattle.hv_session.specs.Taking.{asked_of}
+use Rattle.hv_session.specs.Ways.{IsTurnedAway}
 use Rattle.hv_session.proofs.Passing.{still-part, still-shows, still-halts, part-residual}
 use Rattle.hv_session.proofs.Beginning.{opened-is, unfit, lacks-room, full-away}
 use Rattle.hv_session.proofs.opening.turn_away.Goals as goal
 
 pub note_and_abort-requires-clause-opened : goal.note_and_abort-requires-clause-opened
 note_and_abort-requires-clause-opened g c = (
-  asking_of c.args.copies c.args.number,
-  opened-is (entries_of c.args.house.now) (asking_of c.args.copies c.args.number) c.next_txn.result c.next_txn.ensures.next,
-  c.requires.runs,
+  asked_of c.args.asking,
+  opened-is (entries_of c.args.house.now) (asked_of c.args.asking) c.next_txn.result c.next_txn.ensures.next,
+  c.requires.kept,
+  c.requires.tree,
   c.requires.short,
   c.requires.named,
 )
@@ -24,8 +26,8 @@ returns-then-fits-clause-part g c = c.note_and_abort.ensures.part
 
 pub returns-then-fits-clause-truly : goal.returns-then-fits-clause-truly
 returns-then-fits-clause-truly g c =
-    c.note_and_abort.ensures.truly (asking_of c.args.copies c.args.number)
-    (opened-is (entries_of c.args.house.now) (asking_of c.args.copies c.args.number) c.next_txn.result c.next_txn.ensures.next)
+    c.note_and_abort.ensures.truly (asked_of c.args.asking)
+    (opened-is (entries_of c.args.house.now) (asked_of c.args.asking) c.next_txn.result c.next_txn.ensures.next)
 
 pub returns-in_ok-full_reply-clause-part : goal.returns-in_ok-full_reply-clause-part
 returns-in_ok-full_reply-clause-part g c =
@@ -33,10 +35,10 @@ returns-in_ok-full_reply-clause-part g c =
 
 pub returns-in_ok-full_reply-clause-truly : goal.returns-in_ok-full_reply-clause-truly
 returns-in_ok-full_reply-clause-truly g c = λ shows.
-    still-shows g.D.Shelf.told c.args.house.now (λ s. IsTurnedAway (entries_of c.args.house.now) (entries_of c.args.house.now) (asking_of c.args.copies c.args.number) c.in_ok-full_reply.field-0) shows
-    (λ s. full-away (entries_of c.args.house.now) (asking_of c.args.copies c.args.number) c.in_ok-full_reply.field-0
-    (lacks-room (entries_of c.args.house.now) (asking_of c.args.copies c.args.number) c.args.tree.now c.requires.tree
-    (unfit (entries_of c.args.house.now) (asking_of c.args.copies c.args.number) c.next_txn.result c.next_txn.ensures.next c.fits.result c.if-fits.false c.fits.ensures.fits))
+    still-shows g.D.Shelf.told c.args.house.now (λ s. IsTurnedAway (entries_of c.args.house.now) (entries_of c.args.house.now) (asked_of c.args.asking) c.in_ok-full_reply.field-0) shows
+    (λ s. full-away (entries_of c.args.house.now) (asked_of c.args.asking) c.in_ok-full_reply.field-0
+    (lacks-room (entries_of c.args.house.now) (asked_of c.args.asking) c.args.tree.now c.requires.tree
+    (unfit (entries_of c.args.house.now) (asked_of c.args.asking) c.next_txn.result c.next_txn.ensures.next c.fits.result c.if-fits.false c.fits.ensures.fits))
     c.in_ok-full_reply.ensures.line)
 
 pub returns-in_err-full_reply-clause-part : goal.returns-in_err-full_reply-clause-part

@@ -1,9 +1,14 @@
 use Rattle.std.proofs.Common.{sym, arith}
+use Rattle.hv_session.proofs.Again.{sees-some}
 use Rattle.hv_session.proofs.SeenTables.{sees-next}
 use Rattle.hv_session.proofs.seeing.seen.Goals as goal
 
 pub see_next-requires : goal.see_next-requires
-see_next-requires g c = record { ready = c.loop-i.invariant.ready }
+see_next-requires g c = record {
+  ready = c.loop-i.invariant.ready;
+  seen = sees-some g.D.Shelf.told g.D.Shelf.faults c.args.house.now c.loop-i.house c.args.place c.reads_rows-reads.result c.in_ok-names.names.items c.loop-i.i c.loop-i.seen.items
+      c.loop-i.invariant;
+}
 
 pub loop-i-preserved : goal.loop-i-preserved
 loop-i-preserved g c =

@@ -19,13 +19,13 @@ returns-in-Started-clause-added g c = part-added g.D.Shelf.told g.D.Shelf.faults
 pub returns-in-Started-clause-shows : goal.returns-in-Started-clause-shows
 returns-in-Started-clause-shows g c = λ shows truly.
     let held = c.requires.held in
-    shown-ok g.D.Shelf.told c.end_started.new.house (λ reply s. IsFinished (entries_of c.args.house.now) (entries_of c.end_started.new.house) c.args.paused.txn.0 reply.text reply.refused) c.end_started.result
+    shown-ok g.D.Shelf.told c.end_started.new.house (λ reply s. IsFinished (entries_of c.args.house.now) (entries_of c.end_started.new.house) c.args.paused.txn.0 reply.text reply.refused reply.ended) c.end_started.result
     (c.end_started.ensures.truly held.0 (started-under (entries_of c.args.house.now) held.0 c.args.paused held.1 c.in-Started.is) shows)
 
 pub returns-in-Started-clause-finished : goal.returns-in-Started-clause-finished
 returns-in-Started-clause-finished g c = λ shows truly.
     let held = c.requires.held in
-    truth-ok g.D.Shelf.told c.end_started.new.house (λ reply s. IsFinished (entries_of c.args.house.now) (entries_of c.end_started.new.house) c.args.paused.txn.0 reply.text reply.refused) c.end_started.result
+    truth-ok g.D.Shelf.told c.end_started.new.house (λ reply s. IsFinished (entries_of c.args.house.now) (entries_of c.end_started.new.house) c.args.paused.txn.0 reply.text reply.refused reply.ended) c.end_started.result
     (c.end_started.ensures.truly held.0 (started-under (entries_of c.args.house.now) held.0 c.args.paused held.1 c.in-Started.is) shows)
 
 pub returns-in-Started-clause-keeps : goal.returns-in-Started-clause-keeps
@@ -62,14 +62,14 @@ returns-in-Meant-clause-added g c = part-added g.D.Shelf.told g.D.Shelf.faults _
 pub returns-in-Meant-clause-shows : goal.returns-in-Meant-clause-shows
 returns-in-Meant-clause-shows g c = λ shows truly.
     let held = c.requires.held in
-    shown-ok g.D.Shelf.told c.end_as.new.house (λ reply s. IsFinished (entries_of c.args.house.now) (entries_of c.end_as.new.house) c.args.paused.txn.0 reply.text reply.refused) c.end_as.result
+    shown-ok g.D.Shelf.told c.end_as.new.house (λ reply s. IsFinished (entries_of c.args.house.now) (entries_of c.end_as.new.house) c.args.paused.txn.0 reply.text reply.refused reply.ended) c.end_as.result
     (c.end_as.ensures.truly held.0 c.args.paused.tree (meant-under (entries_of c.args.house.now) held.0 c.args.paused held.1 c.in-Meant.meaning c.in-Meant.is)
     (meant-told (entries_of c.args.house.now) held.0 c.args.paused held.1 c.in-Meant.meaning c.in-Meant.is (g.D.Shelf.told c.args.house.now.shelf) truly) shows)
 
 pub returns-in-Meant-clause-finished : goal.returns-in-Meant-clause-finished
 returns-in-Meant-clause-finished g c = λ shows truly.
     let held = c.requires.held in
-    truth-ok g.D.Shelf.told c.end_as.new.house (λ reply s. IsFinished (entries_of c.args.house.now) (entries_of c.end_as.new.house) c.args.paused.txn.0 reply.text reply.refused) c.end_as.result
+    truth-ok g.D.Shelf.told c.end_as.new.house (λ reply s. IsFinished (entries_of c.args.house.now) (entries_of c.end_as.new.house) c.args.paused.txn.0 reply.text reply.refused reply.ended) c.end_as.result
     (c.end_as.ensures.truly held.0 c.args.paused.tree (meant-under (entries_of c.args.house.now) held.0 c.args.paused held.1 c.in-Meant.meaning c.in-Meant.is)
     (meant-told (entries_of c.args.house.now) held.0 c.args.paused held.1 c.in-Meant.meaning c.in-Meant.is (g.D.Shelf.told c.args.house.now.shelf) truly) shows)
 
@@ -110,7 +110,7 @@ pub returns-in-Ready-clause-finished : goal.returns-in-Ready-clause-finished
 returns-in-Ready-clause-finished g c = λ shows truly.
     let held = c.requires.held in
     let is = ready-told (entries_of c.args.house.now) held.0 c.args.paused held.1 c.in-Ready.ready c.in-Ready.is (g.D.Shelf.told c.args.house.now.shelf) truly in
-    truth-ok g.D.Shelf.told c.conclude.new.house (λ reply s. IsFinished (entries_of c.args.house.now) (entries_of c.conclude.new.house) c.args.paused.txn.0 reply.text reply.refused) c.conclude.result
+    truth-ok g.D.Shelf.told c.conclude.new.house (λ reply s. IsFinished (entries_of c.args.house.now) (entries_of c.conclude.new.house) c.args.paused.txn.0 reply.text reply.refused reply.ended) c.conclude.result
     (concluded-shows g.D.Shelf.told _ _ _ c.args.house.now c.conclude.new.house c.conclude.result c.conclude.ensures.added
     (c.conclude.ensures.shows held.0 c.args.paused.tree is shows) (c.conclude.ensures.answered held.0 c.args.paused.tree is shows))
 
