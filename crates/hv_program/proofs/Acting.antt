@@ -19,19 +19,20 @@ use Rattle.hv_directives.specs.declared.actions.Action.{Action}
 use Rattle.hv_directives.specs.declared.actions.Action.TheVariants as action
 use Rattle.hv_directives.specs.declared.actions.Session.{Session}
 use Rattle.hv_directives.specs.declared.actions.Statement.{Statement}
-use Rattle.hv_stands.specs.Running.{Asking, next_number, opening, AreOf, KeepsGiven, HasAnswered}
+use Rattle.hv_stands.specs.Running.{Asking, next_number, opening, AreOf, KeepsGiven}
 use Rattle.hv_stands.specs.Statements.{AllFitting}
 use Rattle.hv_stands.proofs.Numbers.{numbered-within}
 use Rattle.hv_house.specs.declared.fault.HouseFault.{HouseFault}
 use Rattle.hv_house.specs.declared.fault.HouseFault.TheVariants as fault
 use Rattle.hv_house.specs.declared.house.House.{House}
-use Rattle.hv_house.specs.House.{entries_of, IsFaithful, IsReady, Shows}
-use Rattle.hv_ending.specs.Ending.{AddsOf, HasStopped, KeepsCount, IsUndamaged}
+use Rattle.hv_house.specs.House.{entries_of, BeginFits, beginning_of, Leaves, IsFaithful, IsReady, Shows}
+use Rattle.hv_ending.specs.Ending.{AddsOf, HasStopped, KeepsCount, IsUndamaged, HasReplied}
 use Rattle.hv_ending.specs.declared.ready.Reply.{Reply}
 use Rattle.hv_session.specs.declared.paused.Paused.{Paused}
 use Rattle.hv_session.specs.declared.paused.Taken.{Taken}
 use Rattle.hv_session.specs.declared.paused.Taken.TheVariants as taken
 use Rattle.hv_session.specs.Taking.{IsHeld, IsHeldBySome, IsTrulyHeld, HoldsAt, IsReplied, WentThrough, IsKept, IsKeptIn, IsTakenAs, IsFinished}
+use Rattle.hv_session.specs.Ways.{StopsTaken}
 use Rattle.hv_program.specs.declared.held.Held.{Held}
 use Rattle.hv_program.specs.Doing.{Waiting, Standing, is_session, waiting_in, without, asking_of, ReleasesOne, session_line}
 use Rattle.hv_program.specs.Own.{Grows, IsNotLost, IsOfRun}
@@ -201,9 +202,9 @@ module _ (low high : ℕ) (before now : List Entry) (waiting : List Waiting) (st
   abbrev standing-now : Standing
   standing-now = record { book = now; waiting = waiting }
 
-  went-through : (reply : List ℕ) (refused : Bool) → AllFitting now → AddsOf (next_number before) low high before now
-      → WentThrough before now (asking_of statement) statement.hold reply refused → Acts low high standing standing-now (action.Run statement) reply refused
-  went-through reply refused fit adds w = record {
+  went-through : (reply : List ℕ) (refused : Bool) (ended : Option ℕ) → AllFitting now → AddsOf (next_number before) low high before now
+      → WentThrough before now (asking_of statement) statement.hold reply refused ended → Acts low high standing standing-now (action.Run statement) reply refused
+  went-through reply refused ended fit adds w = record {
     grows = record {
       more = opening before (asking_of statement) ∷ w.added;
       book_is = w.book;
@@ -213,11 +214,15 @@ module _ (low high : ℕ) (before now : List Entry) (waiting : List Waiting) (st
       goes = inl (record {
         added = w.added;
         goes = w.book;
+        tree = w.tree;
+        runs = w.runs;
+        starts = w.starts;
         of_it = w.of_it;
         in_time = w.in_time;
         is_answer = record {
           own = grown-transactions start before behind.grown.0 behind.grown.1;
           was_opened = opens-it before now w.added (asking_of statement) w.book;
+          ended = ended;
           answered = w.answered;
         };
       });
@@ -225,24 +230,24 @@ module _ (low high : ℕ) (before now : List Entry) (waiting : List Waiting) (st
     });
   }
 
-  pub acts-replied : (reply : List ℕ) (refused : Bool) → AllFitting now → AddsOf (next_number before) low high before now
-      → IsReplied before now (asking_of statement) statement.hold reply refused → Acts low high standing standing-now (action.Run statement) reply refused
-  acts-replied reply refused fit adds (inl w) = went-through reply refused fit adds w
-  acts-replied reply refused fit adds (inr (inl n)) = record {
+  pub acts-replied : (reply : List ℕ) (refused : Bool) (ended : Option ℕ) → AllFitting now → AddsOf (next_number before) low high before now
+      → IsReplied before now (asking_of statement) statement.hold reply refused ended → Acts low high standing standing-now (action.Run statement) reply refused
+  acts-replied reply refused ended fit adds (inl w) = went-through reply refused ended fit adds w
+  acts-replied reply refused ended fit adds (inr (inl n)) = record {
     grows = same-grows low high before now n.book;
     done = λ start behind. inl (record {
       goes = inr (inl (n.book, (n.fault.fault, n.fault.found), record { fault = n.fault; refusal = n.is_refused }));
       waiting_same = refl;
     });
   }
-  acts-replied reply refused fit adds (inr (inr (inl f))) = record {
+  acts-replied reply refused ended fit adds (inr (inr (inl f))) = record {
     grows = same-grows low high before now f.book;
     done = λ start behind. inl (record {
       goes = inr (inr (inl (f.book, f.lacks, record { line_is = f.line; refusal = f.is_refused })));
       waiting_same = refl;
     });
   }
-  acts-replied reply refused fit adds (inr (inr (inr m))) = record {
+  acts-replied reply refused ended fit adds (inr (inr (inr m))) = record {
     grows = same-grows low high before now m.book;
     done = λ start behind. inl (record {
       goes = inr (inr (inr (m.book, record { line_is = m.line; refusal = m.is_refused })));
@@ -302,6 +307,9 @@ acts-kept low high before now helds statement held store fit adds named k =
         goes = record {
           added = k.added;
           goes = k.book;
+          tree = held.paused.tree;
+          runs = k.runs;
+          can = k.can;
           at_hold = k.at_hold;
           own = grown-transactions start before behind.grown.0 behind.grown.1;
           was_opened = opens-it before now k.added (asking_of statement) k.book;
@@ -326,12 +334,12 @@ all-waiting : (P : Waiting → Type 0) (name : List ℕ) (ws : List Waiting) (w 
 all-waiting P name [] w all e = cc
 all-waiting P name (first ∷ ws) w all e = waiting-by P (is_session name first) first (waiting_in name ws) w all.0 (all-waiting P name ws w all.1) e
 
-pub acts-finished : (low high : ℕ) (before now : List Entry) (helds : List Held) (session : Session) (paused : Paused) (reply : List ℕ) (refused : Bool)
+pub acts-finished : (low high : ℕ) (before now : List Entry) (helds : List Held) (session : Session) (paused : Paused) (reply : List ℕ) (refused : Bool) (ended : Option ℕ)
     → AllFitting now → AreHeld before helds → paused_in session.name helds ≡ Some paused → AddsOf paused.txn.0 low high before now
-    → IsFinished before now paused.txn.0 reply refused
+    → IsFinished before now paused.txn.0 reply refused ended
     → Acts low high (record { book = before; waiting = map waiting_of helds }) (record { book = now; waiting = map waiting_of (held_without session.name helds) })
     (action.Release session) reply refused
-acts-finished low high before now helds session paused reply refused fit h found adds f =
+acts-finished low high before now helds session paused reply refused ended fit h found adds f =
     let name = session.name in
     let waits = found-waits name helds paused found in
     let unlost = some-begun before name helds paused found h.begun in
@@ -351,7 +359,8 @@ acts-finished low high before now helds session paused reply refused fit h found
               goes = f.book;
               of_it = subst (λ (txn : ℕ). AreOf txn f.added) (sym waits.txn_is) f.of_it;
               own = all-waiting (IsLater start) name (map waiting_of helds) waits.waiting behind.later waits.is;
-              answered = subst (λ (txn : ℕ). HasAnswered now txn reply refused) (sym waits.txn_is) f.answered;
+              ended = ended;
+              answered = subst (λ (txn : ℕ). HasReplied now txn reply refused ended) (sym waits.txn_is) f.answered;
             },
             waits-without name helds,
           );
@@ -392,7 +401,7 @@ stops-before told before act holds = record {
     legal = record { fit = tt; truthful = tt };
     unended = tt;
   };
-  leaves = ([], record { of_it = none-of (number_of before act); few = omega arith }, holds);
+  leaves = ([], inl (record { of_it = none-of (number_of before act); few = omega arith; fit = tt }), holds);
 }
 
 some-of : (number : Option ℕ) (txn : ℕ) (events : List Entry) → number ≡ Some txn → AreOf txn events → AreOfSome number events
@@ -410,8 +419,40 @@ stops-in told txn why before now waiting act is h = record {
     legal = h.legal;
     unended = h.unended;
   };
-  leaves = (h.further, record { of_it = some-of _ txn h.further is h.further_of_it; few = h.few }, h.leaves);
+  leaves = (h.further, inl (record { of_it = some-of _ txn h.further is h.further_of_it; few = h.few; fit = h.fit }), h.leaves);
 }
+
+-- or where it was to begin
+begins-none : (why : HouseFault) (told : Option Store) (statement : Statement) (standing : Standing) (now : List Entry) → now ≡ standing.book
+    → BeginFits standing.book (asking_of statement) → Leaves why (beginning_of standing.book (asking_of statement)) told now
+    → Stops why told standing (action.Run statement) now
+begins-none why told statement standing now same fits leaves = record {
+  halfway = record {
+    added = [];
+    book = same ∙ sym (append-nil standing.book);
+    of_it = tt;
+    legal = record { fit = tt; truthful = tt };
+    unended = tt;
+  };
+  leaves = (beginning_of standing.book (asking_of statement), inr (record { same = same; fits = fits; further_is = refl }), leaves);
+}
+
+pub stops-taken : {D T : Type 0} (told : D → Option Store) (before now : House D) (waiting : List Waiting) (statement : Statement) (result : Result T HouseFault)
+    → IfErr result (λ why. StopsTaken told (asking_of statement) why before now)
+    → IfErr result (λ why. Stops why (told now.shelf) (record { book = entries_of before; waiting = waiting }) (action.Run statement) (entries_of now))
+stops-taken told before now waiting statement (Ok x) stops = tt
+stops-taken told before now waiting statement (Err why) (inl stopped) = stops-in told (next_number (entries_of before)) why before now waiting (action.Run statement) refl stopped
+stops-taken told before now waiting statement (Err why) (inr begins) =
+    begins-none why (told now.shelf) statement (record { book = entries_of before; waiting = waiting }) (entries_of now) begins.book begins.fits begins.leaves
+
+-- what a call that failed leaves is what is handed on
+pub stops-residual : {D T : Type 0} (told : D → Option Store) (before now : House D) (waiting : List Waiting) (statement : Statement) (why : HouseFault) (result : Result T HouseFault)
+    → IsErrAnd result (λ e. e ≡ why) → StopsTaken told (asking_of statement) why before now
+    → IfErr result (λ w. Stops w (told now.shelf) (record { book = entries_of before; waiting = waiting }) (action.Run statement) (entries_of now))
+stops-residual told before now waiting statement why (Ok x) left stops = tt
+stops-residual {T = T} told before now waiting statement why (Err w) left stops =
+    subst (λ (e : HouseFault). Stops e (told now.shelf) (record { book = entries_of before; waiting = waiting }) (action.Run statement) (entries_of now)) (sym left)
+    (stops-taken {T = T} told before now waiting statement (Err why) stops)
 
 pub number-found : (book : List Entry) (helds : List Held) (session : Session) (paused : Paused) → paused_in session.name helds ≡ Some paused
     → number_of (record { book = book; waiting = map waiting_of helds }) (action.Release session) ≡ Some paused.txn.0
@@ -452,7 +493,7 @@ replied-acts told before now helds helds' low high statement found reply same is
     (λ s taken_as.
     subst (λ (hs : List Held). Acts low high (record { book = before; waiting = map waiting_of helds }) (record { book = now; waiting = map waiting_of hs })
     (action.Run statement) reply.text reply.refused) (sym same)
-    (acts-replied low high before now (map waiting_of helds) statement reply.text reply.refused fit adds
+    (acts-replied low high before now (map waiting_of helds) statement reply.text reply.refused reply.ended fit adds
     (subst (IsTakenAs before now s.tree (asking_of statement) statement.hold) is taken_as))) all
 
 pub kept-held : (before now : List Entry) (helds helds' helds'' : List Held) (held : Held) (asking : Asking) (low high : ℕ) (found : Taken) → helds' ≡ helds
@@ -479,7 +520,7 @@ kept-shown told told' before now helds helds' helds'' held low high statement fo
     (shown-one-more told' now helds held others (kept-truly told' before now statement held found is (takes faithful)))
 
 pub kept-acts : (told : Option Store) (before now : List Entry) (helds helds' helds'' : List Held) (held : Held) (low high : ℕ) (statement : Statement) (found : Taken) (reply : Reply)
-    → helds' ≡ helds → helds'' ≡ helds' ++ held ∷ [] → found ≡ taken.Kept held.paused → held.session ≡ statement.session.name → reply ≡ record { text = []; refused = false }
+    → helds' ≡ helds → helds'' ≡ helds' ++ held ∷ [] → found ≡ taken.Kept held.paused → held.session ≡ statement.session.name → reply ≡ record { text = []; refused = false; ended = None }
     → AllFitting now → AddsOf (next_number before) low high before now
     → Tells told (λ s. IsTakenAs before now s.tree (asking_of statement) statement.hold found)
     → Tells told (λ _. Acts low high (record { book = before; waiting = map waiting_of helds }) (record { book = now; waiting = map waiting_of helds'' })
@@ -534,20 +575,20 @@ pub released-acts : {D : Type 0} (told : D → Option Store) (r : Result Reply H
     → paused_in session.name helds ≡ Some paused → helds' ≡ held_without session.name helds → AreHeld (entries_of before) helds
     → IfOk r (λ _. IsReady told now) → IfOk r (λ _. AddsOf paused.txn.0 low high (entries_of before) (entries_of now))
     → (Shows told before (entries_of before) → Tells (told before.shelf) (λ s. IsTrulyHeld (entries_of before) s.tree paused)
-    → IfOk r (λ reply. Tells (told now.shelf) (λ _. IsFinished (entries_of before) (entries_of now) paused.txn.0 reply.text reply.refused)))
+    → IfOk r (λ reply. Tells (told now.shelf) (λ _. IsFinished (entries_of before) (entries_of now) paused.txn.0 reply.text reply.refused reply.ended)))
     → IsShown told before helds
     → IfOk r (λ reply. Tells (told now.shelf) (λ _. Acts low high (standing_of before helds) (standing_of now helds') (action.Release session) reply.text reply.refused))
 released-acts told r before now helds helds' session paused low high found left h ready adds finished shown =
     let faithful = faithful-of (told before.shelf) (entries_of before) helds shown in
     let truly = let-go-truly (told before.shelf) (entries_of before) session.name helds paused found shown in
     ok-three r (IsReady told now) (AddsOf paused.txn.0 low high (entries_of before) (entries_of now))
-    (λ reply. Tells (told now.shelf) (λ _. IsFinished (entries_of before) (entries_of now) paused.txn.0 reply.text reply.refused))
+    (λ reply. Tells (told now.shelf) (λ _. IsFinished (entries_of before) (entries_of now) paused.txn.0 reply.text reply.refused reply.ended))
     (λ reply. Tells (told now.shelf) (λ _. Acts low high (standing_of before helds) (standing_of now helds') (action.Release session) reply.text reply.refused))
     (λ is added reply done.
-    tells-acts (told now.shelf) (λ _. IsFinished (entries_of before) (entries_of now) paused.txn.0 reply.text reply.refused) _
+    tells-acts (told now.shelf) (λ _. IsFinished (entries_of before) (entries_of now) paused.txn.0 reply.text reply.refused reply.ended) _
     (λ s f.
     subst (λ (hs : List Held). Acts low high (standing_of before helds) (standing_of now hs) (action.Release session) reply.text reply.refused) (sym left)
-    (acts-finished low high (entries_of before) (entries_of now) helds session paused reply.text reply.refused is.fit h found added f)) done)
+    (acts-finished low high (entries_of before) (entries_of now) helds session paused reply.text reply.refused reply.ended is.fit h found added f)) done)
     ready adds (finished faithful truly)
 
 err-map : {T : Type 0} (r : Result T HouseFault) (P Q : HouseFault → Type 0) → ((why : HouseFault) → P why → Q why) → IfErr r P → IfErr r Q
@@ -572,7 +613,7 @@ pub none-shown : (told : Option Store) (book : List Entry) (helds helds' : List 
 none-shown told book helds helds' name none left h = subst (λ (hs : List Held). Tells told (HasAllOf book hs)) (sym (left ∙ none-left name helds none)) h
 
 pub none-acts : (told : Option Store) (count : ℕ) (book : List Entry) (helds helds' : List Held) (session : Session) (reply : Reply) → paused_in session.name helds ≡ None
-    → helds' ≡ held_without session.name helds → reply ≡ record { text = []; refused = false }
+    → helds' ≡ held_without session.name helds → reply ≡ record { text = []; refused = false; ended = None }
     → Tells told (λ _. Acts count count (record { book = book; waiting = map waiting_of helds }) (record { book = book; waiting = map waiting_of helds' })
     (action.Release session) reply.text reply.refused)
 none-acts None count book helds helds' session reply none left said = tt

@@ -10,7 +10,7 @@ use Rattle.hv_history.specs.State.{state_of}
 use Rattle.hv_directives.specs.declared.actions.Action.{Action}
 use Rattle.hv_directives.specs.declared.actions.Action.TheVariants as action
 use Rattle.hv_stands.specs.Running.{Asking, next_number}
-use Rattle.hv_stands.proofs.Answered.{answers-stay}
+use Rattle.hv_ending.proofs.Replied.{replies-stay}
 use Rattle.hv_program.specs.Doing.{Waiting, Standing, is_session, waiting_in, without, asking_of, IsAnswerIn, WentOn, RepliesAtOnce, IsHeldNow, Replies, IsPutOff, GoesOnHeld, ReleasesOne, IsDone, AreDone}
 use Rattle.hv_program.specs.Running.{IsLater}
 
@@ -21,7 +21,8 @@ answer-more : (start book more : List Entry) (asking : Asking) (txn : ℕ) (repl
 answer-more start book more asking txn reply refused h = record {
   own = h.own;
   was_opened = Contains-append_left book more _ h.was_opened;
-  answered = answers-stay book more txn reply refused h.answered;
+  ended = h.ended;
+  answered = replies-stay book more txn reply refused h.ended h.answered;
 }
 
 at-once-more : (start book more before now : List Entry) (asking : Asking) (hold : Option Stage) (reply : List ℕ) (refused : Bool)
@@ -29,6 +30,9 @@ at-once-more : (start book more before now : List Entry) (asking : Asking) (hold
 at-once-more start book more before now asking hold reply refused (inl h) = inl (record {
   added = h.added;
   goes = h.goes;
+  tree = h.tree;
+  runs = h.runs;
+  starts = h.starts;
   of_it = h.of_it;
   in_time = h.in_time;
   is_answer = answer-more start book more asking (next_number before) reply refused h.is_answer;
@@ -40,6 +44,9 @@ held-more : (start book more before now : List Entry) (asking : Asking) (hold : 
 held-more start book more before now asking hold h = record {
   added = h.added;
   goes = h.goes;
+  tree = h.tree;
+  runs = h.runs;
+  can = h.can;
   at_hold = h.at_hold;
   own = h.own;
   was_opened = Contains-append_left book more _ h.was_opened;
@@ -54,7 +61,8 @@ released-more start book more before now name (Some waiting) output refused h = 
     goes = h.0.goes;
     of_it = h.0.of_it;
     own = h.0.own;
-    answered = answers-stay book more waiting.txn output refused h.0.answered;
+    ended = h.0.ended;
+    answered = replies-stay book more waiting.txn output refused h.0.ended h.0.answered;
   },
   h.1,
 )

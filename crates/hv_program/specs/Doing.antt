@@ -8,16 +8,19 @@ use Rattle.hv_directives.specs.declared.actions.Action.{Action}
 use Rattle.hv_directives.specs.declared.actions.Action.TheVariants as action
 use Rattle.hv_directives.specs.declared.actions.Session.{Session}
 use Rattle.hv_directives.specs.declared.actions.Statement.{Statement}
-use Rattle.hv_built.specs.Running.{IsRefused}
+use Rattle.hv_ast.specs.declared.statement.Stmt.{Stmt}
+use Rattle.hv_built.specs.Running.{Runs, IsRefused}
 use Rattle.hv_history.specs.declared.entry.Entry.{Entry}
 use Rattle.hv_history.specs.declared.entry.Entry.TheVariants.{Opened}
 use Rattle.hv_history.specs.declared.entry.Cause.TheVariants as cause
 use Rattle.hv_history.specs.State.{state_of}
 use Rattle.hv_history.specs.Legal.{load, profile}
 use Rattle.hv_history.specs.Answers.{line, cause_text}
-use Rattle.hv_stands.specs.Running.{Asking, next_number, opening, AreOf, HasAnswered}
+use Rattle.hv_stands.specs.Running.{Asking, next_number, opening, AreOf}
+use Rattle.hv_ending.specs.Ending.{HasReplied}
 use Rattle.hv_session.specs.Faults.{IsFaultLine}
-use Rattle.hv_session.specs.Taking.{EndsBefore, HoldsAt}
+use Rattle.hv_house.specs.Asking.{CanBegin}
+use Rattle.hv_session.specs.Taking.{StartsIfItCan, EndsBefore, HoldsAt}
 
 -- ---- where a run stands between two actions
 
@@ -53,7 +56,8 @@ asking_of statement = record { session = statement.session.name; number = statem
 pub record IsAnswerIn (start book : List Entry) (asking : Asking) (txn : ℕ) (reply : List ℕ) (refused : Bool) : Type 0 where
   pub own : length (state_of start).transactions < txn
   pub was_opened : Contains book (Opened (record { 0 = txn }) asking.session asking.number asking.text)
-  pub answered : HasAnswered book txn reply refused
+  pub ended : Option ℕ
+  pub answered : HasReplied book txn reply refused ended
 
 -- the text is refused, and its line is the reply
 pub record IsFaultIn (text reply : List ℕ) (refused : Bool) : Type 0 where
@@ -67,10 +71,13 @@ pub record IsLineOf (reply wanted : List ℕ) (refused : Bool) : Type 0 where
 
 -- ---- one action
 
--- It went on to its end at once: as a transaction that ended before the place where it was to be held.
+-- It went on to its end at once: as a transaction that started where it could, and ended before the place where it was to be held.
 pub record WentOn (start book before now : List Entry) (asking : Asking) (hold : Option Stage) (reply : List ℕ) (refused : Bool) : Type 0 where
   pub added : List Entry
   pub goes : now ≡ before ++ opening before asking ∷ added
+  pub tree : Stmt
+  pub runs : Runs asking.text tree
+  pub starts : StartsIfItCan before tree (next_number before) added
   pub of_it : AreOf (next_number before) added
   pub in_time : EndsBefore hold (next_number before) added
   pub is_answer : IsAnswerIn start book asking (next_number before) reply refused
@@ -86,6 +93,9 @@ RepliesAtOnce start book before now asking hold reply refused =
 pub record IsHeldNow (start book before now : List Entry) (asking : Asking) (hold : Option Stage) : Type 0 where
   pub added : List Entry
   pub goes : now ≡ before ++ opening before asking ∷ added
+  pub tree : Stmt
+  pub runs : Runs asking.text tree
+  pub can : CanBegin before tree
   pub at_hold : HoldsAt hold (next_number before) added
   pub own : length (state_of start).transactions < next_number before
   pub was_opened : Contains book (opening before asking)
@@ -106,7 +116,8 @@ pub record GoesOnHeld (start book before now : List Entry) (txn : ℕ) (reply : 
   pub goes : now ≡ before ++ added
   pub of_it : AreOf txn added
   pub own : length (state_of start).transactions < txn
-  pub answered : HasAnswered book txn reply refused
+  pub ended : Option ℕ
+  pub answered : HasReplied book txn reply refused ended
 
 -- the release of a session: its statement that waits goes on; where none does, nothing happens
 abbrev pub ReleasesOne : List Entry → List Entry → Standing → Standing → List ℕ → Option Waiting → List ℕ → Bool → Type 0

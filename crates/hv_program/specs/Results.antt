@@ -91,12 +91,13 @@ StopsForMemory low high before actions written now store store' =
     IsStopped low high (opening_of before) actions written now (λ standing action book. Reads book store'.journal)
     ⊎ IsUnopened written now store store' (IsCutOpening fault.NoMemory before)
 
--- the journal reads to the book, or to the book and the further entries of a statement that was stopped
+-- the journal reads to the book, or to the book and what further entries of a stopped action it may have
 abbrev pub ReadsFurther : List ℕ → Standing → Action → List Entry → Type 0
 ReadsFurther bytes before action book =
-    (further : List Entry) × AreFurther before action further × ReadsMore book further bytes
+    (further : List Entry) × AreFurther before action book further × ReadsMore book further bytes
 
--- where the store failed: the journal reads to the book, or to the book with one or two further entries of the action's transaction
+-- where the store failed: the journal reads to the book, or to the book with one further entry of the action's transaction, or with the
+-- two by which a statement begins
 abbrev pub StopsForStore : ℕ → ℕ → List Entry → List Action → List ℕ → List ℕ → Store → Store → Type 0
 StopsForStore low high before actions written now store store' =
     IsStopped low high (opening_of before) actions written now (ReadsFurther store'.journal)

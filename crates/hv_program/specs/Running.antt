@@ -1,12 +1,12 @@
 -- What the actions of a script have done, one after another.
-use Rattle.std.specs.Prelude.{◌≡◌, ℕ, ◌<◌, ◌≤◌, Bool, Option, Some, None, List, [], ◌∷◌, ◌++◌, length, option_map}
+use Rattle.std.specs.Prelude.{◌≡◌, ◌⊎◌, ℕ, ◌<◌, ◌≤◌, Bool, Option, Some, None, List, [], ◌∷◌, ◌++◌, length, option_map}
 use Rattle.std.specs.List.{AllByRecursion}
 use Rattle.hv_base.specs.Told.{Tells, Moves}
 use Rattle.hv_base.specs.Sink.{Gains, GainsPart}
 use Rattle.hv_shelf.specs.Disk.{Store}
 use Rattle.hv_history.specs.declared.entry.Entry.{Entry}
 use Rattle.hv_history.specs.State.{state_of}
-use Rattle.hv_history.specs.Legal.{IsLegal, IsLegalFrom, profile}
+use Rattle.hv_history.specs.Legal.{AllFit, IsLegal, IsLegalFrom, profile}
 use Rattle.hv_history.specs.Journal.{Reads}
 use Rattle.hv_directives.specs.declared.actions.Action.{Action}
 use Rattle.hv_directives.specs.declared.actions.Action.TheVariants as action
@@ -14,12 +14,12 @@ use Rattle.hv_directives.specs.declared.actions.Statement.{Statement}
 use Rattle.hv_stands.specs.Running.{next_number, AreOf}
 use Rattle.hv_house.specs.declared.fault.HouseFault.{HouseFault}
 use Rattle.hv_house.specs.declared.fault.HouseFault.TheVariants as fault
-use Rattle.hv_house.specs.House.{IsFaithful, Leaves}
+use Rattle.hv_house.specs.House.{BeginFits, beginning_of, IsFaithful, Leaves}
 use Rattle.hv_ending.specs.Ending.{IsNoEnd}
 use Rattle.hv_session.specs.Taking.{IsHold}
 use Rattle.hv_program.specs.declared.stop.Stop.{Stop}
 use Rattle.hv_program.specs.declared.stop.Stop.TheVariants as stop
-use Rattle.hv_program.specs.Doing.{Waiting, Standing, waiting_in, IsDone, AreDone}
+use Rattle.hv_program.specs.Doing.{Waiting, Standing, waiting_in, asking_of, IsDone, AreDone}
 use Rattle.hv_program.specs.Own.{Grows}
 
 -- ---- which actions a session takes
@@ -75,14 +75,29 @@ pub record IsHalfway (before : Standing) (action : Action) (now : List Entry) : 
   pub legal : IsLegalFrom profile (state_of before.book) added
   pub unended : AllByRecursion IsNoEnd added
 
--- the further entries that the journal may have: one, or two
-pub record AreFurther (before : Standing) (action : Action) (further : List Entry) : Type 0 where
+-- the further entry that the journal may have, which fits behind the book
+pub record IsFurther (before : Standing) (action : Action) (book further : List Entry) : Type 0 where
   pub of_it : AreOfSome (number_of before action) further
-  pub few : length further ≤ 2
+  pub few : length further ≤ 1
+  pub fit : AllFit profile (state_of book) further
+
+-- or where a statement was to be opened and started at once: just these two, which fit
+pub record AreBeginning (before : Standing) (statement : Statement) (book further : List Entry) : Type 0 where
+  pub same : book ≡ before.book
+  pub fits : BeginFits before.book (asking_of statement)
+  pub further_is : further ≡ beginning_of before.book (asking_of statement)
+
+abbrev pub BeginsOne : Standing → Action → List Entry → List Entry → Type 0
+BeginsOne before (action.Announce session) book further = ⊥
+BeginsOne before (action.Run statement) book further = AreBeginning before statement book further
+BeginsOne before (action.Release session) book further = ⊥
+
+abbrev pub AreFurther : Standing → Action → List Entry → List Entry → Type 0
+AreFurther before action book further = IsFurther before action book further ⊎ BeginsOne before action book further
 
 -- The journal reads to the book, and where the store failed, to the book or to the book and such further entries.
 abbrev pub LeavesFurther : HouseFault → Option Store → Standing → Action → List Entry → Type 0
-LeavesFurther why told before action now = (further : List Entry) × AreFurther before action further × Leaves why further told now
+LeavesFurther why told before action now = (further : List Entry) × AreFurther before action now further × Leaves why further told now
 
 -- the action wasn't done to its end
 pub record Stops (why : HouseFault) (told : Option Store) (before : Standing) (action : Action) (now : List Entry) : Type 0 where

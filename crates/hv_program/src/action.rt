@@ -1,9 +1,14 @@
-ghost use Rattle.std.specs.Prelude.{◌≡◌, ◌≤◌, [], false, IfOk, IfErr};
-ghost use Rattle.hv_base.specs.Told.{Tells, StaysTold};
+ghost use Rattle.std.specs.Prelude.{◌≡◌, ◌≤◌, [], None, false, IfOk, IfErr};
+ghost use Rattle.hv_base.specs.Told.{Tells, Moves, StaysTold};
 ghost use Rattle.hv_directives.specs.declared.actions.Action.TheVariants as action;
 ghost use Rattle.hv_house.specs.Faults.{EndsRun, FileCause};
-ghost use Rattle.hv_house.specs.House.{entries_of, IsReady};
-ghost use Rattle.hv_program.specs.Doing.{session_line};
+ghost use Rattle.hv_house.specs.House.{entries_of, IsReady, Shows};
+ghost use Rattle.hv_history.specs.State.{state_of};
+ghost use Rattle.hv_stands.specs.Running.{next_number, KeepsGiven};
+ghost use Rattle.hv_ending.specs.Ending.{AddsOf};
+ghost use Rattle.hv_session.specs.Taking.{asked_of, IsKeptIn, IsTakenAs};
+ghost use Rattle.hv_session.specs.Ways.{StopsTaken};
+ghost use Rattle.hv_program.specs.Doing.{asking_of, session_line};
 ghost use Rattle.hv_program.specs.Keeping.{standing_of, AreHeld, IsShown};
 ghost use Rattle.hv_program.specs.Running.{Acts, IsFine, IsShort, Stops};
 
@@ -11,7 +16,7 @@ use crate::held::{Held, keep, let_go};
 use hv_base::{Duplicate, List, NoMemory, Text};
 use hv_directives::{Action, Session, Statement};
 use hv_house::{House, HouseFault};
-use hv_session::{Reply, Taken, finish, take_up};
+use hv_session::{Asking, How, Reply, Taken, finish, memory_reply, take_up};
 use hv_shelf::Shelf;
 use std::alloc::Global;
 
@@ -26,16 +31,70 @@ fn announce(alloc: Global, session: &Text) -> Result<Reply, NoMemory>
     Ok(Reply {
         text: List::from_vec(line),
         refused: false,
+        ended: None,
     })
 }
 
 /// The reply of what prints nothing.
 fn nothing(alloc: Global) -> Reply
-    ensures { result ≡ record { text = []; refused = false } }
+    ensures { result ≡ record { text = []; refused = false; ended = None } }
 {
     Reply {
         text: List::from_vec(Vec::new(alloc)),
         refused: false,
+        ended: None,
+    }
+}
+
+/// How a script's statements are taken up: nobody waits, and there is one worker.
+const HOW: How = How {
+    waits: false,
+    workers: 1,
+};
+
+/// What a session is handed for a statement.
+fn asking_of(alloc: Global, statement: &Statement) -> Result<Asking, NoMemory>
+    ensures asked { IfOk result (λ asking. asked_of asking ≡ asking_of statement.now) }
+    ensures hold { IfOk result (λ asking. asking.hold ≡ statement.now.hold) }
+{
+    Ok(Asking {
+        session: statement.session.name.duplicate(alloc)?,
+        place: statement.session.place,
+        number: statement.number,
+        text: statement.text.duplicate(alloc)?,
+        hold: statement.hold,
+    })
+}
+
+/// Takes up a statement; or says that memory lacks, where it does before that.
+fn take<D: Shelf>(
+    alloc: Global,
+    house: &mut House<D>,
+    statement: &Statement,
+) -> Result<Taken, HouseFault>
+    requires ready { IsReady D.told house.old }
+    requires short { IsShort statement.now }
+    ensures ready { IfOk result (λ _. IsReady D.told house.new) }
+    ensures added { IfOk result (λ _. AddsOf (next_number (entries_of house.old))
+        (D.faults house.old.shelf) (D.faults house.new.shelf)
+        (entries_of house.old) (entries_of house.new)) }
+    ensures held { IfOk result (IsKeptIn (entries_of house.old) (entries_of house.new) (asking_of statement.now)) }
+    ensures shows { Shows D.told house.old (entries_of house.old)
+        → IfOk result (λ _. Shows D.told house.new (entries_of house.new)) }
+    ensures taken { Shows D.told house.old (entries_of house.old)
+        → IfOk result (λ taken. Tells (D.told house.new.shelf) (λ s. IsTakenAs
+        (entries_of house.old) (entries_of house.new) s.tree
+        (asking_of statement.now) statement.now.hold taken)) }
+    ensures keeps { Moves (KeepsGiven (state_of (entries_of house.old)).tables)
+        (D.told house.old.shelf) (D.told house.new.shelf) }
+    ensures tells { StaysTold (D.told house.old.shelf) (D.told house.new.shelf) }
+    ensures stopped { IfErr result (λ why. StopsTaken D.told (asking_of statement.now) why house.old house.new) }
+    ensures ends { IfErr result EndsRun }
+    ensures cause { FileCause (D.faults house.old.shelf) (D.faults house.new.shelf) result }
+{
+    match asking_of(alloc, statement) {
+        Ok(asking) => take_up(alloc, house, asking, HOW),
+        Err(NoMemory) => Ok(Taken::Replied(memory_reply(alloc)?)),
     }
 }
 
@@ -66,14 +125,7 @@ fn run_statement<D: Shelf>(
 {
     let session = statement.session.name.duplicate(alloc)?;
     held.reserve(1)?;
-    match take_up(
-        alloc,
-        house,
-        &statement.session.name,
-        statement.number,
-        &statement.text,
-        statement.hold,
-    )? {
+    match take(alloc, house, statement)? {
         Taken::Replied(reply) => Ok(reply),
         Taken::Kept(paused) => {
             keep(held, Held { session, paused });
@@ -107,7 +159,7 @@ fn release<D: Shelf>(
     ensures cause { FileCause (D.faults house.old.shelf) (D.faults house.new.shelf) result }
 {
     match let_go(held, &session.name) {
-        Some(paused) => finish(alloc, house, paused),
+        Some(paused) => finish(alloc, house, paused, HOW),
         None => Ok(nothing(alloc)),
     }
 }

@@ -1,4 +1,4 @@
-use Rattle.hv_program.proofs.Acting.{stops-first, stops-in, replied-held, replied-shown, replied-acts, kept-held, kept-shown, kept-acts, faithful-of}
+use Rattle.hv_program.proofs.Acting.{stops-first, stops-residual, replied-held, replied-shown, replied-acts, kept-held, kept-shown, kept-acts, faithful-of}
 use Rattle.hv_program.proofs.action.run_statement.Goals as goal
 
 pub returns-in_err-session-clause-stopped : goal.returns-in_err-session-clause-stopped
@@ -8,6 +8,11 @@ returns-in_err-session-clause-stopped g c =
 pub returns-in_err-reserve-clause-stopped : goal.returns-in_err-reserve-clause-stopped
 returns-in_err-reserve-clause-stopped g c =
     stops-first g.D.Shelf.told c.args.house.now _ _ c.from_residual-in_err-reserve.result c.from_residual-in_err-reserve.ensures.1 c.requires.ready.kept.reads
+
+pub returns-in_err-reply-clause-stopped : goal.returns-in_err-reply-clause-stopped
+returns-in_err-reply-clause-stopped g c =
+    stops-residual g.D.Shelf.told c.args.house.now c.take.new.house _ c.args.statement.now c.in_err-reply.field-0.0 c.from_residual-in_err-reply.result
+    c.from_residual-in_err-reply.ensures.1 c.in_err-reply.ensures.stopped
 
 pub returns-in-Replied-clause-held : goal.returns-in-Replied-clause-held
 returns-in-Replied-clause-held g c =
