@@ -1,9 +1,11 @@
 -- What one entry more of a statement says, and that the book stays faithful with it.
-use Rattle.std.proofs.Common.{◌≡◌, ℕ, ◌≤◌, inr, Bool, true, Option, Some, None, IsSomeAnd, List, [], ◌∷◌, ◌++◌, length, take, fold, refl, sym, ap, subst, length-append, arith}
-use Rattle.std.proofs.lemmas.List.{take-append-le}
+use Rattle.std.proofs.Common.{◌≡◌, ℕ, ◌≤◌, inr, Bool, true, Option, Some, None, IsSomeAnd, List, [], ◌∷◌, ◌++◌, length, take, fold, refl, sym, ap, subst, length-append, arith, ◌∙◌}
+use Rattle.std.proofs.lemmas.List.{take-append-le, take_all}
 use Rattle.hv_base.specs.declared.ids.Limits.{Limits}
 use Rattle.hv_base.specs.declared.ids.Touch.{Touch}
 use Rattle.hv_ast.specs.declared.statement.Stmt.{Stmt}
+use Rattle.hv_logic.specs.declared.catalog.TableInfo.{TableInfo}
+use Rattle.hv_logic.specs.declared.effect.Effect.{Effect}
 use Rattle.hv_history.specs.declared.entry.Entry.{Entry}
 use Rattle.hv_history.specs.declared.entry.Entry.TheVariants as entry
 use Rattle.hv_history.specs.declared.entry.Cause.{Cause}
@@ -16,7 +18,9 @@ use Rattle.hv_history.specs.Answers.{cause_text}
 use Rattle.hv_stands.specs.Running.{Asking, meant, snapshot_at, running, IsWaiting, IsUnderWay}
 use Rattle.hv_ending.proofs.Replied.{abort-replies, waiting-abort-replies}
 use Rattle.hv_ending.specs.declared.ready.Reply.{Reply}
-use Rattle.hv_ending.specs.Ending.{KeepsCount, aborting, EndsUncommitted, NamesLast, HasReplied}
+use Rattle.hv_ending.specs.Ending.{KeepsCount, aborting, EndsUncommitted, NamesLast, HasReplied, CanChange}
+use Rattle.hv_stands.specs.Statements.{AllFitting}
+use Rattle.hv_stands.proofs.SeeingEnough.{tables-stay}
 use Rattle.hv_ending.specs.Steps.{CauseIsMeant}
 
 -- ---- a legal book and one entry more
@@ -37,6 +41,18 @@ legal-next book event legal fits says = record {
   fit = fit-next profile book nothing_yet event legal.fit fits;
   truthful = truthful-next book nothing_yet event legal.truthful says;
 }
+
+-- ---- a change that can be ended
+
+-- whatever is added that fits
+pub change-stays : (before more : List Entry) (info : TableInfo) (effect : Effect) → AllFitting (before ++ more)
+    → CanChange before info effect → CanChange (before ++ more) info effect
+change-stays before more info effect fit can =
+    let front : take (length before) (before ++ more) ≡ before =
+    take-append-le (length before) before more (omega arith) ∙ take_all (length before) before (omega arith) in
+    let here = subst (λ (book : List Entry). numbered (state_of book).tables info.table.0 ≡ Some can.table) (sym front) can.here in
+    let now = tables-stay (before ++ more) (length before) info.table.0 can.table fit here in
+    record { table = now.0; here = now.1; same = now.2 ∙ can.same; within = can.within; fit = can.fit }
 
 -- ---- a transaction that is there
 

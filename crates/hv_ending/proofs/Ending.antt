@@ -1,25 +1,29 @@
 -- A statement that is ready ends: by its commit or its Create, by the abort for a conflict, or for want of memory.
-use Rattle.std.proofs.Common.{◌≡◌, ℕ, ◌<◌, ◌⊎◌, inl, inr, Bool, true, false, Option, Some, None, IsSomeAnd, Result, Ok, Err, IfOk, List, [], ◌∷◌, ◌++◌, length, take, codes, refl, sym, ap, ◌∙◌, subst, arith}
-use Rattle.std.specs.List.{slice_get}
+use Rattle.std.proofs.Common.{◌≡◌, ℕ, ◌<◌, ◌⊎◌, inl, inr, true, false, Option, Some, None, IsSomeAnd, Result, Ok, Err, IfOk, List, [], ◌∷◌, ◌++◌, length, take, codes, refl, sym, ap, ◌∙◌, subst, arith}
+use Rattle.std.specs.List.{slice_get, AllByRecursion}
 use Rattle.std.specs.Fmt.{decimal}
 use Rattle.hv_base.specs.declared.ids.Touch.{Touch}
 use Rattle.hv_base.specs.declared.ids.TableId.{TableId}
+use Rattle.hv_base.specs.declared.ids.TxnId.{TxnId}
+use Rattle.hv_shelf.specs.declared.place.Place.{Place}
 use Rattle.hv_shelf.specs.Disk.{Store, Tree}
 use Rattle.hv_ast.specs.declared.statement.Stmt.{Stmt}
 use Rattle.hv_dirs.specs.Names.{write_end}
 use Rattle.hv_logic.specs.declared.catalog.TableInfo.{TableInfo}
 use Rattle.hv_logic.specs.declared.effect.Effect.{Effect}
 use Rattle.hv_logic.specs.declared.meaning.Meaning.{Meaning}
+use Rattle.hv_route.specs.Routes.{files_of}
 use Rattle.hv_route.specs.Touching.{touches_of}
+use Rattle.hv_route.specs.declared.files.OutFile.{OutFile}
 use Rattle.hv_history.specs.declared.entry.Entry.{Entry}
 use Rattle.hv_history.specs.declared.entry.Cause.TheVariants as cause
 use Rattle.hv_history.specs.declared.state.Snapshot.{Snapshot}
 use Rattle.hv_history.specs.declared.state.Transaction.{Transaction}
-use Rattle.hv_history.specs.State.{state_of, numbered, meaning}
+use Rattle.hv_history.specs.State.{state_of, numbered, given_in, meaning}
 use Rattle.hv_history.specs.Legal.{Of, Fits, ConflictFits, CauseIsTrue, ConflictIsTrue, IsFirstConflict, IsRunning, IsTruthful, IsMake, TouchesAreMeant, place_of_snapshot, profile}
-use Rattle.hv_history.specs.Answers.{cause_text, committed_text, failed_line, after_space, name_of, name_at, ok_line}
+use Rattle.hv_history.specs.Answers.{cause_text, failed_line, after_space, name_of, name_at}
 use Rattle.hv_journal.specs.Appending.{KeepsTree}
-use Rattle.hv_stands.specs.Files.{Stands}
+use Rattle.hv_stands.specs.Files.{Stands, place_of_file}
 use Rattle.hv_stands.specs.Running.{Asking, IsOf, meant, snapshot_at, running, IsUnderWay}
 use Rattle.hv_stands.specs.Statements.{AllFitting}
 use Rattle.hv_ending.proofs.Replied.{commit-replies, create-replies, abort-replies}
@@ -29,17 +33,22 @@ use Rattle.hv_stands.proofs.StatementFiles.{quiet-entries-stand, other-entries-s
 use Rattle.hv_conflicts.specs.declared.meeting.Clash.{Clash}
 use Rattle.hv_conflicts.specs.Clashes.{IsClash}
 use Rattle.hv_conflicts.proofs.ClashLemmas.{clash-fits}
+use Rattle.hv_trail.specs.declared.trail.Reader.TheVariants.{Txn}
+use Rattle.hv_trail.specs.declared.trail.TrailItem.{TrailItem}
+use Rattle.hv_trail.specs.Trail.{broken, HasWritten}
 use Rattle.hv_house.specs.declared.fault.HouseFault.{HouseFault}
 use Rattle.hv_house.specs.declared.house.House.{House}
 use Rattle.hv_house.specs.House.{entries_of, IsReady, IsFaithful}
+use Rattle.hv_house.specs.Steps.{HoldsId, CanCommit}
 use Rattle.hv_ending.specs.declared.ready.Reply.{Reply}
 use Rattle.hv_ending.specs.declared.ready.Way.{Way}
 use Rattle.hv_ending.specs.declared.ready.End.TheVariants as end
+use Rattle.hv_ending.specs.declared.ready.PutFiles.{PutFiles}
 use Rattle.hv_ending.specs.declared.ready.Ready.{Ready}
-use Rattle.hv_ending.specs.Ending.{KeepsCount, IsUndamaged, IsNoEnd, aborting, committing, creating, IsChangeReady, IsTrulyReady, HasReplied}
+use Rattle.hv_ending.specs.Ending.{KeepsCount, IsUndamaged, IsNoEnd, aborting, committing, creating, IsChangeReady, IsTrulyReady, HasReplied, places_of_files, IsOfChange}
 use Rattle.hv_ending.specs.Steps.{Goes, LacksMemory, AbortedOrLacks, DoneOrLacks, conflict_cause, conflict_text, Conclusion}
 use Rattle.hv_ending.proofs.Books.{of-here, legal-next, abort-true, commit-true, abort-answered, as-replied, names-last}
-use Rattle.hv_ending.proofs.Touched.{touch-of-table}
+use Rattle.hv_ending.proofs.Touched.{touch-of-table, found-given}
 use Rattle.hv_ending.proofs.Readying.{told-on, same-stands}
 
 -- ---- what fits
@@ -53,8 +62,8 @@ conflict-fits book txn wrote clash touch runs met found =
 
 -- ---- what an entry that ends it says
 
-module _ (book : List Entry) (files : Tree) (asking : Asking) (txn place : ℕ) (said : Stmt) (wrote : List Touch) (name text : List ℕ)
-    (truly : IsTrulyReady book files asking txn place said (record { end = end.Commit wrote name; text = text })) where
+module _ (book : List Entry) (files : Tree) (asking : Asking) (txn place : ℕ) (said : Stmt) (wrote : List Touch) (name : List ℕ) (put : PutFiles) (text : List ℕ)
+    (truly : IsTrulyReady book files asking txn place said (record { end = end.Commit wrote name put; text = text })) where
   abbrev given : List (ℕ × ℕ)
   given = truly.to_end.given
 
@@ -214,49 +223,82 @@ module _ {D : Type 0} (told : D → Option Store) (faults : D → ℕ) (way : Wa
   lacking-conclusion (Ok reply) go goes lacks = lacking reply go goes lacks
   lacking-conclusion (Err why) go goes lacks = stopped-conclusion why goes
 
+-- ---- what a commit needs
+
+of-places : (P : Place → Type 0) (table write : ℕ) (files : List OutFile) → AllByRecursion P (places_of_files table write files)
+    → AllByRecursion (λ file. P (place_of_file table write file)) files
+of-places P table write [] all = tt
+of-places P table write (file ∷ files) all = (all.0, of-places P table write files all.1)
+
+pub holds-id : (book : List Entry) (asking : Asking) (txn place : ℕ) (said : Stmt) (table write : ℕ) → IsUnderWay book asking txn place said ((table, write) ∷ [])
+    → HoldsId book txn table write
+holds-id book asking txn place said table write under =
+    of-here (λ (t : Transaction). IsRunning t × (given_in table t.given ≡ Some write)) (state_of book) txn _ under.here
+    (record { unended = refl; started = refl }, found-given table write)
+
+pub can-commit : (book : List Entry) (trail : List TrailItem) (asking : Asking) (txn : TxnId) (place : ℕ) (said : Stmt) (given : List (ℕ × ℕ)) (wrote : List Touch)
+    (places : List Place) → IsUnderWay book asking txn.0 place said given → (wrote ≡ []) ⊎ IsOfChange book given wrote places → broken (Txn txn) trail ≡ None
+    → AllByRecursion (HasWritten trail (Txn txn)) places → CanCommit book trail txn wrote
+can-commit book trail asking txn place said given wrote places under (inl none) unbroken written = record { unbroken = unbroken; put = inl none }
+can-commit book trail asking txn place said given wrote places under (inr change) unbroken written = record {
+  unbroken = unbroken;
+  put = inr (record {
+    info = change.info;
+    table = change.can.table;
+    here = change.can.here;
+    same = change.can.same;
+    effect = change.effect;
+    write = change.write;
+    touches = change.touches;
+    holds = holds-id book asking txn.0 place said change.info.table.0 change.write (subst (IsUnderWay book asking txn.0 place said) change.id under);
+    files = of-places (HasWritten trail (Txn txn)) change.info.table.0 change.write (files_of change.info.shape change.write 0 change.effect)
+        (subst (AllByRecursion (HasWritten trail (Txn txn))) change.places_are written);
+  });
+}
+
 -- ---- its commit, its conflict, its Create
 
 module _ {D : Type 0} (told : D → Option Store) (faults : D → ℕ) (way : Way) (text : List ℕ) (before now : House D) (go : IsReady told before) where
   near : length (entries_of before) < write_end
   near = omega (arith, go.kept.few)
 
-  pub commit-conclusion : (wrote : List Touch) (name : List ℕ) (result : Result Reply HouseFault) → Goes told faults KeepsTree way.txn.0 before now result
+  pub commit-conclusion : (wrote : List Touch) (name : List ℕ) (put : PutFiles) (result : Result Reply HouseFault) → Goes told faults KeepsTree way.txn.0 before now result
       → IfOk result (DoneOrLacks way.txn.0 (committing way.txn.0 wrote) text (entries_of before) (entries_of now))
-      → Conclusion told faults way (record { end = end.Commit wrote name; text = text }) before now result
-  commit-conclusion wrote name (Err why) goes done = stopped-conclusion told faults way (record { end = end.Commit wrote name; text = text }) before now why goes
-  commit-conclusion wrote name (Ok reply) goes (inr lacks) = lacking told faults way (record { end = end.Commit wrote name; text = text }) before now reply go goes lacks
-  commit-conclusion wrote name (Ok reply) goes (inl done) =
-      ended-conclusion told faults way (record { end = end.Commit wrote name; text = text }) before now (committing way.txn.0 wrote) reply goes done.book tt (record {
+      → Conclusion told faults way (record { end = end.Commit wrote name put; text = text }) before now result
+  commit-conclusion wrote name put (Err why) goes done = stopped-conclusion told faults way (record { end = end.Commit wrote name put; text = text }) before now why goes
+  commit-conclusion wrote name put (Ok reply) goes (inr lacks) = lacking told faults way (record { end = end.Commit wrote name put; text = text }) before now reply go goes lacks
+  commit-conclusion wrote name put (Ok reply) goes (inl done) =
+      ended-conclusion told faults way (record { end = end.Commit wrote name put; text = text }) before now (committing way.txn.0 wrote) reply goes done.book tt (record {
         fits = done.fits;
         of_it = refl;
         undamaged = tt;
         ends = λ never. never;
-        says = λ files asking said truly. commit-says (entries_of before) files asking way.txn.0 way.place said wrote name text truly;
-        stands = λ files asking said truly stands. commit-stands (entries_of before) files asking way.txn.0 way.place said wrote name text truly go.fit near done.fits stands;
-        answered = λ files asking said truly. commit-answered (entries_of before) files asking way.txn.0 way.place said wrote name text truly reply done.text_is done.accepted done.ended_is;
+        says = λ files asking said truly. commit-says (entries_of before) files asking way.txn.0 way.place said wrote name put text truly;
+        stands = λ files asking said truly stands. commit-stands (entries_of before) files asking way.txn.0 way.place said wrote name put text truly go.fit near done.fits stands;
+        answered = λ files asking said truly. commit-answered (entries_of before) files asking way.txn.0 way.place said wrote name put text truly reply done.text_is done.accepted done.ended_is;
         ended_is = done.ended_is;
       })
 
-  pub conflict-conclusion : (wrote : List Touch) (name : List ℕ) (clash : Clash) (touch : Touch) (result : Result Reply HouseFault)
+  pub conflict-conclusion : (wrote : List Touch) (name : List ℕ) (put : PutFiles) (clash : Clash) (touch : Touch) (result : Result Reply HouseFault)
       → IsClash (state_of (entries_of before)) way.txn.0 wrote clash → slice_get wrote clash.at ≡ Some touch
       → Goes told faults KeepsTree way.txn.0 before now result
       → IfOk result (AbortedOrLacks way.txn.0 (conflict_cause clash.by touch) (conflict_text clash.by.0 name touch.partition) (entries_of before) (entries_of now))
-      → Conclusion told faults way (record { end = end.Commit wrote name; text = text }) before now result
-  conflict-conclusion wrote name clash touch (Err why) met found goes done =
-      stopped-conclusion told faults way (record { end = end.Commit wrote name; text = text }) before now why goes
-  conflict-conclusion wrote name clash touch (Ok reply) met found goes (inr lacks) =
-      lacking told faults way (record { end = end.Commit wrote name; text = text }) before now reply go goes lacks
-  conflict-conclusion wrote name clash touch (Ok reply) met found goes (inl done) =
-      ended-conclusion told faults way (record { end = end.Commit wrote name; text = text }) before now (aborting way.txn.0 (conflict_cause clash.by touch)) reply goes done.book tt (record {
+      → Conclusion told faults way (record { end = end.Commit wrote name put; text = text }) before now result
+  conflict-conclusion wrote name put clash touch (Err why) met found goes done =
+      stopped-conclusion told faults way (record { end = end.Commit wrote name put; text = text }) before now why goes
+  conflict-conclusion wrote name put clash touch (Ok reply) met found goes (inr lacks) =
+      lacking told faults way (record { end = end.Commit wrote name put; text = text }) before now reply go goes lacks
+  conflict-conclusion wrote name put clash touch (Ok reply) met found goes (inl done) =
+      ended-conclusion told faults way (record { end = end.Commit wrote name put; text = text }) before now (aborting way.txn.0 (conflict_cause clash.by touch)) reply goes done.book tt (record {
         fits = done.fits;
         of_it = refl;
         undamaged = tt;
         ends = λ never. never;
-        says = λ files asking said truly. conflict-says (entries_of before) files asking way.txn.0 way.place said wrote name text truly clash touch met found;
+        says = λ files asking said truly. conflict-says (entries_of before) files asking way.txn.0 way.place said wrote name put text truly clash touch met found;
         stands = λ files asking said truly stands.
             other-entries-stand (entries_of before) (aborting way.txn.0 (conflict_cause clash.by touch)) files go.fit done.fits tt stands;
         answered = λ files asking said truly.
-            conflict-answered (entries_of before) files asking way.txn.0 way.place said wrote name text truly clash touch met found go.fit reply done.text_is done.refusal done.ended_is;
+            conflict-answered (entries_of before) files asking way.txn.0 way.place said wrote name put text truly clash touch met found go.fit reply done.text_is done.refusal done.ended_is;
         ended_is = done.ended_is;
       })
 

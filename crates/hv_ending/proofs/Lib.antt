@@ -1,5 +1,6 @@
 pub mod Runs
 pub mod Replied
+pub mod Puts
 pub mod Books
 pub mod Touched
 pub mod Shorts

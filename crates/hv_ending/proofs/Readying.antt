@@ -22,11 +22,10 @@ use Rattle.hv_house.specs.House.{entries_of, IsFaithful, Shows}
 use Rattle.hv_ending.specs.declared.ready.Reply.{Reply}
 use Rattle.hv_ending.specs.declared.ready.Way.{Way}
 use Rattle.hv_ending.specs.declared.ready.End.{End}
-use Rattle.hv_ending.specs.declared.ready.End.TheVariants as end
 use Rattle.hv_ending.specs.declared.ready.Prepared.{Prepared}
 use Rattle.hv_ending.specs.declared.ready.Prepared.TheVariants as prepared
 use Rattle.hv_ending.specs.declared.ready.Ready.{Ready}
-use Rattle.hv_ending.specs.Ending.{KeepsCount, IsUndamaged, aborting, EndsUncommitted, Prepares, EndCanBeNoted, EndIsTrue, IsReadyToEnd, IsTrulyPrepared, HasReplied}
+use Rattle.hv_ending.specs.Ending.{KeepsCount, IsUndamaged, aborting, EndsUncommitted, Prepares, EndCanBeNoted, EndIsTrue, IsReadyToEnd, IsTrulyPrepared, HasReplied, idle_end}
 use Rattle.hv_ending.specs.Steps.{Goes, HasAborted, LacksMemory, IsWithdrawn, CauseIsMeant, EndsBy, ended, IsMadeReady, Preparation}
 use Rattle.hv_ending.proofs.Runs.{goes-by, goes-ended}
 use Rattle.hv_ending.proofs.Shorts.{short_idle}
@@ -186,13 +185,13 @@ module _ {D : Type 0} (told : D → Option Store) (faults : D → ℕ) (way : Wa
   -- ---- it is ready
 
   module _ (last : End) (text : List ℕ) (ready : Ready) (same : entries_of now ≡ entries_of before) (end_is : ready.end ≡ last) (text_is : ready.text ≡ text)
-      (can : EndCanBeNoted way.txn.0 [] last) where
+      (can : EndCanBeNoted (entries_of before) way.txn.0 [] last) where
     abbrev ready-stands : (asking : Asking) (said : Stmt) → IsUnderWay (entries_of before) asking way.txn.0 way.place said []
         → IsReadyToEnd (entries_of now) asking way.txn.0 way.place said ready
     ready-stands asking said under = record {
       given = [];
       under_way = subst (λ (b : List Entry). IsUnderWay b asking way.txn.0 way.place said []) (sym same) under;
-      can = subst (EndCanBeNoted way.txn.0 []) (sym end_is) can;
+      can = subst (λ (b : List Entry). EndCanBeNoted b way.txn.0 [] ready.end) (sym same) (subst (EndCanBeNoted (entries_of before) way.txn.0 []) (sym end_is) can);
     }
 
     ready-true : (files : Tree) (m : Option Meaning) → m ≡ Some meaning → EndIsTrue files (Some meaning) [] last text → EndIsTrue files m [] ready.end ready.text
@@ -234,7 +233,7 @@ module _ {D : Type 0} (told : D → Option Store) (faults : D → ℕ) (way : Wa
       last = tt;
     }
 
-  pub made-preparation : (last : End) (text : List ℕ) (result : Result Prepared HouseFault) → EndCanBeNoted way.txn.0 [] last
+  pub made-preparation : (last : End) (text : List ℕ) (result : Result Prepared HouseFault) → EndCanBeNoted (entries_of before) way.txn.0 [] last
       → ((files : Tree) → EndIsTrue files (Some meaning) [] last text) → Goes told faults KeepsTree way.txn.0 before now result
       → IfOk result (IsMadeReady way.txn.0 last text (entries_of before) (entries_of now))
       → Preparation told faults way meaning before now result
@@ -251,10 +250,10 @@ module _ {D : Type 0} (told : D → Option Store) (faults : D → ℕ) (way : Wa
       (keeps-given (state_of (entries_of before)).tables) goes)
 
   -- without a touch
-  pub idle-preparation : (last : End) (text : List ℕ) (result : Result Prepared HouseFault) → last ≡ end.Commit [] [] → TouchesAreMeant [] (Some meaning)
+  pub idle-preparation : (last : End) (text : List ℕ) (result : Result Prepared HouseFault) → last ≡ idle_end → TouchesAreMeant [] (Some meaning)
       → text ≡ committed_text (Some meaning) [] → Goes told faults KeepsTree way.txn.0 before now result
       → IfOk result (IsMadeReady way.txn.0 last text (entries_of before) (entries_of now)) → Preparation told faults way meaning before now result
   idle-preparation last text result is are says goes made =
-      made-preparation (end.Commit [] []) text result (record { small = short_idle way.txn.0; touched = nothing-touched })
+      made-preparation idle_end text result (record { small = short_idle way.txn.0; touched = nothing-touched; change = inl refl })
       (λ files. record { meant = are; reply = says; files_are = inl (refl, refl) }) goes
       (subst (λ (e : End). IfOk result (IsMadeReady way.txn.0 e text (entries_of before) (entries_of now))) is made)

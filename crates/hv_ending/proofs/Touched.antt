@@ -30,7 +30,7 @@ touches-none info effect none =
 pub nothing-touched : IsWellTouched [] []
 nothing-touched = record { rise = tt; own = tt; used = tt }
 
-found-given : (table write : ℕ) → given_in table ((table, write) ∷ []) ≡ Some write
+pub found-given : (table write : ℕ) → given_in table ((table, write) ∷ []) ≡ Some write
 found-given table write = ap (λ b. if b then Some write else None) (eq-eqb table table refl)
 
 module _ (info : TableInfo) (effect : Effect) where

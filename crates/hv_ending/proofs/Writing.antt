@@ -6,6 +6,7 @@ use Rattle.hv_base.specs.Told.{Moves}
 use Rattle.hv_base.proofs.ToldLemmas.{Moves-then, Moves-weaken}
 use Rattle.hv_base.specs.declared.ids.Touch.{Touch}
 use Rattle.hv_base.specs.declared.ids.WriteId.{WriteId}
+use Rattle.hv_base.specs.declared.ids.TxnId.{TxnId}
 use Rattle.std.specs.FinMap as tree
 use Rattle.hv_shelf.specs.declared.place.Place.{Place}
 use Rattle.hv_shelf.specs.Disk.{Store, Tree}
@@ -16,16 +17,15 @@ use Rattle.hv_logic.specs.declared.effect.Effect.{Effect}
 use Rattle.hv_logic.specs.declared.meaning.Meaning.{Meaning}
 use Rattle.hv_logic.specs.declared.meaning.Meaning.TheVariants.{Change}
 use Rattle.hv_route.specs.Routes.{files_of}
-use Rattle.hv_route.specs.Touching.{touches_of, touched}
+use Rattle.hv_route.specs.Touching.{touches_of}
 use Rattle.hv_route.specs.declared.files.OutFile.{OutFile}
-use Rattle.hv_tables.specs.Putting.{PutsFiles, KeepsOthers, IsElsewhere}
 use Rattle.hv_history.specs.declared.entry.Entry.{Entry}
 use Rattle.hv_history.specs.declared.entry.Cause.TheVariants as cause
 use Rattle.hv_history.specs.declared.state.Table.{Table}
 use Rattle.hv_history.specs.State.{state_of, numbered}
 use Rattle.hv_history.specs.Legal.{Fits, profile}
-use Rattle.hv_history.specs.Answers.{cause_text, counts_line}
-use Rattle.hv_journal.specs.Appending.{KeepsTree}
+use Rattle.hv_history.specs.Answers.{counts_line}
+use Rattle.hv_journal.specs.Appending.{Holds, KeepsTree}
 use Rattle.hv_stands.specs.Files.{with_files}
 use Rattle.hv_stands.specs.Laws.{HasFile, changes_in}
 use Rattle.hv_stands.specs.Running.{Asking, meant, IsUnderWay, IsOfId, HasPut, KeepsGiven}
@@ -40,7 +40,6 @@ use Rattle.hv_house.specs.declared.fault.HouseFault.{HouseFault}
 use Rattle.hv_house.specs.declared.fault.HouseFault.TheVariants as fault
 use Rattle.hv_house.specs.declared.house.House.{House}
 use Rattle.hv_house.specs.House.{entries_of, IsReady, IsFaithful}
-use Rattle.hv_house.proofs.Ready.{beside-ready}
 use Rattle.hv_ending.specs.declared.ready.Reply.{Reply}
 use Rattle.hv_ending.specs.declared.ready.Way.{Way}
 use Rattle.hv_ending.specs.declared.ready.End.TheVariants as end
@@ -48,10 +47,12 @@ use Rattle.hv_ending.specs.declared.ready.End.{End}
 use Rattle.hv_ending.specs.declared.ready.Prepared.{Prepared}
 use Rattle.hv_ending.specs.declared.ready.Prepared.TheVariants as prepared
 use Rattle.hv_ending.specs.declared.ready.Ready.{Ready}
-use Rattle.hv_ending.specs.Ending.{aborting, giving, EndCanBeNoted, EndIsTrue, IsReadyToEnd, IsTrulyPrepared, HasReplied}
-use Rattle.hv_ending.specs.Steps.{Goes, IsAdded, LacksMemory, IsWithdrawn, IsAnyway, EndsBy, ended, IsNextOf, KeepsOutside, Puts, BreaksOff, IsWritten, Writing, Preparation}
+use Rattle.hv_ending.specs.Ending.{aborting, giving, EndCanBeNoted, EndIsTrue, IsReadyToEnd, IsTrulyPrepared, HasReplied, CanChange}
+use Rattle.hv_ending.specs.Steps.{Goes, IsAdded, LacksMemory, IsWithdrawn, IsAnyway, EndsBy, ended, IsNextOf, KeepsOutside, BreaksOff, IsWritten, Writing, Preparation}
 use Rattle.hv_ending.proofs.Runs.{tree-same, goes-ok, goes-err, cause-ok, cause-err, kept-stopped, stopped-earlier, stopped-behind, risen-earlier}
-use Rattle.hv_ending.proofs.Books.{legal-next, means-still, abort-answered, as-replied, names-last, counts-earlier}
+use Rattle.hv_ending.proofs.Books.{legal-next, means-still, abort-answered, as-replied, names-last, counts-earlier, change-stays}
+use Rattle.hv_ending.specs.declared.ready.PutFiles.{PutFiles}
+use Rattle.hv_ending.specs.Putting.{PutsFiles, KeepsOthers, IsElsewhere, Puts}
 use Rattle.hv_ending.proofs.Touched.{well-touched}
 use Rattle.hv_ending.proofs.Shorts.{short_change}
 use Rattle.hv_ending.proofs.Readying.{ends-for, ends-lacking, abort-faithful, told-on, always-told, stopped-preparation}
@@ -126,13 +127,13 @@ module _ {D : Type 0} (told : D → Option Store) (faults : D → ℕ) where
   }
 
   -- the run stops
-  pub store-breaks : (txn low : ℕ) (house : House D) → IsReady told house → low ≤ faults house.shelf → Rose low (faults house.shelf)
+  pub store-breaks : (txn low : ℕ) (house : House D) → Holds (told house.shelf) (entries_of house) → low ≤ faults house.shelf → Rose low (faults house.shelf)
       → BreaksOff told faults txn low house house (Err fault.Store)
-  store-breaks txn low house ready le rose = record {
+  store-breaks txn low house holds le rose = record {
     ended = tt;
     ready = tt;
     tree = tree-same (told house.shelf);
-    stopped = kept-stopped told txn fault.Store house house tt refl ready.kept.reads;
+    stopped = kept-stopped told txn fault.Store house house tt refl holds;
     ends = tt;
     cause = cause-err low (faults house.shelf) fault.Store le rose;
   }
@@ -141,56 +142,54 @@ module _ {D : Type 0} (told : D → Option Store) (faults : D → ℕ) where
   pub failed-breaks : (txn low count : ℕ) (house : House D) → IsReady told house → low < count → count ≤ faults house.shelf
       → BreaksOff told faults txn low house house (Err fault.Store)
   failed-breaks txn low count house ready above within =
-      store-breaks txn low house ready (omega (arith, above, within)) (rose-behind low count (faults house.shelf) above within)
+      store-breaks txn low house ready.kept.reads (omega (arith, above, within)) (rose-behind low count (faults house.shelf) above within)
 
   -- ---- its files are put
 
-  pub put-ready : {T : Type 0} (info : TableInfo) (effect : Effect) (write : ℕ) (before now : House D) (result : Result T HouseFault)
-      → Puts told info effect write before now result → IsReady told before → IsReady told now
-  put-ready info effect write before now result puts ready = beside-ready told before now puts.beside puts.journal ready
-
-  module _ (txn : ℕ) (info : TableInfo) (effect : Effect) (write : ℕ) (wrote : List Touch) (text : List ℕ) where
-    pub put-writing : {T : Type 0} (before now : House D) (x : T) (done : Prepared) → IsReady told before → Puts told info effect write before now (Ok x)
-        → faults before.shelf ≤ faults now.shelf → done ≡ prepared.Ready (record { end = end.Commit wrote info.shape.name; text = text })
-        → Writing told faults txn info effect write wrote text before now (Ok done)
-    put-writing before now x done ready puts later is = subst (λ (d : Prepared). Writing told faults txn info effect write wrote text before now (Ok d)) (sym is) (record {
-      goes = goes-ok told faults (KeepsOutside info.table.0 write) txn before now _ (put-ready info effect write before now (Ok x) puts ready)
+  module _ (txn : TxnId) (info : TableInfo) (effect : Effect) (write : ℕ) (wrote : List Touch) (text : List ℕ) where
+    pub put-writing : (before now : House D) (by : PutFiles) (done : Prepared) → Puts told faults txn info effect write before now (Ok by)
+        → done ≡ prepared.Ready (record { end = end.Commit wrote info.shape.name by; text = text })
+        → Writing told faults txn.0 info effect write wrote text before now (Ok done)
+    put-writing before now by done puts is = subst (λ (d : Prepared). Writing told faults txn.0 info effect write wrote text before now (Ok d)) (sym is) (record {
+      goes = goes-ok told faults (KeepsOutside info.table.0 write) txn.0 before now _ puts.each.ready
           (Moves-weaken (KeepsOthers info.table.0 write (files_of info.shape write 0 effect)) (KeepsOutside info.table.0 write)
-          (keeps-outside info.table.0 write (files_of info.shape write 0 effect)) (told before.shelf) (told now.shelf) puts.others)
-          later;
+          (keeps-outside info.table.0 write (files_of info.shape write 0 effect)) (told before.shelf) (told now.shelf) puts.each.others)
+          puts.each.cause.later;
       writes = record {
-        book = ap (λ t. t.entries) puts.beside.book;
+        book = puts.each.book;
+        by = by;
         end_is = refl;
+        places = puts.places;
         text_is = refl;
         held = puts.held;
-        files = puts.files;
-        put = puts.put;
+        files = puts.each.encoded;
+        put = puts.each.put;
       };
     })
 
-    pub broken-writing : {T : Type 0} (before mid now : House D) (why : HouseFault) (result : Result Reply HouseFault)
-        → Puts {T = T} told info effect write before mid (Err why)
-        → BreaksOff told faults txn (faults before.shelf) mid now result → Writing told faults txn info effect write wrote text before now (ended result)
-    broken-writing {T = T} before mid now why result puts broken = by result broken
+    pub broken-writing : (before mid now : House D) (why : HouseFault) (result : Result Reply HouseFault)
+        → Puts told faults txn info effect write before mid (Err why)
+        → BreaksOff told faults txn.0 (faults before.shelf) mid now result → Writing told faults txn.0 info effect write wrote text before now (ended result)
+    broken-writing before mid now why result puts broken = by result broken
       where
         moves : Moves KeepsTree (told mid.shelf) (told now.shelf) → Moves (KeepsOutside info.table.0 write) (told before.shelf) (told now.shelf)
         moves same =
             Moves-then (KeepsOthers info.table.0 write (files_of info.shape write 0 effect)) KeepsTree (KeepsOutside info.table.0 write)
             (λ a b c kept still. outside-then info.table.0 write a b c (keeps-outside info.table.0 write (files_of info.shape write 0 effect) a b kept) still)
-            (told before.shelf) (told mid.shelf) (told now.shelf) puts.others same
+            (told before.shelf) (told mid.shelf) (told now.shelf) puts.each.others same
 
         same_book : entries_of mid ≡ entries_of before
-        same_book = ap (λ t. t.entries) puts.beside.book
+        same_book = puts.each.book
 
-        by : (result : Result Reply HouseFault) → BreaksOff told faults txn (faults before.shelf) mid now result
-            → Writing told faults txn info effect write wrote text before now (ended result)
+        by : (result : Result Reply HouseFault) → BreaksOff told faults txn.0 (faults before.shelf) mid now result
+            → Writing told faults txn.0 info effect write wrote text before now (ended result)
         by (Ok reply) broken = record {
-          goes = goes-ok told faults (KeepsOutside info.table.0 write) txn before now _ broken.ready (moves broken.tree) broken.cause.later;
-          writes = subst (λ (b : List Entry). EndsBy IsAnyway txn (faults before.shelf) (faults now.shelf) b (entries_of now) reply) same_book broken.ended;
+          goes = goes-ok told faults (KeepsOutside info.table.0 write) txn.0 before now _ broken.ready (moves broken.tree) broken.cause.later;
+          writes = subst (λ (b : List Entry). EndsBy IsAnyway txn.0 (faults before.shelf) (faults now.shelf) b (entries_of now) reply) same_book broken.ended;
         }
         by (Err why) broken = record {
-          goes = goes-err told faults (KeepsOutside info.table.0 write) txn before now why (moves broken.tree)
-              (stopped-earlier told txn why before mid now same_book broken.stopped) broken.ends broken.cause.later broken.cause.failed;
+          goes = goes-err told faults (KeepsOutside info.table.0 write) txn.0 before now why (moves broken.tree)
+              (stopped-earlier told txn.0 why before mid now same_book broken.stopped) broken.ends broken.cause.later broken.cause.failed;
           writes = tt;
         }
 
@@ -212,7 +211,7 @@ module _ {D : Type 0} (told : D → Option Store) (faults : D → ℕ) (way : Wa
     (ready : IsReady told before) (added : IsAdded told faults (giving way.txn.0 info.table write) before mid)
     (fits : Fits profile (state_of (entries_of before)) (giving way.txn.0 info.table write))
     (here : numbered (state_of (entries_of before)).tables info.table.0 ≡ Some table) (next : write.0 ≡ length table.owners + 1)
-    (within : touched info effect ≡ Ok (touches_of info effect)) (some : 0 < changes_in effect)
+    (can : CanChange (entries_of before) info effect) (some : 0 < changes_in effect)
     (are : wrote ≡ touches_of info effect) (text_is : text ≡ counts_line (touches_of info effect)) where
   abbrev old_book : List Entry
   old_book = entries_of before
@@ -313,9 +312,18 @@ module _ {D : Type 0} (told : D → Option Store) (faults : D → ℕ) (way : Wa
     written-stands asking said under = record {
       given = ids;
       under_way = subst (λ (b : List Entry). IsUnderWay b asking way.txn.0 way.place said ids) (sym same_with) (under_with asking said under);
-      can = subst (EndCanBeNoted way.txn.0 ids) (sym written.end_is) (record {
-        small = short_change way.txn.0 info effect wrote within are;
-        touched = well-touched info effect write.0 wrote some within are;
+      can = subst (EndCanBeNoted (entries_of now) way.txn.0 ids) (sym written.end_is) (record {
+        small = short_change way.txn.0 info effect wrote can.within are;
+        touched = well-touched info effect write.0 wrote some can.within are;
+        change = inr (record {
+          info = info;
+          effect = effect;
+          can = subst (λ (b : List Entry). CanChange b info effect) (sym same_with) (change-stays old_book (noted ∷ []) info effect fit_with can);
+          write = write.0;
+          touches = are;
+          id = refl;
+          places_are = written.places;
+        });
       });
     }
 

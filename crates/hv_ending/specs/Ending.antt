@@ -1,10 +1,11 @@
 -- How a started statement ends, beside others that are open: what is noted for it, which files it puts, and what it replies.
 -- Source: Hive Transactions (first committer wins); the replies are this project's profile.
-use Rattle.std.specs.Prelude.{◌≡◌, ◌⊎◌, ℕ, ◌+◌, ◌<◌, ◌≤◌, Bool, IsTrue, IsSome, Option, Some, Ok, List, [], ◌∷◌, ◌++◌, length, take}
+use Rattle.std.specs.Prelude.{◌≡◌, ◌⊎◌, ℕ, ◌+◌, ◌<◌, ◌≤◌, Bool, IsTrue, IsSome, Option, Some, Ok, List, [], ◌∷◌, ◌++◌, length, take, map}
 use Rattle.std.specs.List.{AllByRecursion}
 use Rattle.hv_base.specs.declared.ids.TableId.{TableId}
 use Rattle.hv_base.specs.declared.ids.WriteId.{WriteId}
 use Rattle.hv_base.specs.declared.ids.Touch.{Touch}
+use Rattle.hv_shelf.specs.declared.place.Place.{Place}
 use Rattle.hv_shelf.specs.Disk.{Store, Tree}
 use Rattle.hv_ast.specs.declared.statement.Stmt.{Stmt}
 use Rattle.hv_logic.specs.declared.catalog.TableInfo.{TableInfo}
@@ -12,6 +13,7 @@ use Rattle.hv_logic.specs.declared.effect.Effect.{Effect}
 use Rattle.hv_logic.specs.declared.meaning.Meaning.{Meaning}
 use Rattle.hv_logic.specs.declared.meaning.Meaning.TheVariants.{Change}
 use Rattle.hv_route.specs.Routes.{files_of}
+use Rattle.hv_route.specs.declared.files.OutFile.{OutFile}
 use Rattle.hv_route.specs.Touching.{touches_of, touched}
 use Rattle.hv_tables.specs.Putting.{CanPut}
 use Rattle.hv_history.specs.declared.entry.Entry.{Entry}
@@ -22,6 +24,7 @@ use Rattle.hv_history.specs.declared.state.Table.{Table}
 use Rattle.hv_history.specs.State.{state_of, numbered, given_in}
 use Rattle.hv_history.specs.Legal.{TouchesAreMeant, IsMake, IsLegalFrom, AllFit, Rise, is_touched, profile}
 use Rattle.hv_history.specs.Answers.{committed_text, ok_line}
+use Rattle.hv_stands.specs.Files.{place_of_file}
 use Rattle.hv_stands.specs.Running.{Asking, AreOf, meant, IsUnderWay, HasAnswered, HasPut}
 use Rattle.hv_house.specs.declared.fault.HouseFault.{HouseFault}
 use Rattle.hv_house.specs.declared.house.House.{House}
@@ -96,6 +99,12 @@ creating txn table = entry.Create (record { 0 = txn }) table
 abbrev pub committing : ℕ → List Touch → Entry
 committing txn wrote = entry.Commit (record { 0 = txn }) wrote
 
+-- ---- files of a change
+
+-- where these files stand, under a write id of that table
+abbrev pub places_of_files : ℕ → ℕ → List OutFile → List Place
+places_of_files table write files = map (place_of_file table write) files
+
 -- ---- what a meaning rests on where it is to be ended
 
 -- a change of these rows: its table is there, it is within its limits, and the rows fit their files
@@ -116,14 +125,29 @@ pub record IsWellTouched (given : List (ℕ × ℕ)) (wrote : List Touch) : Type
   pub own : AllByRecursion (λ touch. (0 < touch.inserted + touch.deleted) × IsSome (given_in touch.table.0 given)) wrote
   pub used : AllByRecursion (λ id. IsTrue (is_touched wrote id)) given
 
--- its commit can be noted where it meets no conflict
-pub record CommitCanEnd (txn : ℕ) (given : List (ℕ × ℕ)) (wrote : List Touch) : Type 0 where
+-- these are the touches of a change, and the places are those of all its files under the write id that was given
+pub record IsOfChange (book : List Entry) (given : List (ℕ × ℕ)) (wrote : List Touch) (places : List Place) : Type 0 where
+  pub info : TableInfo
+  pub effect : Effect
+  pub can : CanChange book info effect
+  pub write : ℕ
+  pub touches : wrote ≡ touches_of info effect
+  pub id : given ≡ (info.table.0, write) ∷ []
+  pub places_are : places ≡ places_of_files info.table.0 write (files_of info.shape write 0 effect)
+
+-- its commit can be noted where it meets no conflict, and all files of what it touches were put
+pub record CommitCanEnd (book : List Entry) (txn : ℕ) (given : List (ℕ × ℕ)) (wrote : List Touch) (places : List Place) : Type 0 where
   pub small : IsSmall (committing txn wrote)
   pub touched : IsWellTouched given wrote
+  pub change : (wrote ≡ []) ⊎ IsOfChange book given wrote places
 
-abbrev pub EndCanBeNoted : ℕ → List (ℕ × ℕ) → End → Type 0
-EndCanBeNoted txn given (end.Commit wrote name) = CommitCanEnd txn given wrote
-EndCanBeNoted txn given end.Create = Unit {0}
+-- the end of a statement that touches nothing
+abbrev pub idle_end : End
+idle_end = end.Commit [] [] (record { since = 0; places = [] })
+
+abbrev pub EndCanBeNoted : List Entry → ℕ → List (ℕ × ℕ) → End → Type 0
+EndCanBeNoted book txn given (end.Commit wrote name put) = CommitCanEnd book txn given wrote put.places
+EndCanBeNoted book txn given end.Create = Unit {0}
 
 -- ---- a statement of which all is done but its end
 
@@ -149,7 +173,7 @@ pub record CreateIsReady (meaning : Option Meaning) (given : List (ℕ × ℕ)) 
   pub none : given ≡ []
 
 abbrev pub EndIsTrue : Tree → Option Meaning → List (ℕ × ℕ) → End → List ℕ → Type 0
-EndIsTrue files meaning given (end.Commit wrote name) text = CommitIsReady files meaning given wrote name text
+EndIsTrue files meaning given (end.Commit wrote name put) text = CommitIsReady files meaning given wrote name text
 EndIsTrue files meaning given end.Create text = CreateIsReady meaning given text
 
 -- ---- what preparing it adds to the book
@@ -201,7 +225,7 @@ pub record Concludes (txn low high : ℕ) (before now : List Entry) : Type 0 whe
 pub record IsReadyToEnd (book : List Entry) (asking : Asking) (txn place : ℕ) (said : Stmt) (ready : Ready) : Type 0 where
   pub given : List (ℕ × ℕ)
   pub under_way : IsUnderWay book asking txn place said given
-  pub can : EndCanBeNoted txn given ready.end
+  pub can : EndCanBeNoted book txn given ready.end
 
 abbrev pub IsPreparedIn : List Entry → Asking → ℕ → ℕ → Stmt → Prepared → Type 0
 IsPreparedIn book asking txn place said (prepared.Ready ready) = IsReadyToEnd book asking txn place said ready

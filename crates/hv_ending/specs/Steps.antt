@@ -1,7 +1,7 @@
 -- What each step of ending a statement leaves.
 use Rattle.std.specs.Prelude.{◌≡◌, ◌⊎◌, ℕ, ◌≤◌, true, false, Option, Some, None, Ok, Err, Result, IfOk, IfErr, ◌+◌, List, [], ◌∷◌, ◌++◌, length, take, codes}
 use Rattle.std.specs.List.{AllByRecursion}
-use Rattle.hv_base.specs.Told.{Tells, Moves, StaysTold}
+use Rattle.hv_base.specs.Told.{Tells, Moves}
 use Rattle.hv_base.specs.declared.ids.Touch.{Touch}
 use Rattle.hv_base.specs.declared.ids.TxnId.{TxnId}
 use Rattle.hv_ending.specs.declared.concluding.Conflict.{Conflict}
@@ -16,7 +16,6 @@ use Rattle.hv_logic.specs.declared.meaning.Meaning.{Meaning}
 use Rattle.hv_logic.specs.declared.meaning.Meaning.TheVariants.{RowLimit, PartitionLimit}
 use Rattle.hv_route.specs.Back.{AreHeld}
 use Rattle.hv_route.specs.Routes.{files_of}
-use Rattle.hv_tables.specs.Putting.{PutsFiles, KeepsOthers}
 use Rattle.hv_history.specs.declared.entry.Entry.{Entry}
 use Rattle.hv_history.specs.declared.entry.Cause.{Cause}
 use Rattle.hv_history.specs.declared.entry.Cause.TheVariants as cause
@@ -30,15 +29,17 @@ use Rattle.hv_stands.specs.Running.{Asking, meant, IsUnderWay, IsOfId, KeepsGive
 use Rattle.hv_house.specs.declared.fault.HouseFault.{HouseFault}
 use Rattle.hv_house.specs.declared.house.House.{House}
 use Rattle.hv_house.specs.Faults.{FileCause, EndsRun, HasRisen}
-use Rattle.hv_house.specs.House.{entries_of, IsReady, StaysReady, IsHalted, IsBeside, KeepsJournal, Shows}
+use Rattle.hv_house.specs.House.{entries_of, IsReady, StaysReady, IsHalted, Shows}
 use Rattle.hv_ending.specs.declared.ready.Reply.{Reply}
 use Rattle.hv_ending.specs.declared.ready.Way.{Way}
 use Rattle.hv_ending.specs.declared.ready.End.{End}
 use Rattle.hv_ending.specs.declared.ready.End.TheVariants as end
 use Rattle.hv_ending.specs.declared.ready.Prepared.{Prepared}
 use Rattle.hv_ending.specs.declared.ready.Prepared.TheVariants as prepared
+use Rattle.hv_ending.specs.declared.ready.PutFiles.{PutFiles}
 use Rattle.hv_ending.specs.declared.ready.Ready.{Ready}
-use Rattle.hv_ending.specs.Ending.{KeepsCount, IsUndamaged, aborting, EndsUncommitted, Prepares, Concludes, IsPreparedIn, IsTrulyPrepared, IsTrulyReady, NamesLast, EndedNamesLast, HasStopped, HasReplied}
+use Rattle.hv_ending.specs.Ending.{KeepsCount, IsUndamaged, aborting, EndsUncommitted, Prepares, Concludes, IsPreparedIn, IsTrulyPrepared, IsTrulyReady, NamesLast, EndedNamesLast, HasStopped, HasReplied, places_of_files}
+use Rattle.hv_ending.specs.Putting.{PutsFiles}
 
 -- ---- whatever comes of a call
 
@@ -137,16 +138,6 @@ IsMadeReady txn last text before now (prepared.Ended reply) = IsWithdrawn txn ca
 abbrev pub KeepsOutside : ℕ → ℕ → Store → Store → Type 0
 KeepsOutside table write before now = (place : Place) → (IsOfId table write place → ⊥) → tree.get now.tree place ≡ tree.get before.tree place
 
--- its files were to be put: nothing else was done, and where they weren't, some of them may stand
-pub record Puts {D T : Type 0} (told : D → Option Store) (info : TableInfo) (effect : Effect) (write : ℕ) (before now : House D) (result : Result T HouseFault) : Type 0 where
-  pub beside : IsBeside before now
-  pub tells : StaysTold (told before.shelf) (told now.shelf)
-  pub journal : Moves KeepsJournal (told before.shelf) (told now.shelf)
-  pub others : Moves (KeepsOthers info.table.0 write (files_of info.shape write 0 effect)) (told before.shelf) (told now.shelf)
-  pub held : AreHeld effect.inserts
-  pub files : IfOk result (λ _. AllByRecursion HasFile (files_of info.shape write 0 effect))
-  pub put : IfOk result (λ _. Moves (PutsFiles info.table.0 write (files_of info.shape write 0 effect)) (told before.shelf) (told now.shelf))
-
 -- it ended for a fault of its files, which the store counted behind `low`, or the run has stopped for that
 pub record BreaksOff {D : Type 0} (told : D → Option Store) (faults : D → ℕ) (txn low : ℕ) (before now : House D) (result : Result Reply HouseFault) : Type 0 where
   pub ended : IfOk result (EndsBy IsAnyway txn low (faults now.shelf) (entries_of before) (entries_of now))
@@ -159,7 +150,9 @@ pub record BreaksOff {D : Type 0} (told : D → Option Store) (faults : D → �
 -- the files of a change were put under its write id, and its commit is all that is left
 pub record IsWritten {D : Type 0} (told : D → Option Store) (info : TableInfo) (effect : Effect) (write : ℕ) (wrote : List Touch) (text : List ℕ) (before now : House D) (ready : Ready) : Type 0 where
   pub book : entries_of now ≡ entries_of before
-  pub end_is : ready.end ≡ end.Commit wrote info.shape.name
+  pub by : PutFiles
+  pub end_is : ready.end ≡ end.Commit wrote info.shape.name by
+  pub places : by.places ≡ places_of_files info.table.0 write (files_of info.shape write 0 effect)
   pub text_is : ready.text ≡ text
   pub held : AreHeld effect.inserts
   pub files : AllByRecursion HasFile (files_of info.shape write 0 effect)

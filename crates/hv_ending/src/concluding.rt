@@ -1,6 +1,6 @@
-ghost use Rattle.std.specs.Prelude.{◌≡◌, ◌↔◌, ◌+◌, ◌<◌, IsTrue, IfOk, IfErr, None, Some, length};
+ghost use Rattle.std.specs.Prelude.{◌≡◌, ◌↔◌, ◌+◌, ◌<◌, IsTrue, true, IfOk, IfErr, None, Some, length};
 ghost use Rattle.std.specs.String.{string_bytes};
-ghost use Rattle.std.specs.List.{slice_get};
+ghost use Rattle.std.specs.List.{slice_get, AllByRecursion};
 ghost use Rattle.hv_base.specs.Told.{Tells, Moves, StaysTold};
 ghost use Rattle.hv_ast.specs.declared.statement.Stmt.{Stmt};
 ghost use Rattle.hv_history.specs.State.{state_of};
@@ -12,6 +12,9 @@ ghost use Rattle.hv_base.specs.declared.ids.Touch.{Touch};
 ghost use Rattle.hv_history.specs.Book.{tree_of_entry};
 ghost use Rattle.hv_stands.specs.Running.{Asking, IsOf};
 ghost use Rattle.hv_conflicts.specs.Clashes.{IsClash};
+ghost use Rattle.hv_trail.specs.declared.trail.Reader.TheVariants.{Txn};
+ghost use Rattle.hv_trail.specs.Trail.{broken, HasWritten};
+ghost use Rattle.hv_trail.specs.Kept.{trail_of};
 ghost use Rattle.hv_house.specs.Faults.{FileCause, EndsRun};
 ghost use Rattle.hv_house.specs.House.{entries_of, IsSmall, IsReady, Shows};
 ghost use Rattle.hv_house.specs.Steps.{IsMarked};
@@ -19,7 +22,7 @@ ghost use Rattle.hv_ending.specs.declared.ready.End.TheVariants as last;
 ghost use Rattle.hv_ending.specs.Ending.{aborting, committing, creating, Concludes, IsReadyToEnd, IsTrulyReady, NamesLast, HasStopped, HasReplied};
 ghost use Rattle.hv_ending.specs.Steps.{Goes, IsAdded, IsLeftOut, HasDone, DoneOrLacks, AbortedOrLacks, IsConflictOf, conflict_cause, conflict_text, Conclusion};
 
-use crate::ready::{End, Ready, Reply, Way};
+use crate::ready::{End, PutFiles, Ready, Reply, Way};
 use crate::refusing::{abort_with, end_without, lack_memory, next_place, note};
 use hv_base::{Duplicate, List, NoMemory, TableId, Text, Touch, TxnId};
 use hv_book::Book;
@@ -188,6 +191,42 @@ fn end_by_conflict<D: Shelf>(
     }
 }
 
+/// Whether the house has a mark of each file that was put, and none of a call on files that failed for the transaction.
+fn is_put<D: Shelf>(house: &House<D>, txn: TxnId, put: &PutFiles) -> bool
+    ensures written { result ≡ true
+        → AllByRecursion (HasWritten (trail_of house.now.trail) (Txn txn)) put.now.places }
+    ensures unbroken { result ≡ true → broken (Txn txn) (trail_of house.now.trail) ≡ None }
+{
+    let written = house.has_put(txn, put.since, put.places.as_slice());
+    let unbroken = house.broken(txn).is_none();
+    written && unbroken
+}
+
+/// Commits a statement that meets no conflict. Without the marks of its files it is aborted as for want of memory.
+fn commit<D: Shelf>(
+    alloc: Global,
+    house: &mut House<D>,
+    way: Way,
+    wrote: List<Touch>,
+    name: &Text,
+    put: &PutFiles,
+    text: List<u8>,
+) -> Result<Reply, HouseFault>
+    requires ready { IsReady D.told house.old }
+    requires way { (asking : Asking) × (said : Stmt) × IsReadyToEnd (entries_of house.old)
+        asking way.txn.0 way.place said (record { end = last.Commit wrote name.now put.now; text = text }) }
+    requires fits { Fits profile (state_of (entries_of house.old)) (committing way.txn.0 wrote) }
+    ensures whole { Conclusion D.told D.faults way
+        (record { end = last.Commit wrote name.now put.now; text = text }) house.old house.new result }
+{
+    let txn = way.txn;
+    if is_put(house, txn, put) {
+        note_end(alloc, house, txn, Entry::Commit { txn, wrote }, text)
+    } else {
+        lack_memory(alloc, house, txn)
+    }
+}
+
 /// Commits a statement; or aborts it, where its touches conflict.
 fn end_by_commit<D: Shelf>(
     alloc: Global,
@@ -195,20 +234,18 @@ fn end_by_commit<D: Shelf>(
     way: Way,
     wrote: List<Touch>,
     name: Text,
+    put: PutFiles,
     text: List<u8>,
 ) -> Result<Reply, HouseFault>
     requires ready { IsReady D.told house.old }
     requires way { (asking : Asking) × (said : Stmt) × IsReadyToEnd (entries_of house.old)
-        asking way.txn.0 way.place said (record { end = last.Commit wrote name; text = text }) }
+        asking way.txn.0 way.place said (record { end = last.Commit wrote name put; text = text }) }
     ensures whole { Conclusion D.told D.faults way
-        (record { end = last.Commit wrote name; text = text }) house.old house.new result }
+        (record { end = last.Commit wrote name put; text = text }) house.old house.new result }
 {
     match clash(house.book(), way.txn, wrote.as_slice()) {
         Some(found) => end_by_conflict(alloc, house, way, found, wrote.as_slice(), &name),
-        None => {
-            let txn = way.txn;
-            note_end(alloc, house, txn, Entry::Commit { txn, wrote }, text)
-        }
+        None => commit(alloc, house, way, wrote, &name, &put, text),
     }
 }
 
@@ -264,7 +301,7 @@ fn end_ready<D: Shelf>(
 {
     let Ready { end, text } = ready;
     match end {
-        End::Commit(wrote, name) => end_by_commit(alloc, house, way, wrote, name, text),
+        End::Commit(wrote, name, put) => end_by_commit(alloc, house, way, wrote, name, put, text),
         End::Create => end_by_create(alloc, house, way, text),
     }
 }

@@ -3,10 +3,11 @@
 
 mod concluding;
 mod preparing;
+mod putting;
 mod ready;
 mod refusing;
 
 pub use concluding::conclude;
 pub use preparing::prepare;
-pub use ready::{End, Prepared, Ready, Reply, Way};
+pub use ready::{End, Prepared, PutFiles, Ready, Reply, Way};
 pub use refusing::refuse;

@@ -16,27 +16,33 @@ ghost use Rattle.hv_tables.specs.Putting.{CanPut};
 ghost use Rattle.hv_stands.specs.Laws.{changes_in};
 ghost use Rattle.hv_stands.specs.Running.{Asking, meant, IsUnderWay, KeepsGiven};
 ghost use Rattle.hv_house.specs.Faults.{FileCause, EndsRun, HasRisen};
-ghost use Rattle.hv_house.specs.House.{entries_of, IsSmall, IsReady, Shows};
+ghost use Rattle.hv_house.specs.House.{entries_of, IsSmall, IsReady, StaysPut, Shows};
+ghost use Rattle.hv_house.specs.Steps.{HasBrokenPut, HoldsId, IsPutMarkedFor};
 ghost use Rattle.hv_ending.specs.declared.ready.End.TheVariants as last;
 ghost use Rattle.hv_ending.specs.declared.ready.Prepared.TheVariants as found;
-ghost use Rattle.hv_ending.specs.Ending.{giving, aborting, CanChange, CanEnd, Prepares, IsPreparedIn, IsTrulyPrepared, EndedNamesLast, HasStopped};
-ghost use Rattle.hv_ending.specs.Steps.{ended, Goes, IsMadeReady, IsWithdrawn, IsNextOf, Puts, BreaksOff, Writing, Preparation};
+ghost use Rattle.hv_ending.specs.Ending.{giving, aborting, CanChange, CanEnd, Prepares, IsPreparedIn, IsTrulyPrepared, EndedNamesLast, HasStopped, idle_end};
+ghost use Rattle.hv_ending.specs.Steps.{ended, Goes, IsMadeReady, IsWithdrawn, IsNextOf, BreaksOff, Writing, Preparation};
 
-use crate::ready::{End, Prepared, Ready, Reply, Way};
+use crate::putting::put;
+use crate::ready::{End, Prepared, PutFiles, Ready, Reply, Way};
 use crate::refusing::{abort_fits, end_without, lack_memory, note, withdraw};
 use hv_base::{List, NoMemory, TableId, Text, Touch, TxnId, WriteId};
 use hv_history::{Cause, Entry, counts_line, listing, ok_line};
 use hv_house::{House, HouseFault};
 use hv_logic::{Effect, Meaning, TableInfo};
-use hv_route::{RouteFault, route, touches};
+use hv_route::{RouteFault, touches};
 use hv_shelf::Shelf;
 use std::alloc::Global;
 
 /// A commit that touches nothing.
 fn nothing(alloc: Global) -> End
-    ensures { result ≡ last.Commit [] [] }
+    ensures { result ≡ idle_end }
 {
-    End::Commit(List::empty(alloc), Text::from_bytes(Vec::new(alloc)))
+    let put = PutFiles {
+        since: 0,
+        places: List::empty(alloc),
+    };
+    End::Commit(List::empty(alloc), Text::from_bytes(Vec::new(alloc)), put)
 }
 
 /// A statement that has ended with this reply, where the run goes on.
@@ -119,26 +125,6 @@ fn changes_rows(effect: &Effect) -> bool
     effect.inserts.len() > 0 || effect.deletes.len() > 0
 }
 
-/// Routes the rows of a change to their files, and puts these.
-fn put<D: Shelf>(
-    alloc: Global,
-    house: &mut House<D>,
-    info: &TableInfo,
-    effect: Effect,
-    write: WriteId,
-) -> Result<(), HouseFault>
-    requires can { AllByRecursion CanPut (files_of info.now.shape write.0 0 effect) }
-    requires first { 1 ≤ write.0 }
-    requires last { write.0 < write_end }
-    ensures puts { Puts D.told info.now effect write.0 house.old house.new result }
-    ensures cause { FileCause (D.faults house.old.shelf) (D.faults house.new.shelf) result }
-{
-    match route(alloc, &info.shape, write, 0, effect) {
-        Ok(files) => house.put_files(alloc, info.table, write, &files),
-        Err(NoMemory) => Err(HouseFault::NoMemory),
-    }
-}
-
 /// Ends a statement whose files failed to be put, by the store's count of faults.
 fn fail<D: Shelf>(
     alloc: Global,
@@ -147,6 +133,7 @@ fn fail<D: Shelf>(
     count: u64,
 ) -> Result<Reply, HouseFault>
     requires ready { IsReady D.told house.old }
+    requires marked { HasBrokenPut house.old txn count }
     requires fits { Fits profile (state_of (entries_of house.old)) (aborting txn.0 Memory) }
     ensures broken { (low : ℕ) → low < count → count ≤ D.faults house.old.shelf
         → BreaksOff D.told D.faults txn.0 low house.old house.new result }
@@ -165,7 +152,8 @@ fn break_off<D: Shelf>(
     txn: TxnId,
     fault: HouseFault,
 ) -> Result<Reply, HouseFault>
-    requires ready { IsReady D.told house.old }
+    requires stays { StaysPut D.told fault house.old }
+    requires marked { IsPutMarkedFor house.old txn fault }
     requires fits { Fits profile (state_of (entries_of house.old)) (aborting txn.0 Memory) }
     ensures broken { (low : ℕ) → low ≤ D.faults house.old.shelf
         → HasRisen low (D.faults house.old.shelf) fault
@@ -179,11 +167,11 @@ fn break_off<D: Shelf>(
 }
 
 /// What is left of a change whose files are put.
-fn written(info: TableInfo, wrote: List<Touch>, text: Vec<u8>) -> Prepared
-    ensures { result ≡ found.Ready (record { end = last.Commit wrote info.shape.name; text = text.items }) }
+fn written(info: TableInfo, wrote: List<Touch>, text: Vec<u8>, put: PutFiles) -> Prepared
+    ensures { result ≡ found.Ready (record { end = last.Commit wrote info.shape.name put; text = text.items }) }
 {
     Prepared::Ready(Ready {
-        end: End::Commit(wrote, info.shape.name),
+        end: End::Commit(wrote, info.shape.name, put),
         text: List::from_vec(text),
     })
 }
@@ -201,6 +189,7 @@ fn put_rows<D: Shelf>(
     requires can { AllByRecursion CanPut (files_of change.info.shape write.0 0 change.effect) }
     requires first { 1 ≤ write.0 }
     requires last { write.0 < write_end }
+    requires holds { HoldsId (entries_of house.old) txn.0 change.info.table.0 write.0 }
     ensures written { Writing D.told D.faults txn.0 change.info change.effect write.0
         change.wrote change.text.items house.old house.new result }
 {
@@ -210,8 +199,8 @@ fn put_rows<D: Shelf>(
         wrote,
         text,
     } = change;
-    match put(alloc, house, &info, effect, write) {
-        Ok(()) => Ok(written(info, wrote, text)),
+    match put(alloc, house, txn, &info, effect, write) {
+        Ok(done) => Ok(written(info, wrote, text, done)),
         Err(fault) => ended(break_off(alloc, house, txn, fault)),
     }
 }

@@ -1,4 +1,5 @@
 use hv_base::{List, Text, Touch, TxnId};
+use hv_shelf::Place;
 
 /// What is printed for a statement, whether it was refused, and the place in the book of the entry that ended its
 /// transaction; None for a statement that was never opened.
@@ -16,11 +17,18 @@ pub struct Way {
     pub place: u64,
 }
 
+/// The files that a statement put, one after another: how many marks the house had before them, and their places.
+#[derive(Drop)]
+pub struct PutFiles {
+    pub since: u64,
+    pub places: List<Place>,
+}
+
 /// What is noted where a statement ends.
 #[derive(Drop)]
 pub enum End {
-    /// A commit with these touches, in the table of that name.
-    Commit(List<Touch>, Text),
+    /// A commit with these touches, in the table of that name, of these files.
+    Commit(List<Touch>, Text, PutFiles),
     /// The table that it makes.
     Create,
 }

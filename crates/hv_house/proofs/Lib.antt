@@ -8,6 +8,7 @@ pub mod Passing
 pub mod Steps
 pub mod Reading
 pub mod Ready
+pub mod Putting
 pub mod Past
 pub mod Seen
 pub mod Beginning

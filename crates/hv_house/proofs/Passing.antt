@@ -1,11 +1,7 @@
--- What is passed on of files that are put and read.
-use Rattle.std.proofs.Common.{◌≡◌, ℕ, ◌≤◌, Option, Some, None, Result, Ok, Err, List, sym, subst, arith}
+-- What is passed on of files that are read.
+use Rattle.std.proofs.Common.{◌≡◌, ℕ, ◌≤◌, Result, Ok, Err, sym, subst, arith}
 use Rattle.std.specs.Prelude.{IfErr}
-use Rattle.hv_base.specs.Told.{Moves}
 use Rattle.hv_base.specs.Faults.{Rose}
-use Rattle.hv_shelf.specs.Disk.{Store}
-use Rattle.hv_route.specs.declared.files.OutFile.{OutFile}
-use Rattle.hv_tables.specs.Putting.{KeepsOthers}
 use Rattle.hv_tables.specs.declared.fault.RowFault.{RowFault as ReadFault}
 use Rattle.hv_tables.specs.declared.fault.RowFault.TheVariants as read
 use Rattle.hv_tables.specs.Faults.{IsShortDamage as IsShortRead, IsDamage as IsDamageRead}
@@ -13,13 +9,6 @@ use Rattle.hv_house.specs.declared.fault.HouseFault.{HouseFault}
 use Rattle.hv_house.specs.declared.fault.HouseFault.TheVariants as fault
 use Rattle.hv_house.specs.Faults.{read_fault, HasRisen, FileCause, IsShortDamage, IsDamage}
 use Rattle.hv_house.specs.Booting.{boot_fault, IsBootStore}
-use Rattle.hv_house.specs.House.{KeepsJournal}
-
-pub keeps-journal : (a b : Option Store) (table write : ℕ) (files : List OutFile) → Moves (KeepsOthers table write files) a b → Moves KeepsJournal a b
-keeps-journal None None table write files moves = tt
-keeps-journal None (Some y) table write files moves = absurd moves
-keeps-journal (Some x) None table write files moves = absurd moves
-keeps-journal (Some x) (Some y) table write files moves = moves.journal_is
 
 -- ---- a fault of reading
 

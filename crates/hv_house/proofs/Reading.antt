@@ -1,5 +1,5 @@
 -- What a call that reads is as a step.
-use Rattle.std.proofs.Common.{◌≡◌, ◌≤◌, ℕ, Bool, true, false, true≢false, Option, Some, None, Result, Ok, Err, List, [], ◌++◌, refl, sym, ap, ◌∙◌, subst, arith, append-nil}
+use Rattle.std.proofs.Common.{◌≡◌, ◌≤◌, ℕ, true, false, true≢false, Option, Some, None, Result, Err, List, [], ◌++◌, refl, sym, ap, ◌∙◌, subst, arith, append-nil}
 use Rattle.std.specs.Prelude.{◌||◌, ◌∷◌, Contains, IfErr}
 use Rattle.std.proofs.lemmas.List.Elements.{Contains-append_right}
 use Rattle.hv_base.specs.declared.ids.TxnId.{TxnId}
@@ -11,7 +11,7 @@ use Rattle.hv_trail.specs.declared.trail.Reader.TheVariants.{Txn}
 use Rattle.hv_trail.specs.declared.trail.Mark.TheVariants.{Broke}
 use Rattle.hv_trail.specs.declared.trail.TrailItem.{TrailItem}
 use Rattle.hv_trail.specs.declared.trail.TrailItem.TheVariants.{Marked}
-use Rattle.hv_trail.specs.Trail.{book_of, woven_from}
+use Rattle.hv_trail.specs.Trail.{book_of}
 use Rattle.hv_trail.specs.Kept.{trail_of}
 use Rattle.hv_trail.specs.Steps.{Call, Read, Outcome, Done, Closed, Refused, Failed, gains, shuts, locks_after, MayEnd, Changes, Counts, Step}
 use Rattle.hv_house.specs.declared.fault.HouseFault.{HouseFault}
@@ -19,9 +19,9 @@ use Rattle.hv_house.specs.declared.fault.HouseFault.TheVariants as fault
 use Rattle.hv_house.specs.declared.fault.RowFault.{RowFault}
 use Rattle.hv_house.specs.declared.fault.RowFault.TheVariants as row_fault
 use Rattle.hv_house.specs.declared.house.House.{House}
-use Rattle.hv_house.specs.Faults.{HasRisenReading, ReadCause}
+use Rattle.hv_house.specs.Faults.{HasRisenReading}
 use Rattle.hv_house.specs.House.{entries_of, IsReady, StaysRead}
-use Rattle.hv_house.specs.Steps.{seen_of, fault_outcome, reading_outcome, read_outcome, ClosesBy, KeepsFault, GainsBy, IsMarkedFor}
+use Rattle.hv_house.specs.Steps.{seen_of, reading_outcome, read_outcome, KeepsFault, GainsBy, IsMarkedFor}
 use Rattle.hv_house.proofs.Steps.{same-trail}
 
 -- ---- what the trail gains
@@ -117,7 +117,7 @@ module _ {D : Type 0} (told : D → Option Store) (faults : D → ℕ) (by : Opt
 
 -- ---- the mark of a fault stands
 
-contains-last : (items : List TrailItem) (item : TrailItem) → Contains (items ++ item ∷ []) item
+pub contains-last : (items : List TrailItem) (item : TrailItem) → Contains (items ++ item ∷ []) item
 contains-last items item = Contains-append_right items (item ∷ []) item (0, omega arith, refl)
 
 pub read-marked : {D : Type 0} (by : TxnId) (why : RowFault) (before now : House D) → GainsBy (Read (Some (Txn by))) (reading_outcome why) before now → IsMarkedFor now by why

@@ -1,5 +1,5 @@
 -- A house between two calls.
-use Rattle.std.proofs.Common.{◌≡◌, ◌+◌, ◌<◌, ◌≤◌, Bool, false, Option, Some, None, Result, Ok, Err, OnOk, List, [], ◌∷◌, ◌++◌, length, sym, ap, ◌∙◌, subst, arith, append_assoc, length-append}
+use Rattle.std.proofs.Common.{◌≡◌, ◌+◌, ◌<◌, ◌≤◌, Bool, false, Option, Some, None, Result, Ok, Err, OnOk, List, [], ◌∷◌, ◌++◌, length, refl, sym, ap, ◌∙◌, subst, arith, append_assoc, length-append}
 use Rattle.std.specs.Prelude.{◌||◌}
 use Rattle.hv_base.specs.Told.{Moves}
 use Rattle.hv_shelf.specs.Disk.{Store}
@@ -8,7 +8,7 @@ use Rattle.hv_history.specs.State.{state_of}
 use Rattle.hv_history.specs.Journal.{place_of, Reads}
 use Rattle.hv_history.specs.Legal.{Fits, profile}
 use Rattle.hv_journal.specs.Appending.{Holds}
-use Rattle.hv_trail.specs.Steps.{Call, Done}
+use Rattle.hv_trail.specs.Steps.{Call, Outcome, Done, shuts}
 use Rattle.hv_stands.specs.Running.{Asking, opening, starting, next_number}
 use Rattle.hv_stands.specs.Statements.{AllFitting}
 use Rattle.hv_stands.proofs.Fitting.{one-more-fits, fitting-room}
@@ -17,8 +17,8 @@ use Rattle.hv_house.specs.declared.fault.HouseFault.TheVariants as fault
 use Rattle.hv_house.specs.declared.fault.RowFault.{RowFault}
 use Rattle.hv_house.specs.declared.fault.RowFault.TheVariants as row_fault
 use Rattle.hv_house.specs.declared.house.House.{House}
-use Rattle.hv_house.specs.Steps.{ClosesBy, reading_outcome, GainsBy}
-use Rattle.hv_house.specs.House.{entries_of, IsKept, IsReady, AreNoted, AreHalted, StaysReady, StaysRead, IsAsked, IsBeside, KeepsJournal, BeginFits, beginning_of}
+use Rattle.hv_house.specs.Steps.{ClosesBy, fault_outcome, reading_outcome, GainsBy}
+use Rattle.hv_house.specs.House.{entries_of, IsKept, IsReady, AreNoted, AreHalted, StaysReady, StaysPut, StaysRead, IsAsked, KeepsJournal, BeginFits, beginning_of}
 
 -- ---- it was only asked, or files were put
 
@@ -55,17 +55,31 @@ module _ {D : Type 0} (told : D → Option Store) (before now : House D) where
   read-stays call (row_fault.House (fault.Failed count)) asked gains ready = asked-ready asked (still-closed ready gains.closed) ready
   read-stays call (row_fault.House fault.Store) asked gains ready = subst (Holds (told now.shelf)) (sym asked.book) (asked-holds asked ready)
 
-  pub beside-ready : IsBeside before now → Moves KeepsJournal (told before.shelf) (told now.shelf) → IsReady told before → IsReady told now
-  beside-ready beside keeps ready = record {
-    kept = same-kept beside.place (ap (λ t. t.entries) beside.book) (ap (λ t. t.closed) beside.book) (holds-still (told before.shelf) (told now.shelf) keeps ready.kept.reads) ready.kept;
-    fit = subst AllFitting (sym (ap (λ t. t.entries) beside.book)) ready.fit;
-  }
+  -- a file was put, or that failed
+  holds-behind : Moves KeepsJournal (told before.shelf) (told now.shelf) → IsReady told before → Holds (told now.shelf) (entries_of before)
+  holds-behind keeps ready = by (told before.shelf) (told now.shelf) keeps ready.kept.reads
     where
-      holds-still : (a b : Option Store) → Moves KeepsJournal a b → Holds a (entries_of before) → Holds b (entries_of before)
-      holds-still None None keeps holds = tt
-      holds-still None (Some t) keeps holds = absurd keeps
-      holds-still (Some s) None keeps holds = absurd keeps
-      holds-still (Some s) (Some t) keeps holds = subst (Reads (entries_of before)) (sym keeps) holds
+      by : (a b : Option Store) → Moves KeepsJournal a b → Holds a (entries_of before) → Holds b (entries_of before)
+      by None None keeps holds = tt
+      by None (Some t) keeps holds = absurd keeps
+      by (Some s) None keeps holds = absurd keeps
+      by (Some s) (Some t) keeps holds = subst (Reads (entries_of before)) (sym keeps) holds
+
+  put-kept : {outcome : Outcome} (call : Call) → shuts outcome ≡ false → GainsBy call outcome before now → Moves KeepsJournal (told before.shelf) (told now.shelf)
+      → IsReady told before → IsReady told now
+  put-kept {outcome = outcome} call open_ gains keeps ready = record {
+    kept = same-kept gains.place gains.entries (still-closed ready (gains.closed ∙ ap (λ c. before.trail.closed || c) open_)) (holds-behind keeps ready) ready.kept;
+    fit = subst AllFitting (sym gains.entries) ready.fit;
+  }
+
+  pub put-ready : (call : Call) → GainsBy call Done before now → Moves KeepsJournal (told before.shelf) (told now.shelf) → IsReady told before → IsReady told now
+  put-ready call gains keeps ready = put-kept call refl gains keeps ready
+
+  pub put-stays : (call : Call) (why : HouseFault) → GainsBy call (fault_outcome why) before now → Moves KeepsJournal (told before.shelf) (told now.shelf)
+      → IsReady told before → StaysPut told why now
+  put-stays call fault.Store gains keeps ready = subst (Holds (told now.shelf)) (sym gains.entries) (holds-behind keeps ready)
+  put-stays call fault.NoMemory gains keeps ready = put-kept call refl gains keeps ready
+  put-stays call (fault.Failed count) gains keeps ready = put-kept call refl gains keeps ready
 
   -- nothing was noted for want of memory
   pub halted-ready : (why : HouseFault) (events : List Entry) → AreHalted told events why before now → now.place ≡ before.place

@@ -1,5 +1,5 @@
 -- How a store's fault is passed on.
-use Rattle.std.specs.Prelude.{◌≡◌, ℕ, ◌-◌, ◌^◌, ◌<◌, ◌≤◌, nat_lt, if◌then◌else◌, Result, IfErr}
+use Rattle.std.specs.Prelude.{◌≡◌, ℕ, ◌-◌, ◌^◌, ◌<◌, ◌≤◌, nat_lt, if◌then◌else◌, Result, Ok, Err, IfErr}
 use Rattle.hv_base.specs.Faults.{Rose}
 use Rattle.hv_shelf.specs.declared.fault.ShelfFault.{ShelfFault}
 use Rattle.hv_shelf.specs.declared.fault.ShelfFault.TheVariants as shelf
@@ -18,6 +18,11 @@ failed_with count = if nat_lt count (2 ^ 64 - 1) then fault.Failed count else fa
 abbrev pub house_fault : ℕ → ShelfFault → HouseFault
 house_fault count shelf.Failed = failed_with count
 house_fault count shelf.NoMemory = fault.NoMemory
+
+-- how a put ended
+abbrev pub put_result : ℕ → Result (Unit {0}) ShelfFault → Result (Unit {0}) HouseFault
+put_result count (Ok done) = Ok done
+put_result count (Err why) = Err (house_fault count why)
 
 abbrev pub read_fault : ℕ → ReadFault → RowFault
 read_fault count (read.Damaged place) = row_fault.Damaged place

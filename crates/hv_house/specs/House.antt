@@ -106,11 +106,14 @@ IsHalted told event why before now = AreHalted told (event ∷ []) why before no
 pub record StaysReady {D : Type 0} (told : D → Option Store) (why : HouseFault) (now : House D) : Type 0 where
   pub ready : why ≡ fault.NoMemory → IsReady told now
 
--- Behind a fault of reading the house is ready, but where the store failed: there it is closed, and its journal reads to the book still.
+-- Behind a fault of a call on files the house is ready, but where the store failed: there it is closed, and its journal reads to the book still.
+abbrev pub StaysPut : {D : Type 0} → (D → Option Store) → HouseFault → House D → Type 0
+StaysPut told fault.Store now = Holds (told now.shelf) (entries_of now)
+StaysPut told fault.NoMemory now = IsReady told now
+StaysPut told (fault.Failed count) now = IsReady told now
+
 abbrev pub StaysRead : {D : Type 0} → (D → Option Store) → RowFault → House D → Type 0
-StaysRead told (row_fault.House fault.Store) now = Holds (told now.shelf) (entries_of now)
-StaysRead told (row_fault.House fault.NoMemory) now = IsReady told now
-StaysRead told (row_fault.House (fault.Failed count)) now = IsReady told now
+StaysRead told (row_fault.House why) now = StaysPut told why now
 StaysRead told (row_fault.Damaged place) now = IsReady told now
 
 -- the journal is as it was

@@ -1,23 +1,37 @@
 -- A house as steps: what those see of it who act on it, and how its calls end.
-use Rattle.std.specs.Prelude.{◌≡◌, ℕ, ◌||◌, Bool, true, false, Option, Some, List, [], ◌∷◌, ◌++◌, length, map, Contains, Result, Ok, Err}
+use Rattle.std.specs.Prelude.{◌≡◌, ◌⊎◌, ℕ, ◌||◌, Bool, true, false, Option, Some, None, List, [], ◌∷◌, ◌++◌, length, map, Contains, Result, Ok, Err, IfOk, IfErr}
+use Rattle.std.specs.List.{AllByRecursion}
 use Rattle.hv_base.specs.declared.ids.TxnId.{TxnId}
+use Rattle.hv_base.specs.declared.ids.Touch.{Touch}
+use Rattle.hv_shelf.specs.declared.place.Place.{Place}
+use Rattle.hv_shelf.specs.Disk.{Store}
+use Rattle.hv_logic.specs.declared.catalog.TableInfo.{TableInfo}
+use Rattle.hv_logic.specs.declared.effect.Effect.{Effect}
+use Rattle.hv_route.specs.declared.files.OutFile.{OutFile}
+use Rattle.hv_route.specs.Routes.{files_of}
+use Rattle.hv_route.specs.Touching.{touches_of}
 use Rattle.hv_history.specs.declared.entry.Entry.{Entry}
 use Rattle.hv_history.specs.declared.entry.Entry.TheVariants as entry
 use Rattle.hv_history.specs.declared.entry.Cause.TheVariants as cause
-use Rattle.hv_history.specs.Legal.{profile}
+use Rattle.hv_history.specs.declared.state.Table.{Table}
+use Rattle.hv_history.specs.State.{state_of, numbered, given_in}
+use Rattle.hv_history.specs.Legal.{Of, IsRunning, profile}
+use Rattle.hv_stands.specs.Files.{place_of_file}
 use Rattle.hv_trail.specs.declared.trail.Reader.{Reader}
 use Rattle.hv_trail.specs.declared.trail.Reader.TheVariants.{Txn}
 use Rattle.hv_trail.specs.declared.trail.Mark.TheVariants.{Broke}
 use Rattle.hv_trail.specs.declared.trail.TrailItem.{TrailItem}
 use Rattle.hv_trail.specs.declared.trail.TrailItem.TheVariants.{Noted, Marked}
+use Rattle.hv_trail.specs.Trail.{broken, HasWritten}
 use Rattle.hv_trail.specs.Kept.{trail_of}
-use Rattle.hv_trail.specs.Steps.{HouseSeen, Call, Outcome, Done, Closed, Refused, Failed, gains, shuts}
+use Rattle.hv_trail.specs.Steps.{HouseSeen, Call, Put, Outcome, Done, Closed, Refused, Failed, gains, shuts, Step}
 use Rattle.hv_house.specs.declared.fault.HouseFault.{HouseFault}
 use Rattle.hv_house.specs.declared.fault.HouseFault.TheVariants as fault
 use Rattle.hv_house.specs.declared.fault.RowFault.{RowFault}
 use Rattle.hv_house.specs.declared.fault.RowFault.TheVariants as row_fault
 use Rattle.hv_house.specs.declared.house.House.{House}
-use Rattle.hv_house.specs.House.{entries_of}
+use Rattle.hv_house.specs.Faults.{FileCause}
+use Rattle.hv_house.specs.House.{entries_of, IsReady, StaysPut}
 
 -- a house, which has no locks yet
 abbrev pub seen_of : {D : Type 0} → House D → HouseSeen D
@@ -87,20 +101,75 @@ pub record GainsBy {D : Type 0} (call : Call) (outcome : Outcome) (before now : 
   pub trail : trail_of now.trail ≡ trail_of before.trail ++ gains call outcome
   pub closed : now.trail.closed ≡ before.trail.closed || shuts outcome
 
--- a read of this transaction failed, with this count
+-- a read of this transaction failed, with this count; a put did
 abbrev pub HasBroken : {D : Type 0} → House D → TxnId → ℕ → Type 0
 HasBroken house by count = Contains (trail_of house.trail) (Marked (Broke (Some (Txn by)) false count))
 
--- a fault of reading that has a count has a mark
+abbrev pub HasBrokenPut : {D : Type 0} → House D → TxnId → ℕ → Type 0
+HasBrokenPut house by count = Contains (trail_of house.trail) (Marked (Broke (Some (Txn by)) true count))
+
+-- a fault of reading that has a count has a mark, and so has one of a put
 abbrev pub IsMarkedFor : {D : Type 0} → House D → TxnId → RowFault → Type 0
 IsMarkedFor house by (row_fault.House (fault.Failed count)) = HasBroken house by count
 IsMarkedFor house by (row_fault.House fault.Store) = Unit {0}
 IsMarkedFor house by (row_fault.House fault.NoMemory) = Unit {0}
 IsMarkedFor house by (row_fault.Damaged place) = Unit {0}
 
--- an abort for a read that failed keeps the count of a mark of its transaction
+abbrev pub IsPutMarkedFor : {D : Type 0} → House D → TxnId → HouseFault → Type 0
+IsPutMarkedFor house by (fault.Failed count) = HasBrokenPut house by count
+IsPutMarkedFor house by fault.Store = Unit {0}
+IsPutMarkedFor house by fault.NoMemory = Unit {0}
+
+-- all that is promised of a put of this file by this transaction
+pub record PutStep {D : Type 0} (told : D → Option Store) (faults : D → ℕ) (by : TxnId) (place : Place) (bytes : List ℕ) (before now : House D) (result : Result (Unit {0}) HouseFault) : Type 0 where
+  pub book : entries_of now ≡ entries_of before
+  pub ready : IfOk result (λ _. IsReady told now)
+  pub stays : IfErr result (λ why. StaysPut told why now)
+  pub marked : IfErr result (IsPutMarkedFor now by)
+  pub step : Step told faults (Put (Txn by) place bytes) (outcome_of result) (seen_of before) (seen_of now)
+  pub cause : FileCause (faults before.shelf) (faults now.shelf) result
+
+-- ---- what is put, and what a commit rests on
+
+-- the running transaction of this number was given this write id in that table
+abbrev pub HoldsId : List Entry → (txn table write : ℕ) → Type 0
+HoldsId book txn table write = Of (state_of book) txn (λ t. IsRunning t × (given_in table t.given ≡ Some write))
+
+-- the place is that of this file under a write id of this transaction
+pub record IsOwnFile (book : List Entry) (by : TxnId) (place : Place) (file : OutFile) : Type 0 where
+  pub table : ℕ
+  pub write : ℕ
+  pub holds : HoldsId book by.0 table write
+  pub place_is : place ≡ place_of_file table write file
+
+-- each file of this change in a table, under this write id, has a mark that the transaction put it
+abbrev pub AreWritten : List TrailItem → TxnId → TableInfo → Effect → ℕ → Type 0
+AreWritten trail by info effect write =
+    AllByRecursion (λ file. HasWritten trail (Txn by) (place_of_file info.table.0 write file)) (files_of info.shape write 0 effect)
+
+-- these are the touches of a change in a table of the book whose files the transaction put, each of them, under its write id
+pub record IsPutWhole (book : List Entry) (trail : List TrailItem) (by : TxnId) (wrote : List Touch) : Type 0 where
+  pub info : TableInfo
+  pub table : Table
+  pub here : numbered (state_of book).tables info.table.0 ≡ Some table
+  pub same : table.info ≡ info
+  pub effect : Effect
+  pub write : ℕ
+  pub touches : wrote ≡ touches_of info effect
+  pub holds : HoldsId book by.0 info.table.0 write
+  pub files : AreWritten trail by info effect write
+
+-- A commit can be noted where no call on files failed for its transaction, and it touches nothing or all files of what it touches were put.
+pub record CanCommit (book : List Entry) (trail : List TrailItem) (by : TxnId) (wrote : List Touch) : Type 0 where
+  pub unbroken : broken (Txn by) trail ≡ None
+  pub put : (wrote ≡ []) ⊎ IsPutWhole book trail by wrote
+
+-- An abort for a call on files that failed keeps the count of a mark of its transaction: for a read of one that is no put's, for a
+-- write of one that is. A commit has marks of its files.
 abbrev pub IsMarked : {D : Type 0} → House D → Entry → Type 0
 IsMarked house (entry.Abort txn (cause.ReadFault count)) = HasBroken house txn count
+IsMarked house (entry.Abort txn (cause.WriteFault count)) = HasBrokenPut house txn count
+IsMarked house (entry.Commit txn wrote) = CanCommit (entries_of house) (trail_of house.trail) txn wrote
 IsMarked house event = Unit {0}
 
 -- a house that was opened over this store: its trail is its book, and its opening left all of it

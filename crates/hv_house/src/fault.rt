@@ -1,11 +1,9 @@
 ghost use Rattle.std.specs.Prelude.{◌≡◌};
-ghost use Rattle.hv_house.specs.Faults.{failed_with, house_fault, read_fault};
 ghost use Rattle.hv_house.specs.declared.fault.HouseFault.TheVariants as fault;
 ghost use Rattle.hv_house.specs.declared.fault.RowFault.TheVariants as row_fault;
 
 use hv_base::NoMemory;
 use hv_history::FilePlace;
-use hv_shelf::ShelfFault;
 use std::alloc::{AllocError, AllocFailed};
 use thiserror::Error;
 
@@ -20,27 +18,6 @@ pub enum HouseFault {
     Failed { count: u64 },
     #[error("out of memory")]
     NoMemory,
-}
-
-/// A failed call on files, by the store's count of faults behind it: at its last value it counts as one of the journal.
-pub fn failed_with(count: u64) -> HouseFault
-    ensures { result ≡ failed_with count }
-{
-    if count < u64::MAX {
-        HouseFault::Failed { count }
-    } else {
-        HouseFault::Store
-    }
-}
-
-/// A fault of a call on files, by the store's count of faults behind it.
-pub fn house_fault(count: u64, fault: ShelfFault) -> HouseFault
-    ensures { result ≡ house_fault count fault }
-{
-    match fault {
-        ShelfFault::Failed => failed_with(count),
-        ShelfFault::NoMemory => HouseFault::NoMemory,
-    }
 }
 
 impl From<NoMemory> for HouseFault {
@@ -76,17 +53,6 @@ pub enum RowFault {
     /// A call of the house failed.
     #[error("the house failed")]
     House(HouseFault),
-}
-
-/// A fault of reading rows, by the store's count of faults behind it.
-pub fn read_fault(count: u64, fault: hv_tables::RowFault) -> RowFault
-    ensures { result ≡ read_fault count fault }
-{
-    match fault {
-        hv_tables::RowFault::Damaged(place) => RowFault::Damaged(place),
-        hv_tables::RowFault::Failed => RowFault::House(failed_with(count)),
-        hv_tables::RowFault::NoMemory => RowFault::House(HouseFault::NoMemory),
-    }
 }
 
 impl From<NoMemory> for RowFault {

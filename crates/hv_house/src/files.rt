@@ -1,45 +1,112 @@
-ghost use Rattle.std.specs.Prelude.{◌≡◌, ◌<◌, ◌≤◌, OnOk};
+ghost use Rattle.std.specs.Prelude.{◌≡◌, ℕ, ◌<◌, List, None, false, true, length, OnOk};
 ghost use Rattle.std.specs.List.{AllByRecursion};
-ghost use Rattle.hv_base.specs.Told.{Moves, StaysTold};
-ghost use Rattle.hv_dirs.specs.Names.{write_end};
-ghost use Rattle.hv_stands.specs.Laws.{HasFile};
-ghost use Rattle.hv_tables.specs.Putting.{CanPut, PutsFiles, KeepsOthers};
-ghost use Rattle.hv_house.specs.Faults.{FileCause};
-ghost use Rattle.hv_house.specs.House.{IsBeside, KeepsJournal};
+ghost use Rattle.hv_tables.specs.Putting.{CanPut, IsEncoded, bytes_of};
+ghost use Rattle.hv_trail.specs.declared.trail.Reader.TheVariants.{Txn};
+ghost use Rattle.hv_trail.specs.Trail.{broken, HasWritten};
+ghost use Rattle.hv_trail.specs.Kept.{trail_of, are_written};
+ghost use Rattle.hv_trail.specs.Steps as calls;
+ghost use Rattle.hv_shelf.specs.declared.place.Place.{Place};
+ghost use Rattle.hv_house.specs.Faults.{house_fault, put_result};
+ghost use Rattle.hv_house.specs.House.{entries_of, IsReady};
+ghost use Rattle.hv_house.specs.Steps.{outcome_of, fault_outcome, GainsBy, IsOwnFile, PutStep};
 
-use crate::fault::{HouseFault, house_fault};
+use crate::fault::HouseFault;
 use crate::house::House;
-use hv_base::{TableId, WriteId};
+use hv_base::{NoMemory, TxnId};
 use hv_route::OutFile;
-use hv_shelf::Shelf;
-use hv_tables::put_files;
+use hv_shelf::{Place, Shelf, ShelfFault};
+use hv_tables::put_file;
+use hv_trail::{Mark, Reader};
 use std::alloc::Global;
 
 impl<D: Shelf> House<D> {
-    /// Puts the files of a change in a table under its write id, one after another.
-    pub fn put_files(
+    /// What a fault of putting is for a transaction that puts a file.
+    fn fail_put(&mut self, by: TxnId, fault: ShelfFault) -> HouseFault
+        requires running { self.old.trail.closed ≡ false }
+        requires room { 0 < self.old.trail.room }
+        ensures fault { result ≡ house_fault (D.faults self.old.shelf) fault }
+        ensures shelf { self.new.shelf ≡ self.old.shelf }
+        ensures gains { (place : Place) (bytes : List ℕ)
+            → GainsBy (calls.Put (Txn by) place bytes) (fault_outcome result) self.old self.new }
+    {
+        match fault {
+            ShelfFault::Failed => self.fail(Some(Reader::Txn(by)), true),
+            ShelfFault::NoMemory => HouseFault::NoMemory,
+        }
+    }
+
+    /// Keeps in mind how a put ended: by a mark that the file was put, or that it failed.
+    fn keep_put(
+        &mut self,
+        by: TxnId,
+        place: Place,
+        done: Result<(), ShelfFault>,
+    ) -> Result<(), HouseFault>
+        requires running { self.old.trail.closed ≡ false }
+        requires room { 0 < self.old.trail.room }
+        ensures result { result ≡ put_result (D.faults self.old.shelf) done }
+        ensures shelf { self.new.shelf ≡ self.old.shelf }
+        ensures gains { (bytes : List ℕ) → GainsBy (calls.Put (Txn by) place bytes) (outcome_of result)
+            self.old self.new }
+    {
+        match done {
+            Ok(()) => {
+                let by = Reader::Txn(by);
+                self.trail.mark(Mark::Wrote { by, place });
+                Ok(())
+            }
+            Err(fault) => Err(self.fail_put(by, fault)),
+        }
+    }
+
+    /// Puts a file of a change at its place, under a write id of this transaction. It is marked as put; and where that failed,
+    /// as failed, with the store's count of faults.
+    ///
+    /// # Errors
+    /// `NoMemory` where memory lacked, and the store is as it was. `Failed` where the store failed: at this place may be any bytes
+    /// then, or no file. So too with `Store`, where its count of faults is the last one: the house is closed.
+    pub fn put(
         &mut self,
         alloc: Global,
-        table: TableId,
-        write: WriteId,
-        files: &[OutFile],
+        by: TxnId,
+        place: Place,
+        file: &OutFile,
     ) -> Result<(), HouseFault>
-        requires can { AllByRecursion CanPut files.now }
-        requires first { 1 ≤ write.0 }
-        requires last { write.0 < write_end }
-        ensures beside { IsBeside self.old self.new }
-        ensures tells { StaysTold (D.told self.old.shelf) (D.told self.new.shelf) }
-        ensures put { OnOk result (Moves (PutsFiles table.0 write.0 files.now)
-            (D.told self.old.shelf) (D.told self.new.shelf)) }
-        ensures file { OnOk result (AllByRecursion HasFile files.now) }
-        ensures others { Moves (KeepsOthers table.0 write.0 files.now)
-            (D.told self.old.shelf) (D.told self.new.shelf) }
-        ensures journal { Moves KeepsJournal (D.told self.old.shelf) (D.told self.new.shelf) }
-        ensures cause { FileCause (D.faults self.old.shelf) (D.faults self.new.shelf) result }
+        requires ready { IsReady D.told self.old }
+        requires can { CanPut file.now }
+        requires own { IsOwnFile (entries_of self.old) by place file.now }
+        ensures put { PutStep D.told D.faults by place (bytes_of file.now) self.old self.new result }
+        ensures encoded { OnOk result (IsEncoded file.now) }
     {
-        match put_files(alloc, &mut self.shelf, table, write, files) {
-            Ok(()) => Ok(()),
-            Err(fault) => Err(house_fault(self.shelf.fault_count(), fault)),
+        match self.trail.reserve_mark() {
+            Ok(()) => {
+                let done = put_file(alloc, &mut self.shelf, &place, file);
+                self.keep_put(by, place, done)
+            }
+            Err(NoMemory) => Err(HouseFault::NoMemory),
         }
+    }
+
+    /// How many marks there are.
+    pub fn marks(&self) -> u64
+        ensures marks { result ≡ length self.now.trail.marks }
+    {
+        self.trail.marks()
+    }
+
+    /// The first call on files that failed for a transaction: whether it was to put a file, and the count behind it.
+    pub fn broken(&self, by: TxnId) -> Option<(bool, u64)>
+        ensures broken { result ≡ broken (Txn by) (trail_of self.now.trail) }
+    {
+        self.trail.broken(Reader::Txn(by))
+    }
+
+    /// Whether the marks behind so many say that this transaction put files at these places, one after another.
+    pub fn has_put(&self, by: TxnId, since: u64, places: &[Place]) -> bool
+        ensures exact { result ≡ are_written (Txn by) since places.now self.now.trail.marks }
+        ensures written { result ≡ true
+            → AllByRecursion (HasWritten (trail_of self.now.trail) (Txn by)) places.now }
+    {
+        self.trail.has_written(Reader::Txn(by), since, places)
     }
 }

@@ -48,7 +48,7 @@ fn info_in(alloc: Global, name: &Text, infos: &[TableInfo]) -> Result<Option<Tab
 impl<D: Shelf> House<D> {
     /// Keeps in mind that a call on files failed: a mark has the store's count of faults then. Where that count is
     /// the last one, no later fault could be told from this one, and the house is closed.
-    fn fail(&mut self, by: Option<Reader>, put: bool) -> HouseFault
+    pub(crate) fn fail(&mut self, by: Option<Reader>, put: bool) -> HouseFault
         requires room { 0 < self.old.trail.room }
         ensures fault { result ≡ failed_with (D.faults self.old.shelf) }
         ensures kept { KeepsFault by put result self.old self.new }

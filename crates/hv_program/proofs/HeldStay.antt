@@ -1,7 +1,7 @@
 -- A held statement stays what it is while others go on: it is under way, what it comes to can be ended, and its files stand.
 use Rattle.std.proofs.Common.{◌≡◌, ◌⊎◌, ℕ, ◌+◌, ◌<◌, ◌≤◌, Option, Some, None, List, [], ◌∷◌, ◌++◌, length, take, refl, sym, ap, ◌∙◌, subst, arith, inl, inr}
 use Rattle.std.specs.List.{AllByRecursion}
-use Rattle.std.proofs.lemmas.List.{append-nil, take-append-le, take_all}
+use Rattle.std.proofs.lemmas.List.{append-nil, take-append-le}
 use Rattle.hv_shelf.specs.Disk.{Store}
 use Rattle.hv_ast.specs.declared.statement.Stmt.{Stmt}
 use Rattle.hv_logic.specs.declared.catalog.TableInfo.{TableInfo}
@@ -13,11 +13,11 @@ use Rattle.hv_history.specs.State.{state_of, numbered}
 use Rattle.hv_stands.specs.Running.{Asking, AreOf, AreNotOf, IsOf, IsNotOf, IsUnderWay, meant, KeepsGiven}
 use Rattle.hv_stands.specs.Statements.{AllFitting}
 use Rattle.hv_stands.proofs.Others.{others-leave-it}
-use Rattle.hv_stands.proofs.SeeingEnough.{tables-stay}
 use Rattle.hv_stands.proofs.StatementFiles.{put-files-stay}
 use Rattle.hv_ending.specs.declared.ready.End.{End}
 use Rattle.hv_ending.specs.declared.ready.End.TheVariants as end
-use Rattle.hv_ending.specs.Ending.{CanChange, CanEnd, IsChangeReady, CommitIsReady, EndIsTrue}
+use Rattle.hv_ending.specs.Ending.{CanEnd, IsOfChange, EndCanBeNoted, IsChangeReady, CommitIsReady, EndIsTrue}
+use Rattle.hv_ending.proofs.Books.{change-stays}
 use Rattle.hv_session.specs.declared.paused.Point.{Point}
 use Rattle.hv_session.specs.declared.paused.Point.TheVariants as point
 use Rattle.hv_session.specs.declared.paused.Paused.{Paused}
@@ -39,24 +39,32 @@ others a b apart (event ∷ events) of_a = (other-one a b apart event of_a.0, ot
 
 -- ---- what it comes to can be ended
 
-change-stays : (before more : List Entry) (info : TableInfo) (effect : Effect) → AllFitting (before ++ more)
-    → CanChange before info effect → CanChange (before ++ more) info effect
-change-stays before more info effect fit can =
-    let front : take (length before) (before ++ more) ≡ before =
-    take-append-le (length before) before more (omega arith) ∙ take_all (length before) before (omega arith) in
-    let here = subst (λ (book : List Entry). numbered (state_of book).tables info.table.0 ≡ Some can.table) (sym front) can.here in
-    let now = tables-stay (before ++ more) (length before) info.table.0 can.table fit here in
-    record { table = now.0; here = now.1; same = now.2 ∙ can.same; within = can.within; fit = can.fit }
-
 end-stays : (before more : List Entry) (meaning : Meaning) → AllFitting (before ++ more) → CanEnd before meaning → CanEnd (before ++ more) meaning
 end-stays before more (Change info effect) fit can = change-stays before more info effect fit can
 end-stays before more other fit can = tt
+
+last-stays : (before more : List Entry) (txn : ℕ) (given : List (ℕ × ℕ)) (end : End) → AllFitting (before ++ more)
+    → EndCanBeNoted before txn given end → EndCanBeNoted (before ++ more) txn given end
+last-stays before more txn given end.Create fit can = tt
+last-stays before more txn given (end.Commit wrote name put) fit can = record { small = can.small; touched = can.touched; change = by can.change }
+  where
+    by : (wrote ≡ []) ⊎ IsOfChange before given wrote put.places → (wrote ≡ []) ⊎ IsOfChange (before ++ more) given wrote put.places
+    by (inl none) = inl none
+    by (inr change) = inr (record {
+      info = change.info;
+      effect = change.effect;
+      can = change-stays before more change.info change.effect fit change.can;
+      write = change.write;
+      touches = change.touches;
+      id = change.id;
+      places_are = change.places_are;
+    })
 
 point-can : (before more : List Entry) (txn : ℕ) (given : List (ℕ × ℕ)) (point : Point) → AllFitting (before ++ more)
     → CanEndAt before txn given point → CanEndAt (before ++ more) txn given point
 point-can before more txn given point.Started fit can = tt
 point-can before more txn given (point.Meant meaning) fit can = end-stays before more meaning fit can
-point-can before more txn given (point.Ready ready) fit can = can
+point-can before more txn given (point.Ready ready) fit can = last-stays before more txn given ready.end fit can
 
 -- ---- one that is held
 
@@ -96,7 +104,7 @@ files-stay before asking txn place said given store now meaning name at h = reco
 
 end-true : (before : List Entry) (asking : Asking) (txn place : ℕ) (said : Stmt) (given : List (ℕ × ℕ)) (store now : Store) (meaning : Option Meaning) (end : End) (text : List ℕ)
     → Meanwhile before asking txn place said given store now → EndIsTrue store.tree meaning given end text → EndIsTrue now.tree meaning given end text
-end-true before asking txn place said given store now meaning (end.Commit wrote name) text at h =
+end-true before asking txn place said given store now meaning (end.Commit wrote name put) text at h =
     record { meant = h.meant; reply = h.reply; files_are = by h.files_are }
   where
     by : ((given ≡ []) × (wrote ≡ [])) ⊎ IsChangeReady store.tree meaning given name → ((given ≡ []) × (wrote ≡ [])) ⊎ IsChangeReady now.tree meaning given name

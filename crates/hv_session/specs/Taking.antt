@@ -118,7 +118,7 @@ HasNone other given = given ≡ []
 abbrev pub CanEndAt : List Entry → ℕ → List (ℕ × ℕ) → Point → Type 0
 CanEndAt book txn given point.Started = Unit {0}
 CanEndAt book txn given (point.Meant meaning) = CanEnd book meaning
-CanEndAt book txn given (point.Ready ready) = EndCanBeNoted txn given ready.end
+CanEndAt book txn given (point.Ready ready) = EndCanBeNoted book txn given ready.end
 
 -- what is refused doesn't wait
 abbrev pub IsUnrefused : Meaning → Type 0

@@ -1,18 +1,12 @@
--- What it takes to put the files of a change, and what that leaves.
-use Rattle.std.specs.Prelude.{◌≡◌, ℕ, ◌≤◌, ◌==◌, ◌&&◌, ◌||◌, not, nat_lt, Bool, true, false, if◌then◌else◌, Option, Some, None, List, [], ◌∷◌}
+-- What it takes to put a file of a change.
+use Rattle.std.specs.Prelude.{◌≡◌, ℕ, ◌==◌, ◌&&◌, ◌||◌, not, nat_lt, Bool, true, false, if◌then◌else◌, Option, Some, None, List, [], ◌∷◌}
 use Rattle.std.specs.Ordering.{is_lt}
-use Rattle.std.specs.List.{AllByRecursion}
-use Rattle.std.specs.FinMap as tree
 use Rattle.hv_base.specs.declared.ids.RowId.{RowId}
 use Rattle.hv_base.specs.Identifiers.{row_id_cmp}
-use Rattle.hv_base.specs.Told.{Moves, StaysTold}
-use Rattle.hv_shelf.specs.declared.place.Place.{Place}
-use Rattle.hv_shelf.specs.Disk.{Store}
 use Rattle.hv_rowfile.specs.declared.record.Rec.{Rec}
 use Rattle.hv_rowfile.specs.declared.record.Rec.TheVariants.{Insert, Delete}
-use Rattle.hv_rowfile.specs.Layout.{CanWrite, IsFile, id_of}
+use Rattle.hv_rowfile.specs.Layout.{CanWrite, IsFile, id_of, file_spelling}
 use Rattle.hv_route.specs.declared.files.OutFile.{OutFile}
-use Rattle.hv_stands.specs.Files.{place_of_file, with_file, with_files}
 
 -- ---- which files can be written
 
@@ -39,30 +33,6 @@ can_put file = not file.deletes || can_delete_from file.bucket None file.recs
 abbrev pub IsEncoded : OutFile → Type 0
 IsEncoded file = IsFile file.deletes file.bucket file.recs
 
--- ---- what is left
-
--- the file of a change under its write id was put
-pub record PutsFile (table write : ℕ) (file : OutFile) (before now : Store) : Type 0 where
-  pub tree_is : now.tree ≡ with_file table write before.tree file
-  pub journal_is : now.journal ≡ before.journal
-
--- its files were put
-pub record PutsFiles (table write : ℕ) (files : List OutFile) (before now : Store) : Type 0 where
-  pub tree_is : now.tree ≡ with_files before.tree table write files
-  pub journal_is : now.journal ≡ before.journal
-
-abbrev pub IsElsewhere : ℕ → ℕ → Place → OutFile → Type 0
-IsElsewhere table write place file = (place ≡ place_of_file table write file) → ⊥
-
--- files at other places than theirs are as they were
-pub record KeepsOthers (table write : ℕ) (files : List OutFile) (before now : Store) : Type 0 where
-  pub others : (place : Place) → AllByRecursion (IsElsewhere table write place) files → tree.get now.tree place ≡ tree.get before.tree place
-  pub journal_is : now.journal ≡ before.journal
-
--- of a change's files, these were put
-pub record PutsUpTo {D : Type 0} (told : D → Option Store) (faults : D → ℕ) (first now : D) (table write : ℕ) (files : List OutFile) : Type 0 where
-  pub later : faults first ≤ faults now
-  pub tells : StaysTold (told first) (told now)
-  pub put : Moves (PutsFiles table write files) (told first) (told now)
-  pub encoded : AllByRecursion IsEncoded files
-  pub others : Moves (KeepsOthers table write files) (told first) (told now)
+-- the bytes of a file
+abbrev pub bytes_of : OutFile → List ℕ
+bytes_of file = file_spelling file.deletes file.bucket file.recs

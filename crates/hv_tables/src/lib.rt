@@ -13,5 +13,5 @@ mod rows;
 
 pub use fault::RowFault;
 pub use laws::rows_stood;
-pub use putting::{put_file, put_files};
+pub use putting::{place_of_file, put_file};
 pub use reading::read_rows;

@@ -1,12 +1,11 @@
-ghost use Rattle.std.specs.Prelude.{◌≡◌, ◌<◌, ◌≤◌, [], ◌∷◌, true, false, None, IfOk, OnOk, IsErrOf};
-ghost use Rattle.std.specs.List.{AllByRecursion};
-ghost use Rattle.hv_base.specs.Told.{Moves, StaysTold};
+ghost use Rattle.std.specs.Prelude.{◌≡◌, ◌<◌, ◌≤◌, true, false, None, IfOk, OnOk, IsErrOf};
+ghost use Rattle.hv_base.specs.Told.{Moves};
 ghost use Rattle.hv_dirs.specs.Names.{write_end};
-ghost use Rattle.hv_shelf.specs.declared.fault.ShelfFault.TheVariants.{Failed};
-ghost use Rattle.hv_rowfile.specs.Layout.{CanWrite};
+ghost use Rattle.hv_shelf.specs.declared.fault.ShelfFault.TheVariants as why;
+ghost use Rattle.hv_shelf.specs.Disk.{HasFile, TornFile};
 ghost use Rattle.hv_stands.specs.Files.{place_of_file};
 ghost use Rattle.hv_tables.specs.Faults.{StoreCause};
-ghost use Rattle.hv_tables.specs.Putting.{CanPut, is_behind, may_follow, can_delete_from, can_put, IsEncoded, PutsFile, PutsFiles, KeepsOthers};
+ghost use Rattle.hv_tables.specs.Putting.{CanPut, is_behind, may_follow, can_delete_from, can_put, IsEncoded, bytes_of};
 
 use hv_base::{Duplicate, NoMemory, RowId, TableId, WriteId};
 use hv_dirs::{DirName, print_name};
@@ -59,8 +58,8 @@ fn can_put(file: &OutFile) -> bool
     !file.deletes || can_delete(file.bucket, file.recs.as_slice())
 }
 
-/// Where a file of a change stands.
-fn place_of_file(
+/// Where a file of a change in a table stands, under its write id.
+pub fn place_of_file(
     alloc: Global,
     table: TableId,
     write: WriteId,
@@ -68,7 +67,7 @@ fn place_of_file(
 ) -> Result<Place, NoMemory>
     requires first { 1 ≤ write.0 }
     requires last { write.0 < write_end }
-    ensures { IfOk result (λ place. place ≡ place_of_file table.0 write.0 file.now) }
+    ensures place { IfOk result (λ place. place ≡ place_of_file table.0 write.0 file.now) }
 {
     let name = DirName::Own {
         deletes: file.deletes,
@@ -83,55 +82,30 @@ fn place_of_file(
     })
 }
 
-/// Puts a file of a change in a table under its write id. Deletes that don't rise, or aren't of the file's bucket,
-/// count as want of memory: no files of a legal book show such rows.
+/// Puts a file of a change at this place. Deletes that don't rise, or aren't of the file's bucket, count as want of memory:
+/// no files of a legal book show such rows.
+///
+/// # Errors
+/// `NoMemory` where memory lacked: the store is as it was. `Failed` where the store failed: at this place may be any bytes
+/// then, or no file.
 pub fn put_file<D: Shelf>(
     alloc: Global,
     shelf: &mut D,
-    table: TableId,
-    write: WriteId,
+    place: &Place,
     file: &OutFile,
 ) -> Result<(), ShelfFault>
     requires can { CanPut file.now }
-    requires first { 1 ≤ write.0 }
-    requires last { write.0 < write_end }
-    ensures tells { StaysTold (D.told shelf.old) (D.told shelf.new) }
     ensures put { OnOk result
-        (Moves (PutsFile table.0 write.0 file.now) (D.told shelf.old) (D.told shelf.new)) }
+        (Moves (HasFile place.now (bytes_of file.now)) (D.told shelf.old) (D.told shelf.new)) }
     ensures encoded { OnOk result (IsEncoded file.now) }
-    ensures others { Moves (KeepsOthers table.0 write.0 (file.now ∷ []))
-        (D.told shelf.old) (D.told shelf.new) }
-    ensures cause { StoreCause (D.faults shelf.old) (D.faults shelf.new) (IsErrOf result Failed) }
+    ensures torn { IsErrOf result why.Failed
+        → Moves (TornFile place.now) (D.told shelf.old) (D.told shelf.new) }
+    ensures no_memory { IsErrOf result why.NoMemory → D.told shelf.new ≡ D.told shelf.old }
+    ensures cause { StoreCause (D.faults shelf.old) (D.faults shelf.new) (IsErrOf result why.Failed) }
 {
     if !can_put(file) {
         return Err(ShelfFault::NoMemory);
     }
     let bytes = encode(alloc, file.deletes, file.bucket, file.recs.as_slice())?;
-    let place = place_of_file(alloc, table, write, file)?;
-    shelf.put(&place, &bytes)
-}
-
-/// Puts the files of a change in a table under its write id, one after another.
-pub fn put_files<D: Shelf>(
-    alloc: Global,
-    shelf: &mut D,
-    table: TableId,
-    write: WriteId,
-    files: &[OutFile],
-) -> Result<(), ShelfFault>
-    requires can { AllByRecursion CanPut files.now }
-    requires first { 1 ≤ write.0 }
-    requires last { write.0 < write_end }
-    ensures tells { StaysTold (D.told shelf.old) (D.told shelf.new) }
-    ensures put { OnOk result
-        (Moves (PutsFiles table.0 write.0 files.now) (D.told shelf.old) (D.told shelf.new)) }
-    ensures encoded { OnOk result (AllByRecursion IsEncoded files.now) }
-    ensures others { Moves (KeepsOthers table.0 write.0 files.now)
-        (D.told shelf.old) (D.told shelf.new) }
-    ensures cause { StoreCause (D.faults shelf.old) (D.faults shelf.new) (IsErrOf result Failed) }
-{
-    for file in files {
-        put_file(alloc, shelf, table, write, file)?;
-    }
-    Ok(())
+    shelf.put(place, &bytes)
 }

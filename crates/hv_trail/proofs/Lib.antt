@@ -1,5 +1,6 @@
 pub mod KeptLaws
 pub mod LastingLaws
+pub mod Asked
 pub mod MarkLaws
 pub mod OwnLaws
 pub mod StepLaws

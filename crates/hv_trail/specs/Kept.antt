@@ -1,9 +1,14 @@
 -- A trail as a house keeps it: the book and the marks apart.
-use Rattle.std.specs.Prelude.{ℕ, Bool, ◌+◌, ◌≤◌, List, [], ◌∷◌, length}
+use Rattle.std.specs.Prelude.{◌≡◌, ℕ, Bool, true, false, ◌&&◌, if◌then◌else◌, ◌+◌, ◌≤◌, Option, Some, None, List, [], ◌∷◌, length, slice_get}
+use Rattle.hv_shelf.specs.declared.place.Place.{Place}
+use Rattle.hv_shelf.specs.Places.{place_eq}
 use Rattle.hv_history.specs.declared.entry.Entry.{Entry}
+use Rattle.hv_history.specs.State.{first_known}
+use Rattle.hv_trail.specs.declared.trail.Reader.{Reader}
 use Rattle.hv_trail.specs.declared.trail.Mark.{Mark}
+use Rattle.hv_trail.specs.declared.trail.Mark.TheVariants.{Wrote, Broke}
 use Rattle.hv_trail.specs.declared.trail.TrailItem.{TrailItem}
-use Rattle.hv_trail.specs.Trail.{woven_from}
+use Rattle.hv_trail.specs.Trail.{is_reader, woven_from}
 
 -- The entries, and how many more fit without asking for memory; the marks, each with the number of entries before it, and how
 -- many more of them fit; how many items the opening left; and whether the journal failed.
@@ -27,3 +32,36 @@ StandIn before count (mark ∷ marks) = (before ≤ mark.0) × StandIn mark.0 co
 pub record IsWhole (book : List Entry) (marks : List (ℕ × Mark)) (opened : ℕ) : Type 0 where
   pub stand : StandIn 0 (length book) marks
   pub within : opened ≤ length book + length marks
+
+-- ---- what is asked of the marks
+
+-- whether a mark is of a call that failed, and what it says of one that failed for this reader
+abbrev pub is_fault : Mark → Bool
+is_fault (Broke by put count) = true
+is_fault mark = false
+
+abbrev pub fault_of : Reader → Mark → Option (Bool × ℕ)
+fault_of reader (Broke by put count) = if is_reader reader by then Some (put, count) else None
+fault_of reader mark = None
+
+-- the first call that failed for this reader
+abbrev pub broken_in : Reader → List (ℕ × Mark) → Option (Bool × ℕ)
+broken_in reader [] = None
+broken_in reader (mark ∷ marks) = first_known (fault_of reader mark.1) (broken_in reader marks)
+
+-- where no call failed, none failed for any reader
+abbrev pub IsQuiet : Bool → List (ℕ × Mark) → Type 0
+IsQuiet quiet marks = quiet ≡ true → (reader : Reader) → broken_in reader marks ≡ None
+
+-- whether the marks from this one on say that this reader put files at these places, one after another
+abbrev pub wrote_at : Reader → Place → Mark → Bool
+wrote_at reader place (Wrote by at) = is_reader reader (Some by) && place_eq at place
+wrote_at reader place mark = false
+
+abbrev pub is_written : Reader → Place → Option (ℕ × Mark) → Bool
+is_written reader place None = false
+is_written reader place (Some mark) = wrote_at reader place mark.1
+
+abbrev pub are_written : Reader → ℕ → List Place → List (ℕ × Mark) → Bool
+are_written reader at [] marks = true
+are_written reader at (place ∷ places) marks = if is_written reader place (slice_get marks at) then are_written reader (at + 1) places marks else false

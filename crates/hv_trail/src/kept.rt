@@ -1,13 +1,16 @@
-ghost use Rattle.std.specs.Prelude.{◌≡◌, ◌+◌, ◌≤◌, ◌<◌, ◌++◌, ◌∷◌, [], length, vec_len, vec_capacity, OnOk, OnErr, IsOk, true, false};
+ghost use Rattle.std.specs.Prelude.{◌≡◌, ◌+◌, ◌≤◌, ◌<◌, ◌++◌, ◌∷◌, [], length, vec_len, vec_capacity, OnOk, OnErr, IsOk, Some, ◌&&◌, not, true, false, slice_get};
+ghost use Rattle.std.specs.List.{AllByRecursion};
 ghost use Rattle.hv_history.specs.Book.{tree_of_entry};
 ghost use Rattle.hv_trail.specs.declared.trail.TrailItem.TheVariants as item;
-ghost use Rattle.hv_trail.specs.Kept.{trail_of};
+ghost use Rattle.hv_trail.specs.Trail.{is_reader, broken, HasWritten};
+ghost use Rattle.hv_trail.specs.Kept.{trail_of, is_fault, fault_of, broken_in, wrote_at, is_written, are_written};
 
-use crate::trail::Mark;
+use crate::trail::{Mark, Reader};
 use hv_ast::Stmt;
 use hv_base::NoMemory;
 use hv_book::Book;
 use hv_history::Entry;
+use hv_shelf::Place;
 use std::alloc::Global;
 use std::marker::Model;
 
@@ -19,11 +22,13 @@ pub struct KeptTrail {
     marks: Vec<(u64, Mark)>,
     opened: u64,
     closed: bool,
+    /// No call on files failed. So nobody looks through the marks for one that did.
+    quiet: bool,
 }
 
 impl Model for KeptTrail {
     ghost use Rattle.std.specs.Prelude.{◌-◌, vec_len, vec_capacity};
-    ghost use Rattle.hv_trail.specs.Kept.{TrailKept, IsWhole};
+    ghost use Rattle.hv_trail.specs.Kept.{TrailKept, IsWhole, IsQuiet};
 
     ghost Value = { TrailKept };
 
@@ -36,7 +41,109 @@ impl Model for KeptTrail {
       closed = trail.closed;
     } };
 
-    ghost invariant = { λ trail. IsWhole trail.book.entries trail.marks.items trail.opened };
+    ghost invariant = { λ trail. IsWhole trail.book.entries trail.marks.items trail.opened × IsQuiet trail.quiet trail.marks.items };
+}
+
+/// Whether two readers are one.
+fn is_same(reader: Reader, other: Reader) -> bool
+    ensures { result ≡ is_reader reader (Some other) }
+{
+    match reader {
+        Reader::Txn(txn) => match other {
+            Reader::Txn(other) => txn.0 == other.0,
+            Reader::Job(_) => false,
+        },
+        Reader::Job(job) => match other {
+            Reader::Txn(_) => false,
+            Reader::Job(other) => job.0 == other.0,
+        },
+    }
+}
+
+/// Whether no call has failed, behind this mark too.
+fn stays_quiet(quiet: bool, mark: &Mark) -> bool
+    ensures { result ≡ quiet && not (is_fault mark.now) }
+{
+    match mark {
+        Mark::Wrote { .. } => quiet,
+        Mark::Went { .. } => quiet,
+        Mark::Broke { .. } => false,
+    }
+}
+
+/// Whether a call failed for this reader.
+fn is_reader(reader: Reader, by: Option<Reader>) -> bool
+    ensures { result ≡ is_reader reader by }
+{
+    match by {
+        Some(other) => is_same(reader, other),
+        None => false,
+    }
+}
+
+/// What a mark says of a call that failed for this reader.
+fn fault_of(reader: Reader, mark: &Mark) -> Option<(bool, u64)>
+    ensures { result ≡ fault_of reader mark.now }
+{
+    match mark {
+        Mark::Wrote { .. } => None,
+        Mark::Went { .. } => None,
+        Mark::Broke { by, put, count } => {
+            if is_reader(reader, *by) {
+                Some((*put, *count))
+            } else {
+                None
+            }
+        }
+    }
+}
+
+/// The first call that failed for this reader.
+fn first_fault(reader: Reader, marks: &[(u64, Mark)]) -> Option<(bool, u64)>
+    ensures { result ≡ broken_in reader marks.now }
+{
+    for kept in marks {
+        if let Some(fault) = fault_of(reader, &kept.1) {
+            return Some(fault);
+        }
+    }
+    None
+}
+
+/// Whether a mark says that this reader put a file at this place.
+fn wrote_at(reader: Reader, place: &Place, mark: &Mark) -> bool
+    ensures { result ≡ wrote_at reader place.now mark.now }
+{
+    match mark {
+        Mark::Wrote { by, place: at } => is_same(reader, *by) && *at == *place,
+        Mark::Went { .. } => false,
+        Mark::Broke { .. } => false,
+    }
+}
+
+/// Whether this one of the marks says that this reader put a file at this place.
+fn is_written(reader: Reader, place: &Place, marks: &[(u64, Mark)], at: usize) -> bool
+    ensures exact { result ≡ is_written reader place.now (slice_get marks.now at) }
+    ensures within { result ≡ true → at < length marks.now }
+{
+    match marks.get(at) {
+        Some(kept) => wrote_at(reader, place, &kept.1),
+        None => false,
+    }
+}
+
+/// Whether the marks from this one on say that this reader put files at these places, one after another.
+fn are_written(reader: Reader, first: usize, places: &[Place], marks: &[(u64, Mark)]) -> bool
+    ensures { result ≡ are_written reader first places.now marks.now }
+{
+    let mut at = first;
+    for place in places {
+        if !is_written(reader, place, marks, at) {
+            return false;
+        }
+        at += 1;
+    }
+    true
 }
 
 fn append(marks: &mut Vec<(u64, Mark)>, before: u64, mark: Mark)
@@ -59,6 +166,7 @@ impl KeptTrail {
             marks: Vec::new(alloc),
             opened: 0,
             closed: false,
+            quiet: true,
         }
     }
 
@@ -162,6 +270,33 @@ impl KeptTrail {
         ensures spare { self.new.spare ≡ self.old.spare }
     {
         let before = self.book.entries().len() as u64;
+        self.quiet = stays_quiet(self.quiet, &mark);
         append(&mut self.marks, before, mark);
+    }
+
+    /// How many marks there are.
+    pub fn marks(&self) -> u64
+        ensures marks { result ≡ length self.now.marks }
+    {
+        self.marks.len() as u64
+    }
+
+    /// The first call that failed for this reader: whether it was to put a file, and the count behind it.
+    pub fn broken(&self, reader: Reader) -> Option<(bool, u64)>
+        ensures broken { result ≡ broken reader (trail_of self.now) }
+    {
+        if self.quiet {
+            None
+        } else {
+            first_fault(reader, &self.marks)
+        }
+    }
+
+    /// Whether the marks from this one on say that this reader put files at these places, one after another.
+    pub fn has_written(&self, reader: Reader, first: u64, places: &[Place]) -> bool
+        ensures exact { result ≡ are_written reader first places.now self.now.marks }
+        ensures written { result ≡ true → AllByRecursion (HasWritten (trail_of self.now) reader) places.now }
+    {
+        are_written(reader, first as usize, places, &self.marks)
     }
 }

@@ -10,7 +10,7 @@ use hv_logic::Found;
 use hv_route::OutFile;
 use hv_rowfile::Rec;
 use hv_shelf::MemoryShelf;
-use hv_tables::{RowFault, put_file, read_rows};
+use hv_tables::{RowFault, place_of_file, put_file, read_rows};
 use hv_value::Value;
 use hv_wids::{Exception, WriteIdList};
 use std::alloc::Global;
@@ -282,7 +282,8 @@ fn a_file_that_is_put_is_read(rt: HostRuntime) -> Result<(), Fail> {
     let alloc = rt.alloc();
     let mut shelf = store(alloc, &FILES)?;
     let file = deleting(alloc)?;
-    put_file(alloc, &mut shelf, TableId(7), WriteId(2), &file)?;
+    let place = place_of_file(alloc, TableId(7), WriteId(2), &file)?;
+    put_file(alloc, &mut shelf, &place, &file)?;
     assert!(rt; reads(alloc, &mut shelf, &WITHOUT_2)?);
     Ok(())
 }

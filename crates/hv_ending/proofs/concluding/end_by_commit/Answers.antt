@@ -5,7 +5,7 @@ use Rattle.hv_history.specs.declared.entry.Entry.{Entry}
 use Rattle.hv_history.specs.State.{state_of}
 use Rattle.hv_conflicts.specs.Clashes.{IsClash}
 use Rattle.hv_house.specs.House.{entries_of}
-use Rattle.hv_ending.proofs.Ending.{commit-conclusion, conflict-conclusion}
+use Rattle.hv_ending.proofs.Ending.{conflict-conclusion}
 use Rattle.hv_ending.proofs.concluding.end_by_commit.Goals as goal
 
 pub returns-in-Some : goal.returns-in-Some
@@ -15,13 +15,7 @@ returns-in-Some g c =
     (subst (λ (b : List Entry). IsClash (state_of b) c.args.way.txn.0 c.as_slice.result.now c.in-Some.found) c.book.ensures.entries c.in-Some.ensures.found) in
     record {
       whole = conflict-conclusion g.D.Shelf.told g.D.Shelf.faults c.args.way c.args.text c.args.house.now c.end_by_conflict.new.house c.requires.ready
-          c.args.wrote c.args.name c.in-Some.found met.touch c.end_by_conflict.result met met.found c.end_by_conflict.ensures.goes
+          c.args.wrote c.args.name c.args.put c.in-Some.found met.touch c.end_by_conflict.result met met.found c.end_by_conflict.ensures.goes
           (c.end_by_conflict.ensures.conflicts met.touch
           (subst (λ (ts : List Touch). slice_get ts c.in-Some.found.at ≡ Some met.touch) (sym c.as_slice-in-Some.ensures) met.found));
     }
-
-pub returns-in-None : goal.returns-in-None
-returns-in-None g c = record {
-  whole = commit-conclusion g.D.Shelf.told g.D.Shelf.faults c.args.way c.args.text c.args.house.now c.note_end.new.house c.requires.ready
-      c.args.wrote c.args.name c.note_end.result c.note_end.ensures.goes c.note_end.ensures.done;
-}

@@ -1,12 +1,15 @@
 use Rattle.std.proofs.Common.{subst}
+use Rattle.hv_house.specs.declared.fault.HouseFault.{HouseFault}
 use Rattle.hv_house.specs.Faults.{HasRisen}
+use Rattle.hv_house.specs.House.{StaysPut}
 use Rattle.hv_ending.proofs.Writing.{store-breaks, lacking-breaks}
 use Rattle.hv_ending.proofs.preparing.break_off.Goals as goal
 
 pub returns-in-Store : goal.returns-in-Store
 returns-in-Store g c = record {
   broken = λ low le risen.
-      store-breaks g.D.Shelf.told g.D.Shelf.faults c.args.txn.0 low c.args.house.now c.requires.ready le
+      store-breaks g.D.Shelf.told g.D.Shelf.faults c.args.txn.0 low c.args.house.now
+      (subst (λ (why : HouseFault). StaysPut g.D.Shelf.told why c.args.house.now) c.in-Store.is c.requires.stays) le
       (subst (HasRisen low (g.D.Shelf.faults c.args.house.now.shelf)) c.in-Store.is risen);
 }
 

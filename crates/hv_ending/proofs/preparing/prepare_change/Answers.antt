@@ -3,7 +3,7 @@ use Rattle.hv_logic.specs.declared.meaning.Meaning.TheVariants.{Change}
 use Rattle.hv_history.specs.Answers.{counts_line}
 use Rattle.hv_house.specs.House.{entries_of}
 use Rattle.hv_ending.specs.declared.ready.End.{End}
-use Rattle.hv_ending.specs.declared.ready.End.TheVariants as last
+use Rattle.hv_ending.specs.Ending.{idle_end}
 use Rattle.hv_ending.specs.Steps.{IsMadeReady}
 use Rattle.hv_ending.proofs.Shorts.{short_idle}
 use Rattle.hv_ending.proofs.Touched.{touches-none, nothing-touched}
@@ -13,7 +13,7 @@ use Rattle.hv_ending.proofs.preparing.prepare_change.Goals as goal
 pub returns-else-changes_rows : goal.returns-else-changes_rows
 returns-else-changes_rows g c = record {
   whole = made-preparation g.D.Shelf.told g.D.Shelf.faults c.args.way (Change c.args.info c.args.effect) c.args.house.now c.made_ready.new.house
-      (last.Commit [] []) (counts_line []) c.made_ready.result (record { small = short_idle c.args.way.txn.0; touched = nothing-touched })
+      idle_end (counts_line []) c.made_ready.result (record { small = short_idle c.args.way.txn.0; touched = nothing-touched; change = inl refl })
       (λ files. record {
         meant = touches-none c.args.info c.args.effect (c.changes_rows.ensures.none c.if-changes_rows.false);
         reply = refl;

@@ -8,12 +8,14 @@ use Rattle.hv_history.specs.Legal.{Fits, profile}
 use Rattle.hv_stands.proofs.Begun.{ids-given}
 use Rattle.hv_house.specs.declared.fault.HouseFault.{HouseFault}
 use Rattle.hv_house.specs.House.{entries_of}
+use Rattle.hv_house.specs.Steps.{HoldsId}
 use Rattle.hv_ending.specs.declared.ready.Prepared.{Prepared}
 use Rattle.hv_ending.specs.Ending.{giving, aborting}
 use Rattle.hv_ending.specs.Steps.{LacksMemory, Preparation}
 use Rattle.hv_ending.proofs.Books.{memory-fits}
 use Rattle.hv_ending.proofs.Shorts.{short_given}
 use Rattle.hv_ending.proofs.Readying.{lacking-preparation}
+use Rattle.hv_ending.proofs.Ending.{holds-id}
 use Rattle.hv_ending.proofs.Writing.{next-is, id-named, given-preparation}
 use Rattle.hv_ending.proofs.preparing.write_rows.Goals as goal
 
@@ -36,6 +38,16 @@ put_rows-requires-clause-last g c =
     let is = next-is (numbered (state_of (entries_of c.args.house.now)).tables c.args.change.info.table.0) table c.args.write.0 c.requires.can.here c.requires.next in
     subst (λ (n : ℕ). n < write_end) (sym is) (id-named g.D.Shelf.told c.args.house.now c.args.change.info.table.0 table c.requires.ready c.requires.can.here)
 
+pub put_rows-requires-clause-holds : goal.put_rows-requires-clause-holds
+put_rows-requires-clause-holds g c =
+    let way = c.requires.way in
+    let book : List Entry = entries_of c.args.house.now in
+    let txn : ℕ = c.args.way.txn.0 in
+    let event : Entry = giving txn c.args.change.info.table c.args.write in
+    subst (λ (b : List Entry). HoldsId b txn c.args.change.info.table.0 c.args.write.0) (sym c.in-Ok.ensures.added.book)
+    (holds-id (book ++ event ∷ []) way.0 txn c.args.way.place way.1 c.args.change.info.table.0 c.args.write.0
+    (ids-given book way.0 txn c.args.way.place way.1 [] c.args.change.info.table c.args.write way.2))
+
 pub returns-in-Ok : goal.returns-in-Ok
 returns-in-Ok g c =
     let table = c.requires.can.table in
@@ -43,7 +55,7 @@ returns-in-Ok g c =
     record {
       whole = given-preparation g.D.Shelf.told g.D.Shelf.faults c.args.way c.args.change.info c.args.change.effect table c.args.write c.args.change.wrote
           c.args.change.text.items c.args.house.now c.note.new.house c.put_rows.new.house c.requires.ready c.in-Ok.ensures.added c.requires.fits
-          c.requires.can.here is c.requires.can.within c.requires.some c.requires.wrote c.requires.text c.put_rows.result c.put_rows.ensures.written;
+          c.requires.can.here is c.requires.can c.requires.some c.requires.wrote c.requires.text c.put_rows.result c.put_rows.ensures.written;
     }
 
 pub returns-in-Err : goal.returns-in-Err

@@ -10,5 +10,5 @@ returns-clause-within c =
       ap (λ (t : TrailKept). t.opened) c.self.view_is,
       ap (λ (t : TrailKept). length (trail_of t)) c.self.view_is,
       trail-length c.self.inside.book.entries c.self.inside.marks.items,
-      c.self.invariant.within,
+      c.self.invariant.0.within,
     )
