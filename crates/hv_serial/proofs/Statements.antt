@@ -40,11 +40,11 @@ use Rattle.hv_serial.proofs.Actions.{AreOthers, IsSettled, IsThere, Stays, there
 
 went-answers : (start book before now : List Entry) (asking : Asking) (hold : Option Stage) (reply : List ℕ) (refused : Bool)
     → WentOn start book before now asking hold reply refused → answer (state_of book) (next_number before) ≡ Some reply
-went-answers start book before now asking hold reply refused went = went.is_answer.answered.answer_is
+went-answers start book before now asking hold reply refused went = went.is_answer.answered.answered.answer_is
 
 held-answers : (start book before now : List Entry) (txn : ℕ) (reply : List ℕ) (refused : Bool)
     → GoesOnHeld start book before now txn reply refused → answer (state_of book) txn ≡ Some reply
-held-answers start book before now txn reply refused goes = goes.answered.answer_is
+held-answers start book before now txn reply refused goes = goes.answered.answered.answer_is
 
 abbrev HasEnded : Transaction → Type 0
 HasEnded t = (e : Ending) × (t.ending ≡ Some e)
