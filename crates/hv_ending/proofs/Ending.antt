@@ -1,7 +1,6 @@
 -- A statement that is ready ends: by its commit or its Create, by the abort for a conflict, or for want of memory.
-use Rattle.std.proofs.Common.{◌≡◌, ℕ, ◌<◌, ◌⊎◌, inl, inr, true, false, Option, Some, None, IsSomeAnd, Result, Ok, Err, IfOk, List, [], ◌∷◌, ◌++◌, length, take, codes, refl, sym, ap, ◌∙◌, subst, arith}
+use Rattle.std.proofs.Common.{◌≡◌, ℕ, ◌<◌, ◌⊎◌, inl, inr, true, false, Option, Some, None, IsSomeAnd, Result, Ok, Err, IfOk, List, [], ◌∷◌, ◌++◌, length, take, refl, sym, ap, ◌∙◌, subst, arith}
 use Rattle.std.specs.List.{slice_get, AllByRecursion}
-use Rattle.std.specs.Fmt.{decimal}
 use Rattle.hv_base.specs.declared.ids.Touch.{Touch}
 use Rattle.hv_base.specs.declared.ids.TableId.{TableId}
 use Rattle.hv_base.specs.declared.ids.TxnId.{TxnId}
@@ -21,7 +20,7 @@ use Rattle.hv_history.specs.declared.state.Snapshot.{Snapshot}
 use Rattle.hv_history.specs.declared.state.Transaction.{Transaction}
 use Rattle.hv_history.specs.State.{state_of, numbered, given_in, meaning}
 use Rattle.hv_history.specs.Legal.{Of, Fits, ConflictFits, CauseIsTrue, ConflictIsTrue, IsFirstConflict, IsRunning, IsTruthful, IsMake, TouchesAreMeant, place_of_snapshot, profile}
-use Rattle.hv_history.specs.Answers.{cause_text, failed_line, after_space, name_of, name_at}
+use Rattle.hv_history.specs.Answers.{cause_text, conflict_text, name_of, name_at}
 use Rattle.hv_journal.specs.Appending.{KeepsTree}
 use Rattle.hv_stands.specs.Files.{Stands, place_of_file}
 use Rattle.hv_stands.specs.Running.{Asking, IsOf, meant, snapshot_at, running, IsUnderWay}
@@ -46,7 +45,7 @@ use Rattle.hv_ending.specs.declared.ready.End.TheVariants as end
 use Rattle.hv_ending.specs.declared.ready.PutFiles.{PutFiles}
 use Rattle.hv_ending.specs.declared.ready.Ready.{Ready}
 use Rattle.hv_ending.specs.Ending.{KeepsCount, IsUndamaged, IsNoEnd, aborting, committing, creating, IsChangeReady, IsTrulyReady, HasReplied, places_of_files, IsOfChange}
-use Rattle.hv_ending.specs.Steps.{Goes, LacksMemory, AbortedOrLacks, DoneOrLacks, conflict_cause, conflict_text, Conclusion}
+use Rattle.hv_ending.specs.Steps.{Goes, LacksMemory, AbortedOrLacks, DoneOrLacks, conflict_cause, Conclusion}
 use Rattle.hv_ending.proofs.Books.{of-here, legal-next, abort-true, commit-true, abort-answered, as-replied, names-last}
 use Rattle.hv_ending.proofs.Touched.{touch-of-table, found-given}
 use Rattle.hv_ending.proofs.Readying.{told-on, same-stands}
@@ -138,9 +137,9 @@ module _ (book : List Entry) (files : Tree) (asking : Asking) (txn place : ℕ) 
 
     line-is : (snapshot : Option Snapshot) → name_at snapshot touch.table.0 ≡ name
         → cause_text snapshot (conflict_cause clash.by touch) ≡ conflict_text clash.by.0 name touch.partition
-    unfolding cause_text conflict_text
+    unfolding cause_text
     line-is snapshot is =
-        ap (λ (n : List ℕ). failed_line 30 (codes "Conflict with " ++ decimal clash.by.0 ++ codes " on " ++ n ++ after_space touch.partition)) is
+        ap (λ (n : List ℕ). conflict_text clash.by.0 n touch.partition) is
 
     pub conflict-answered : AllFitting book → (reply : Reply) → reply.text ≡ conflict_text clash.by.0 name touch.partition → reply.refused ≡ true
         → reply.ended ≡ Some (length book)

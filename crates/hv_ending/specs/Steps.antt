@@ -1,5 +1,5 @@
 -- What each step of ending a statement leaves.
-use Rattle.std.specs.Prelude.{◌≡◌, ◌⊎◌, ℕ, ◌≤◌, true, false, Option, Some, None, Ok, Err, Result, IfOk, IfErr, ◌+◌, List, [], ◌∷◌, ◌++◌, length, take, codes}
+use Rattle.std.specs.Prelude.{◌≡◌, ◌⊎◌, ℕ, ◌≤◌, true, false, Option, Some, None, Ok, Err, Result, IfOk, IfErr, ◌+◌, List, [], ◌∷◌, length, take}
 use Rattle.std.specs.List.{AllByRecursion}
 use Rattle.hv_base.specs.Told.{Tells, Moves}
 use Rattle.hv_base.specs.declared.ids.Touch.{Touch}
@@ -22,8 +22,7 @@ use Rattle.hv_history.specs.declared.entry.Cause.TheVariants as cause
 use Rattle.hv_history.specs.declared.state.Table.{Table}
 use Rattle.hv_history.specs.State.{state_of}
 use Rattle.hv_history.specs.Legal.{Fits, IsRefusedAs, NeedsId, profile}
-use Rattle.std.specs.Fmt.{decimal}
-use Rattle.hv_history.specs.Answers.{cause_text, failed_line, after_space}
+use Rattle.hv_history.specs.Answers.{cause_text, conflict_text}
 use Rattle.hv_stands.specs.Laws.{HasFile}
 use Rattle.hv_stands.specs.Running.{Asking, meant, IsUnderWay, IsOfId, KeepsGiven}
 use Rattle.hv_house.specs.declared.fault.HouseFault.{HouseFault}
@@ -182,10 +181,6 @@ DoneOrLacks txn event text before now reply = HasDone event text before now repl
 
 abbrev pub conflict_cause : TxnId → Touch → Cause
 conflict_cause by touch = cause.Conflict by touch.table touch.partition
-
--- what is printed for a conflict with this transaction, in a partition of the table of that name
-unfoldable pub conflict_text : ℕ → List ℕ → List ℕ → List ℕ
-conflict_text by name partition = failed_line 30 (codes "Conflict with " ++ decimal by ++ codes " on " ++ name ++ after_space partition)
 
 pub record IsConflictOf (by : TxnId) (touch : Touch) (name : List ℕ) (found : Conflict) : Type 0 where
   pub cause_is : found.cause ≡ conflict_cause by touch

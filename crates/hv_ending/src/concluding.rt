@@ -1,10 +1,9 @@
 ghost use Rattle.std.specs.Prelude.{◌≡◌, ◌↔◌, ◌+◌, ◌<◌, IsTrue, true, IfOk, IfErr, None, Some, length};
-ghost use Rattle.std.specs.String.{string_bytes};
 ghost use Rattle.std.specs.List.{slice_get, AllByRecursion};
 ghost use Rattle.hv_base.specs.Told.{Tells, Moves, StaysTold};
 ghost use Rattle.hv_ast.specs.declared.statement.Stmt.{Stmt};
 ghost use Rattle.hv_history.specs.State.{state_of};
-ghost use Rattle.hv_history.specs.Answers.{failed_line, after_space};
+ghost use Rattle.hv_history.specs.Answers.{conflict_text};
 ghost use Rattle.hv_history.specs.Legal.{Fits, Of, IsRunning, profile};
 ghost use Rattle.hv_history.specs.declared.entry.Cause.TheVariants.{Memory};
 ghost use Rattle.hv_journal.specs.Appending.{KeepsTree};
@@ -20,14 +19,14 @@ ghost use Rattle.hv_house.specs.House.{entries_of, IsSmall, IsReady, Shows};
 ghost use Rattle.hv_house.specs.Steps.{IsMarked};
 ghost use Rattle.hv_ending.specs.declared.ready.End.TheVariants as last;
 ghost use Rattle.hv_ending.specs.Ending.{aborting, committing, creating, Concludes, IsReadyToEnd, IsTrulyReady, NamesLast, HasStopped, HasReplied};
-ghost use Rattle.hv_ending.specs.Steps.{Goes, IsAdded, IsLeftOut, HasDone, DoneOrLacks, AbortedOrLacks, IsConflictOf, conflict_cause, conflict_text, Conclusion};
+ghost use Rattle.hv_ending.specs.Steps.{Goes, IsAdded, IsLeftOut, HasDone, DoneOrLacks, AbortedOrLacks, IsConflictOf, conflict_cause, Conclusion};
 
 use crate::ready::{End, PutFiles, Ready, Reply, Way};
 use crate::refusing::{abort_with, end_without, lack_memory, next_place, note};
 use hv_base::{Duplicate, List, NoMemory, TableId, Text, Touch, TxnId};
 use hv_book::Book;
 use hv_conflicts::{Clash, clash};
-use hv_history::{Cause, Entry};
+use hv_history::{Cause, Entry, conflict_text};
 use hv_house::{House, HouseFault};
 use hv_shelf::Shelf;
 use std::alloc::Global;
@@ -83,35 +82,6 @@ fn note_end<D: Shelf>(
     }
 }
 
-/// A space and the text, where there is one.
-fn after_space(alloc: Global, text: &Text) -> Result<String, NoMemory>
-    ensures { IfOk result (λ spaced. string_bytes spaced ≡ after_space text.now) }
-{
-    if text.is_empty() {
-        Ok(String::new(alloc))
-    } else {
-        Ok(format!(in alloc; " {text}")?)
-    }
-}
-
-/// The line of a refusal of this number, and what it names.
-#[tactic(auto, unfolding(hv_history::specs::Answers::failed_line))]
-fn failed_line(alloc: Global, number: u32, text: &str) -> Result<Vec<u8>, NoMemory>
-    ensures { IfOk result (λ line. line.items ≡ failed_line number text.now) }
-{
-    let line = format!(in alloc; "FAILED {number} {text}\n")?;
-    Ok(line.into_bytes())
-}
-
-/// What is printed for a conflict with this transaction, in a partition of the table of that name.
-fn conflict_line(alloc: Global, by: u64, name: &str, partition: &Text) -> Result<Vec<u8>, NoMemory>
-    ensures { IfOk result (λ line. line.items ≡ conflict_text by name.now partition.now) }
-{
-    let place = after_space(alloc, partition)?;
-    let text = format!(in alloc; "Conflict with {by} on {name}{place}")?;
-    failed_line(alloc, 30, text.as_str())
-}
-
 /// Why a commit is refused, and what is printed for that.
 #[derive(Drop)]
 struct Conflict {
@@ -131,7 +101,7 @@ fn conflict_at(
         → IfOk result (IsConflictOf found.by touch name.now) }
 {
     let touch = &wrote[found.at];
-    let text = conflict_line(alloc, found.by.0, name.as_str(), &touch.partition)?;
+    let text = conflict_text(alloc, found.by.0, name.as_str(), &touch.partition)?;
     let partition = touch.partition.duplicate(alloc)?;
     Ok(Conflict {
         cause: Cause::Conflict {
