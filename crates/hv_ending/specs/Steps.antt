@@ -1,5 +1,5 @@
 -- What each step of ending a statement leaves.
-use Rattle.std.specs.Prelude.{◌≡◌, ◌⊎◌, ℕ, ◌≤◌, true, false, Option, Some, None, Ok, Err, Result, IfOk, IfErr, ◌+◌, List, [], ◌∷◌, length, take}
+use Rattle.std.specs.Prelude.{◌≡◌, ◌⊎◌, ℕ, ◌≤◌, true, false, Option, Some, None, Ok, Err, Result, IfOk, IfErr, ◌+◌, List, [], ◌∷◌, ◌++◌, length, take}
 use Rattle.std.specs.List.{AllByRecursion}
 use Rattle.hv_base.specs.Told.{Tells, Moves}
 use Rattle.hv_base.specs.declared.ids.Touch.{Touch}
