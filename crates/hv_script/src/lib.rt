@@ -10,7 +10,6 @@ mod words;
 
 pub use items::{Item, Move, Stand};
 pub use script::{
-    Cut, MAX_SCRIPT, MAX_STATEMENTS, MAX_TEXT, Script, ScriptFault, cut_script, earlier_of,
-    is_directive, read_script,
+    Cut, MAX_SCRIPT, MAX_STATEMENTS, MAX_TEXT, ScriptFault, cut_script, earlier_of, is_directive,
 };
 pub use words::{Command, DEFAULT_WORKERS, read_words};

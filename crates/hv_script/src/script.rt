@@ -1,10 +1,10 @@
-ghost use Rattle.std.specs.Prelude.{◌≡◌, ◌<◌, ◌≤◌, ◌^◌, None, length, map, IfOk};
-ghost use Rattle.hv_script.specs.Script.{HaveUtf8, IsReading, begins_directive, broken_line, bytes_line, earlier, front, item_line, limit_line, line_at, refused_line, texts_of};
+ghost use Rattle.std.specs.Prelude.{◌≡◌, ◌<◌, ◌≤◌, ◌^◌, None, length, IfOk};
+ghost use Rattle.hv_script.specs.Script.{HaveUtf8, begins_directive, broken_line, bytes_line, earlier, front, limit_line, line_at};
 ghost use Rattle.hv_script.specs.Items.{first_of, items_of};
 
 use crate::items::Item;
 use crate::reader::items;
-use hv_base::{List, NoMemory, Text};
+use hv_base::{List, NoMemory};
 use std::alloc::Global;
 use std::str;
 use thiserror::Error;
@@ -16,15 +16,9 @@ pub const MAX_STATEMENTS: usize = 10_000;
 /// The most bytes of a statement's text.
 pub const MAX_TEXT: usize = 32_768;
 
-/// A script: its statements' texts, in order. The statement at place k has the number k + 1.
-#[derive(Debug, Drop)]
-pub struct Script {
-    pub texts: List<Text>,
-}
-
 #[derive(Debug, Drop, Error)]
 pub enum ScriptFault {
-    /// The first line that is refused, from 1.
+    /// The least line where a fault stands, from 1.
     #[error("script refused at line {line}")]
     Refused { line: u64 },
     #[error("out of memory")]
@@ -86,19 +80,6 @@ pub fn is_directive(bytes: &[u8]) -> bool
     }
 }
 
-/// The line of the first item that is refused.
-fn first_refused(items: &[Item]) -> Option<u64>
-    ensures value { result ≡ item_line 0 items.now }
-{
-    for (count, item) in items.iter().enumerate() {
-        let bytes = item.bytes.as_slice();
-        if is_directive(bytes) || bytes.len() > MAX_TEXT || count >= MAX_STATEMENTS {
-            return Some(item.line);
-        }
-    }
-    None
-}
-
 /// The lesser of two lines, where there are two.
 pub fn earlier_of(line: Option<u64>, other: Option<u64>) -> Option<u64>
     ensures value { result ≡ earlier line other }
@@ -143,34 +124,4 @@ pub fn cut_script(alloc: Global, script: &[u8]) -> Result<Cut, NoMemory>
         items: List::from_vec(items),
         fault: earlier_of(first_broken(before), first_beyond(script)),
     })
-}
-
-/// The texts of items that are UTF-8.
-fn texts(alloc: Global, items: &[Item]) -> Result<Vec<Text>, NoMemory>
-    requires utf8 { HaveUtf8 items.now }
-    ensures value { IfOk result (λ found. found.items ≡ map (λ (item : Item). item.bytes) items.now) }
-{
-    let mut texts = Vec::with_capacity(alloc, items.len())?;
-    for item in items {
-        let bytes = Vec::from_slice(alloc, item.bytes.as_slice())?;
-        texts.push(Text::from_bytes(bytes))?;
-    }
-    Ok(texts)
-}
-
-/// The script that these bytes are.
-///
-/// # Errors
-/// `Refused` with the first line where a fault stands: a byte that isn't UTF-8, the byte after
-/// 16 MiB, a directive, statement 10,001, or a text above 32,768 bytes.
-pub fn read_script(alloc: Global, script: &[u8]) -> Result<Script, ScriptFault>
-    ensures read { IsReading (refused_line script.now) (texts_of script.now) result }
-{
-    let Cut { items, fault } = cut_script(alloc, script)?;
-    match earlier_of(fault, first_refused(items.as_slice())) {
-        Some(line) => Err(ScriptFault::Refused { line }),
-        None => Ok(Script {
-            texts: List::from_vec(texts(alloc, items.as_slice())?),
-        }),
-    }
 }
