@@ -1,0 +1,4 @@
+pub mod ChangeLemmas
+pub mod CommitLemmas
+pub mod EndLemmas
+pub mod StateLemmas

@@ -1,0 +1,116 @@
+-- What a commit, a compaction, a removal and an aborted write do to the directories that must stand.
+use Rattle.std.specs.Prelude.{◌≡◌, ◌≢◌, ◌↔◌, ℕ, ◌<◌, ◌≤◌, Some, List, [], ◌∷◌, ◌++◌}
+use Rattle.hv_base.specs.declared.ids.RowId.{RowId}
+use Rattle.hv_wids.specs.WriteIds.{WriteIds}
+use Rattle.hv_dirs.specs.Choice.{Sight, sight_of}
+use Rattle.hv_dirs.specs.Sorting.{rising_by}
+use Rattle.hv_visible.specs.Members.{IsIn}
+use Rattle.hv_visible.specs.History.{Write, Compaction, Minor, Major, end_of, mark_of, write_of, content_of}
+use Rattle.hv_visible.specs.Visible.{Tree, visible_rows, writes_shown, by_id}
+use Rattle.hv_visible.specs.Stands.{HasDistinctRows}
+use Rattle.hv_visible.specs.Snapshots.{Fate, Open, Committed, Aborted, fate_of, GoesTo, IsUndone, HaveEnded}
+use Rattle.hv_visible.specs.Readers.{Reader}
+use Rattle.hv_visible.specs.Laws.{ShowsRows}
+use Rattle.hv_published.specs.State.{State, IsKept, IsOpenList}
+use Rattle.hv_published.specs.Directories.{Directory, IsChosenIn, ChangesTree, Loses, HasOwn, IsOwnOf, IsMadeBy, HasMade, IsMadeDir, IsLooseDir, IsRetired}
+
+-- two trees show the same rows under a list
+pub record ShowsAlike {Found : Type 0} (id_of : Found → RowId) (sight : Sight) (tree now : Tree Found) : Type 0 where
+  -- each by itself
+  pub each : (found : Found) → IsIn found (visible_rows id_of sight tree) ↔ IsIn found (visible_rows id_of sight now)
+  -- and as one list, rising by identifier
+  pub whole : rising_by (by_id id_of) (visible_rows id_of sight tree) ≡ rising_by (by_id id_of) (visible_rows id_of sight now)
+
+-- what holds always holds on, and no list under which somebody may read before and after shows other rows
+pub record Keeps {Found : Type 0} (id_of : Found → RowId) (state now : State Found) : Type 0 where
+  pub kept : IsKept id_of now
+  pub alike : (list : WriteIds) → IsOpenList state list → IsOpenList now list → ShowsAlike id_of (sight_of list) state.tree now.tree
+
+-- ---- at the beginning: a partition of which nothing stands and nothing is written, whatever its table's write ids are
+
+abbrev pub ANewPartitionIsKept : Type 0 → Type 0
+ANewPartitionIsKept Found =
+    (id_of : Found → RowId) (fates : List Fate) (next : ℕ) (open_txns : List ℕ) (readers : List Reader) (tree : Tree Found)
+    → ((txn : ℕ) → IsIn txn open_txns → txn < next)
+    → ((reader : Reader) → IsIn reader readers → IsIn reader.txn open_txns × ((write : ℕ) → GoesTo (fate_of reader.before write) (fate_of fates write)))
+    → tree.bases ≡ [] → tree.deltas ≡ [] → tree.delete_deltas ≡ []
+    → IsKept id_of (record { fates = fates; writes = []; jobs = []; next = next; open_txns = open_txns; readers = readers; tree = tree })
+
+-- ---- what is shown
+
+abbrev pub AnOpenListShowsContent : Type 0 → Type 0
+AnOpenListShowsContent Found =
+    (id_of : Found → RowId) (state : State Found) (list : WriteIds)
+    → IsKept id_of state → IsOpenList state list
+    → ShowsRows id_of (sight_of list) state.tree (content_of id_of (writes_shown (sight_of list) state.writes))
+
+-- ---- transactions end
+
+-- a transaction ends, with what its write id comes to; the others' stay
+pub record Ends {Found : Type 0} (id : ℕ) (fate : Fate) (state : State Found) (fates : List Fate) (open_txns : List ℕ) (readers : List Reader) : Type 0 where
+  pub was : fate_of state.fates id ≡ Some Open
+  pub is : fate_of fates id ≡ Some fate
+  pub others : (write : ℕ) → write ≢ id → fate_of fates write ≡ fate_of state.fates write
+  pub txns : (txn : ℕ) → IsIn txn open_txns → IsIn txn state.open_txns
+  pub snapshots : (reader : Reader) → IsIn reader readers → IsIn reader state.readers × IsIn reader.txn open_txns
+
+-- what a transaction wrote in the partition: inserted rows carry its write id, deleted ones this or an earlier one
+pub record IsWrittenBy {Found : Type 0} (id_of : Found → RowId) (id : ℕ) (more : List (Write Found)) : Type 0 where
+  pub one : (w : Write Found) → IsIn w more → w.write ≡ id
+  pub carried : (w : Write Found) (found : Found) → IsIn w more → IsIn found w.inserts → write_of (id_of found) ≡ id
+  pub earlier : (w : Write Found) (deleted : RowId) → IsIn w more → IsIn deleted w.deletes → write_of deleted ≤ id
+  pub distinct : HasDistinctRows id_of more
+
+-- A write commits while its own directories hold just its records.
+abbrev pub ACommitKeeps : Type 0 → Type 0
+ACommitKeeps Found =
+    (id_of : Found → RowId) (state : State Found) (id : ℕ) (more : List (Write Found)) (fates : List Fate) (open_txns : List ℕ) (readers : List Reader)
+    → IsKept id_of state
+    → Ends id Committed state fates open_txns readers → IsWrittenBy id_of id more → HasOwn id more state.tree
+    → Keeps id_of state (record state { fates = fates; writes = state.writes ++ more; open_txns = open_txns; readers = readers })
+
+-- While its id is open, and when it has aborted, what stands in its own directories may be anything.
+pub record AnAbortedWriteKeeps (Found : Type 0) : Type 0 where
+  -- it puts files, or they go
+  pub anything : (id_of : Found → RowId) (state : State Found) (id : ℕ) (tree : Tree Found)
+      → IsKept id_of state → IsUndone state.fates id → ChangesTree (IsOwnOf id) state.tree tree
+      → Keeps id_of state (record state { tree = tree })
+  -- no list shows them
+  pub unseen : (id_of : Found → RowId) (state : State Found) (id : ℕ) (list : WriteIds) (dir : Directory)
+      → IsKept id_of state → IsUndone state.fates id → IsOpenList state list → IsOwnOf id dir
+      → IsChosenIn (sight_of list) state.tree dir → ⊥
+  -- it aborts
+  pub aborting : (id_of : Found → RowId) (state : State Found) (id : ℕ) (fates : List Fate) (open_txns : List ℕ) (readers : List Reader)
+      → IsKept id_of state → Ends id Aborted state fates open_txns readers
+      → Keeps id_of state (record state { fates = fates; open_txns = open_txns; readers = readers })
+
+-- ---- compactions
+
+-- its range is one of ids that have ended, and its mark is the transaction that is opened next
+abbrev pub HasRange : Compaction → Type 0
+HasRange (Minor first last mark) = (1 ≤ first) × (first ≤ last)
+HasRange (Major last mark) = 1 ≤ last
+
+-- Its directories are put under their names with just their records.
+abbrev pub APublishedJobKeeps : Type 0 → Type 0
+APublishedJobKeeps Found =
+    (id_of : Found → RowId) (state : State Found) (job : Compaction) (tree : Tree Found)
+    → IsKept id_of state
+    → HasRange job → HaveEnded state.fates (end_of job) → mark_of job ≡ state.next
+    → ChangesTree (IsMadeBy job) state.tree tree → HasMade id_of state.writes job tree
+    → Keeps id_of state (record state { jobs = job ∷ state.jobs; tree = tree })
+
+-- ---- removals
+
+-- What is loose is retired.
+abbrev pub ALooseOneIsRetired : Type 0 → Type 0
+ALooseOneIsRetired Found =
+    (id_of : Found → RowId) (state : State Found) (dir : Directory)
+    → IsKept id_of state → IsMadeDir state dir → IsLooseDir state dir → IsRetired state dir
+
+-- A loose directory goes, or some of its files do.
+abbrev pub ARemovalKeeps : Type 0 → Type 0
+ARemovalKeeps Found =
+    (id_of : Found → RowId) (state : State Found) (dir : Directory) (tree : Tree Found)
+    → IsKept id_of state → IsLooseDir state dir → Loses dir state.tree tree
+    → Keeps id_of state (record state { tree = tree })

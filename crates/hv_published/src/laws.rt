@@ -1,0 +1,37 @@
+ghost use Rattle.hv_published.specs.Laws.{ANewPartitionIsKept, AnOpenListShowsContent, ACommitKeeps, AnAbortedWriteKeeps, APublishedJobKeeps, ALooseOneIsRetired, ARemovalKeeps};
+
+/// A partition of which nothing stands and nothing is written has what always holds.
+pub fn a_new_partition_is_kept<F>()
+    ensures law { ANewPartitionIsKept F }
+{}
+
+/// Under each list under which somebody may read, the directories show the content of the writes
+/// that the list shows.
+pub fn an_open_list_shows_content<F>()
+    ensures law { AnOpenListShowsContent F }
+{}
+
+/// A commit keeps what must stand, where its own directories hold just its records.
+pub fn a_commit_keeps<F>()
+    ensures law { ACommitKeeps F }
+{}
+
+/// The own directories of an open or aborted write id may hold anything, and nobody sees it.
+pub fn an_aborted_write_keeps<F>()
+    ensures law { AnAbortedWriteKeeps F }
+{}
+
+/// A published compaction keeps what must stand, and changes no answer.
+pub fn a_published_job_keeps<F>()
+    ensures law { APublishedJobKeeps F }
+{}
+
+/// A directory that may be gone is chosen by nobody, and another one that is chosen covers it.
+pub fn a_loose_directory_is_retired<F>()
+    ensures law { ALooseOneIsRetired F }
+{}
+
+/// Taking such a directory away, or a part of it, keeps what must stand, and changes no answer.
+pub fn a_removal_keeps<F>()
+    ensures law { ARemovalKeeps F }
+{}
