@@ -1,4 +1,5 @@
 pub mod ChangeLemmas
 pub mod CommitLemmas
 pub mod EndLemmas
+pub mod JobLemmas
 pub mod StateLemmas
