@@ -2,4 +2,5 @@ pub mod ChangeLemmas
 pub mod CommitLemmas
 pub mod EndLemmas
 pub mod JobLemmas
+pub mod RetiredLemmas
 pub mod StateLemmas
