@@ -4,3 +4,4 @@ pub mod EndLemmas
 pub mod JobLemmas
 pub mod RetiredLemmas
 pub mod StateLemmas
+pub mod WorkedLemmas

@@ -1,4 +1,5 @@
 ghost use Rattle.hv_published.specs.Laws.{ANewPartitionIsKept, AnOpenListShowsContent, ACommitKeeps, AnAbortedWriteKeeps, APublishedJobKeeps, ALooseOneIsRetired, ARemovalKeeps};
+ghost use Rattle.hv_published.specs.Worked.{RowsByHand};
 
 /// A partition of which nothing stands and nothing is written has what always holds.
 pub fn a_new_partition_is_kept<F>()
@@ -34,4 +35,9 @@ pub fn a_loose_directory_is_retired<F>()
 /// Taking such a directory away, or a part of it, keeps what must stand, and changes no answer.
 pub fn a_removal_keeps<F>()
     ensures law { ARemovalKeeps F }
+{}
+
+/// A base that is published over two deltas, and the deltas that go then, worked out by hand.
+pub fn steps_by_hand()
+    ensures rows { RowsByHand }
 {}
