@@ -114,15 +114,15 @@ stand-changed past foreign jobs jobs_now made at names now files then stand deci
 -- transactions end: more may be gone, and an id that is done is no longer anything
 pub stand-weaker : {Record : Type 0} (past past_now : Compaction → Type 0) (foreign foreign_now : ℕ → Type 0) (jobs : List Compaction) (made : Delta → List Record)
     (names : List Delta) (files : Delta → List Record)
-    → Stand past foreign jobs made names files → ((j : Compaction) → past j → past_now j) → ((write : ℕ) → foreign write → foreign_now write)
+    → Stand past foreign jobs made names files → ((job : Compaction) → IsIn job jobs → past job → past_now job) → ((write : ℕ) → foreign write → foreign_now write)
     → Stand past_now foreign_now jobs made names files
 stand-weaker past past_now foreign foreign_now jobs made names files stand grows opens = record {
   each = λ d r is at. elim (stand.each d r is at) [
-    | inl loose ↦ inl (loose.0, loose.1, grows loose.0 loose.2, loose.3)
+    | inl loose ↦ inl (loose.0, loose.1, grows loose.0 loose.1 loose.2, loose.3)
     | inr whole ↦ inr whole
   ];
   only = λ d at. elim (stand.only d at) [
-    | inl m ↦ inl (m.0, m.1, elim m.2 [ inl gone ↦ inl (gone.0, gone.1, grows gone.0 gone.2, gone.3) | inr own ↦ inr own ])
+    | inl m ↦ inl (m.0, m.1, elim m.2 [ inl gone ↦ inl (gone.0, gone.1, grows gone.0 gone.1 gone.2, gone.3) | inr own ↦ inr own ])
     | inr is ↦ inr (is.0, is.1, is.2, opens is.0 is.3)
   ];
 }

@@ -41,6 +41,7 @@ new-kept id_of fates next open_txns readers tree below are bases deltas deletes 
     are_open = λ reader at. (are reader at).0;
     seen = λ reader job at listed. absurd listed;
   };
+  marks = λ job at. absurd at;
   sound = record {
     from_one = λ w at. absurd at;
     carried = λ w found at. absurd at;
@@ -69,7 +70,7 @@ inserts-joined (w ∷ writes) more =
 module _ {Found : Type 0} (id_of : Found → RowId) (state : State Found) (id : ℕ) (fate : Fate) (fates : List Fate) (open_txns : List ℕ) (readers : List Reader)
     (kept : IsKept id_of state) (ends : Ends id fate state fates open_txns readers) where
   goes : (write : ℕ) → GoesTo (fate_of state.fates write) (fate_of fates write)
-  goes = goes-where-open id state.fates fates ends.was ends.others
+  goes = goes-where-open id state.fates fates ends.turns.was ends.turns.others
 
   end-knows : Knows fates state.jobs state.next open_txns readers
   unfolding goes
@@ -96,8 +97,8 @@ module _ {Found : Type 0} (id_of : Found → RowId) (state : State Found) (id : 
   end-undone write undone = elim (cases_eq write id) [
     | inl e ↦ inl e
     | inr apart ↦ elim undone [
-      | inl e ↦ inr (inl (ends.others write apart ∙ e))
-      | inr e ↦ inr (inr (ends.others write apart ∙ e))
+      | inl e ↦ inr (inl (ends.turns.others write apart ∙ e))
+      | inr e ↦ inr (inr (ends.turns.others write apart ∙ e))
     ]
   ]
 
@@ -106,16 +107,16 @@ module _ {Found : Type 0} (id_of : Found → RowId) (state : State Found) (id : 
 module _ {Found : Type 0} (id_of : Found → RowId) (state : State Found) (id : ℕ) (more : List (Write Found)) (fates : List Fate) (open_txns : List ℕ) (readers : List Reader)
     (kept : IsKept id_of state) (ends : Ends id Committed state fates open_txns readers) (written : IsWrittenBy id_of id more) (own : HasOwn id more state.tree) where
   new : (w : Write Found) → IsIn w state.writes → w.write ≡ id → ⊥
-  new w at e = open-not-committed (fate_of state.fates id) ends.was (sym (ap (fate_of state.fates) e) ∙ kept.committed w at)
+  new w at e = open-not-committed (fate_of state.fates id) ends.turns.was (sym (ap (fate_of state.fates) e) ∙ kept.committed w at)
 
   above : (job : Compaction) → IsIn job state.jobs → end_of job < id
-  above = open-above state.fates state.jobs state.next state.open_txns state.readers id kept.knows (open-from-one state.fates id ends.was) ends.was
+  above = open-above state.fates state.jobs state.next state.open_txns state.readers id kept.knows (open-from-one state.fates id ends.turns.was) ends.turns.was
 
   commit-sound : IsSound id_of kept.most (state.writes ++ more) state.jobs
   commit-sound = record {
     from_one = λ w at. elim (in-either w state.writes more at) [
       | inl old ↦ kept.sound.from_one w old
-      | inr now ↦ subst (λ n. 1 ≤ n) (sym (written.one w now)) (open-from-one state.fates id ends.was)
+      | inr now ↦ subst (λ n. 1 ≤ n) (sym (written.one w now)) (open-from-one state.fates id ends.turns.was)
     ];
     carried = λ w f at has. elim (in-either w state.writes more at) [
       | inl old ↦ kept.sound.carried w f old has
@@ -144,7 +145,8 @@ module _ {Found : Type 0} (id_of : Found → RowId) (state : State Found) (id : 
       let past = IsPast state.open_txns in
       let foreign = IsUndone state.fates in
       let stay = end-undone id_of state id Committed fates open_txns readers kept ends in
-      let grows = end-past id_of state id Committed fates open_txns readers kept ends in
+      let grows : (job : Compaction) → IsIn job state.jobs → IsPast state.open_txns job → IsPast open_txns job =
+      λ job listed. end-past id_of state id Committed fates open_txns readers kept ends job in
       let same : (base : ℕ) → IsMadeBase state.jobs base → rows_in id_of (state.writes ++ more) base ≡ rows_in id_of state.writes base =
       λ base made. rows-kept id_of base state.writes more (λ w at.
       let over : base < id = above (Major base made.0) made.1 in
@@ -164,13 +166,13 @@ module _ {Found : Type 0} (id_of : Found → RowId) (state : State Found) (id : 
             (λ statement. (own.delete_deltas statement).only) kept.stands.delete_deltas)
             grows (λ write is. is);
         bases = λ base made. elim (kept.stands.bases base made) [
-          | inl loose ↦ inl (loose.0, loose.1, grows loose.0 loose.2, loose.3)
+          | inl loose ↦ inl (loose.0, loose.1, grows loose.0 loose.1 loose.2, loose.3)
           | inr whole ↦ inr (whole.0, λ f at. whole.1 f (subst (λ xs. IsIn f xs) (same base made) at))
         ];
         only_bases = λ base at.
             let o = kept.stands.only_bases base at in
             (o.0, elim o.1 [
-              | inl loose ↦ inl (loose.0, loose.1, grows loose.0 loose.2, loose.3)
+              | inl loose ↦ inl (loose.0, loose.1, grows loose.0 loose.1 loose.2, loose.3)
               | inr only ↦ inr (λ f has. subst (λ xs. IsIn f xs) (sym (same base o.0)) (only f has))
             ]);
       }
@@ -180,14 +182,15 @@ module _ {Found : Type 0} (id_of : Found → RowId) (state : State Found) (id : 
   commit-keeps = same-tree id_of state (record state { fates = fates; writes = state.writes ++ more; open_txns = open_txns; readers = readers }) refl (record {
     most = kept.most;
     knows = end-knows id_of state id Committed fates open_txns readers kept ends;
+    marks = kept.marks;
     sound = commit-sound;
     distinct = commit-distinct;
     committed = λ w at. elim (in-either w state.writes more at) [
       | inl old ↦ end-committed id_of state id Committed fates open_txns readers kept ends w old
-      | inr now ↦ ap (fate_of fates) (written.one w now) ∙ ends.is
+      | inr now ↦ ap (fate_of fates) (written.one w now) ∙ ends.turns.is
     ];
     seen = end-seen id_of state id Committed fates open_txns readers kept ends more
-        (λ w at. (ap (fate_of state.fates) (written.one w at) ∙ ends.was, ap (fate_of fates) (written.one w at) ∙ ends.is));
+        (λ w at. (ap (fate_of state.fates) (written.one w at) ∙ ends.turns.was, ap (fate_of fates) (written.one w at) ∙ ends.turns.is));
     stands = commit-stands;
   })
 
@@ -198,15 +201,17 @@ pub abort-keeps : {Found : Type 0} (id_of : Found → RowId) (state : State Foun
     → Keeps id_of state (record state { fates = fates; open_txns = open_txns; readers = readers })
 unfolding end-knows end-committed end-seen end-undone end-past
 abort-keeps {Found = Found} id_of state id fates open_txns readers kept ends =
-    let grows = end-past id_of state id Aborted fates open_txns readers kept ends in
+    let grows : (job : Compaction) → IsIn job state.jobs → IsPast state.open_txns job → IsPast open_txns job =
+    λ job listed. end-past id_of state id Aborted fates open_txns readers kept ends job in
     let stay : (write : ℕ) → IsUndone state.fates write → IsUndone fates write =
     λ write undone. elim (end-undone id_of state id Aborted fates open_txns readers kept ends write undone) [
-      | inl e ↦ inr (ap (fate_of fates) e ∙ ends.is)
+      | inl e ↦ inr (ap (fate_of fates) e ∙ ends.turns.is)
       | inr on ↦ on
     ] in
     same-tree id_of state (record state { fates = fates; open_txns = open_txns; readers = readers }) refl (record {
       most = kept.most;
       knows = end-knows id_of state id Aborted fates open_txns readers kept ends;
+      marks = kept.marks;
       sound = kept.sound;
       distinct = kept.distinct;
       committed = end-committed id_of state id Aborted fates open_txns readers kept ends;
@@ -219,12 +224,12 @@ abort-keeps {Found = Found} id_of state id fates open_txns readers kept ends =
         delete_deltas = stand-weaker (IsPast state.open_txns) (IsPast open_txns) (IsUndone state.fates) (IsUndone fates) state.jobs (deletes_in state.writes)
             state.tree.delete_deltas state.tree.deletes kept.stands.delete_deltas grows stay;
         bases = λ base made. elim (kept.stands.bases base made) [
-          | inl loose ↦ inl (loose.0, loose.1, grows loose.0 loose.2, loose.3)
+          | inl loose ↦ inl (loose.0, loose.1, grows loose.0 loose.1 loose.2, loose.3)
           | inr whole ↦ inr whole
         ];
         only_bases = λ base at.
             let o = kept.stands.only_bases base at in
-            (o.0, elim o.1 [ inl loose ↦ inl (loose.0, loose.1, grows loose.0 loose.2, loose.3) | inr only ↦ inr only ]);
+            (o.0, elim o.1 [ inl loose ↦ inl (loose.0, loose.1, grows loose.0 loose.1 loose.2, loose.3) | inr only ↦ inr only ]);
       };
     })
 
@@ -260,6 +265,7 @@ module _ {Found : Type 0} (id_of : Found → RowId) (state : State Found) (id : 
   anything-keeps tree changes = same-writes id_of state (record state { tree = tree }) kept refl (record {
     most = kept.most;
     knows = kept.knows;
+    marks = kept.marks;
     sound = kept.sound;
     distinct = kept.distinct;
     committed = kept.committed;

@@ -181,6 +181,10 @@ job-keeps id_of state job tree kept range ended mark changes has =
     same-writes id_of state (record state { jobs = job ∷ state.jobs; tree = tree }) kept refl (record {
       most = kept.most + end_of job;
       knows = job-published state.fates state.jobs job state.next state.open_txns state.readers kept.knows ended mark;
+      marks = λ other at. elim at [
+        | inl e ↦ let same : mark_of job ≡ mark_of other = ap mark_of e in omega arith
+        | inr there ↦ kept.marks other there
+      ];
       sound = job-sound id_of kept.most state.writes state.jobs job kept.sound range;
       distinct = kept.distinct;
       committed = kept.committed;
@@ -197,6 +201,7 @@ removal-keeps {Found = Found} id_of state dir tree kept loose loses =
     same-writes id_of state (record state { tree = tree }) kept refl (record {
       most = kept.most;
       knows = kept.knows;
+      marks = kept.marks;
       sound = kept.sound;
       distinct = kept.distinct;
       committed = kept.committed;

@@ -1,5 +1,5 @@
 -- What a commit, a compaction, a removal and an aborted write do to the directories that must stand.
-use Rattle.std.specs.Prelude.{◌≡◌, ◌≢◌, ◌↔◌, ℕ, ◌<◌, ◌≤◌, Some, List, [], ◌∷◌, ◌++◌}
+use Rattle.std.specs.Prelude.{◌≡◌, ◌≢◌, ◌↔◌, ℕ, ◌+◌, ◌<◌, ◌≤◌, Option, Some, None, List, [], ◌∷◌, ◌++◌}
 use Rattle.hv_base.specs.declared.ids.RowId.{RowId}
 use Rattle.hv_wids.specs.WriteIds.{WriteIds}
 use Rattle.hv_dirs.specs.Choice.{Sight, sight_of}
@@ -8,11 +8,11 @@ use Rattle.hv_visible.specs.Members.{IsIn}
 use Rattle.hv_visible.specs.History.{Write, Compaction, Minor, Major, end_of, mark_of, write_of, content_of}
 use Rattle.hv_visible.specs.Visible.{Tree, visible_rows, writes_shown, by_id}
 use Rattle.hv_visible.specs.Stands.{HasDistinctRows}
-use Rattle.hv_visible.specs.Snapshots.{Fate, Open, Committed, Aborted, fate_of, GoesTo, IsUndone, HaveEnded}
+use Rattle.hv_visible.specs.Snapshots.{Fate, Open, Committed, Aborted, Forgotten, fate_of, GoesTo, IsUndone, HaveEnded}
 use Rattle.hv_visible.specs.Readers.{Reader}
 use Rattle.hv_visible.specs.Laws.{ShowsRows}
 use Rattle.hv_published.specs.State.{State, IsKept, IsOpenList}
-use Rattle.hv_published.specs.Directories.{Directory, IsChosenIn, ChangesTree, Loses, HasOwn, IsOwnOf, IsMadeBy, HasMade, IsMadeDir, IsLooseDir, IsRetired}
+use Rattle.hv_published.specs.Directories.{Directory, StandsIn, IsChosenIn, ChangesTree, Loses, HasOwn, IsOwnOf, IsMadeBy, HasMade, IsMadeDir, IsLooseDir, IsRetired}
 
 -- two trees show the same rows under a list
 pub record ShowsAlike {Found : Type 0} (id_of : Found → RowId) (sight : Sight) (tree now : Tree Found) : Type 0 where
@@ -46,11 +46,15 @@ AnOpenListShowsContent Found =
 
 -- ---- transactions end
 
--- a transaction ends, with what its write id comes to; the others' stay
+-- what one write id has come to changes, and that of no other one
+pub record Turns (id : ℕ) (before : Option Fate) (after : Fate) (fates now : List Fate) : Type 0 where
+  pub was : fate_of fates id ≡ before
+  pub is : fate_of now id ≡ Some after
+  pub others : (write : ℕ) → write ≢ id → fate_of now write ≡ fate_of fates write
+
+-- a transaction ends that has a write id in the table
 pub record Ends {Found : Type 0} (id : ℕ) (fate : Fate) (state : State Found) (fates : List Fate) (open_txns : List ℕ) (readers : List Reader) : Type 0 where
-  pub was : fate_of state.fates id ≡ Some Open
-  pub is : fate_of fates id ≡ Some fate
-  pub others : (write : ℕ) → write ≢ id → fate_of fates write ≡ fate_of state.fates write
+  pub turns : Turns id (Some Open) fate state.fates fates
   pub txns : (txn : ℕ) → IsIn txn open_txns → IsIn txn state.open_txns
   pub snapshots : (reader : Reader) → IsIn reader readers → IsIn reader state.readers × IsIn reader.txn open_txns
 
@@ -83,6 +87,30 @@ pub record AnAbortedWriteKeeps (Found : Type 0) : Type 0 where
   pub aborting : (id_of : Found → RowId) (state : State Found) (id : ℕ) (fates : List Fate) (open_txns : List ℕ) (readers : List Reader)
       → IsKept id_of state → Ends id Aborted state fates open_txns readers
       → Keeps id_of state (record state { fates = fates; open_txns = open_txns; readers = readers })
+
+-- The other entries that speak of transactions and of write ids, of which none commits a write or publishes anything.
+pub record EachOtherEntryKeeps (Found : Type 0) : Type 0 where
+  -- a transaction is opened
+  pub opening : (id_of : Found → RowId) (state : State Found)
+      → IsKept id_of state → Keeps id_of state (record state { next = state.next + 1; open_txns = state.next ∷ state.open_txns })
+  -- one starts, which is its snapshot
+  pub starting : (id_of : Found → RowId) (state : State Found) (txn : ℕ)
+      → IsKept id_of state → IsIn txn state.open_txns
+      → Keeps id_of state (record state { readers = record { txn = txn; before = state.fates } ∷ state.readers })
+  -- a write id is given
+  pub giving : (id_of : Found → RowId) (state : State Found) (id : ℕ) (fates : List Fate)
+      → IsKept id_of state → Turns id None Open state.fates fates
+      → Keeps id_of state (record state { fates = fates })
+  -- transactions end that have no write id in the table
+  pub ending : (id_of : Found → RowId) (state : State Found) (open_txns : List ℕ) (readers : List Reader)
+      → IsKept id_of state → ((txn : ℕ) → IsIn txn open_txns → IsIn txn state.open_txns)
+      → ((reader : Reader) → IsIn reader readers → IsIn reader state.readers × IsIn reader.txn open_txns)
+      → Keeps id_of state (record state { open_txns = open_txns; readers = readers })
+  -- an aborted write id is forgotten, of which no directory stands
+  pub forgetting : (id_of : Found → RowId) (state : State Found) (id : ℕ) (fates : List Fate)
+      → IsKept id_of state → Turns id (Some Aborted) Forgotten state.fates fates
+      → ((dir : Directory) → IsOwnOf id dir → StandsIn state.tree dir → ⊥)
+      → Keeps id_of state (record state { fates = fates })
 
 -- ---- compactions
 

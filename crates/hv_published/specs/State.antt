@@ -4,7 +4,7 @@ use Rattle.std.specs.Prelude.{◌≡◌, ◌⊎◌, ℕ, ◌≤◌, Some, List, 
 use Rattle.hv_base.specs.declared.ids.RowId.{RowId}
 use Rattle.hv_wids.specs.WriteIds.{WriteIds}
 use Rattle.hv_visible.specs.Members.{IsIn}
-use Rattle.hv_visible.specs.History.{Write, Compaction, end_of}
+use Rattle.hv_visible.specs.History.{Write, Compaction, end_of, mark_of}
 use Rattle.hv_visible.specs.Visible.{Tree}
 use Rattle.hv_visible.specs.Stands.{IsSound, HasDistinctRows, Stands}
 use Rattle.hv_visible.specs.Snapshots.{Fate, Committed, fate_of, list_at, list_up_to, IsUndone, IsSince}
@@ -30,6 +30,7 @@ HasSeen {Found} state reader =
 pub record IsKept {Found : Type 0} (id_of : Found → RowId) (state : State Found) : Type 0 where
   pub most : ℕ
   pub knows : Knows state.fates state.jobs state.next state.open_txns state.readers
+  pub marks : (job : Compaction) → IsIn job state.jobs → mark_of job ≤ state.next
   pub sound : IsSound id_of most state.writes state.jobs
   pub distinct : HasDistinctRows id_of state.writes
   pub committed : (w : Write Found) → IsIn w state.writes → fate_of state.fates w.write ≡ Some Committed

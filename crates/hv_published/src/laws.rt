@@ -1,4 +1,4 @@
-ghost use Rattle.hv_published.specs.Laws.{ANewPartitionIsKept, AnOpenListShowsContent, ACommitKeeps, AnAbortedWriteKeeps, APublishedJobKeeps, ALooseOneIsRetired, ARemovalKeeps};
+ghost use Rattle.hv_published.specs.Laws.{ANewPartitionIsKept, AnOpenListShowsContent, ACommitKeeps, EachOtherEntryKeeps, AnAbortedWriteKeeps, APublishedJobKeeps, ALooseOneIsRetired, ARemovalKeeps};
 ghost use Rattle.hv_published.specs.Worked.{RowsByHand};
 
 /// A partition of which nothing stands and nothing is written has what always holds.
@@ -20,6 +20,11 @@ pub fn a_commit_keeps<F>()
 /// The own directories of an open or aborted write id may hold anything, and nobody sees it.
 pub fn an_aborted_write_keeps<F>()
     ensures law { AnAbortedWriteKeeps F }
+{}
+
+/// Opening and starting transactions, giving and forgetting write ids, and ends without one keep it.
+pub fn each_other_entry_keeps<F>()
+    ensures law { EachOtherEntryKeeps F }
 {}
 
 /// A published compaction keeps what must stand, and changes no answer.
