@@ -1,5 +1,5 @@
 -- What keeps the directories standing where some of them change.
-use Rattle.std.proofs.Common.{refl, ◌≡◌, ◌≢◌, ◌⊎◌, inl, inr, ℕ, true, false, Bool, List, sym, ap, ◌∙◌, subst, true≢false}
+use Rattle.std.proofs.Common.{◌≡◌, ◌≢◌, ◌⊎◌, inl, inr, ℕ, true, false, Bool, List, sym, ap, subst, true≢false}
 use Rattle.std.proofs.lemmas.Bool.{cases_eq}
 use Rattle.hv_dirs.specs.Choice.{Delta, Own, Wide, low_of, high_of, is_own, statement_of}
 use Rattle.hv_visible.specs.Members.{IsIn}

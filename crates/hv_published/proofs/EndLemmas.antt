@@ -1,5 +1,5 @@
 -- What holds at the beginning holds through commits, aborts, and whatever happens in own directories of undone write ids.
-use Rattle.std.proofs.Common.{refl, ◌≡◌, ◌≢◌, ◌⊎◌, inl, inr, ℕ, ◌==◌, ◌<◌, ◌≤◌, Some, true, false, List, [], ◌∷◌, ◌++◌, filter, sym, ap, ◌∙◌, subst, arith, append_assoc, true≢false}
+use Rattle.std.proofs.Common.{refl, ◌≡◌, ◌⊎◌, inl, inr, ℕ, ◌==◌, ◌<◌, ◌≤◌, Some, false, List, [], ◌∷◌, ◌++◌, filter, sym, ap, ◌∙◌, subst, arith, append_assoc, true≢false}
 use Rattle.std.proofs.lemmas.Bool.{cases_eq, and_parts, eqb-true}
 use Rattle.std.proofs.lemmas.List.{append-nil}
 use Rattle.std.specs.List.{flat_map}
@@ -11,7 +11,7 @@ use Rattle.hv_dirs.specs.Sorting.{sorted_by}
 use Rattle.hv_visible.specs.Members.{IsIn}
 use Rattle.hv_visible.specs.History.{Write, Compaction, Major, end_of, has_write, write_of, inserts_of, inserts_in, deletes_in, by_deleter, rows_in, IsMadeBase}
 use Rattle.hv_visible.specs.Visible.{Tree, base_chosen, by_id}
-use Rattle.hv_visible.specs.Stands.{IsSound, HasDistinctRows, Fits, Stand, Stands, IsForeign}
+use Rattle.hv_visible.specs.Stands.{IsSound, HasDistinctRows, Fits, Stands}
 use Rattle.hv_visible.specs.Snapshots.{Fate, Open, Committed, Aborted, fate_of, GoesTo, IsUndone}
 use Rattle.hv_visible.specs.Readers.{Reader, IsPast, Knows}
 use Rattle.hv_visible.proofs.MemberLemmas.{in-either, from-flat, from-filter}
@@ -19,8 +19,8 @@ use Rattle.hv_visible.proofs.RowLemmas.{row-write}
 use Rattle.hv_visible.proofs.ReaderLemmas.{fates-go, ended-txn, open-above, since-commit}
 use Rattle.hv_visible.proofs.SortingLemmas.{distinct-joined}
 use Rattle.hv_visible.proofs.TakenLemmas.{is-taken}
-use Rattle.hv_published.specs.State.{State, HasSeen, IsKept, IsOpenList}
-use Rattle.hv_published.specs.Directories.{Directory, BaseDir, DeltaDir, DeleteDir, ChangesAt, ChangesTree, HasJust, HasOwn, IsOwnOf, IsChosenIn}
+use Rattle.hv_published.specs.State.{State, IsKept, IsOpenList}
+use Rattle.hv_published.specs.Directories.{Directory, BaseDir, DeltaDir, DeleteDir, ChangesTree, HasOwn, IsOwnOf, IsChosenIn}
 use Rattle.hv_published.specs.Laws.{Keeps, Ends, IsWrittenBy, AnAbortedWriteKeeps}
 use Rattle.hv_published.proofs.ChangeLemmas.{own-delta-cases, own-delete-cases, IsRight, stand-changed, stand-weaker, bases-changed, bases-of, with-bases}
 use Rattle.hv_published.proofs.CommitLemmas.{committed, rows-kept}
@@ -170,11 +170,13 @@ module _ {Found : Type 0} (id_of : Found → RowId) (state : State Found) (id : 
           | inr whole ↦ inr (whole.0, λ f at. whole.1 f (subst (λ xs. IsIn f xs) (same base made) at))
         ];
         only_bases = λ base at.
-            let o = kept.stands.only_bases base at in
-            (o.0, elim o.1 [
-              | inl loose ↦ inl (loose.0, loose.1, grows loose.0 loose.1 loose.2, loose.3)
-              | inr only ↦ inr (λ f has. subst (λ xs. IsIn f xs) (sym (same base o.0)) (only f has))
-            ]);
+            let o = kept.stands.only_bases base at in (
+              o.0,
+              elim o.1 [
+                | inl loose ↦ inl (loose.0, loose.1, grows loose.0 loose.1 loose.2, loose.3)
+                | inr only ↦ inr (λ f has. subst (λ xs. IsIn f xs) (sym (same base o.0)) (only f has))
+              ],
+            );
       }
 
   pub commit-keeps : Keeps id_of state (record state { fates = fates; writes = state.writes ++ more; open_txns = open_txns; readers = readers })

@@ -1,18 +1,18 @@
 -- What holds through the entries that open and start transactions, give and forget write ids, or end readers.
-use Rattle.std.proofs.Common.{refl, ◌≡◌, ◌≢◌, ◌⊎◌, inl, inr, ℕ, ◌+◌, ◌≤◌, Option, Some, None, List, [], ◌∷◌, ◌++◌, sym, ap, ◌∙◌, subst, arith, append_assoc}
+use Rattle.std.proofs.Common.{refl, ◌≡◌, ◌⊎◌, inl, inr, ℕ, ◌+◌, ◌≤◌, Option, Some, None, List, [], ◌∷◌, sym, ap, ◌∙◌, subst, arith}
 use Rattle.std.proofs.lemmas.Bool.{cases_eq}
 use Rattle.std.proofs.lemmas.List.{append-nil}
 use Rattle.hv_base.specs.declared.ids.RowId.{RowId}
-use Rattle.hv_dirs.specs.Choice.{Delta, Own, Wide}
+use Rattle.hv_dirs.specs.Choice.{Delta, Own}
 use Rattle.hv_visible.specs.Members.{IsIn}
-use Rattle.hv_visible.specs.History.{Write, Compaction, mark_of, inserts_in, deletes_in, rows_in}
+use Rattle.hv_visible.specs.History.{Write, Compaction, mark_of, inserts_in, deletes_in}
 use Rattle.hv_visible.specs.Visible.{Tree}
-use Rattle.hv_visible.specs.Stands.{IsForeign, Stand, Stands}
+use Rattle.hv_visible.specs.Stands.{Stand, Stands}
 use Rattle.hv_visible.specs.Snapshots.{Fate, Open, Committed, Aborted, Forgotten, fate_of, GoesTo, IsUndone, IsSince}
 use Rattle.hv_visible.specs.Readers.{Reader, IsPast}
 use Rattle.hv_visible.proofs.ReaderLemmas.{fates-go, opened, started, ended-txn, since-commit}
 use Rattle.hv_published.specs.State.{State, HasSeen, IsKept}
-use Rattle.hv_published.specs.Directories.{Directory, DeltaDir, DeleteDir, StandsIn, IsOwnOf}
+use Rattle.hv_published.specs.Directories.{DeltaDir, DeleteDir}
 use Rattle.hv_published.specs.Laws.{Keeps, Turns, EachOtherEntryKeeps}
 use Rattle.hv_published.proofs.ChangeLemmas.{stand-weaker}
 use Rattle.hv_published.proofs.StateLemmas.{same-tree, goes-on-itself}
@@ -49,7 +49,7 @@ still-seen id_of state fates kept goes reader at =
       s.1,
       s.2,
       subst (λ ws. IsSince reader.before fates s.0 ws) (append-nil s.1)
-      (since-commit reader.before state.fates fates s.0 s.1 [] s.3 goes (λ w here. absurd here)),
+          (since-commit reader.before state.fates fates s.0 s.1 [] s.3 goes (λ w here. absurd here)),
     )
 
 -- a write id's fate goes on, and what was undone is
@@ -146,7 +146,7 @@ starting-keeps {Found = Found} id_of state txn kept is =
       stands = kept.stands;
     })
 
-ending-keeps : {Found : Type 0} (id_of : Found → RowId) (state : State Found) (open_txns : List ℕ) (readers : List Reader)
+pub ending-keeps : {Found : Type 0} (id_of : Found → RowId) (state : State Found) (open_txns : List ℕ) (readers : List Reader)
     → IsKept id_of state → ((txn : ℕ) → IsIn txn open_txns → IsIn txn state.open_txns)
     → ((reader : Reader) → IsIn reader readers → IsIn reader state.readers × IsIn reader.txn open_txns)
     → Keeps id_of state (record state { open_txns = open_txns; readers = readers })

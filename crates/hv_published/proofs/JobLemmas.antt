@@ -1,9 +1,8 @@
 -- What a published compaction and a removal do.
-use Rattle.std.proofs.Common.{refl, ◌≡◌, ◌≢◌, ◌⊎◌, inl, inr, ℕ, ◌+◌, ◌<◌, ◌≤◌, Bool, true, false, List, ◌∷◌, sym, ap, ◌∙◌, subst, arith, true≢false}
+use Rattle.std.proofs.Common.{refl, ◌≡◌, inl, inr, ℕ, ◌+◌, ◌≤◌, Bool, true, false, List, ◌∷◌, sym, ap, subst, arith, true≢false}
 use Rattle.std.proofs.lemmas.Bool.{cases_eq}
 use Rattle.hv_base.specs.declared.ids.RowId.{RowId}
 use Rattle.hv_dirs.specs.Choice.{Delta, Own, Wide}
-use Rattle.hv_visible.specs.Members.{IsIn}
 use Rattle.hv_visible.specs.History.{Write, Compaction, Minor, Major, end_of, mark_of, inserts_in, deletes_in, rows_in, IsMade, IsMadeBase}
 use Rattle.hv_visible.specs.Visible.{Tree}
 use Rattle.hv_visible.specs.Stands.{IsSound, IsLoose, IsLooseBase, Stand, Stands}
@@ -13,7 +12,7 @@ use Rattle.hv_visible.proofs.ReaderLemmas.{job-published}
 use Rattle.hv_published.specs.State.{State, IsKept}
 use Rattle.hv_published.specs.Directories.{Directory, BaseDir, DeltaDir, DeleteDir, StandsIn, ChangesAt, ChangesTree, Loses, HasJust, IsMadeBy, HasMade, IsLooseDir}
 use Rattle.hv_published.specs.Laws.{Keeps, HasRange}
-use Rattle.hv_published.proofs.ChangeLemmas.{name-cases, dir-cases, IsRight, stand-changed, IsRightBase, BasesStand, bases-changed, bases-of, with-bases}
+use Rattle.hv_published.proofs.ChangeLemmas.{name-cases, dir-cases, IsRight, stand-changed, IsRightBase, bases-changed, bases-of, with-bases}
 use Rattle.hv_published.proofs.StateLemmas.{same-writes}
 
 -- ---- the history with the compaction

@@ -1,14 +1,14 @@
 -- What is loose is retired: nobody chooses it, and another one that is chosen covers it.
-use Rattle.std.proofs.Common.{refl, ◌≡◌, ◌≢◌, ◌⊎◌, inl, inr, ℕ, zero, suc, ◌-◌, ◌<◌, ◌≤◌, true, false, List, filter, sym, ap, ◌∙◌, subst, arith, true≢false}
+use Rattle.std.proofs.Common.{refl, ◌≡◌, ◌⊎◌, inl, inr, ℕ, zero, suc, ◌-◌, ◌<◌, ◌≤◌, true, false, List, filter, sym, ap, ◌∙◌, subst, arith}
 use Rattle.std.proofs.lemmas.Bool.{cases_lt}
 use Rattle.std.specs.List.{flat_map}
 use Rattle.hv_base.specs.declared.ids.RowId.{RowId}
 use Rattle.hv_wids.specs.WriteIds.{WriteIds}
-use Rattle.hv_dirs.specs.Choice.{Sight, sight_of, Delta, Own, Wide, low_of, high_of, is_own, taken_from, chosen_above, delta_cmp}
+use Rattle.hv_dirs.specs.Choice.{Sight, sight_of, Delta, Wide, low_of, high_of, is_own, taken_from, chosen_above, delta_cmp}
 use Rattle.hv_dirs.specs.Sorting.{sorted_by}
 use Rattle.hv_visible.specs.Members.{IsIn}
-use Rattle.hv_visible.specs.History.{Write, Compaction, Minor, Major, end_of, CoversDelta, CoversBase, has_write, by_deleter, inserts_in, deletes_in, IsMade, IsMadeBase}
-use Rattle.hv_visible.specs.Visible.{Tree, base_chosen, deltas_chosen, deletes_chosen}
+use Rattle.hv_visible.specs.History.{Write, Compaction, Minor, Major, CoversDelta, CoversBase, has_write, by_deleter, IsMade, IsMadeBase}
+use Rattle.hv_visible.specs.Visible.{Tree, base_chosen}
 use Rattle.hv_visible.specs.Stands.{IsSound, Fits, IsLoose, IsLooseBase, Stand, Stands}
 use Rattle.hv_visible.specs.Snapshots.{is_seen, list_at, IsUndone}
 use Rattle.hv_visible.specs.Readers.{IsPast}
@@ -169,8 +169,8 @@ module _ {Found : Type 0} (id_of : Found → RowId) (most : ℕ) (sight : Sight)
         elim (cases_lt (base_chosen sight tree) (high_of d)) [
           | inr less ↦ inl (omega arith, omega arith)
           | inl over ↦ inr (within-chosen events id_of most sight past foreign writes jobs (sorted_by delta_cmp names_of) files (base_chosen sight tree)
-          (ordered-sorted names_of) sound fits (sorted names_of files (λ e. flat_map events (filter (has_write e) writes)) stand) greatest
-          d f.0 r k.0 f.2 k.1 made over (all_valid f.0 k.0) loose)
+              (ordered-sorted names_of) sound fits (sorted names_of files (λ e. flat_map events (filter (has_write e) writes)) stand) greatest
+              d f.0 r k.0 f.2 k.1 made over (all_valid f.0 k.0) loose)
         ]
       where
         sorted : {Record : Type 0} (names_of : List Delta) (files made : Delta → List Record)

@@ -1,23 +1,21 @@
 -- Each step keeps what always holds of a partition, and what is shown under each open list.
-use Rattle.std.proofs.Common.{refl, ◌≡◌, ◌≢◌, ◌⊎◌, inl, inr, ℕ, zero, suc, ◌+◌, ◌<◌, ◌≤◌, Option, Some, None, List, [], ◌∷◌, ◌++◌, sym, ap, ◌∙◌, subst, arith, append_assoc}
+use Rattle.std.proofs.Common.{refl, ◌≡◌, ◌≢◌, inl, inr, ℕ, zero, suc, ◌≤◌, Option, Some, None, List, sym, ap, ◌∙◌, subst, arith}
 use Rattle.std.proofs.lemmas.Bool.{cases_eq}
-use Rattle.std.specs.declared.cmp.Ordering.TheVariants.{Equal}
-use Rattle.std.specs.List.{flat_map}
 use Rattle.hv_base.specs.declared.ids.RowId.{RowId}
 use Rattle.hv_wids.specs.WriteIds.{WriteIds}
 use Rattle.hv_dirs.specs.Choice.{sight_of}
-use Rattle.hv_visible.specs.Members.{IsIn, HasNoTies}
-use Rattle.hv_visible.specs.History.{Write, Compaction, Minor, Major, end_of, content_of}
-use Rattle.hv_visible.specs.Visible.{Tree, writes_shown, by_id}
-use Rattle.hv_visible.specs.Stands.{IsSound, HasDistinctRows, Fits, Stands}
+use Rattle.hv_visible.specs.Members.{IsIn}
+use Rattle.hv_visible.specs.History.{content_of}
+use Rattle.hv_visible.specs.Visible.{writes_shown}
+use Rattle.hv_visible.specs.Stands.{Fits}
 use Rattle.hv_visible.specs.Snapshots.{Fate, Open, Committed, Aborted, Forgotten, fate_of, list_at, GoesTo, IsUndone, IsSince}
-use Rattle.hv_visible.specs.Readers.{Reader, IsPast, Knows}
+use Rattle.hv_visible.specs.Readers.{IsPast}
 use Rattle.hv_visible.specs.Laws.{ShowsRows}
 use Rattle.hv_visible.proofs.ContentLemmas.{shows-rows}
 use Rattle.hv_visible.proofs.ListLemmas.{says-up-to}
-use Rattle.hv_visible.proofs.ReaderLemmas.{reader-fits, end-fits, fates-go, ended-txn, since-commit}
+use Rattle.hv_visible.proofs.ReaderLemmas.{reader-fits, end-fits}
 use Rattle.hv_visible.proofs.SnapshotLemmas.{cut-fits}
-use Rattle.hv_published.specs.State.{State, HasSeen, IsKept, IsOpenList}
+use Rattle.hv_published.specs.State.{State, IsKept, IsOpenList}
 use Rattle.hv_published.specs.Laws.{ShowsAlike, Keeps}
 
 -- ---- each open list fits

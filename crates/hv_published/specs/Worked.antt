@@ -10,7 +10,7 @@ use Rattle.hv_published.specs.State.{State, IsKept}
 use Rattle.hv_published.specs.Directories.{DeltaDir, IsLooseDir}
 use Rattle.hv_published.specs.Laws.{Keeps}
 
-abbrev row : ℕ → RowId
+abbrev pub row : ℕ → RowId
 row write = record { write = record { 0 = write }; statement = 0; bucket = 0; row = 0 }
 
 abbrev pub itself : RowId → RowId

@@ -1,5 +1,5 @@
 ghost use Rattle.hv_published.specs.Laws.{ANewPartitionIsKept, AnOpenListShowsContent, ACommitKeeps, EachOtherEntryKeeps, AnAbortedWriteKeeps, APublishedJobKeeps, ALooseOneIsRetired, ARemovalKeeps};
-ghost use Rattle.hv_published.specs.Worked.{RowsByHand};
+ghost use Rattle.hv_published.specs.Worked.{RowsByHand, StepsByHand};
 
 /// A partition of which nothing stands and nothing is written has what always holds.
 pub fn a_new_partition_is_kept<F>()
@@ -45,4 +45,5 @@ pub fn a_removal_keeps<F>()
 /// A base that is published over two deltas, and the deltas that go then, worked out by hand.
 pub fn steps_by_hand()
     ensures rows { RowsByHand }
+    ensures steps { StepsByHand }
 {}
