@@ -112,7 +112,6 @@ module _ {Found : Type 0} (id_of : Found → RowId) (most : ℕ) (sight : Sight)
     (sound : IsSound id_of most writes jobs)
     (fits : Fits sight past foreign writes jobs)
     (stands : Stands id_of past foreign writes jobs tree)
-    (all_valid : (w : Write Found) → IsIn w writes → sight.valid w.write ≡ true)
   where
     Higher : ℕ → Type 0
     Higher h = (k : ℕ) × (h ≤ k) × IsIn k tree.bases × (sight.may_base k ≡ true)
@@ -137,7 +136,7 @@ module _ {Found : Type 0} (id_of : Found → RowId) (most : ℕ) (sight : Sight)
       | inr whole ↦ (h, omega arith, whole.0, may)
     ]
 
-    greatest : (h : ℕ) → IsMadeBase jobs h → sight.may_base h ≡ true → h ≤ base_chosen sight tree
+    pub greatest : (h : ℕ) → IsMadeBase jobs h → sight.may_base h ≡ true → h ≤ base_chosen sight tree
     unfolding Higher
     greatest h made may =
         let up = base-reached (suc (most - h)) h (omega arith) made may in
@@ -155,12 +154,20 @@ module _ {Found : Type 0} (id_of : Found → RowId) (most : ℕ) (sight : Sight)
     pub base-covered : (base : ℕ) → IsLooseBase past jobs base → base < base_chosen sight tree
     base-covered base loose = under-greatest base loose.0 loose.1 loose.2 loose.3
 
+    pub stand-sorted : {Record : Type 0} (names_of : List Delta) (files made : Delta → List Record)
+        → Stand past foreign jobs made names_of files → Stand past foreign jobs made (sorted_by delta_cmp names_of) files
+    stand-sorted names_of files made stand = record {
+      each = λ d r is at. elim (stand.each d r is at) [ inl loose ↦ inl loose | inr whole ↦ inr (to-sorted delta_cmp d names_of whole.0, whole.1) ];
+      only = λ d at. stand.only d (from-sorted delta_cmp d names_of at);
+    }
+
     pub delta-covered : {Record : Type 0} (events : Write Found → List Record) (names_of : List Delta) (files : Delta → List Record)
+        → ((w : Write Found) → IsIn w writes → sight.valid w.write ≡ true)
         → Stand past foreign jobs (λ d. flat_map events (filter (has_write d) writes)) names_of files
         → (d : Delta) (r : Record) → IsMade jobs d → IsIn r (flat_map events (filter (has_write d) writes)) → IsLoose past jobs d
         → IsUnderBase (base_chosen sight tree) d ⊎ IsWithin (chosen_above sight (base_chosen sight tree) names_of) d
     unfolding chosen_above
-    delta-covered events names_of files stand d r made at loose =
+    delta-covered events names_of files all_valid stand d r made at loose =
         let f = from-flat events r (filter (has_write d) writes) at in
         let k = from-filter (has_write d) f.0 writes f.1 in
         let p = within-from d f.0 k.1 in
@@ -169,16 +176,9 @@ module _ {Found : Type 0} (id_of : Found → RowId) (most : ℕ) (sight : Sight)
         elim (cases_lt (base_chosen sight tree) (high_of d)) [
           | inr less ↦ inl (omega arith, omega arith)
           | inl over ↦ inr (within-chosen events id_of most sight past foreign writes jobs (sorted_by delta_cmp names_of) files (base_chosen sight tree)
-              (ordered-sorted names_of) sound fits (sorted names_of files (λ e. flat_map events (filter (has_write e) writes)) stand) greatest
+              (ordered-sorted names_of) sound fits (stand-sorted names_of files (λ e. flat_map events (filter (has_write e) writes)) stand) greatest
               d f.0 r k.0 f.2 k.1 made over (all_valid f.0 k.0) loose)
         ]
-      where
-        sorted : {Record : Type 0} (names_of : List Delta) (files made : Delta → List Record)
-            → Stand past foreign jobs made names_of files → Stand past foreign jobs made (sorted_by delta_cmp names_of) files
-        sorted names_of files made stand = record {
-          each = λ d r is at. elim (stand.each d r is at) [ inl loose ↦ inl loose | inr whole ↦ inr (to-sorted delta_cmp d names_of whole.0, whole.1) ];
-          only = λ d at. stand.only d (from-sorted delta_cmp d names_of at);
-        }
 
 -- ---- what is loose is retired
 
@@ -194,7 +194,7 @@ loose-unchosen id_of state (DeleteDir d) list kept loose is chosen =
     (takes-no-loose id_of kept.most (sight_of list) (IsPast state.open_txns) (IsUndone state.fates) state.writes state.jobs state.tree
     kept.sound (list-fits id_of state list kept is) kept.stands).delete_deltas d chosen loose
 
-end-valid : {Found : Type 0} (id_of : Found → RowId) (state : State Found) → IsKept id_of state
+pub end-valid : {Found : Type 0} (id_of : Found → RowId) (state : State Found) → IsKept id_of state
     → (w : Write Found) → IsIn w state.writes → (sight_of (list_at state.fates)).valid w.write ≡ true
 end-valid id_of state kept w at = valid-same state.fates w.write (kept.sound.from_one w at) ∙ ap is_seen (kept.committed w at)
 
@@ -202,15 +202,15 @@ loose-covered : {Found : Type 0} (id_of : Found → RowId) (state : State Found)
     → IsKept id_of state → IsMadeDir state dir → IsLooseDir state dir → IsCoveredIn (sight_of (list_at state.fates)) state.tree dir
 loose-covered id_of state (BaseDir base) kept made loose =
     base-covered id_of kept.most (sight_of (list_at state.fates)) (IsPast state.open_txns) (IsUndone state.fates) state.writes state.jobs state.tree
-    kept.sound (list-fits id_of state (list_at state.fates) kept (inr (inl refl))) kept.stands (end-valid id_of state kept) base loose
+    kept.sound (list-fits id_of state (list_at state.fates) kept (inr (inl refl))) kept.stands base loose
 loose-covered {Found = Found} id_of state (DeltaDir d) kept made loose =
     delta-covered id_of kept.most (sight_of (list_at state.fates)) (IsPast state.open_txns) (IsUndone state.fates) state.writes state.jobs state.tree
-    kept.sound (list-fits id_of state (list_at state.fates) kept (inr (inl refl))) kept.stands (end-valid id_of state kept)
-    (λ (w : Write Found). w.inserts) state.tree.deltas state.tree.inserts kept.stands.deltas d made.1.0 made.0 made.1.1 loose
+    kept.sound (list-fits id_of state (list_at state.fates) kept (inr (inl refl))) kept.stands
+    (λ (w : Write Found). w.inserts) state.tree.deltas state.tree.inserts (end-valid id_of state kept) kept.stands.deltas d made.1.0 made.0 made.1.1 loose
 loose-covered id_of state (DeleteDir d) kept made loose =
     delta-covered id_of kept.most (sight_of (list_at state.fates)) (IsPast state.open_txns) (IsUndone state.fates) state.writes state.jobs state.tree
-    kept.sound (list-fits id_of state (list_at state.fates) kept (inr (inl refl))) kept.stands (end-valid id_of state kept)
-    by_deleter state.tree.delete_deltas state.tree.deletes kept.stands.delete_deltas d made.1.0 made.0 made.1.1 loose
+    kept.sound (list-fits id_of state (list_at state.fates) kept (inr (inl refl))) kept.stands
+    by_deleter state.tree.delete_deltas state.tree.deletes (end-valid id_of state kept) kept.stands.delete_deltas d made.1.0 made.0 made.1.1 loose
 
 pub loose-retired : {Found : Type 0} (id_of : Found → RowId) (state : State Found) (dir : Directory)
     → IsKept id_of state → IsMadeDir state dir → IsLooseDir state dir → IsRetired state dir

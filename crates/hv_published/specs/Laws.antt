@@ -1,17 +1,18 @@
 -- What a commit, a compaction, a removal and an aborted write do to the directories that must stand.
-use Rattle.std.specs.Prelude.{◌≡◌, ◌≢◌, ◌↔◌, ℕ, ◌+◌, ◌<◌, ◌≤◌, Option, Some, None, List, [], ◌∷◌, ◌++◌}
+use Rattle.std.specs.Prelude.{◌≡◌, ◌≢◌, ◌↔◌, ℕ, ◌+◌, ◌<◌, ◌≤◌, nat_le, Bool, ◌&&◌, Option, Some, None, List, [], ◌∷◌, ◌++◌, filter}
+use Rattle.std.specs.List.{flat_map}
 use Rattle.hv_base.specs.declared.ids.RowId.{RowId}
 use Rattle.hv_wids.specs.WriteIds.{WriteIds}
-use Rattle.hv_dirs.specs.Choice.{Sight, sight_of}
+use Rattle.hv_dirs.specs.Choice.{Sight, sight_of, Wide}
 use Rattle.hv_dirs.specs.Sorting.{rising_by}
 use Rattle.hv_visible.specs.Members.{IsIn}
-use Rattle.hv_visible.specs.History.{Write, Compaction, Minor, Major, end_of, mark_of, write_of, content_of}
-use Rattle.hv_visible.specs.Visible.{Tree, visible_rows, writes_shown, by_id}
+use Rattle.hv_visible.specs.History.{Write, Compaction, Minor, Major, end_of, mark_of, write_of, content_of, inserts_in, deletes_in, rows_in}
+use Rattle.hv_visible.specs.Visible.{Tree, base_chosen, deltas_chosen, deletes_chosen, visible_rows, writes_shown, by_id}
 use Rattle.hv_visible.specs.Stands.{HasDistinctRows}
-use Rattle.hv_visible.specs.Snapshots.{Fate, Open, Committed, Aborted, Forgotten, fate_of, GoesTo, IsUndone, HaveEnded}
+use Rattle.hv_visible.specs.Snapshots.{Fate, Open, Committed, Aborted, Forgotten, fate_of, list_at, list_up_to, GoesTo, IsUndone, HaveEnded}
 use Rattle.hv_visible.specs.Readers.{Reader}
 use Rattle.hv_visible.specs.Laws.{ShowsRows}
-use Rattle.hv_published.specs.State.{State, IsKept, IsOpenList}
+use Rattle.hv_published.specs.State.{State, IsKept, ReachesPast, IsOpenList}
 use Rattle.hv_published.specs.Directories.{Directory, StandsIn, IsChosenIn, ChangesTree, Loses, HasOwn, IsOwnOf, IsMadeBy, HasMade, IsMadeDir, IsLooseDir, IsRetired}
 
 -- two trees show the same rows under a list
@@ -127,6 +128,34 @@ APublishedJobKeeps Found =
     → HasRange job → HaveEnded state.fates (end_of job) → mark_of job ≡ state.next
     → ChangesTree (IsMadeBy job) state.tree tree → HasMade id_of state.writes job tree
     → Keeps id_of state (record state { jobs = job ∷ state.jobs; tree = tree })
+
+-- What a compaction gathers under its list, which ends at its watermark, are just the records that it has to write.
+-- A minor one gathers the records of its range among those of the chosen deltas, a major one the rows that are shown.
+abbrev pub working_sight : {Found : Type 0} → State Found → ℕ → Sight
+working_sight state watermark = sight_of (list_up_to watermark (list_at state.fates))
+
+abbrev pub is_within : ℕ → ℕ → ℕ → Bool
+is_within first last write = nat_le first write && nat_le write last
+
+abbrev pub inserts_gathered : {Found : Type 0} → (Found → RowId) → Sight → Tree Found → ℕ → ℕ → List Found
+inserts_gathered id_of sight tree first last = filter (λ found. is_within first last (write_of (id_of found))) (flat_map tree.inserts (deltas_chosen sight tree))
+
+abbrev pub deletes_gathered : {Found : Type 0} → Sight → Tree Found → ℕ → ℕ → List (RowId × ℕ)
+deletes_gathered sight tree first last = filter (λ (deleted : RowId × ℕ). is_within first last deleted.1) (flat_map tree.deletes (deletes_chosen sight tree))
+
+pub record AJobGathersItsRecords (Found : Type 0) : Type 0 where
+  -- above the base that it reads
+  pub inserts : (id_of : Found → RowId) (state : State Found) (watermark first last : ℕ)
+      → IsKept id_of state → ReachesPast state watermark → last ≤ watermark → base_chosen (working_sight state watermark) state.tree < first
+      → (found : Found) → IsIn found (inserts_gathered id_of (working_sight state watermark) state.tree first last) ↔ IsIn found (inserts_in state.writes (Wide first last))
+  pub deletes : (id_of : Found → RowId) (state : State Found) (watermark first last : ℕ)
+      → IsKept id_of state → ReachesPast state watermark → last ≤ watermark → base_chosen (working_sight state watermark) state.tree < first
+      → (deleted : RowId × ℕ) → IsIn deleted (deletes_gathered (working_sight state watermark) state.tree first last) ↔ IsIn deleted (deletes_in state.writes (Wide first last))
+  -- up to the last write below the watermark
+  pub rows : (id_of : Found → RowId) (state : State Found) (watermark last : ℕ)
+      → IsKept id_of state → ReachesPast state watermark → last ≤ watermark
+      → ((w : Write Found) → IsIn w state.writes → w.write ≤ watermark → w.write ≤ last)
+      → (found : Found) → IsIn found (visible_rows id_of (working_sight state watermark) state.tree) ↔ IsIn found (rows_in id_of state.writes last)
 
 -- ---- removals
 

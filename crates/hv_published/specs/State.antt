@@ -37,11 +37,14 @@ pub record IsKept {Found : Type 0} (id_of : Found → RowId) (state : State Foun
   pub seen : (reader : Reader) → IsIn reader state.readers → HasSeen state reader
   pub stands : Stands id_of (IsPast state.open_txns) (IsUndone state.fates) state.writes state.jobs state.tree
 
+-- no compaction in the past goes beyond the watermark
+abbrev pub ReachesPast : {Found : Type 0} → State Found → ℕ → Type 0
+ReachesPast state watermark = (job : Compaction) → IsIn job state.jobs → IsPast state.open_txns job → end_of job ≤ watermark
+
 -- The lists under which somebody may read: that of an open snapshot, that of the end of the book, which is the next
--- one's, and that of a compaction at work, which ends at a watermark that no compaction in the past is above.
+-- one's, and that of a compaction at work, which is that of the end up to a watermark.
 abbrev pub IsOpenList : {Found : Type 0} → State Found → WriteIds → Type 0
 IsOpenList state list =
     ((reader : Reader) × IsIn reader state.readers × (list_at reader.before ≡ list))
     ⊎ ((list_at state.fates ≡ list)
-    ⊎ ((watermark : ℕ) × ((job : Compaction) → IsIn job state.jobs → IsPast state.open_txns job → end_of job ≤ watermark)
-    × (list_up_to watermark (list_at state.fates) ≡ list)))
+    ⊎ ((watermark : ℕ) × ReachesPast state watermark × (list_up_to watermark (list_at state.fates) ≡ list)))

@@ -1,4 +1,4 @@
-ghost use Rattle.hv_published.specs.Laws.{ANewPartitionIsKept, AnOpenListShowsContent, ACommitKeeps, EachOtherEntryKeeps, AnAbortedWriteKeeps, APublishedJobKeeps, ALooseOneIsRetired, ARemovalKeeps};
+ghost use Rattle.hv_published.specs.Laws.{ANewPartitionIsKept, AnOpenListShowsContent, ACommitKeeps, EachOtherEntryKeeps, AnAbortedWriteKeeps, APublishedJobKeeps, AJobGathersItsRecords, ALooseOneIsRetired, ARemovalKeeps};
 ghost use Rattle.hv_published.specs.Worked.{RowsByHand, StepsByHand};
 
 /// A partition of which nothing stands and nothing is written has what always holds.
@@ -30,6 +30,11 @@ pub fn each_other_entry_keeps<F>()
 /// A published compaction keeps what must stand, and changes no answer.
 pub fn a_published_job_keeps<F>()
     ensures law { APublishedJobKeeps F }
+{}
+
+/// What a compaction gathers under its list is just what it has to write.
+pub fn a_job_gathers_its_records<F>()
+    ensures law { AJobGathersItsRecords F }
 {}
 
 /// A directory that may be gone is chosen by nobody, and another one that is chosen covers it.
