@@ -1,0 +1,9 @@
+pub mod ChangeLemmas
+pub mod CommitLemmas
+pub mod EndLemmas
+pub mod EntryLemmas
+pub mod GatherLemmas
+pub mod JobLemmas
+pub mod RetiredLemmas
+pub mod StateLemmas
+pub mod WorkedLemmas
