@@ -1,0 +1,4 @@
+pub mod Deletes
+pub mod Laws
+pub mod Partitions
+pub mod Worked
