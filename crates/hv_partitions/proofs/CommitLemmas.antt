@@ -117,7 +117,7 @@ all-shown s table partition sound =
     let done = committed-in s table partition sound w at in
     ap (λ list. is_valid list w.write) (list-in s table) ∙ valid-same (fates_in s table) w.write done.counted ∙ ap is_seen done.fate_is)
 
-content-written : (o : Option Table) → content_of (written_in o) ≡ content_in o
+pub content-written : (o : Option Table) → content_of (written_in o) ≡ content_in o
 unfolding content_of
 content-written None = refl
 content-written (Some t) = refl

@@ -5,3 +5,4 @@ pub mod ListLemmas
 pub mod SnapshotLemmas
 pub mod StoodLemmas
 pub mod WorkedLemmas
+pub mod SinceLemmas

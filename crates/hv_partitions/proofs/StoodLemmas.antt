@@ -40,7 +40,7 @@ use Rattle.hv_partitions.proofs.SnapshotLemmas.{front-then, IsLater, tables-go-o
 
 -- ---- it stays so
 
-owner-front : (xs ys : List ℕ) (n txn : ℕ) → IsFront xs ys → numbered xs n ≡ Some txn → numbered ys n ≡ Some txn
+pub owner-front : (xs ys : List ℕ) (n txn : ℕ) → IsFront xs ys → numbered xs n ≡ Some txn → numbered ys n ≡ Some txn
 owner-front xs ys n txn front e =
     let m = found (λ y. txn ≡ y) (numbered (xs ++ front.more) n) (kept-more (λ x y. x ≡ y) (λ x. refl) xs front.more n txn e) in
     ap (λ l. numbered l n) front.is ∙ m.1 ∙ ap Some (sym m.2)
@@ -87,10 +87,10 @@ changed-from f xs (suc n) (suc k) y e =
     (m.0, m.1, elim m.2 [ inl same ↦ inl same | inr new ↦ inr (ap suc new.0, new.1) ])
 
 -- of these tables it was written before
-abbrev WasWritten : List Table → ℕ → Written → Type 0
+abbrev pub WasWritten : List Table → ℕ → Written → Type 0
 WasWritten tables number written = (table : Table) × (numbered tables number ≡ Some table) × IsIn written table.writes
 
-given-was : (txn key : ℕ) (tables : List Table) (number : ℕ) (next : Table) (written : Written) → numbered (changed (owned txn) tables key) number ≡ Some next
+pub given-was : (txn key : ℕ) (tables : List Table) (number : ℕ) (next : Table) (written : Written) → numbered (changed (owned txn) tables key) number ≡ Some next
     → IsIn written next.writes → WasWritten tables number written
 given-was txn key tables number next written is at =
     let m = changed-from (owned txn) tables key number next is in (
@@ -102,7 +102,7 @@ given-was txn key tables number next written is at =
       ],
     )
 
-made-was : (tables : List Table) (made : Table) → made.writes ≡ [] → (number : ℕ) (next : Table) (written : Written)
+pub made-was : (tables : List Table) (made : Table) → made.writes ≡ [] → (number : ℕ) (next : Table) (written : Written)
     → numbered (tables ++ made ∷ []) number ≡ Some next → IsIn written next.writes → WasWritten tables number written
 made-was tables made none number next written is at = elim (numbered-or-last tables made number next is) [
   | inl old ↦ (next, old, at)
@@ -110,7 +110,7 @@ made-was tables made none number next written is at = elim (numbered-or-last tab
 ]
 
 -- written before, or what is written now
-wrote-was : (x : ℕ × Written) (tables : List Table) (number : ℕ) (next : Table) (written : Written) → numbered (changed (written_to x.1) tables x.0) number ≡ Some next
+pub wrote-was : (x : ℕ × Written) (tables : List Table) (number : ℕ) (next : Table) (written : Written) → numbered (changed (written_to x.1) tables x.0) number ≡ Some next
     → IsIn written next.writes → WasWritten tables number written ⊎ ((number ≡ x.0) × (x.1 ≡ written))
 wrote-was x tables number next written is at =
     let m = changed-from (written_to x.1) tables x.0 number next is in
@@ -124,7 +124,7 @@ wrote-was x tables number next written is at =
 
 -- ---- what a commit writes
 
-abbrev OneWrite : Option Meaning → List (ℕ × ℕ) → List (ℕ × Written) → Type 0
+abbrev pub OneWrite : Option Meaning → List (ℕ × ℕ) → List (ℕ × Written) → Type 0
 OneWrite m given ws =
     (ws ≡ []) ⊎ ((info : TableInfo) × (effect : Effect) × (write : ℕ) × (m ≡ Some (Change info effect)) × (given_in info.table.0 given ≡ Some write)
     × (ws ≡ (info.table.0, written_by info.shape write 0 effect) ∷ []))
@@ -144,7 +144,7 @@ one-write (Some Plain) given = inl refl
 one-write (Some RowLimit) given = inl refl
 one-write (Some PartitionLimit) given = inl refl
 
-single-writes : (infos : List TableInfo) (t : Transaction) → IsSingle infos t → OneWrite (meaning t) t.given (commits (Some t))
+pub single-writes : (infos : List TableInfo) (t : Transaction) → IsSingle infos t → OneWrite (meaning t) t.given (commits (Some t))
 single-writes infos t single =
     subst (λ m. OneWrite m t.given (commits (Some t))) (sym (meaning-single t single.statement single.one))
     (subst (OneWrite single.statement.meaning t.given)

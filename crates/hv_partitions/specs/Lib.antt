@@ -2,3 +2,4 @@ pub mod Deletes
 pub mod Laws
 pub mod Partitions
 pub mod Worked
+pub mod Since

@@ -1,3 +1,4 @@
+ghost use Rattle.hv_partitions.specs.Since.{PlacesAreSince, ListShowsThen};
 ghost use Rattle.hv_partitions.specs.Worked.{ByHand};
 ghost use Rattle.hv_partitions.specs.Deletes.{DeletedRowsStood, DeletesAreLater, HistoryIsSound};
 ghost use Rattle.hv_partitions.specs.Laws.{IdsAreSound, WritesAreCommitted, ListIsOfFates, ContentIsOfPartition, ListShowsContent};
@@ -45,4 +46,14 @@ pub fn history_is_sound()
 /// Two inserts and a delete, in two partitions, worked out by hand.
 pub fn writes_by_hand()
     ensures law { ByHand }
+{}
+
+/// The writes at a place of a book, and those since.
+pub fn places_are_since()
+    ensures law { PlacesAreSince }
+{}
+
+/// Under the list at a place all writes of now show what stood there of the table in the partition.
+pub fn list_shows_then()
+    ensures law { ListShowsThen }
 {}
