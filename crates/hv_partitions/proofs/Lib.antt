@@ -6,3 +6,4 @@ pub mod SnapshotLemmas
 pub mod StoodLemmas
 pub mod WorkedLemmas
 pub mod SinceLemmas
+pub mod StateLemmas

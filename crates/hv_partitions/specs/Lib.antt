@@ -3,3 +3,4 @@ pub mod Laws
 pub mod Partitions
 pub mod Worked
 pub mod Since
+pub mod States

@@ -1,3 +1,4 @@
+ghost use Rattle.hv_partitions.specs.States.{PartitionsAreKept, ReadersSeeTheirContent};
 ghost use Rattle.hv_partitions.specs.Since.{PlacesAreSince, ListShowsThen};
 ghost use Rattle.hv_partitions.specs.Worked.{ByHand};
 ghost use Rattle.hv_partitions.specs.Deletes.{DeletedRowsStood, DeletesAreLater, HistoryIsSound};
@@ -56,4 +57,14 @@ pub fn places_are_since()
 /// Under the list at a place all writes of now show what stood there of the table in the partition.
 pub fn list_shows_then()
     ensures law { ListShowsThen }
+{}
+
+/// Where its directories stand, all holds of a partition of a book that publications and removals keep.
+pub fn partitions_are_kept()
+    ensures law { PartitionsAreKept }
+{}
+
+/// Whatever is published of a partition, an open transaction reads what stood there at its snapshot.
+pub fn readers_see_their_content()
+    ensures law { ReadersSeeTheirContent }
 {}
