@@ -7,3 +7,4 @@ pub mod StoodLemmas
 pub mod WorkedLemmas
 pub mod SinceLemmas
 pub mod StateLemmas
+pub mod PlaceLemmas

@@ -1,5 +1,5 @@
 -- A partition of a book is kept, and its readers see their content.
-use Rattle.std.proofs.Common.{refl, ◌≡◌, inl, inr, ℕ, zero, suc, ◌+◌, ◌<◌, Bool, true, false, cond, Option, Some, None, List, [], ◌∷◌, ◌++◌, length, take, sym, ap, ◌∙◌, subst, arith}
+use Rattle.std.proofs.Common.{refl, ◌≡◌, inl, inr, ℕ, zero, suc, ◌+◌, ◌<◌, ◌≤◌, Bool, true, false, cond, Option, Some, None, List, [], ◌∷◌, ◌++◌, length, take, sym, ap, ◌∙◌, subst, arith}
 use Rattle.std.specs.Prelude.{IsTrue}
 use Rattle.std.specs.List.{slice_get}
 use Rattle.hv_wids.specs.WriteIds.{WriteIds}
@@ -12,17 +12,20 @@ use Rattle.hv_history.specs.State.{numbered, state_of}
 use Rattle.hv_history.specs.Legal.{is_open}
 use Rattle.hv_earlier.specs.Lists as lists
 use Rattle.hv_stands.proofs.Numbers.{one_value}
-use Rattle.hv_visible.specs.Members.{IsIn}
+use Rattle.hv_visible.specs.Members.{IsIn, HasNoTies}
+use Rattle.hv_visible.specs.Stands.{HasDistinctRows}
+use Rattle.hv_visible.proofs.SortingLemmas.{distinct-left, distinct-right}
+use Rattle.std.proofs.lemmas.List.{append-nil}
 use Rattle.hv_visible.specs.History as visible
-use Rattle.hv_visible.specs.History.{Write}
-use Rattle.hv_visible.specs.Visible.{writes_shown}
+use Rattle.hv_visible.specs.History.{Write, write_of, inserts_of}
+use Rattle.hv_visible.specs.Visible.{writes_shown, by_id}
 use Rattle.hv_visible.specs.Snapshots.{Fate, list_at}
 use Rattle.hv_visible.specs.Readers.{Reader}
 use Rattle.hv_visible.proofs.MemberLemmas.{in-right, in-either}
 use Rattle.hv_published.specs.State.{IsOpenList}
 use Rattle.hv_published.proofs.StateLemmas.{list-shows}
 use Rattle.hv_partitions.specs.Partitions.{id_of, writes_in, fates_in}
-use Rattle.hv_partitions.specs.States.{open_from, reader_by, readers_from, PartitionsAreKept, ReadersSeeTheirContent}
+use Rattle.hv_partitions.specs.States.{open_from, reader_by, readers_from, PartitionsAreKept, ReadersSeeTheirContent, WritesAreOfTheirIds}
 use Rattle.hv_partitions.proofs.ListLemmas.{list-in}
 use Rattle.hv_partitions.proofs.CommitLemmas.{book-sound, writes-committed}
 use Rattle.hv_partitions.proofs.IdLemmas.{sound-ids}
@@ -106,6 +109,32 @@ module _ (entries : List Entry) (table : ℕ) where
       → Reads snapshot (readers_from entries table 1 ts)
   reads zero ts t snapshot e open_one taken = cc
   reads (suc k) ts t snapshot e open_one taken = reads-slice 1 k ts t snapshot e open_one taken
+
+-- ---- one write
+
+one-of : {A : Type 0} (P : A → Type 0) (x : A) → P x → (y : A) → IsIn y (x ∷ []) → P y
+one-of P x is y (inl e) = subst P e is
+one-of P x is y (inr at) = absurd at
+
+-- no two of its rows tie, as no two of all do
+distinct-here : (writes : List (Write Found)) (w : Write Found) → HasDistinctRows id_of writes → IsIn w writes → HasDistinctRows id_of (w ∷ [])
+distinct-here [] w distinct at = absurd at
+distinct-here (first ∷ writes) w distinct (inl e) =
+    subst (λ (v : Write Found). HasDistinctRows id_of (v ∷ [])) e
+    (subst (HasNoTies (by_id id_of)) (sym (append-nil first.inserts)) (distinct-left (by_id id_of) first.inserts (inserts_of writes) distinct))
+distinct-here (first ∷ writes) w distinct (inr at) =
+    distinct-here writes w (distinct-right (by_id id_of) first.inserts (inserts_of writes) distinct) at
+
+pub writes-of-ids : WritesAreOfTheirIds
+writes-of-ids limits entries table partition w fit at =
+    let ids = sound-ids (state_of entries) table partition (book-sound limits entries fit) in
+    let sound = history-sound limits entries table partition 0 fit in
+    record {
+      one = one-of (λ (v : Write Found). v.write ≡ w.write) w refl;
+      carried = λ v row here. one-of (λ (u : Write Found). IsIn row u.inserts → write_of row.id ≡ w.write) w (sound.carried w row at) v here;
+      earlier = λ v id here. one-of (λ (u : Write Found). IsIn id u.deletes → write_of id ≤ w.write) w (sound.earlier w id at) v here;
+      distinct = distinct-here (writes_in (state_of entries) table partition) w ids.distinct at;
+    }
 
 -- ---- the laws
 

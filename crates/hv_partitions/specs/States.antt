@@ -10,11 +10,13 @@ use Rattle.hv_history.specs.State as book
 use Rattle.hv_history.specs.Legal.{AllFit, is_open}
 use Rattle.hv_earlier.specs.Lists as earlier
 use Rattle.hv_visible.specs.Members.{IsIn}
+use Rattle.hv_visible.specs.History.{Write}
 use Rattle.hv_visible.specs.Visible.{Tree, visible_rows}
 use Rattle.hv_visible.specs.Stands.{Stands}
 use Rattle.hv_visible.specs.Snapshots.{IsUndone}
 use Rattle.hv_visible.specs.Readers.{Reader, IsPast}
 use Rattle.hv_published.specs.State.{State, IsKept}
+use Rattle.hv_published.specs.Laws.{IsWrittenBy}
 use Rattle.hv_partitions.specs.Partitions.{id_of, writes_in, fates_in}
 
 -- the numbers of the transactions that are open, where the first one's is given
@@ -67,3 +69,9 @@ ReadersSeeTheirContent =
     → book.numbered (book.state_of entries).transactions txn ≡ Some transaction → IsTrue (is_open transaction) → transaction.snapshot ≡ Some snapshot
     → IsIn found (visible_rows id_of (sight_of (earlier.list_at entries snapshot.place table)) state.tree)
     ↔ (IsIn found (book.content (book.state_of (take snapshot.place entries)) table) × (found.partition ≡ partition))
+
+-- What a transaction wrote in the partition is what the law on commits asks of it.
+abbrev pub WritesAreOfTheirIds : Type 0
+WritesAreOfTheirIds =
+    (limits : Limits) (entries : List Entry) (table : ℕ) (partition : List ℕ) (w : Write Found) → AllFit limits book.nothing_yet entries
+    → IsIn w (writes_in (book.state_of entries) table partition) → IsWrittenBy id_of w.write (w ∷ [])

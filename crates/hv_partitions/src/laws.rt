@@ -1,5 +1,5 @@
-ghost use Rattle.hv_partitions.specs.States.{PartitionsAreKept, ReadersSeeTheirContent};
-ghost use Rattle.hv_partitions.specs.Since.{PlacesAreSince, ListShowsThen};
+ghost use Rattle.hv_partitions.specs.States.{PartitionsAreKept, ReadersSeeTheirContent, WritesAreOfTheirIds};
+ghost use Rattle.hv_partitions.specs.Since.{PlacesAreSince, ListShowsThen, SnapshotsAreOfPlaces};
 ghost use Rattle.hv_partitions.specs.Worked.{ByHand};
 ghost use Rattle.hv_partitions.specs.Deletes.{DeletedRowsStood, DeletesAreLater, HistoryIsSound};
 ghost use Rattle.hv_partitions.specs.Laws.{IdsAreSound, WritesAreCommitted, ListIsOfFates, ContentIsOfPartition, ListShowsContent};
@@ -67,4 +67,14 @@ pub fn partitions_are_kept()
 /// Whatever is published of a partition, an open transaction reads what stood there at its snapshot.
 pub fn readers_see_their_content()
     ensures law { ReadersSeeTheirContent }
+{}
+
+/// A snapshot has the tables as they were at its place of the book.
+pub fn snapshots_are_of_places()
+    ensures law { SnapshotsAreOfPlaces }
+{}
+
+/// What a transaction wrote in a partition is what the law on commits asks of it.
+pub fn writes_are_of_their_ids()
+    ensures law { WritesAreOfTheirIds }
 {}
