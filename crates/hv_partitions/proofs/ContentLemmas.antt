@@ -86,7 +86,7 @@ module _ (partition : List ℕ) where
       ∙ sym (map-append id_of (rows_of partition written.deletes) (rows_of partition rest))
       ∙ ap (map id_of) (sym (filter-append (is_of partition) written.deletes rest))
 
-  deleted-same : (writes : List Written) (found : Found) → found.partition ≡ partition
+  pub deleted-same : (writes : List Written) (found : Found) → found.partition ≡ partition
       → visible.is_deleted (writes_of partition writes) found.id ≡ is_deleted writes found
   deleted-same writes found here =
       ap (list_any (λ (other : RowId). is_row other found.id)) (deletes-same writes)
@@ -130,7 +130,7 @@ module _ {X : Type 0} (cmp : X → X → Ordering) where
   in-put-by Greater z x y ys put h (inl e) = inr (inl e)
   in-put-by Greater z x y ys put h (inr at) = elim (h at) [ inl e ↦ inl e | inr there ↦ inr (inr there) ]
 
-  from-put : (z x : X) (ys : List X) → IsIn z (put_by cmp x ys) → (x ≡ z) ⊎ IsIn z ys
+  pub from-put : (z x : X) (ys : List X) → IsIn z (put_by cmp x ys) → (x ≡ z) ⊎ IsIn z ys
   from-put z x [] at = at
   from-put z x (y ∷ ys) at = in-put-by (cmp x y) z x y ys (put_by cmp x ys) (from-put z x ys) at
 

@@ -8,3 +8,4 @@ pub mod WorkedLemmas
 pub mod SinceLemmas
 pub mod StateLemmas
 pub mod PlaceLemmas
+pub mod OrderLemmas

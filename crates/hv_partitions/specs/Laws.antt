@@ -3,6 +3,7 @@ use Rattle.std.specs.Prelude.{◌≡◌, ◌≢◌, ◌↔◌, ℕ, ◌≤◌, S
 use Rattle.std.specs.List.{AllByRecursion}
 use Rattle.hv_base.specs.declared.ids.Limits.{Limits}
 use Rattle.hv_dirs.specs.Choice.{sight_of}
+use Rattle.hv_dirs.specs.Sorting.{sorted_by}
 use Rattle.hv_logic.specs.declared.effect.Found.{Found}
 use Rattle.hv_history.specs.declared.entry.Entry.{Entry}
 use Rattle.hv_history.specs.declared.state.Written.{Written}
@@ -11,10 +12,10 @@ use Rattle.hv_history.specs.Legal.{AllFit}
 use Rattle.hv_earlier.specs.Lists as earlier
 use Rattle.hv_visible.specs.Members.{IsIn}
 use Rattle.hv_visible.specs.History.{Write, write_of, content_of}
-use Rattle.hv_visible.specs.Visible.{writes_shown}
+use Rattle.hv_visible.specs.Visible.{writes_shown, by_id}
 use Rattle.hv_visible.specs.Stands.{HasDistinctRows}
 use Rattle.hv_visible.specs.Snapshots.{Committed, fate_of, list_at}
-use Rattle.hv_partitions.specs.Partitions.{id_of, writes_of, writes_in, fates_in}
+use Rattle.hv_partitions.specs.Partitions.{id_of, rows_of, writes_of, writes_in, fates_in}
 
 -- ---- identifiers
 
@@ -67,6 +68,11 @@ abbrev pub ContentIsOfPartition : Type 0
 ContentIsOfPartition =
     (partition : List ℕ) (writes : List Written) (found : Found)
     → IsIn found (content_of id_of (writes_of partition writes)) ↔ (IsIn found (book.content_of writes) × (found.partition ≡ partition))
+
+-- and as one list, in the order in which rows stand
+abbrev pub ContentIsInOrder : Type 0
+ContentIsInOrder =
+    (partition : List ℕ) (writes : List Written) → sorted_by (by_id id_of) (content_of id_of (writes_of partition writes)) ≡ rows_of partition (book.content_of writes)
 
 -- under the list at a place, the writes that were committed before it show what stood there in the table, in the partition
 abbrev pub ListShowsContent : Type 0

@@ -2,7 +2,7 @@ ghost use Rattle.hv_partitions.specs.States.{PartitionsAreKept, ReadersSeeTheirC
 ghost use Rattle.hv_partitions.specs.Since.{PlacesAreSince, ListShowsThen, SnapshotsAreOfPlaces};
 ghost use Rattle.hv_partitions.specs.Worked.{ByHand};
 ghost use Rattle.hv_partitions.specs.Deletes.{DeletedRowsStood, DeletesAreLater, HistoryIsSound};
-ghost use Rattle.hv_partitions.specs.Laws.{IdsAreSound, WritesAreCommitted, ListIsOfFates, ContentIsOfPartition, ListShowsContent};
+ghost use Rattle.hv_partitions.specs.Laws.{IdsAreSound, WritesAreCommitted, ListIsOfFates, ContentIsOfPartition, ContentIsInOrder, ListShowsContent};
 
 /// Inserted rows carry their write id and statement, and no two of a partition have one identifier.
 pub fn ids_are_sound()
@@ -22,6 +22,7 @@ pub fn list_is_of_fates()
 /// What is left of a partition's writes is what stands of the table in the partition.
 pub fn content_is_of_partition()
     ensures law { ContentIsOfPartition }
+    ensures ordered { ContentIsInOrder }
 {}
 
 /// Under the list at a place they show what stood of the table in the partition.
