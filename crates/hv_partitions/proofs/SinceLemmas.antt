@@ -372,17 +372,22 @@ places-since limits entries place table partition fit =
       since-is s (state_of entries) sound sound_now on came table partition,
     )
 
-pub list-shows-then : ListShowsThen
-list-shows-then limits entries place table partition row fit =
+pub shown-then : (limits : Limits) (entries : List Entry) (place table : ℕ) (partition : List ℕ) → AllFit limits nothing_yet entries
+    → writes_shown (sight_of (lists.list_at entries place table)) (writes_in (state_of entries) table partition) ≡ writes_in (state_of (take place entries)) table partition
+shown-then limits entries place table partition fit =
     let s : State = state_of (take place entries) in
     let m = places-since limits entries place table partition fit in
     let sound_now = book-sound limits entries fit in
     let all : writes_shown (sight_of (list_at (fates_in s table))) (writes_in s table partition ++ m.0) ≡ writes_in s table partition =
     snapshot-shows (fates_in s table) (fates_in (state_of entries) table) (writes_in s table partition) m.0 m.2
     (λ w at. (committed-in (state_of entries) table partition sound_now w (subst (IsIn w) (sym m.1) at)).counted) in
-    let shown : writes_shown (sight_of (lists.list_at entries place table)) (writes_in (state_of entries) table partition) ≡ writes_in s table partition =
     ap (λ list. writes_shown (sight_of list) (writes_in (state_of entries) table partition)) (list-in s table)
-    ∙ ap (writes_shown (sight_of (list_at (fates_in s table)))) m.1 ∙ all in
+    ∙ ap (writes_shown (sight_of (list_at (fates_in s table)))) m.1 ∙ all
+
+pub list-shows-then : ListShowsThen
+list-shows-then limits entries place table partition row fit =
+    let s : State = state_of (take place entries) in
+    let shown = shown-then limits entries place table partition fit in
     let same = content-of-partition partition (written_in (numbered s.tables table)) row in
     let rows = content-written (numbered s.tables table) in (
       λ at. subst (λ xs. IsIn row xs × (row.partition ≡ partition)) rows (same.0 (subst (λ ws. IsIn row (visible.content_of id_of ws)) shown at)),

@@ -4,6 +4,7 @@ use Rattle.std.specs.Prelude.{IsTrue}
 use Rattle.std.specs.List.{slice_get}
 use Rattle.hv_wids.specs.WriteIds.{WriteIds}
 use Rattle.hv_dirs.specs.Choice.{sight_of}
+use Rattle.hv_dirs.specs.Sorting.{sorted_by}
 use Rattle.hv_logic.specs.declared.effect.Found.{Found}
 use Rattle.hv_history.specs.declared.entry.Entry.{Entry}
 use Rattle.hv_history.specs.declared.state.Snapshot.{Snapshot}
@@ -24,13 +25,14 @@ use Rattle.hv_visible.specs.Readers.{Reader}
 use Rattle.hv_visible.proofs.MemberLemmas.{in-right, in-either}
 use Rattle.hv_published.specs.State.{IsOpenList}
 use Rattle.hv_published.proofs.StateLemmas.{list-shows}
-use Rattle.hv_partitions.specs.Partitions.{id_of, writes_in, fates_in}
-use Rattle.hv_partitions.specs.States.{open_from, reader_by, readers_from, PartitionsAreKept, ReadersSeeTheirContent, WritesAreOfTheirIds}
+use Rattle.hv_partitions.specs.Partitions.{id_of, rows_of, written_in, writes_in, fates_in}
+use Rattle.hv_partitions.specs.States.{open_from, reader_by, readers_from, PartitionsAreKept, ReadersSeeTheirContent, ReadersSeeItInOrder, WritesAreOfTheirIds}
 use Rattle.hv_partitions.proofs.ListLemmas.{list-in}
-use Rattle.hv_partitions.proofs.CommitLemmas.{book-sound, writes-committed}
+use Rattle.hv_partitions.proofs.CommitLemmas.{book-sound, writes-committed, content-written}
 use Rattle.hv_partitions.proofs.IdLemmas.{sound-ids}
 use Rattle.hv_partitions.proofs.StoodLemmas.{history-sound}
-use Rattle.hv_partitions.proofs.SinceLemmas.{places-since, list-shows-then}
+use Rattle.hv_partitions.proofs.SinceLemmas.{places-since, shown-then, list-shows-then}
+use Rattle.hv_partitions.proofs.OrderLemmas.{content-in-order}
 
 -- ---- open transactions
 
@@ -181,3 +183,18 @@ readers-see limits entries table partition state txn t snapshot row fit is_of ke
       λ seen. read.0 (subst (λ ws. IsIn row (visible.content_of id_of (writes_shown (sight_of list) ws))) is_of.writes (shows.0 seen)),
       λ stood. shows.1 (subst (λ ws. IsIn row (visible.content_of id_of (writes_shown (sight_of list) ws))) (sym is_of.writes) (read.1 stood)),
     )
+
+pub readers-in-order : ReadersSeeItInOrder
+unfolding Reads
+readers-in-order limits entries table partition state txn t snapshot fit is_of kept at open_one taken =
+    let s = state_of (take snapshot.place entries) in
+    let m = reads entries table txn (state_of entries).transactions t snapshot at open_one taken in
+    let list : WriteIds = lists.list_at entries snapshot.place table in
+    let same : list_at m.0.before ≡ list = ap list_at m.2 ∙ sym (list-in s table) in
+    let listed : IsOpenList state list = inl (m.0, subst (IsIn m.0) (sym is_of.readers) m.1, same) in
+    let shown : writes_shown (sight_of list) state.writes ≡ writes_in s table partition =
+    ap (writes_shown (sight_of list)) is_of.writes ∙ shown-then limits entries snapshot.place table partition fit in
+    (list-shows id_of state list kept listed).whole
+    ∙ ap (λ ws. sorted_by (by_id id_of) (visible.content_of id_of ws)) shown
+    ∙ content-in-order partition (written_in (numbered s.tables table))
+    ∙ ap (rows_of partition) (content-written (numbered s.tables table))

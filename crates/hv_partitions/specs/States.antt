@@ -2,6 +2,7 @@
 use Rattle.std.specs.Prelude.{◌≡◌, ◌↔◌, ℕ, ◌+◌, if◌then◌else◌, IsTrue, Option, Some, None, List, [], ◌∷◌, ◌++◌, length, take}
 use Rattle.hv_base.specs.declared.ids.Limits.{Limits}
 use Rattle.hv_dirs.specs.Choice.{sight_of}
+use Rattle.hv_dirs.specs.Sorting.{rising_by}
 use Rattle.hv_logic.specs.declared.effect.Found.{Found}
 use Rattle.hv_history.specs.declared.entry.Entry.{Entry}
 use Rattle.hv_history.specs.declared.state.Snapshot.{Snapshot}
@@ -11,13 +12,13 @@ use Rattle.hv_history.specs.Legal.{AllFit, is_open}
 use Rattle.hv_earlier.specs.Lists as earlier
 use Rattle.hv_visible.specs.Members.{IsIn}
 use Rattle.hv_visible.specs.History.{Write}
-use Rattle.hv_visible.specs.Visible.{Tree, visible_rows}
+use Rattle.hv_visible.specs.Visible.{Tree, visible_rows, by_id}
 use Rattle.hv_visible.specs.Stands.{Stands}
 use Rattle.hv_visible.specs.Snapshots.{IsUndone}
 use Rattle.hv_visible.specs.Readers.{Reader, IsPast}
 use Rattle.hv_published.specs.State.{State, IsKept}
 use Rattle.hv_published.specs.Laws.{IsWrittenBy}
-use Rattle.hv_partitions.specs.Partitions.{id_of, writes_in, fates_in}
+use Rattle.hv_partitions.specs.Partitions.{id_of, rows_of, writes_in, fates_in}
 
 -- the numbers of the transactions that are open, where the first one's is given
 abbrev pub open_from : ℕ → List Transaction → List ℕ
@@ -69,6 +70,15 @@ ReadersSeeTheirContent =
     → book.numbered (book.state_of entries).transactions txn ≡ Some transaction → IsTrue (is_open transaction) → transaction.snapshot ≡ Some snapshot
     → IsIn found (visible_rows id_of (sight_of (earlier.list_at entries snapshot.place table)) state.tree)
     ↔ (IsIn found (book.content (book.state_of (take snapshot.place entries)) table) × (found.partition ≡ partition))
+
+-- And as one list, in the order in which they stood.
+abbrev pub ReadersSeeItInOrder : Type 0
+ReadersSeeItInOrder =
+    (limits : Limits) (entries : List Entry) (table : ℕ) (partition : List ℕ) (state : State Found) (txn : ℕ) (transaction : Transaction) (snapshot : Snapshot)
+    → AllFit limits book.nothing_yet entries → IsPartitionOf entries table partition state → IsKept id_of state
+    → book.numbered (book.state_of entries).transactions txn ≡ Some transaction → IsTrue (is_open transaction) → transaction.snapshot ≡ Some snapshot
+    → rising_by (by_id id_of) (visible_rows id_of (sight_of (earlier.list_at entries snapshot.place table)) state.tree)
+    ≡ rows_of partition (book.content (book.state_of (take snapshot.place entries)) table)
 
 -- What a transaction wrote in the partition is what the law on commits asks of it.
 abbrev pub WritesAreOfTheirIds : Type 0

@@ -1,4 +1,4 @@
-ghost use Rattle.hv_partitions.specs.States.{PartitionsAreKept, ReadersSeeTheirContent, WritesAreOfTheirIds};
+ghost use Rattle.hv_partitions.specs.States.{PartitionsAreKept, ReadersSeeTheirContent, ReadersSeeItInOrder, WritesAreOfTheirIds};
 ghost use Rattle.hv_partitions.specs.Since.{PlacesAreSince, ListShowsThen, SnapshotsAreOfPlaces};
 ghost use Rattle.hv_partitions.specs.Worked.{ByHand};
 ghost use Rattle.hv_partitions.specs.Deletes.{DeletedRowsStood, DeletesAreLater, HistoryIsSound};
@@ -68,6 +68,7 @@ pub fn partitions_are_kept()
 /// Whatever is published of a partition, an open transaction reads what stood there at its snapshot.
 pub fn readers_see_their_content()
     ensures law { ReadersSeeTheirContent }
+    ensures ordered { ReadersSeeItInOrder }
 {}
 
 /// A snapshot has the tables as they were at its place of the book.
