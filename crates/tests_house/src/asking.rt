@@ -1,0 +1,123 @@
+//! What is asked before a call, so that its condition holds.
+ghost use Rattle.std.specs.Prelude.{◌≡◌, ◌<◌, ◌≤◌, map, None, true, IfOk};
+ghost use Rattle.std.specs.List.{AllByRecursion};
+ghost use Rattle.hv_dirs.specs.Names.{write_end};
+ghost use Rattle.hv_history.specs.State.{given_in};
+ghost use Rattle.hv_book.specs.Briefs.{held_by};
+ghost use Rattle.hv_stands.specs.Files.{place_of_file};
+ghost use Rattle.hv_rowfile.specs.Layout.{RowIsTaken};
+ghost use Rattle.hv_tables.specs.Putting.{CanPut};
+ghost use Rattle.hv_trail.specs.declared.trail.Reader.TheVariants.{Txn};
+ghost use Rattle.hv_trail.specs.Trail.{broken};
+ghost use Rattle.hv_trail.specs.Kept.{trail_of};
+ghost use Rattle.hv_house.specs.Steps.{HoldsId, AreWritten};
+ghost use Rattle.tests_house.specs.Asking.{IsTableOf, AreFilesPut};
+
+use hv_base::{NoMemory, TableId, TxnId, WriteId};
+use hv_book::{Book, Held};
+use hv_history::numbered;
+use hv_house::House;
+use hv_logic::TableInfo;
+use hv_meta::{is_running, made_shape};
+use hv_route::OutFile;
+use hv_rowfile::Rec;
+use hv_shelf::{Place, Shelf};
+use hv_tables::place_of_file;
+use hv_value::{Row, Value};
+use std::alloc::Global;
+
+/// The write id that an open transaction has in a table.
+pub(crate) fn write_of(held: &[Held], txn: u64, table: u64) -> Option<u64>
+    ensures { result ≡ given_in table (held_by txn held.now) }
+{
+    for one in held {
+        if one.txn == txn && one.table == table {
+            return Some(one.write);
+        }
+    }
+    None
+}
+
+/// Whether a running transaction has this write id in that table.
+pub(crate) fn holds_id(book: &Book, txn: TxnId, table: TableId, write: WriteId) -> bool
+    ensures { result ≡ true → HoldsId book.now.entries txn.0 table.0 write.0 }
+{
+    let running = is_running(book, txn);
+    let given = write_of(book.held(), txn.0, table.0);
+    running && given == Some(write.0)
+}
+
+/// The table of this number, where there is one.
+pub(crate) fn table_of(
+    alloc: Global,
+    book: &Book,
+    table: TableId,
+) -> Result<Option<TableInfo>, NoMemory>
+    ensures { IfOk result (IsTableOf book.now.entries) }
+{
+    let Some(note) = numbered(book.tables(), table.0) else {
+        return Ok(None);
+    };
+    if note.id != table.0 {
+        return Ok(None);
+    }
+    let shape = made_shape(alloc, book.table_tree(table.0))?;
+    Ok(Some(TableInfo { table, shape }))
+}
+
+/// Whether a row is one number.
+fn is_number(row: &Row) -> bool
+    ensures { result ≡ true → RowIsTaken row.now }
+{
+    matches!(row.values.as_slice(), [Value::Int(_)])
+}
+
+/// Whether a file can be put: one of deletes, or of one inserted number.
+pub(crate) fn can_put(file: &OutFile) -> bool
+    ensures { result ≡ true → CanPut file.now }
+{
+    if file.deletes {
+        return true;
+    }
+    match file.recs.as_slice() {
+        [Rec::Insert { id, row }] => id.bucket == file.bucket && id.write.0 > 0 && is_number(row),
+        _ => false,
+    }
+}
+
+/// Where these files stand.
+fn places_of(
+    alloc: Global,
+    table: TableId,
+    write: WriteId,
+    files: &[OutFile],
+) -> Result<Vec<Place>, NoMemory>
+    requires first { 1 ≤ write.0 }
+    requires last { write.0 < write_end }
+    ensures { IfOk result (λ places. places.items ≡ map (place_of_file table.0 write.0) files.now) }
+{
+    let mut places = Vec::new(alloc);
+    for file in files {
+        places.push(place_of_file(alloc, table, write, file)?)?;
+    }
+    Ok(places)
+}
+
+/// Whether the marks behind so many say that a transaction put these files.
+pub(crate) fn are_put<D: Shelf>(
+    alloc: Global,
+    house: &House<D>,
+    txn: TxnId,
+    since: u64,
+    table: TableId,
+    write: WriteId,
+    files: &[OutFile],
+) -> Result<bool, NoMemory>
+    requires first { 1 ≤ write.0 }
+    requires last { write.0 < write_end }
+    ensures { IfOk result (λ put. put ≡ true
+        → AreFilesPut (trail_of house.now.trail) txn table.0 write.0 files.now) }
+{
+    let places = places_of(alloc, table, write, files)?;
+    Ok(house.has_put(txn, since, &places))
+}
