@@ -1,6 +1,7 @@
 -- What the questions before a call come to.
 use Rattle.std.proofs.Common.{◌≡◌, ℕ, suc, zero, ◌+◌, ◌*◌, ◌≤◌, ◌<◌, Option, Some, None, Bool, true, false, if◌then◌else◌, List, [], ◌∷◌, ◌++◌, length, map, ℤ, Ok, Err, refl, sym, ap, ◌∙◌, subst, arith}
 use Rattle.std.specs.Prelude.{◌⊎◌, nat_lt, IsTrue, IsSomeAnd, is_none, ◌==◌}
+use Rattle.std.specs.Option.{option_map}
 use Rattle.std.specs.Int.{w32, cast_unsigned}
 use Rattle.std.specs.List.{flat_map, list_all, list_any, AllByRecursion}
 use Rattle.std.proofs.lemmas.Bool.{or_parts}
@@ -27,13 +28,20 @@ use Rattle.hv_route.specs.declared.fault.RouteFault.TheVariants as fault
 use Rattle.hv_history.specs.declared.entry.Entry.{Entry}
 use Rattle.hv_history.specs.declared.entry.Entry.TheVariants as entry
 use Rattle.hv_history.specs.declared.entry.Cause.TheVariants as cause
-use Rattle.hv_history.specs.declared.state.Ending.{Ending}
-use Rattle.hv_history.specs.declared.state.Transaction.{Transaction}
+use Rattle.hv_history.specs.declared.state.Table.{Table}
 use Rattle.hv_history.specs.Spelling.{touch_spelling, entry_spelling}
-use Rattle.hv_history.specs.State.{given_in}
-use Rattle.hv_history.specs.Legal.{IsRunning, is_open}
-use Rattle.hv_book.specs.Briefs.{given_at, given_while}
+use Rattle.hv_history.specs.State.{state_of, numbered}
+use Rattle.hv_book.specs.declared.notes.TableNote.{TableNote}
+use Rattle.hv_book.specs.Briefs.{brief_table}
+use Rattle.hv_shelf.specs.declared.place.Place.{Place}
+use Rattle.hv_logic.specs.declared.catalog.Shape.{Shape}
+use Rattle.hv_route.specs.declared.files.OutFile.{OutFile}
+use Rattle.hv_stands.specs.Files.{place_of_file}
+use Rattle.hv_trail.specs.declared.trail.TrailItem.{TrailItem}
+use Rattle.hv_trail.specs.declared.trail.Reader.TheVariants.{Txn}
+use Rattle.hv_trail.specs.Trail.{HasWritten}
 use Rattle.hv_house.specs.House.{IsSmall}
+use Rattle.tests_house.specs.Asking.{AreTouches, IsTable, AreFilesPut}
 
 -- ---- a row of one number
 
@@ -51,8 +59,8 @@ taken-Int n = subst LayerIsTaken (sym (out-Int n)) tt
 length-Int : (n : ℤ) → length (value_spelling (Int n)) ≡ 5
 length-Int n = ap length (spelled-Int n) ∙ omega (arith, length-four (cast_unsigned w32 n))
 
-pub one-number : (row : Row) (n : ℤ) → row.values ≡ Int n ∷ [] → RowIsTaken row
-one-number row n e =
+pub one_number : (row : Row) (n : ℤ) → row.values ≡ Int n ∷ [] → RowIsTaken row
+one_number row n e =
     let cons : length (flat_map value_spelling (Int n ∷ [])) ≡ length (value_spelling (Int n)) + 0 =
     ap length (flat_map-cons value_spelling (Int n) []) ∙ length-append (value_spelling (Int n)) [] in
     let whole : length (flat_map value_spelling row.values) ≡ length (flat_map value_spelling (Int n ∷ [])) = ap (λ vs. length (flat_map value_spelling vs)) e in
@@ -63,16 +71,24 @@ one-number row n e =
       values = subst (AllByRecursion ValueIsTaken) (sym e) (taken-Int n, tt);
     }
 
--- ---- a write id that a running transaction has
+-- ---- a table by its number
 
-pub has-id : (o : Option Transaction) (given : List (ℕ × ℕ)) (table write : ℕ) → IsSomeAnd o IsRunning → given ≡ given_at o
-    → given_in table given ≡ Some write → IsSomeAnd o (λ (t : Transaction). IsRunning t × (given_in table t.given ≡ Some write))
-has-id None given table write runs is e = absurd runs
-has-id (Some t) given table write runs is e = (runs, by t.ending refl)
-  where
-    by : (ending : Option Ending) → t.ending ≡ ending → given_in table t.given ≡ Some write
-    by None open = sym (ap (given_in table) (is ∙ ap (λ x. given_while x t.given) open)) ∙ e
-    by (Some ending) ended = let yes : is_none t.ending ≡ true = runs.unended in let no : is_none t.ending ≡ false = ap is_none ended in cc
+pub is_table : (book : List Entry) (number : ℕ) (shape : Shape) (note : TableNote) (o : Option Table) → numbered (state_of book).tables number ≡ o
+    → Some note ≡ option_map brief_table o → note.id ≡ number → ((t : Table) → numbered (state_of book).tables number ≡ Some t → t.info.shape ≡ shape)
+    → IsTable book (record { table = record { 0 = number }; shape = shape })
+is_table book number shape note None here is id made = cc
+is_table book number shape note (Some t) here is id made =
+    let noted : note ≡ brief_table t = cc in
+    let number_is : t.info.table.0 ≡ number = sym (ap (λ (n : TableNote). n.id) noted) ∙ id in
+    let shape_is : t.info.shape ≡ shape = made t here in
+    record { table = t; here = here; same = λ k. record { table = record { 0 = number_is k }; shape = shape_is k } }
+
+-- ---- files by their places
+
+pub of_places : (trail : List TrailItem) (txn : TxnId) (table write : ℕ) (files : List OutFile)
+    → AllByRecursion (HasWritten trail (Txn txn)) (map (place_of_file table write) files) → AreFilesPut trail txn table write files
+of_places trail txn table write [] all = tt
+of_places trail txn table write (file ∷ files) all = (all.0, of_places trail txn table write files all.1)
 
 -- ---- short entries
 
@@ -102,12 +118,6 @@ touches_length (t ∷ ts) short =
     ap length (flat_map-cons touch_spelling t ts) ∙ length-append (touch_spelling t) (flat_map touch_spelling ts) in
     omega (arith, here, rest, cons)
 
--- the touches of a change that is within its limits
-pub record AreTouches (info : TableInfo) (effect : Effect) (wrote : List Touch) : Type 0 where
-  pub is : wrote ≡ touches_of info effect
-  pub texts : list_any is_long wrote ≡ false
-  pub count : length wrote ≤ 100
-
 within : (ts wrote : List Touch) → within_limits ts ≡ Ok wrote → (wrote ≡ ts) × (list_any is_long wrote ≡ false) × (length wrote ≤ 100)
 within ts wrote e = by (is_above ts) refl e
   where
@@ -119,9 +129,9 @@ within ts wrote e = by (is_above ts) refl e
         let count : length ts ≤ 100 = grind (arith, nat_tests, both.1) in
         (sym same, subst (λ w. list_any is_long w ≡ false) same both.0, subst (λ (w : List Touch). length w ≤ 100) same count)
 
-pub are-touches : (info : TableInfo) (effect : Effect) (wrote : List Touch) → touched info effect ≡ Ok wrote → AreTouches info effect wrote
+pub are_touches : (info : TableInfo) (effect : Effect) (wrote : List Touch) → touched info effect ≡ Ok wrote → AreTouches info effect wrote
 unfolding touched
-are-touches info effect wrote e = by (list_all (stored_fits info.shape) effect.inserts) e
+are_touches info effect wrote e = by (list_all (stored_fits info.shape) effect.inserts) e
   where
     by : (b : Bool) → (if b then within_limits (touches_of info effect) else Err fault.RowLimit) ≡ Ok wrote → AreTouches info effect wrote
     by true is = let all = within (touches_of info effect) wrote is in record { is = all.0; texts = all.1; count = all.2 }

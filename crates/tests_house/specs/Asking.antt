@@ -1,10 +1,13 @@
 -- What the tests ask of a house before they call it.
-use Rattle.std.specs.Prelude.{◌≡◌, ℕ, Option, Some, None, List}
-use Rattle.std.specs.List.{AllByRecursion}
+use Rattle.std.specs.Prelude.{◌≡◌, ℕ, ◌≤◌, false, Option, Some, None, List, length}
+use Rattle.std.specs.List.{AllByRecursion, list_any}
 use Rattle.hv_base.specs.declared.ids.TxnId.{TxnId}
+use Rattle.hv_base.specs.declared.ids.Touch.{Touch}
 use Rattle.hv_shelf.specs.Plan.{Memory}
 use Rattle.hv_shelf.specs.Disk.{Store}
 use Rattle.hv_logic.specs.declared.catalog.TableInfo.{TableInfo}
+use Rattle.hv_logic.specs.declared.effect.Effect.{Effect}
+use Rattle.hv_route.specs.Touching.{touches_of, is_long}
 use Rattle.hv_route.specs.declared.files.OutFile.{OutFile}
 use Rattle.hv_history.specs.declared.entry.Entry.{Entry}
 use Rattle.hv_history.specs.declared.state.Table.{Table}
@@ -36,3 +39,9 @@ told_memory m = Some m.store
 
 abbrev pub IsOpen : House Memory → Type 0
 IsOpen house = IsReady told_memory house
+
+-- the touches of a change that is within its limits
+pub record AreTouches (info : TableInfo) (effect : Effect) (wrote : List Touch) : Type 0 where
+  pub is : wrote ≡ touches_of info effect
+  pub texts : list_any is_long wrote ≡ false
+  pub count : length wrote ≤ 100

@@ -1,16 +1,13 @@
 //! What is asked before a call, so that its condition holds.
-ghost use Rattle.std.specs.Prelude.{◌≡◌, ◌<◌, ◌≤◌, map, None, true, IfOk};
-ghost use Rattle.std.specs.List.{AllByRecursion};
+ghost use Rattle.std.specs.Prelude.{◌≡◌, ◌<◌, ◌≤◌, map, true, IfOk};
 ghost use Rattle.hv_dirs.specs.Names.{write_end};
 ghost use Rattle.hv_history.specs.State.{given_in};
 ghost use Rattle.hv_book.specs.Briefs.{held_by};
 ghost use Rattle.hv_stands.specs.Files.{place_of_file};
 ghost use Rattle.hv_rowfile.specs.Layout.{RowIsTaken};
 ghost use Rattle.hv_tables.specs.Putting.{CanPut};
-ghost use Rattle.hv_trail.specs.declared.trail.Reader.TheVariants.{Txn};
-ghost use Rattle.hv_trail.specs.Trail.{broken};
 ghost use Rattle.hv_trail.specs.Kept.{trail_of};
-ghost use Rattle.hv_house.specs.Steps.{HoldsId, AreWritten};
+ghost use Rattle.hv_house.specs.Steps.{HoldsId};
 ghost use Rattle.tests_house.specs.Asking.{IsTableOf, AreFilesPut};
 
 use hv_base::{NoMemory, TableId, TxnId, WriteId};
@@ -66,6 +63,7 @@ pub(crate) fn table_of(
 }
 
 /// Whether a row is one number.
+#[tactic(auto, using(crate::proofs::Facts::one_number))]
 fn is_number(row: &Row) -> bool
     ensures { result ≡ true → RowIsTaken row.now }
 {

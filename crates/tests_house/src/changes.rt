@@ -1,5 +1,5 @@
 //! The change of a transaction: which rows, and their files.
-ghost use Rattle.std.specs.Prelude.{◌≡◌, ◌<◌, ◌≤◌, IfOk};
+ghost use Rattle.std.specs.Prelude.{◌<◌, ◌≤◌, IfOk};
 ghost use Rattle.hv_dirs.specs.Names.{write_end};
 ghost use Rattle.hv_house.specs.House.{IsReady};
 

@@ -1,11 +1,11 @@
 //! How a transaction commits.
-ghost use Rattle.std.specs.Prelude.{◌≡◌, ◌<◌, ◌≤◌, Ok, None, [], IfOk, IfSome};
+ghost use Rattle.std.specs.Prelude.{◌<◌, ◌≤◌, IfOk, IfSome};
 ghost use Rattle.hv_dirs.specs.Names.{write_end};
 ghost use Rattle.hv_history.specs.declared.entry.Entry.TheVariants as entry;
-ghost use Rattle.hv_route.specs.Touching.{touched, touches_of};
 ghost use Rattle.hv_trail.specs.Kept.{trail_of};
 ghost use Rattle.hv_house.specs.House.{entries_of, IsReady, IsSmall};
 ghost use Rattle.hv_house.specs.Steps.{CanCommit};
+ghost use Rattle.tests_house.specs.Asking.{AreTouches};
 
 use crate::asking::{are_put, holds_id, table_of};
 use crate::changes::{Kept, effect_of};
@@ -21,12 +21,13 @@ use hv_shelf::Shelf;
 use std::alloc::Global;
 
 /// The touches of a change, where it is within its limits.
+#[tactic(auto, using(crate::proofs::Facts::are_touches))]
 fn touches_within(
     alloc: Global,
     info: &TableInfo,
     effect: &Effect,
 ) -> Result<Option<List<Touch>>, NoMemory>
-    ensures { IfOk result (λ found. IfSome found (λ wrote. touched info.now effect.now ≡ Ok wrote)) }
+    ensures { IfOk result (λ found. IfSome found (AreTouches info.now effect.now)) }
 {
     match touches(alloc, info, effect) {
         Ok(wrote) => Ok(Some(wrote)),
@@ -91,6 +92,7 @@ fn commit_change<D: Shelf>(
 }
 
 /// Commits a transaction that changed nothing.
+#[tactic(auto, using(crate::proofs::Facts::short_idle))]
 fn commit_idle<D: Shelf>(
     alloc: Global,
     house: &mut House<D>,

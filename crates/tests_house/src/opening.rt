@@ -1,6 +1,5 @@
 //! Statements begin, read, and are given their write ids.
-ghost use Rattle.std.specs.Prelude.{◌≡◌, ◌≤◌, None, IfOk, length};
-ghost use Rattle.hv_history.specs.declared.entry.Entry.{Entry as Event};
+ghost use Rattle.std.specs.Prelude.{◌≡◌, None, IfOk};
 ghost use Rattle.hv_history.specs.Book.{tree_of_entry};
 ghost use Rattle.hv_fits.specs.Texts.{IsHanded};
 ghost use Rattle.hv_house.specs.House.{IsReady, IsSmall};
@@ -116,6 +115,7 @@ pub(crate) fn said(alloc: Global, noted: bool) -> Result<String, NoMemory> {
 }
 
 /// Gives a transaction the next write id of a table.
+#[tactic(auto, using(crate::proofs::Facts::short_given))]
 pub(crate) fn give<D: Shelf>(
     alloc: Global,
     house: &mut House<D>,
@@ -139,6 +139,7 @@ fn write_line(alloc: Global, write: u64) -> Result<String, NoMemory> {
 }
 
 /// Aborts a transaction.
+#[tactic(auto, using(crate::proofs::Facts::short_memory))]
 pub(crate) fn abort<D: Shelf>(
     alloc: Global,
     house: &mut House<D>,
@@ -153,6 +154,7 @@ pub(crate) fn abort<D: Shelf>(
 }
 
 /// Ends a transaction by the table that it makes.
+#[tactic(auto, using(crate::proofs::Facts::short_create))]
 pub(crate) fn create<D: Shelf>(
     alloc: Global,
     house: &mut House<D>,
