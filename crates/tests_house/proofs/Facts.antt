@@ -1,5 +1,5 @@
 -- What the questions before a call come to.
-use Rattle.std.proofs.Common.{◌≡◌, ℕ, suc, zero, ◌+◌, ◌*◌, ◌≤◌, ◌<◌, Option, Some, None, Bool, true, false, if◌then◌else◌, List, [], ◌∷◌, ◌++◌, length, map, ℤ, Ok, Err, refl, sym, ap, ◌∙◌, subst, arith}
+use Rattle.std.proofs.Common.{◌≡◌, ℕ, suc, zero, ◌+◌, ◌*◌, ◌≤◌, ◌<◌, Option, Some, None, Bool, true, false, if◌then◌else◌, List, [], ◌∷◌, ◌++◌, length, map, ℤ, Ok, Err, inl, inr, refl, sym, ap, ◌∙◌, subst, arith}
 use Rattle.std.specs.Prelude.{◌⊎◌, nat_lt, IsTrue, IsSomeAnd, is_none, ◌==◌}
 use Rattle.std.specs.Option.{option_map}
 use Rattle.std.specs.Int.{w32, cast_unsigned}
@@ -136,6 +136,10 @@ are_touches info effect wrote e = by (list_all (stored_fits info.shape) effect.i
     by : (b : Bool) → (if b then within_limits (touches_of info effect) else Err fault.RowLimit) ≡ Ok wrote → AreTouches info effect wrote
     by true is = let all = within (touches_of info effect) wrote is in record { is = all.0; texts = all.1; count = all.2 }
     by false is = cc
+
+pub touches_are : (info : TableInfo) (effect : Effect) (wrote : List Touch) → (Ok wrote ≡ touched info effect) ⊎ (Ok wrote ≡ Err fault.NoMemory) → AreTouches info effect wrote
+touches_are info effect wrote (inl e) = are_touches info effect wrote (sym e)
+touches_are info effect wrote (inr e) = cc
 
 pub short_change : (txn : TxnId) (info : TableInfo) (effect : Effect) (wrote : List Touch) → AreTouches info effect wrote → IsSmall (entry.Commit txn wrote)
 short_change txn info effect wrote are =

@@ -15,9 +15,10 @@ use Rattle.hv_history.specs.State.{state_of, numbered}
 use Rattle.hv_stands.specs.Files.{place_of_file}
 use Rattle.hv_trail.specs.declared.trail.TrailItem.{TrailItem}
 use Rattle.hv_trail.specs.declared.trail.Reader.TheVariants.{Txn}
-use Rattle.hv_trail.specs.Trail.{HasWritten}
+use Rattle.hv_trail.specs.Trail.{HasWritten, broken}
 use Rattle.hv_house.specs.declared.house.House.{House}
 use Rattle.hv_house.specs.House.{IsReady}
+use Rattle.hv_house.specs.Steps.{HoldsId}
 
 -- a table of the book
 pub record IsTable (book : List Entry) (info : TableInfo) : Type 0 where
@@ -45,3 +46,9 @@ pub record AreTouches (info : TableInfo) (effect : Effect) (wrote : List Touch) 
   pub is : wrote ≡ touches_of info effect
   pub texts : list_any is_long wrote ≡ false
   pub count : length wrote ≤ 100
+
+-- the transaction put these files under its write id, and no call on files failed for it
+pub record IsDone (book : List Entry) (trail : List TrailItem) (txn : TxnId) (table write : ℕ) (files : List OutFile) : Type 0 where
+  pub put : AreFilesPut trail txn table write files
+  pub holds : HoldsId book txn.0 table write
+  pub unbroken : broken (Txn txn) trail ≡ None

@@ -1,14 +1,17 @@
 //! What is asked before a call, so that its condition holds.
-ghost use Rattle.std.specs.Prelude.{◌≡◌, ◌<◌, ◌≤◌, map, true, IfOk};
+ghost use Rattle.std.specs.Prelude.{◌≡◌, ◌<◌, ◌≤◌, map, None, true, IfOk};
 ghost use Rattle.hv_dirs.specs.Names.{write_end};
 ghost use Rattle.hv_history.specs.State.{given_in};
 ghost use Rattle.hv_book.specs.Briefs.{held_by};
 ghost use Rattle.hv_stands.specs.Files.{place_of_file};
 ghost use Rattle.hv_rowfile.specs.Layout.{RowIsTaken};
 ghost use Rattle.hv_tables.specs.Putting.{CanPut};
+ghost use Rattle.hv_trail.specs.declared.trail.Reader.TheVariants.{Txn};
+ghost use Rattle.hv_trail.specs.Trail.{broken};
 ghost use Rattle.hv_trail.specs.Kept.{trail_of};
+ghost use Rattle.hv_house.specs.House.{entries_of};
 ghost use Rattle.hv_house.specs.Steps.{HoldsId};
-ghost use Rattle.tests_house.specs.Asking.{IsTableOf, AreFilesPut};
+ghost use Rattle.tests_house.specs.Asking.{IsTableOf, AreFilesPut, IsDone};
 
 use hv_base::{NoMemory, TableId, TxnId, WriteId};
 use hv_book::{Book, Held};
@@ -102,7 +105,7 @@ fn places_of(
 }
 
 /// Whether the marks behind so many say that a transaction put these files.
-pub(crate) fn are_put<D: Shelf>(
+fn are_put<D: Shelf>(
     alloc: Global,
     house: &House<D>,
     txn: TxnId,
@@ -118,4 +121,32 @@ pub(crate) fn are_put<D: Shelf>(
 {
     let places = places_of(alloc, table, write, files)?;
     Ok(house.has_put(txn, since, &places))
+}
+
+/// Whether no call on files failed for a transaction.
+pub(crate) fn is_unbroken<D: Shelf>(house: &House<D>, txn: TxnId) -> bool
+    ensures { result ≡ true → broken (Txn txn) (trail_of house.now.trail) ≡ None }
+{
+    house.broken(txn).is_none()
+}
+
+/// Whether a transaction put these files under its write id, and no call on files failed for it.
+pub(crate) fn is_done<D: Shelf>(
+    alloc: Global,
+    house: &House<D>,
+    txn: TxnId,
+    since: u64,
+    table: TableId,
+    write: WriteId,
+    files: &[OutFile],
+) -> Result<bool, NoMemory>
+    requires first { 1 ≤ write.0 }
+    requires last { write.0 < write_end }
+    ensures { IfOk result (λ done. done ≡ true → IsDone
+        (entries_of house.now) (trail_of house.now.trail) txn table.0 write.0 files.now) }
+{
+    let put = are_put(alloc, house, txn, since, table, write, files)?;
+    let holds = holds_id(house.book(), txn, table, write);
+    let unbroken = is_unbroken(house, txn);
+    Ok(put && holds && unbroken)
 }

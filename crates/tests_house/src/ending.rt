@@ -7,7 +7,7 @@ ghost use Rattle.hv_house.specs.House.{entries_of, IsReady, IsSmall};
 ghost use Rattle.hv_house.specs.Steps.{CanCommit};
 ghost use Rattle.tests_house.specs.Asking.{AreTouches};
 
-use crate::asking::{are_put, holds_id, table_of};
+use crate::asking::{is_done, is_unbroken, table_of};
 use crate::changes::{Kept, effect_of};
 use crate::opening::{answer, note, said};
 use hv_base::{List, NoMemory, Touch, TxnId};
@@ -21,7 +21,6 @@ use hv_shelf::Shelf;
 use std::alloc::Global;
 
 /// The touches of a change, where it is within its limits.
-#[tactic(auto, using(crate::proofs::Facts::are_touches))]
 fn touches_within(
     alloc: Global,
     info: &TableInfo,
@@ -82,17 +81,14 @@ fn commit_change<D: Shelf>(
         return Ok(answer(alloc, "refused")?);
     };
     let files = route(alloc, &info.shape, write, 0, effect)?;
-    let put = are_put(alloc, house, txn, kept.since, info.table, write, &files)?;
-    let holds = holds_id(house.book(), txn, info.table, write);
-    let unbroken = house.broken(txn).is_none();
-    if !put || !holds || !unbroken {
+    let done = is_done(alloc, house, txn, kept.since, info.table, write, &files)?;
+    if !done {
         return Ok(answer(alloc, "refused")?);
     }
     note_commit(alloc, house, txn, wrote)
 }
 
 /// Commits a transaction that changed nothing.
-#[tactic(auto, using(crate::proofs::Facts::short_idle))]
 fn commit_idle<D: Shelf>(
     alloc: Global,
     house: &mut House<D>,
@@ -101,7 +97,7 @@ fn commit_idle<D: Shelf>(
     requires ready { IsReady D.told house.old }
     ensures ready { IfOk result (λ _. IsReady D.told house.new) }
 {
-    if house.broken(txn).is_some() {
+    if !is_unbroken(house, txn) {
         return Ok(answer(alloc, "refused")?);
     }
     note_commit(alloc, house, txn, List::empty(alloc))
