@@ -1,5 +1,6 @@
 //! Statements begin, read, and are given their write ids.
-ghost use Rattle.std.specs.Prelude.{◌≡◌, None, IfOk};
+ghost use Rattle.std.specs.Prelude.{◌≡◌, ◌≤◌, None, IfOk, length};
+ghost use Rattle.hv_built.specs.Running.{Runs};
 ghost use Rattle.hv_history.specs.Book.{tree_of_entry};
 ghost use Rattle.hv_fits.specs.Texts.{IsHanded};
 ghost use Rattle.hv_house.specs.House.{IsReady, IsSmall};
@@ -24,17 +25,44 @@ pub(crate) fn answer(alloc: Global, words: &str) -> Result<String, NoMemory> {
 }
 
 /// What stands in the way of a statement that can't begin.
-fn hindered<D: Shelf>(
-    alloc: Global,
-    house: &House<D>,
-    tree: &Stmt,
-) -> Result<String, NoMemory>
+fn hindered<D: Shelf>(alloc: Global, house: &House<D>, tree: &Stmt) -> Result<String, NoMemory>
     requires ready { IsReady D.told house.now }
 {
     match house.check(tree) {
         LockState::Waiting { blocker } => Ok(format!(in alloc; "waits for {}", blocker.0)?),
         LockState::Granted => answer(alloc, "refused"),
     }
+}
+
+/// Begins a statement that was read twice, or says what stands in its way.
+fn begin_read<D: Shelf>(
+    alloc: Global,
+    house: &mut House<D>,
+    session: Text,
+    text: Text,
+    tree: &Stmt,
+    kept: Stmt,
+) -> Result<String, HouseFault>
+    requires ready { IsReady D.told house.old }
+    requires tree { Runs text tree.now }
+    requires kept { Runs text kept }
+    requires short { length text ≤ 32768 }
+    requires named { length session ≤ 32 }
+    ensures ready { IfOk result (λ _. IsReady D.told house.new) }
+{
+    if house.can_begin(tree) {
+        let (txn, place) = house.begin(session, 1, text, kept)?;
+        return Ok(line_of_start(alloc, txn, place)?);
+    }
+    discard(kept);
+    Ok(hindered(alloc, house, tree)?)
+}
+
+/// The session of all statements.
+fn session(alloc: Global) -> Result<Text, NoMemory>
+    ensures { IfOk result (λ session. length session ≤ 32) }
+{
+    Text::of(alloc, "s")
 }
 
 /// Opens and starts a statement.
@@ -46,25 +74,25 @@ pub(crate) fn begin<D: Shelf>(
     requires ready { IsReady D.told house.old }
     ensures ready { IfOk result (λ _. IsReady D.told house.new) }
 {
+    let session = session(alloc)?;
     let text = Text::of(alloc, words)?;
-    let session = Text::of(alloc, "s")?;
+    if text.len() > MOST_TEXT {
+        return Ok(answer(alloc, "refused")?);
+    }
     let Ok(tree) = read_statement(alloc, &text) else {
         return Ok(answer(alloc, "refused")?);
     };
-    let Ok(kept) = read_statement(alloc, &text) else {
-        discard(tree);
-        return Ok(answer(alloc, "refused")?);
-    };
-    let can = house.can_begin(&tree);
-    if !can || text.len() > MOST_TEXT {
-        let answered = hindered(alloc, house, &tree);
-        discard(tree);
-        discard(kept);
-        return Ok(answered?);
+    match read_statement(alloc, &text) {
+        Ok(kept) => {
+            let answered = begin_read(alloc, house, session, text, &tree, kept);
+            discard(tree);
+            answered
+        }
+        Err(_) => {
+            discard(tree);
+            Ok(answer(alloc, "refused")?)
+        }
     }
-    discard(tree);
-    let (txn, place) = house.begin(session, 1, text, kept)?;
-    Ok(line_of_start(alloc, txn, place)?)
 }
 
 fn line_of_start(alloc: Global, txn: TxnId, place: u64) -> Result<String, NoMemory> {

@@ -22,9 +22,10 @@ fn row_text(alloc: Global, found: &Found) -> Result<String, NoMemory> {
         [Value::Int(number), ..] => *number,
         _ => 0,
     };
-    Ok(
-        format!(in alloc; "{} {}.{}.{}.{}={number}", found.partition, id.write.0, id.statement, id.bucket, id.row)?,
-    )
+    Ok(format!(in alloc;
+        "{} {}.{}.{}.{}={number}",
+        found.partition, id.write.0, id.statement, id.bucket, id.row
+    )?)
 }
 
 /// Rows, with commas between.
@@ -82,9 +83,10 @@ pub(crate) fn book_text(alloc: Global, book: &Book) -> Result<String, NoMemory> 
 }
 
 fn place_text(alloc: Global, place: &Place) -> Result<String, NoMemory> {
-    Ok(
-        format!(in alloc; "{}/{}/{}/{}", place.table.0, place.partition, place.dir, place.bucket)?,
-    )
+    Ok(format!(in alloc;
+        "{}/{}/{}/{}",
+        place.table.0, place.partition, place.dir, place.bucket
+    )?)
 }
 
 /// The places of the files that stand.
