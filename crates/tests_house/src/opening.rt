@@ -182,7 +182,6 @@ pub(crate) fn abort<D: Shelf>(
 }
 
 /// Ends a transaction by the table that it makes.
-#[tactic(auto, using(crate::proofs::Facts::short_create))]
 pub(crate) fn create<D: Shelf>(
     alloc: Global,
     house: &mut House<D>,
