@@ -20,7 +20,8 @@ use Rattle.hv_value.specs.declared.value.Value.{Value}
 use Rattle.hv_value.specs.declared.value.Value.TheOpen.{Value-F}
 use Rattle.hv_value.specs.declared.value.Value.TheVariants.{Int, rolls-Int}
 use Rattle.hv_value.specs.declared.value.Value.TheViews.{out-Value, roll-Value, out-roll-Value}
-use Rattle.hv_rowfile.specs.Layout.{value_spelling, layer_spelling, int_spelling, ValueIsTaken, LayerIsTaken, RowIsTaken}
+use Rattle.hv_rowfile.specs.Layout.{value_spelling, layer_spelling, int_spelling, ValueIsTaken, LayerIsTaken, RowIsTaken, RecIsTaken, CanWrite}
+use Rattle.hv_rowfile.specs.declared.record.Rec.{Rec}
 use Rattle.hv_logic.specs.declared.catalog.TableInfo.{TableInfo}
 use Rattle.hv_logic.specs.declared.effect.Effect.{Effect}
 use Rattle.hv_route.specs.Touching.{touches_of, touched, stored_fits, is_long, is_above, within_limits}
@@ -70,6 +71,9 @@ one_number row n e =
       short = omega (arith, whole, cons, length-Int n);
       values = subst (AllByRecursion ValueIsTaken) (sym e) (taken-Int n, tt);
     }
+
+pub one_record : (bucket : ℕ) (recs : List Rec) (r : Rec) → recs ≡ r ∷ [] → RecIsTaken false bucket r → CanWrite false bucket recs
+one_record bucket recs r e taken = subst (CanWrite false bucket) (sym e) (record { each = (taken, tt); rising = (tt, tt) })
 
 -- ---- a table by its number
 

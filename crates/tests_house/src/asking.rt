@@ -1,10 +1,11 @@
 //! What is asked before a call, so that its condition holds.
-ghost use Rattle.std.specs.Prelude.{◌≡◌, ◌<◌, ◌≤◌, map, None, true, IfOk};
+ghost use Rattle.std.specs.Prelude.{◌≡◌, ◌<◌, ◌≤◌, map, None, true, false, IfOk, IfSome};
 ghost use Rattle.hv_dirs.specs.Names.{write_end};
 ghost use Rattle.hv_history.specs.State.{given_in};
 ghost use Rattle.hv_book.specs.Briefs.{held_by};
 ghost use Rattle.hv_stands.specs.Files.{place_of_file};
-ghost use Rattle.hv_rowfile.specs.Layout.{RowIsTaken};
+ghost use Rattle.hv_rowfile.specs.Layout.{RowIsTaken, RecIsTaken};
+ghost use Rattle.hv_value.specs.declared.value.Value.TheVariants.{Int};
 ghost use Rattle.hv_tables.specs.Putting.{CanPut};
 ghost use Rattle.hv_trail.specs.declared.trail.Reader.TheVariants.{Txn};
 ghost use Rattle.hv_trail.specs.Trail.{broken};
@@ -65,15 +66,39 @@ pub(crate) fn table_of(
     Ok(Some(TableInfo { table, shape }))
 }
 
+/// The number that a value is.
+fn number_of(value: &Value) -> Option<i32>
+    ensures { IfSome result (λ n. value.now ≡ Int n) }
+{
+    match value {
+        Value::Int(number) => Some(*number),
+        _ => None,
+    }
+}
+
 /// Whether a row is one number.
 #[tactic(auto, using(crate::proofs::Facts::one_number))]
 fn is_number(row: &Row) -> bool
     ensures { result ≡ true → RowIsTaken row.now }
 {
-    matches!(row.values.as_slice(), [Value::Int(_)])
+    match row.values.as_slice() {
+        [value] => number_of(value).is_some(),
+        _ => false,
+    }
+}
+
+/// Whether a record is of one inserted number, in this bucket.
+fn can_write(bucket: u32, rec: &Rec) -> bool
+    ensures { result ≡ true → RecIsTaken false bucket rec.now }
+{
+    match rec {
+        Rec::Insert { id, row } => id.bucket == bucket && id.write.0 > 0 && is_number(row),
+        Rec::Delete { .. } => false,
+    }
 }
 
 /// Whether a file can be put: one of deletes, or of one inserted number.
+#[tactic(auto, using(crate::proofs::Facts::one_record))]
 pub(crate) fn can_put(file: &OutFile) -> bool
     ensures { result ≡ true → CanPut file.now }
 {
@@ -81,7 +106,7 @@ pub(crate) fn can_put(file: &OutFile) -> bool
         return true;
     }
     match file.recs.as_slice() {
-        [Rec::Insert { id, row }] => id.bucket == file.bucket && id.write.0 > 0 && is_number(row),
+        [rec] => can_write(file.bucket, rec),
         _ => false,
     }
 }
