@@ -1,6 +1,6 @@
 -- What the questions before a call come to.
 use Rattle.std.proofs.Common.{◌≡◌, ℕ, suc, zero, ◌+◌, ◌*◌, ◌≤◌, ◌<◌, Option, Some, None, Bool, true, false, if◌then◌else◌, List, [], ◌∷◌, ◌++◌, length, map, ℤ, Ok, Err, inl, inr, refl, sym, ap, ◌∙◌, subst, arith}
-use Rattle.std.specs.Prelude.{◌⊎◌, nat_lt, IsTrue, IsSomeAnd, is_none, ◌==◌}
+use Rattle.std.specs.Prelude.{◌⊎◌, nat_lt, is_some, IfSome, slice_index_or}
 use Rattle.std.specs.Option.{option_map}
 use Rattle.std.specs.Int.{w32, cast_unsigned}
 use Rattle.std.specs.List.{flat_map, list_all, list_any, AllByRecursion}
@@ -71,6 +71,14 @@ one_number row n e =
       short = omega (arith, whole, cons, length-Int n);
       values = subst (AllByRecursion ValueIsTaken) (sym e) (taken-Int n, tt);
     }
+
+pub one_item : (row : Row) (xs : List Value) (x d : Value) (o : Option ℤ) → xs ≡ row.values → 1 ≤ length xs → length xs < 2 → x ≡ slice_index_or xs 0 d
+    → IfSome o (λ n. x ≡ Int n) → is_some o ≡ true → RowIsTaken row
+one_item row [] x d o same least most at is some = absurd (omega (arith, least))
+one_item row (y ∷ z ∷ xs) x d o same least most at is some = absurd (omega (arith, most))
+one_item row (y ∷ []) x d None same least most at is some = cc
+one_item row (y ∷ []) x d (Some n) same least most at is some =
+    one_number row n (sym same ∙ ap (λ (v : Value). v ∷ []) (sym at ∙ is))
 
 pub one_record : (bucket : ℕ) (recs : List Rec) (r : Rec) → recs ≡ r ∷ [] → RecIsTaken false bucket r → CanWrite false bucket recs
 one_record bucket recs r e taken = subst (CanWrite false bucket) (sym e) (record { each = (taken, tt); rising = (tt, tt) })

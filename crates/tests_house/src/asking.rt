@@ -77,7 +77,6 @@ fn number_of(value: &Value) -> Option<i32>
 }
 
 /// Whether a row is one number.
-#[tactic(auto, using(crate::proofs::Facts::one_number))]
 fn is_number(row: &Row) -> bool
     ensures { result ≡ true → RowIsTaken row.now }
 {
