@@ -7,18 +7,21 @@ use crate::changes::{Kept, number, piece, put};
 use crate::ending::commit;
 use crate::opening::{abort, answer, begin, create, give, see};
 use crate::showing::{book_text, files_text};
-use hv_base::{TableId, TxnId};
+use hv_base::{Limits, TableId, TxnId};
 use hv_house::{House, HouseFault};
 use hv_shelf::{MemoryShelf, Shelf};
 use std::alloc::Global;
 use std::io;
 use std::io::{BufRead, BufReader, ErrorKind};
 
+/// The limits of this project's profile.
+const LIMITS: Limits = Limits { entries: 131_072 };
+
 /// A house over this store.
 fn opened(alloc: Global, store: MemoryShelf) -> io::Result<House<MemoryShelf>>
     ensures ready { IfOk result IsOpen }
 {
-    match House::boot(alloc, store) {
+    match House::boot(alloc, store, LIMITS) {
         Ok(house) => Ok(house),
         Err(_) => Err(ErrorKind::Other.into()),
     }

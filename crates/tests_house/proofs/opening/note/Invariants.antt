@@ -1,0 +1,8 @@
+use Rattle.hv_history.specs.Legal.{profile}
+use Rattle.tests_house.proofs.opening.note.Given as goal
+
+abbrev pub ghost-fits : goal.ghost-fits
+ghost-fits g a = profile
+
+abbrev pub ghost-note : goal.ghost-note
+ghost-note g a = profile
