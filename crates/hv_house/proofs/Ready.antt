@@ -11,7 +11,7 @@ use Rattle.hv_history.specs.Legal.{Fits, AllFit}
 use Rattle.hv_journal.specs.Appending.{Holds}
 use Rattle.hv_trail.specs.Steps.{Call, Outcome, Done, shuts}
 use Rattle.hv_stands.specs.Running.{Asking, opening, starting, next_number}
-use Rattle.hv_stands.proofs.Fitting.{more-fits, room-within}
+use Rattle.hv_house.proofs.Rooms.{more-fits, room-within}
 use Rattle.hv_house.specs.declared.fault.HouseFault.{HouseFault}
 use Rattle.hv_house.specs.declared.fault.HouseFault.TheVariants as fault
 use Rattle.hv_house.specs.declared.fault.RowFault.{RowFault}

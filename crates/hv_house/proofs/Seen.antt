@@ -18,7 +18,7 @@ use Rattle.hv_stands.specs.Files.{Stands}
 use Rattle.hv_stands.specs.Sound.{IsSound, KeepsAll}
 use Rattle.hv_stands.specs.Reading.{table_of_name}
 use Rattle.hv_stands.specs.Statements.{AllFitting}
-use Rattle.hv_stands.proofs.Fitting.{fitting-sound, front-fits}
+use Rattle.hv_stands.proofs.Fitting.{fitting-sound}
 use Rattle.hv_stands.proofs.Keeping.{sound-all, nothing-sound}
 use Rattle.hv_stands.proofs.Tables.{named-numbered}
 use Rattle.hv_tables.specs.Reading.{AreRows, IsSpoiled as IsSpoiledOf}
@@ -27,6 +27,7 @@ use Rattle.hv_tables.proofs.StoredRows.{rows-stood, none-was-spoiled}
 use Rattle.hv_house.specs.declared.fault.RowFault.{RowFault}
 use Rattle.hv_house.specs.Faults.{IsDamage}
 use Rattle.hv_house.specs.Seeing.{ids_in, info_of_name, AreRead, IsSeenOf, IsSpoiled}
+use Rattle.hv_house.proofs.Rooms.{front-fits}
 use Rattle.hv_house.proofs.Past.{named-some, named-none, all-named, says-committed}
 
 module _ (limits : Limits) (book : List Entry) (place : ℕ) (fit : AllFit limits nothing_yet book) where
