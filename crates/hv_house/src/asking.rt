@@ -40,6 +40,13 @@ fn is_granted(state: LockState) -> bool
 }
 
 impl<D: Shelf> House<D> {
+    /// Its store, to be looked at.
+    pub fn shelf(&self) -> &D
+        ensures shelf { result.now ≡ self.now.shelf }
+    {
+        &self.shelf
+    }
+
     /// The book of its journal.
     pub fn book(&self) -> &Book
         ensures entries { result.now.entries ≡ entries_of self.now }

@@ -1,5 +1,4 @@
-use Rattle.hv_history.specs.Legal.{profile}
 use Rattle.tests_house.proofs.changes.put_one.Given as goal
 
 abbrev pub ghost-put : goal.ghost-put
-ghost-put g a = profile
+ghost-put g a = g.limits

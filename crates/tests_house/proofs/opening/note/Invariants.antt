@@ -1,8 +1,7 @@
-use Rattle.hv_history.specs.Legal.{profile}
 use Rattle.tests_house.proofs.opening.note.Given as goal
 
 abbrev pub ghost-fits : goal.ghost-fits
-ghost-fits g a = profile
+ghost-fits g a = g.limits
 
 abbrev pub ghost-note : goal.ghost-note
-ghost-note g a = profile
+ghost-note g a = g.limits
