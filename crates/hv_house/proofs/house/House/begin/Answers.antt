@@ -13,12 +13,12 @@ use Rattle.hv_house.proofs.house.House.begin.Goals as goal
 
 pub add_with_start-requires-clause-short : goal.add_with_start-requires-clause-short
 add_with_start-requires-clause-short g c =
-    short_opened c.next_txn-txn.result c.args.session c.args.number c.args.text c.requires.1.3 c.requires.1.2
+    short_opened c.next_txn-txn.result c.args.session c.args.number c.args.text c.requires.1.1.1.1.0 c.requires.1.1.1.0
 
 pub add_with_start-requires-clause-room : goal.add_with_start-requires-clause-room
 add_with_start-requires-clause-room g c =
     room-begin g.limits (entries_of c.args.self.now) (record { session = c.args.session; number = c.args.number; text = c.args.text }) c.requires.1.0.within
-    c.requires.1.0.fit c.requires.1.4
+    c.requires.1.0.fit c.requires.1.1.1.1.1
 
 pub returns-clause-ready : goal.returns-clause-ready
 returns-clause-ready g c =
@@ -28,7 +28,7 @@ returns-clause-ready g c =
     begun-ready g.limits g.D.Shelf.told c.args.self.now c.add_with_start.new.self asking
     (subst (λ (t : TxnId). AreNoted g.D.Shelf.told (begun t c.args.session c.args.number c.args.text) c.args.self.now c.add_with_start.new.self) same
     c.in_ok-add_with_start.ensures.noted)
-    c.in_ok-add_with_start.ensures.marks.limits c.requires.1.4 c.requires.1.0
+    c.in_ok-add_with_start.ensures.marks.limits c.requires.1.1.1.1.1 c.requires.1.0
 
 pub returns-clause-step : goal.returns-clause-step
 returns-clause-step g c =

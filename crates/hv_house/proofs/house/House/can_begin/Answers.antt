@@ -14,7 +14,7 @@ returns-then-room g c =
     let book = entries_of c.args.self.now in
     let tree = c.args.tree.now in
     let room : HasRoom g.limits (state_of book) 3 =
-    subst (λ (l : Limits). HasRoom l (state_of book) 3) c.requires.1.0.limits_are
+    subst (λ (l : Limits). HasRoom l (state_of book) 3) c.requires.1.limits_are
     (subst (λ (b : List Entry). HasRoom c.args.self.now.limits (state_of b) 3) c.book.ensures.entries (c.has_room-room.ensures.room.0 c.if-room.true)) in
     let free : (is : c.is_granted-free.result ≡ true) → holder_against book tree ≡ None =
     (λ is. free-of (holder_against book tree) (sym c.check.ensures.state ∙ c.is_granted-free.ensures.granted.0 is)) in

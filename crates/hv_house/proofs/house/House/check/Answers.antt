@@ -7,5 +7,5 @@ use Rattle.hv_house.proofs.house.House.check.Goals as goal
 
 pub first_holder-requires : goal.first_holder-requires
 first_holder-requires g c = record {
-  texts = subst (λ book. TextsRun (state_of book)) (sym c.book.ensures.entries) (texts-run g.limits (entries_of c.args.self.now) c.requires.1.0.fit);
+  texts = subst (λ book. TextsRun (state_of book)) (sym c.book.ensures.entries) (texts-run g.limits (entries_of c.args.self.now) c.requires.1.fit);
 }
