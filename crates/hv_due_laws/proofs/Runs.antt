@@ -27,8 +27,9 @@ use Rattle.hv_route.specs.Placing.{placed_cmp, is_there, runs_from, runs_of}
 use Rattle.hv_route.specs.Routes.{partition_of, place_of_row, place_of_deleted, inserts_from, file_of_rows, delete_by, file_of_deletes, row_runs, insert_files, delete_files, files_of, founds_from, founds_of_run, numbered_rows}
 use Rattle.hv_route.specs.Touching.{place_of_insert, place_of_delete, rows_touched, inserted_count, deleted_count, touch_of, touches_of}
 use Rattle.hv_route.proofs.PlacedLemmas.{inserts_count}
+use Rattle.hv_book.specs.Past.{total, only_if}
 use Rattle.hv_due_laws.proofs.Totals.{sum-total, total-append, total-map, total-flat, total-same, total-none, total-permuted, total-ones, no-count}
-use Rattle.hv_due_laws.specs.Counting.{total, only_if, row_in, rows_in, changed_rows, count_of, touched_by, touched_in, recorded_by, recorded_in}
+use Rattle.hv_due_laws.specs.Counting.{row_in, rows_in, changed_rows, count_of, touched_by, touched_in, recorded_by, recorded_in}
 use Rattle.hv_due_laws.specs.Laws.{TouchesCountRows, FilesCountRows}
 
 -- ---- of runs

@@ -1,5 +1,5 @@
 -- How many rows of a change are of a partition: as rows, as touches, and as records of files.
-use Rattle.std.specs.Prelude.{ℕ, ◌+◌, Bool, true, false, nat_eq, List, [], ◌∷◌, length}
+use Rattle.std.specs.Prelude.{ℕ, ◌==◌, Bool, true, false, nat_eq, List, length}
 use Rattle.std.specs.Cmp.Lexicographic.{pointwise}
 use Rattle.hv_base.specs.declared.ids.Touch.{Touch}
 use Rattle.hv_logic.specs.declared.catalog.Shape.{Shape}
@@ -7,14 +7,8 @@ use Rattle.hv_logic.specs.declared.effect.Effect.{Effect}
 use Rattle.hv_logic.specs.declared.effect.Found.{Found}
 use Rattle.hv_route.specs.Routes.{numbered_rows}
 use Rattle.hv_route.specs.declared.files.OutFile.{OutFile}
-
-abbrev pub total : {A : Type 0} → (A → ℕ) → List A → ℕ
-total weight [] = 0
-total weight (x ∷ xs) = weight x + total weight xs
-
-abbrev pub only_if : Bool → ℕ → ℕ
-only_if true n = n
-only_if false n = 0
+use Rattle.hv_history.specs.declared.state.Written.{Written}
+use Rattle.hv_book.specs.Past.{total, only_if}
 
 -- ---- rows
 
@@ -57,3 +51,17 @@ recorded_by deletes partition file =
 -- how many records the files of a kind have in a partition, over all its buckets
 abbrev pub recorded_in : Bool → List ℕ → List OutFile → ℕ
 recorded_in deletes partition files = total (recorded_by deletes partition) files
+
+-- ---- writes
+
+-- the rows that a write inserted, or those that it deleted
+abbrev pub rows_of : Bool → Written → List Found
+rows_of false written = written.inserts
+rows_of true written = written.deletes
+
+abbrev pub written_at : Bool → ℕ → List ℕ → Written → ℕ
+written_at deletes write partition written = only_if (written.write == write) (rows_in partition (rows_of deletes written))
+
+-- how many rows these writes have in a partition under a write id: 0 where none has the id
+abbrev pub written_sum : Bool → ℕ → List ℕ → List Written → ℕ
+written_sum deletes write partition writes = total (written_at deletes write partition) writes
