@@ -1,7 +1,6 @@
 -- In every state that a legal book leaves, the touches with which a transaction committed count the rows of its writes.
 use Rattle.std.proofs.Common.{◌≡◌, ℕ, zero, suc, ◌+◌, ◌==◌, ◌⊎◌, inl, inr, Bool, true, false, Option, Some, None, List, [], ◌∷◌, ◌++◌, map, fold, length, refl, sym, ap, ◌∙◌, subst, arith, eqb-true, eq-eqb}
 use Rattle.std.proofs.Math.Dec.{eqb-suc-suc}
-use Rattle.std.specs.Prelude.{sum_by}
 use Rattle.std.specs.Ordering.{bool_cmp}
 use Rattle.std.specs.List.{slice_get, flat_map, AllByRecursion}
 use Rattle.std.specs.Option.{option_map, option_to_list}
@@ -15,7 +14,6 @@ use Rattle.hv_logic.specs.declared.effect.Effect.{Effect}
 use Rattle.hv_logic.specs.declared.meaning.Meaning.{Meaning}
 use Rattle.hv_logic.specs.declared.meaning.Meaning.TheVariants.{Refused, Listing, Change, Make, Plain, RowLimit, PartitionLimit}
 use Rattle.hv_route.specs.Placing.{placed_cmp, runs_of}
-use Rattle.hv_route.specs.Routes.{numbered_rows}
 use Rattle.hv_route.specs.Touching.{rows_touched, touch_of, touches_of}
 use Rattle.hv_route.specs.declared.runs.Run.{Run}
 use Rattle.hv_history.specs.declared.entry.Entry.{Entry}
@@ -27,16 +25,16 @@ use Rattle.hv_history.specs.declared.state.Table.{Table}
 use Rattle.hv_history.specs.declared.state.Transaction.{Transaction}
 use Rattle.hv_history.specs.declared.state.Written.{Written}
 use Rattle.hv_history.specs.State.{State, nothing_yet, numbered, changed, changed_at, unless_ended, while_open, opened, started, given_id, given_in, owned, written_to, committed, ended, wrote_as, writes_of, written_by, commits, statement_meaning, meaning, tables_behind, made_by, acted, after}
-use Rattle.hv_history.specs.Legal.{Fits, CommitFits, GivenFits, CreateFits, TouchesAreMeant, IsTruthful, AllFit, AllTruthful}
+use Rattle.hv_history.specs.Legal.{Fits, CommitFits, GivenFits, TouchesAreMeant, IsTruthful, AllFit, AllTruthful}
 use Rattle.hv_book.specs.Commits.{wrote_by, wrote_in}
 use Rattle.hv_book.specs.Past.{total, only_if, owners_in}
 use Rattle.hv_stands.specs.Files.{ending_of}
 use Rattle.hv_stands.specs.Sound.{info_in, IsSingle, given_of, owners_of, given_among, owner_among, IsDone, IsOfCommitted, AreOfCommitted, IsSound}
-use Rattle.hv_stands.proofs.Numbers.{one_value, same_one, none_is, found, either, numbered-changed, numbered-map, numbered-or-last}
+use Rattle.hv_stands.proofs.Numbers.{same_one, none_is, found, either, numbered-map, numbered-or-last}
 use Rattle.hv_stands.proofs.Soundness.{all-numbered}
 use Rattle.hv_stands.proofs.Keeping.{still-open, sound-after}
 use Rattle.hv_due_laws.specs.Counting.{rows_in, changed_rows, touched_by, rows_of, written_at, written_sum}
-use Rattle.hv_due_laws.proofs.Totals.{total-append, total-map, total-same, total-none, no-count}
+use Rattle.hv_due_laws.proofs.Totals.{total-append, total-map, total-same, total-none}
 use Rattle.hv_due_laws.proofs.Runs.{touches-count}
 
 -- ---- the one of a number

@@ -1,8 +1,8 @@
 -- What the commits of a table say of a write id is what the touches of its one transaction say.
-use Rattle.std.proofs.Common.{◌≡◌, ℕ, zero, suc, ◌+◌, ◌<◌, ◌==◌, ◌&&◌, Bool, true, false, Option, Some, None, List, [], ◌∷◌, ◌++◌, length, refl, sym, ap, ◌∙◌, subst, arith, eq-eqb}
+use Rattle.std.proofs.Common.{◌≡◌, ℕ, zero, suc, ◌+◌, ◌<◌, ◌==◌, ◌&&◌, Bool, true, false, Option, Some, None, List, [], ◌∷◌, refl, sym, ap, ◌∙◌, arith, eq-eqb}
 use Rattle.std.specs.Prelude.{nat_eq, take}
 use Rattle.std.specs.Cmp.Lexicographic.{pointwise}
-use Rattle.std.specs.List.{slice_get, flat_map}
+use Rattle.std.specs.List.{slice_get}
 use Rattle.std.proofs.lemmas.Bool.Decides.{nat_tests}
 use Rattle.hv_base.specs.declared.ids.Touch.{Touch}
 use Rattle.hv_history.specs.declared.entry.Entry.{Entry}
@@ -19,7 +19,7 @@ use Rattle.hv_counts.specs.Counts.{due_by, due_if, due_of, dues_of, dues_from, d
 use Rattle.hv_due_laws.specs.Counting.{count_of, written_sum}
 use Rattle.hv_due_laws.specs.Laws.{DuesCountWrites}
 use Rattle.hv_due_laws.proofs.Totals.{total-append, total-flat, total-same, total-none}
-use Rattle.hv_due_laws.proofs.Books.{none-numbered, writes_in, touch_at, said_of, Said, unowned-none, said-all, nothing-said}
+use Rattle.hv_due_laws.proofs.Books.{writes_in, touch_at, said_of, Said, unowned-none, said-all, nothing-said}
 
 below-apart : (a b : ℕ) → a < b → (a == b) ≡ false
 below-apart a b h = grind (arith, nat_tests, h)

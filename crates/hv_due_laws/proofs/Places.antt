@@ -1,5 +1,5 @@
 -- Of the files of a table that are taken, no two stand at one place.
-use Rattle.std.proofs.Common.{◌≡◌, ℕ, zero, suc, ◌+◌, ◌≤◌, Bool, Option, Some, None, List, [], ◌∷◌, map, take, drop, length, refl, sym, ap, ◌∙◌, arith}
+use Rattle.std.proofs.Common.{ℕ, zero, suc, ◌+◌, ◌≤◌, Bool, Option, Some, None, List, [], ◌∷◌, take, drop, length, ap, arith}
 use Rattle.std.specs.List.{flat_map, cons_option}
 use Rattle.std.specs.FinMap as tree
 use Rattle.hv_base.specs.declared.ids.TableId.{TableId}

@@ -1,14 +1,11 @@
 -- Sums over the runs of a sorted list are sums over its items, so that touches and files say how many rows a change has in a
 -- partition.
-use Rattle.std.proofs.Common.{◌≡◌, ℕ, suc, ◌+◌, ◌==◌, ◌&&◌, Bool, true, false, cond, List, [], ◌∷◌, ◌++◌, map, length, refl, sym, ap, ◌∙◌, arith}
+use Rattle.std.proofs.Common.{◌≡◌, ℕ, suc, ◌+◌, ◌==◌, Bool, true, false, cond, List, [], ◌∷◌, ◌++◌, map, length, refl, sym, ap, ◌∙◌, arith}
 use Rattle.std.specs.Prelude.{nat_eq, sum_by}
 use Rattle.std.specs.declared.cmp.Ordering.{Ordering}
 use Rattle.std.specs.Ordering.{bool_cmp}
 use Rattle.std.specs.Cmp.Lexicographic.{pointwise}
-use Rattle.std.specs.List.{flat_map}
 use Rattle.std.proofs.lemmas.Bool.{and_parts}
-use Rattle.std.proofs.lemmas.List.Sums.{sum_by-append}
-use Rattle.std.proofs.lemmas.List.Sorted.{sum_by-IsPermutation}
 use Rattle.std.proofs.lemmas.Slice.Eq.{bytes_eq-Decides}
 use Rattle.hv_base.specs.declared.ids.RowId.{RowId}
 use Rattle.hv_base.specs.Identifiers.{row_id_cmp}
@@ -17,19 +14,17 @@ use Rattle.hv_value.specs.declared.row.Row.{Row}
 use Rattle.hv_logic.specs.Sorting.{sorted_by}
 use Rattle.hv_logic.proofs.SortingLaws.{permuted-sorted_by}
 use Rattle.hv_logic.specs.declared.catalog.Shape.{Shape}
-use Rattle.hv_logic.specs.declared.catalog.TableInfo.{TableInfo}
 use Rattle.hv_logic.specs.declared.effect.Effect.{Effect}
 use Rattle.hv_logic.specs.declared.effect.Found.{Found}
-use Rattle.hv_route.specs.declared.files.OutFile.{OutFile}
 use Rattle.hv_route.specs.declared.placed.Placed.{Placed}
 use Rattle.hv_route.specs.declared.runs.Run.{Run}
 use Rattle.hv_route.specs.Placing.{placed_cmp, is_there, runs_from, runs_of}
-use Rattle.hv_route.specs.Routes.{partition_of, place_of_row, place_of_deleted, inserts_from, file_of_rows, delete_by, file_of_deletes, row_runs, insert_files, delete_files, files_of, founds_from, founds_of_run, numbered_rows}
-use Rattle.hv_route.specs.Touching.{place_of_insert, place_of_delete, rows_touched, inserted_count, deleted_count, touch_of, touches_of}
+use Rattle.hv_route.specs.Routes.{partition_of, place_of_row, place_of_deleted, file_of_rows, delete_by, file_of_deletes, row_runs, insert_files, delete_files, files_of, founds_from, founds_of_run, numbered_rows}
+use Rattle.hv_route.specs.Touching.{place_of_insert, place_of_delete, rows_touched, touch_of}
 use Rattle.hv_route.proofs.PlacedLemmas.{inserts_count}
 use Rattle.hv_book.specs.Past.{total, only_if}
 use Rattle.hv_due_laws.proofs.Totals.{sum-total, total-append, total-map, total-flat, total-same, total-none, total-permuted, total-ones, no-count}
-use Rattle.hv_due_laws.specs.Counting.{row_in, rows_in, changed_rows, count_of, touched_by, touched_in, recorded_by, recorded_in}
+use Rattle.hv_due_laws.specs.Counting.{row_in, count_of, touched_by, recorded_by}
 use Rattle.hv_due_laws.specs.Laws.{TouchesCountRows, FilesCountRows}
 
 -- ---- of runs

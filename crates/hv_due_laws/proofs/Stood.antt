@@ -1,14 +1,13 @@
 -- The files of a table that are taken have as many records of a write id in a partition as its write has rows there.
-use Rattle.std.proofs.Common.{◌≡◌, ℕ, ◌+◌, ◌<◌, ◌≤◌, ◌==◌, ◌&&◌, ◌⊎◌, inl, inr, Bool, true, false, Some, List, [], ◌∷◌, filter, map, take, length, refl, sym, ap, ◌∙◌, subst, arith, eqb-true, eq-eqb}
+use Rattle.std.proofs.Common.{◌≡◌, ℕ, ◌≤◌, ◌==◌, ◌&&◌, ◌⊎◌, inl, inr, Bool, true, false, List, [], ◌∷◌, filter, map, take, length, refl, sym, ap, ◌∙◌, subst, arith, eqb-true, eq-eqb}
 use Rattle.std.specs.Prelude.{nat_eq}
-use Rattle.std.specs.Ordering.{eq_by_cmp}
 use Rattle.std.specs.Cmp.Lexicographic.{pointwise}
 use Rattle.std.specs.List.{AllByRecursion}
 use Rattle.std.proofs.lemmas.Bool.{and_parts}
 use Rattle.std.proofs.lemmas.List.{length-map}
 use Rattle.std.proofs.lemmas.Slice.Eq.{bytes_eq-Decides}
 use Rattle.hv_shelf.specs.declared.place.Place.{Place}
-use Rattle.hv_shelf.specs.Places.{place_cmp, place_total}
+use Rattle.hv_shelf.specs.Places.{place_total}
 use Rattle.hv_shelf.specs.Disk.{Tree, places_of}
 use Rattle.hv_logic.specs.declared.catalog.Shape.{Shape}
 use Rattle.hv_logic.specs.declared.catalog.TableInfo.{TableInfo}
@@ -16,23 +15,18 @@ use Rattle.hv_logic.specs.declared.effect.Found.{Found}
 use Rattle.hv_route.specs.Standing.{insert_record, delete_record, stands_in}
 use Rattle.hv_dirs.specs.Choice.{sight_of}
 use Rattle.hv_wids.specs.WriteIds.{WriteIds}
-use Rattle.hv_history.specs.declared.entry.Entry.{Entry}
-use Rattle.hv_history.specs.declared.state.Table.{Table}
 use Rattle.hv_history.specs.declared.state.Written.{Written}
 use Rattle.hv_book.specs.Past.{total, only_if}
-use Rattle.hv_choosing.specs.declared.dir.Dir.{Dir}
-use Rattle.hv_choosing.specs.declared.dir.Dir.TheVariants.{Own}
 use Rattle.hv_choosing.specs.declared.dir.Span.{Span}
 use Rattle.hv_choosing.specs.declared.listing.DirFile.{DirFile}
 use Rattle.hv_choosing.specs.Listing.{IsNamed, AreListed}
 use Rattle.hv_choosing.specs.Taken.{is_in_one, names_of, chosen_texts, runs, run_taken, files_taken}
 use Rattle.hv_choosing.proofs.Listed.{listed-named}
 use Rattle.hv_choosing.proofs.Partitions.{run-in}
-use Rattle.hv_stands.specs.Files.{records_of, own_dir, own_place}
+use Rattle.hv_stands.specs.Files.{records_of, own_place}
 use Rattle.hv_stands.specs.Sound.{HasOther, AreApart}
 use Rattle.hv_stands.proofs.Fitting.{fronts-fit}
 use Rattle.hv_stands.proofs.Numbers.{either}
-use Rattle.hv_tables.specs.Laws.{StoodAt}
 use Rattle.hv_tables.specs.Reading.{Sheet, sheet_file, IsSheet}
 use Rattle.hv_tables.proofs.Members.{In, all-in, kept-in, in-map, flat-in}
 use Rattle.hv_tables.proofs.OwnDirs.{own-named}
@@ -65,9 +59,9 @@ stand_at partition bucket row = only_if (stands_in partition bucket row) 1
 record-count : (shape : Shape) (deletes : Bool) (partition : List ℕ) (bucket : ℕ) (written : Written)
     → length (records_of shape deletes partition bucket written) ≡ total (stand_at partition bucket) (rows_of deletes written)
 record-count shape false partition bucket written =
-    length-map (insert_record shape) (filter (stands_in partition bucket) written.inserts) ∙ kept-count (stands_in partition bucket) written.inserts
+    length-map (filter (stands_in partition bucket) written.inserts) (insert_record shape) ∙ kept-count (stands_in partition bucket) written.inserts
 record-count shape true partition bucket written =
-    length-map (delete_record written.write) (filter (stands_in partition bucket) written.deletes) ∙ kept-count (stands_in partition bucket) written.deletes
+    length-map (filter (stands_in partition bucket) written.deletes) (delete_record written.write) ∙ kept-count (stands_in partition bucket) written.deletes
 
 not-same : (a b : ℕ) → (a ≡ b → ⊥) → (a == b) ≡ false
 not-same a b apart = by (a == b) refl
