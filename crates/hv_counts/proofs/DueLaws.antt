@@ -1,5 +1,5 @@
 -- What the notes say of the commits of a table at an earlier place is what these say there, each as often.
-use Rattle.std.proofs.Common.{◌≡◌, ℕ, suc, ◌+◌, ◌<◌, ◌≤◌, Bool, true, false, Option, Some, None, List, [], ◌∷◌, ◌++◌, length, map, filter, take, drop, refl, sym, ap, ◌∙◌, subst, arith}
+use Rattle.std.proofs.Common.{◌≡◌, ℕ, suc, ◌+◌, ◌<◌, Bool, true, false, Option, Some, None, List, [], ◌∷◌, ◌++◌, length, map, filter, take, drop, refl, sym, ap, ◌∙◌, subst, arith}
 use Rattle.std.specs.Prelude.{◌==◌, ◌&&◌, nat_le, if◌then◌else◌, IsSomeAnd}
 use Rattle.std.specs.Option.{option_map}
 use Rattle.std.specs.List.{slice_get, flat_map}
@@ -21,8 +21,6 @@ use Rattle.hv_book.specs.Commits.{wrote_by, wrote_in}
 use Rattle.hv_book.specs.Past.{Past, IsPast, owners_in, total, total_from, only_if, weight_in, ended_weight}
 use Rattle.hv_book.proofs.IdLaws.{total-append}
 use Rattle.hv_book.proofs.TextLaws.{numbered-map}
-use Rattle.hv_earlier.specs.declared.fates.Fate.{Fate}
-use Rattle.hv_earlier.specs.declared.fates.Fate.TheVariants as fate
 use Rattle.hv_earlier.specs.declared.exceptions.Spot.{Spot}
 use Rattle.hv_earlier.specs.Fates.{fate_by, fate_of}
 use Rattle.hv_earlier.specs.Places.{only_those, IsSpot}
@@ -41,7 +39,7 @@ module _ (entries : List Entry) (position txn : ℕ) where
   abbrev then_there : Option Transaction
   then_there = numbered (state_of (take position entries)).transactions txn
 
-  abbrev wrote_if : Bool → Option (List Touch) → Option (List Touch)
+  abbrev pub wrote_if : Bool → Option (List Touch) → Option (List Touch)
   wrote_if true wrote = wrote
   wrote_if false wrote = None
 

@@ -1,5 +1,5 @@
 -- What first differs, one after another and by sums.
-use Rattle.std.proofs.Common.{◌≡◌, ℕ, suc, ◌+◌, ◌*◌, ◌<◌, ◌≤◌, Bool, true, false, Option, Some, None, List, [], ◌∷◌, length, drop, get_or, refl, sym, ap, ◌∙◌, subst, arith, true≢false, ltb, ltb-true, ltb-false, drop-cons, Bor, IsSorted}
+use Rattle.std.proofs.Common.{◌≡◌, ℕ, suc, ◌+◌, ◌<◌, ◌≤◌, Bool, true, false, Option, Some, None, List, [], ◌∷◌, length, drop, get_or, refl, sym, ap, ◌∙◌, subst, arith, true≢false, ltb, ltb-true, ltb-false, drop-cons, Bor}
 use Rattle.std.specs.Prelude.{◌==◌, ◌&&◌, nat_eq, not, if◌then◌else◌, is_some, IfSome}
 use Rattle.std.specs.Option.{option_copied}
 use Rattle.std.specs.declared.cmp.Ordering.{Ordering}
@@ -10,10 +10,10 @@ use Rattle.std.specs.Cmp.Lexicographic.{slice_cmp, pointwise, texts_ties, nat_li
 use Rattle.std.specs.List.{AllByRecursion}
 use Rattle.std.proofs.lemmas.Bool.{eq-eqb, eqb-true, ne_eqb, and_parts}
 use Rattle.std.proofs.lemmas.List.{drop_all}
-use Rattle.hv_dirs.proofs.SortingLemmas.{Rises, Leads, rises_from}
+use Rattle.hv_dirs.proofs.SortingLemmas.{Rises, Leads}
 use Rattle.hv_counts.specs.declared.tally.Tally.{Tally}
 use Rattle.hv_book.specs.Past.{total, only_if}
-use Rattle.hv_counts.specs.Tallies.{key_cmp, key_total, tally_cmp, tally_total, is_tally, stored_part, due_part, ends, head_of, first_off}
+use Rattle.hv_counts.specs.Tallies.{key_cmp, key_total, tally_cmp, is_tally, stored_part, due_part, ends, head_of, first_off}
 
 -- ---- the one behind
 
@@ -242,9 +242,9 @@ some-from s d t [] x found rise = by (s + t.stored == d + t.due) refl found
         let same : t ≡ x = cc in
         subst (λ (y : Tally). IsLevel s d y.write y.partition t [] → ⊥) same
         (λ level.
-            let sums = only-these (is_tally t.write t.partition t) s t.stored d t.due 0 0 (itself t) refl refl level in
-            let equal = eq-eqb (s + t.stored) (d + t.due) sums in
-            cc)
+        let sums = only-these (is_tally t.write t.partition t) s t.stored d t.due 0 0 (itself t) refl refl level in
+        let equal = eq-eqb (s + t.stored) (d + t.due) sums in
+        cc)
 some-from s d t (u ∷ us) x found rise =
     by (is_tally t.write t.partition u) refl found (λ e. some-from (s + t.stored) (d + t.due) u us x e rise.1) (λ e. some-from 0 0 u us x e rise.1)
   where
@@ -252,21 +252,21 @@ some-from s d t (u ∷ us) x found rise =
         → IsLevel s d x.write x.partition t (u ∷ us) → ⊥
     so true equal other f rest =
         λ level.
-            rest f
-            (start-level x.write x.partition u us
-            (only-rest (is_tally x.write x.partition t) s t.stored d t.due (total (stored_part x.write x.partition) (u ∷ us)) (total (due_part x.write x.partition) (u ∷ us))
-            (eqb-true (s + t.stored) (d + t.due) equal) level))
+        rest f
+        (start-level x.write x.partition u us
+        (only-rest (is_tally x.write x.partition t) s t.stored d t.due (total (stored_part x.write x.partition) (u ∷ us)) (total (due_part x.write x.partition) (u ∷ us))
+        (eqb-true (s + t.stored) (d + t.due) equal) level))
     so false equal other f rest =
         let same : t ≡ x = cc in
         let none = all-apart t u us rise other in
         subst (λ (y : Tally). IsLevel s d y.write y.partition t (u ∷ us) → ⊥) same
         (λ level.
-            let sums =
-            only-these (is_tally t.write t.partition t) s t.stored d t.due (total (stored_part t.write t.partition) (u ∷ us)) (total (due_part t.write t.partition) (u ∷ us)) (itself t)
-            (none-of (λ (v : Tally). v.stored) t.write t.partition (u ∷ us) none) (none-of (λ (v : Tally). v.due) t.write t.partition (u ∷ us) none) level
-            in
-            let equals = eq-eqb (s + t.stored) (d + t.due) sums in
-            cc)
+        let sums =
+        only-these (is_tally t.write t.partition t) s t.stored d t.due (total (stored_part t.write t.partition) (u ∷ us)) (total (due_part t.write t.partition) (u ∷ us)) (itself t)
+        (none-of (λ (v : Tally). v.stored) t.write t.partition (u ∷ us) none) (none-of (λ (v : Tally). v.due) t.write t.partition (u ∷ us) none) level
+        in
+        let equals = eq-eqb (s + t.stored) (d + t.due) sums in
+        cc)
 
     by : (b : Bool) → is_tally t.write t.partition u ≡ b
         → (if not b then (if s + t.stored == d + t.due then first_off 0 0 (u ∷ us) else Some t) else first_off (s + t.stored) (d + t.due) (u ∷ us)) ≡ Some x

@@ -1,5 +1,5 @@
 -- From what stands beside each other to the files and the commits: sums, and the last file of a write id in a partition.
-use Rattle.std.proofs.Common.{◌≡◌, ℕ, zero, suc, ◌+◌, ◌<◌, ◌≤◌, ◌⊎◌, inl, inr, Bool, true, false, Option, Some, None, List, [], ◌∷◌, ◌++◌, length, map, drop, refl, sym, ap, ◌∙◌, subst, arith, true≢false, IsPermutation, IsSorted}
+use Rattle.std.proofs.Common.{◌≡◌, ℕ, zero, suc, ◌+◌, ◌<◌, ◌≤◌, ◌⊎◌, inl, inr, Bool, true, false, Option, Some, None, List, [], ◌∷◌, ◌++◌, length, map, refl, sym, ap, ◌∙◌, subst, arith, IsPermutation, IsSorted}
 use Rattle.std.specs.Prelude.{◌==◌, ◌&&◌, nat_eq}
 use Rattle.std.specs.List.{slice_get, list_all, sum_by, All, AllByRecursion}
 use Rattle.std.specs.Cmp.Lexicographic.{pointwise}
@@ -20,9 +20,9 @@ use Rattle.hv_tables.specs.Damage.{no_offset}
 use Rattle.hv_counts.specs.declared.due.Due.{Due}
 use Rattle.hv_counts.specs.declared.counted.Counted.{Counted}
 use Rattle.hv_counts.specs.declared.tally.Tally.{Tally}
-use Rattle.hv_counts.specs.Counts.{AreOwn, IsCounted, due_rows, due_at, due_sum, is_own_of, is_stored, stored_at, stored_sum}
-use Rattle.hv_counts.specs.Tallies.{is_tally, stored_part, due_part, tally_cmp, tally_total, first_off}
-use Rattle.hv_counts.specs.Miscounts.{counted_of, AreCounted, is_own, is_own_file, own_write, file_tally_of, file_tally, file_tallies, due_tally, IsLastFile, HasNoFile, IsFileAt, IsMiscounted}
+use Rattle.hv_counts.specs.Counts.{AreOwn, IsCounted, due_at, due_sum, is_own_of, is_stored, stored_at, stored_sum}
+use Rattle.hv_counts.specs.Tallies.{stored_part, due_part, tally_cmp, tally_total, first_off}
+use Rattle.hv_counts.specs.Miscounts.{counted_of, AreCounted, is_own, is_own_file, own_write, file_tally_of, file_tally, file_tallies, due_tally, IsFileAt, IsMiscounted}
 use Rattle.hv_counts.proofs.Levels.{text-of, of-text, IsUpTo, none-off, some-off, last-off, found-among}
 
 -- ---- lists
@@ -178,25 +178,31 @@ module _ (deletes : Bool) where
     where
       by : (d : Dir) → sheet.file.dir ≡ d → AllByRecursion (IsNumbered number (sheet ∷ sheets)) (file_tally_of (own_write d) number sheet.file (counted_of deletes sheet))
       by (Base high) is = tt
-      by (Own kind id statement) is = (record {
-        at = 0;
-        file_is = omega arith;
-        sheet = sheet;
-        got = refl;
-        stored = (λ i. is_own_of id.0 (is i) && of-text sheet.file.place.partition i) ∙ ap (λ b. b && true) (eq-eqb id.0 id.0 refl);
-      }, tt)
+      by (Own kind id statement) is = (
+        record {
+          at = 0;
+          file_is = omega arith;
+          sheet = sheet;
+          got = refl;
+          stored = (λ i. is_own_of id.0 (is i) && of-text sheet.file.place.partition i) ∙ ap (λ b. b && true) (eq-eqb id.0 id.0 refl);
+        },
+        tt,
+      )
       by (Wide kind low high) is = tt
 
   numbered-next : (number : ℕ) (sheet : Sheet) (sheets : List Sheet) (ts : List Tally) → AllByRecursion (IsNumbered (number + 1) sheets) ts
       → AllByRecursion (IsNumbered number (sheet ∷ sheets)) ts
   numbered-next number sheet sheets [] h = tt
-  numbered-next number sheet sheets (t ∷ ts) h = (record {
-    at = suc h.0.at;
-    file_is = (let e = h.0.file_is in omega (arith, e));
-    sheet = h.0.sheet;
-    got = h.0.got;
-    stored = h.0.stored;
-  }, numbered-next number sheet sheets ts h.1)
+  numbered-next number sheet sheets (t ∷ ts) h = (
+    record {
+      at = suc h.0.at;
+      file_is = (let e = h.0.file_is in omega (arith, e));
+      sheet = h.0.sheet;
+      got = h.0.got;
+      stored = h.0.stored;
+    },
+    numbered-next number sheet sheets ts h.1,
+  )
 
   all-numbered : (number : ℕ) (sheets : List Sheet) → AllByRecursion (IsNumbered number sheets) (tallies_from number sheets)
   unfolding tallies_from

@@ -12,7 +12,6 @@ use Rattle.hv_tables.specs.Damage.{no_offset}
 use Rattle.hv_counts.specs.declared.due.Due.{Due}
 use Rattle.hv_counts.specs.declared.counted.Counted.{Counted}
 use Rattle.hv_counts.specs.declared.tally.Tally.{Tally}
-use Rattle.hv_counts.specs.declared.miscount.Miscount.{Miscount}
 use Rattle.hv_counts.specs.Counts.{AreOwn, due_rows, due_sum, stored_sum, is_stored}
 
 -- ---- what was counted

@@ -1,11 +1,11 @@
 -- What files have and what commits say, one after another by write id and partition, and the first ones of one write id and partition
 -- that differ.
-use Rattle.std.specs.Prelude.{ℕ, ◌+◌, ◌==◌, ◌&&◌, nat_eq, Bool, true, false, not, if◌then◌else◌, Option, Some, None, List, [], ◌∷◌}
+use Rattle.std.specs.Prelude.{ℕ, ◌+◌, ◌==◌, ◌&&◌, nat_eq, Bool, true, not, if◌then◌else◌, Option, Some, None, List, [], ◌∷◌}
 use Rattle.std.specs.declared.cmp.Ordering.{Ordering}
 use Rattle.std.specs.Ordering.{nat_cmp, on, then_cmp}
 use Rattle.std.specs.Cmp.{IsTotalOrder, on_total, then_total, nat_cmp_total}
 use Rattle.std.specs.Cmp.Lexicographic.{slice_cmp, pointwise, nat_list_cmp_total}
-use Rattle.hv_book.specs.Past.{total, only_if}
+use Rattle.hv_book.specs.Past.{only_if}
 use Rattle.hv_counts.specs.declared.tally.Tally.{Tally}
 
 -- by write id and partition

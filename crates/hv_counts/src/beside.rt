@@ -65,7 +65,12 @@ fn due_rows(deletes: bool, due: &Due) -> u64
 }
 
 /// Appends what commits say.
-fn push_dues(alloc: Global, deletes: bool, dues: &[Due], tallies: &mut Vec<Tally>) -> Result<(), NoMemory>
+fn push_dues(
+    alloc: Global,
+    deletes: bool,
+    dues: &[Due],
+    tallies: &mut Vec<Tally>,
+) -> Result<(), NoMemory>
     ensures { OnOk result (tallies.new.items ≡ tallies.old.items ++ map (due_tally deletes) dues.now) }
 {
     for due in dues {

@@ -28,12 +28,7 @@ fn had_committed(book: &Book, spot: Spot, txn: u64) -> bool
     ensures { result
         ≡ is_done (numbered (map fate_of (state_of (take spot.position book.now.entries)).transactions) txn) }
 {
-    is_done(fate_in(
-        book.transactions(),
-        spot.position,
-        spot.transactions,
-        txn,
-    ))
+    is_done(fate_in(book.transactions(), spot.position, spot.transactions, txn))
 }
 
 /// What the transaction of that number wrote, where it had committed its writes before the place.

@@ -2,7 +2,7 @@ use Rattle.std.proofs.Common.{◌++◌, List, ap, ◌∙◌, arith}
 use Rattle.std.specs.List.{flat_map}
 use Rattle.hv_book.specs.Past.{total, past_in}
 use Rattle.hv_counts.specs.declared.due.Due.{Due}
-use Rattle.hv_counts.specs.Places.{dues_then, dues_weight}
+use Rattle.hv_counts.specs.Places.{dues_then}
 use Rattle.hv_counts.proofs.DueLaws.{all-dues}
 use Rattle.hv_counts.proofs.dues.dues_then.Goals as goal
 

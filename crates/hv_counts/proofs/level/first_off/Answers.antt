@@ -1,5 +1,5 @@
-use Rattle.std.proofs.Common.{◌≡◌, ◌+◌, true, false, drop, sym, ap, ◌∙◌, arith}
-use Rattle.hv_counts.specs.Tallies.{ends, head_of, first_off}
+use Rattle.std.proofs.Common.{◌≡◌, ◌+◌, drop, sym, ap, ◌∙◌, arith}
+use Rattle.hv_counts.specs.Tallies.{ends, first_off}
 use Rattle.hv_counts.proofs.Levels.{looked, front, off-on, off-same}
 use Rattle.hv_counts.proofs.level.first_off.Goals as goal
 use Rattle.hv_counts.proofs.level.first_off.Goals.{then-ends+else-stored-due, else-ends}
@@ -16,17 +16,17 @@ loop-i-preserved c =
     let whole = ap (first_off s d) (front xs i t c.loop-i-test.true c.index-tallies-i.is) in
     let kept = sym whole ∙ c.loop-i.invariant.0 in
     elim c.if-ends.branch [
-      then-ends+else-stored-due w ↦
-        let same : s + t.stored ≡ d + t.due = omega (arith, w.if-stored-due.false, c.from-stored.ensures, c.from-due.ensures) in (
-          (λ k. first_off (w.stored-is k) (w.due-is k) more) ∙ sym (off-same s d t more (sym next ∙ w.if-ends.true) same) ∙ kept,
-          omega (arith, w.stored-is),
-          omega (arith, w.due-is),
-        )
-    | else-ends w ↦
-        let stored : c.if-ends.stored ≡ s + t.stored = omega (arith, w.stored-is, c.from-stored.ensures) in
-        let due : c.if-ends.due ≡ d + t.due = omega (arith, w.due-is, c.from-due.ensures) in (
-          (λ k. first_off (stored k) (due k) more) ∙ sym (off-on s d t more (sym next ∙ w.if-ends.false)) ∙ kept,
-          omega (arith, w.stored-is, c.loop-i.invariant.1),
-          omega (arith, w.due-is, c.loop-i.invariant.2),
-        )
+      | then-ends+else-stored-due w ↦
+          let same : s + t.stored ≡ d + t.due = omega (arith, w.if-stored-due.false, c.from-stored.ensures, c.from-due.ensures) in (
+            (λ k. first_off (w.stored-is k) (w.due-is k) more) ∙ sym (off-same s d t more (sym next ∙ w.if-ends.true) same) ∙ kept,
+            omega (arith, w.stored-is),
+            omega (arith, w.due-is),
+          )
+      | else-ends w ↦
+          let stored : c.if-ends.stored ≡ s + t.stored = omega (arith, w.stored-is, c.from-stored.ensures) in
+          let due : c.if-ends.due ≡ d + t.due = omega (arith, w.due-is, c.from-due.ensures) in (
+            (λ k. first_off (stored k) (due k) more) ∙ sym (off-on s d t more (sym next ∙ w.if-ends.false)) ∙ kept,
+            omega (arith, w.stored-is, c.loop-i.invariant.1),
+            omega (arith, w.due-is, c.loop-i.invariant.2),
+          )
     ]

@@ -1,7 +1,6 @@
-use Rattle.std.proofs.Common.{◌≡◌, ◌++◌, true, false, true≢false, Some, None, List, map, sym, ap, ◌∙◌, subst, IsPermutation}
+use Rattle.std.proofs.Common.{◌≡◌, true≢false, Some, None, List, sym, ap, ◌∙◌, subst, IsPermutation}
 use Rattle.hv_counts.specs.declared.tally.Tally.{Tally}
 use Rattle.hv_counts.specs.Tallies.{first_off}
-use Rattle.hv_counts.specs.Miscounts.{is_own_file, file_tallies, due_tally}
 use Rattle.hv_counts.proofs.Told.{AreSorted, own-all, all-own, all-counted, within, is-miscounted}
 use Rattle.hv_counts.proofs.miscount.first_miscount.Goals as goal
 
