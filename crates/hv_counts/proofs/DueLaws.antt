@@ -21,14 +21,14 @@ use Rattle.hv_book.specs.Commits.{wrote_by, wrote_in}
 use Rattle.hv_book.specs.Past.{Past, IsPast, owners_in, total, total_from, only_if, weight_in, ended_weight}
 use Rattle.hv_book.proofs.IdLaws.{total-append}
 use Rattle.hv_book.proofs.TextLaws.{numbered-map}
-use Rattle.hv_earlier.specs.declared.exceptions.Spot.{Spot}
 use Rattle.hv_earlier.specs.Fates.{fate_by, fate_of}
-use Rattle.hv_earlier.specs.Places.{only_those, IsSpot}
+use Rattle.hv_earlier.specs.Places.{only_those}
 use Rattle.hv_earlier.proofs.PlaceLaws.{go-on, owners-go-on}
 use Rattle.hv_earlier.proofs.WalkLaws.{total-same, walk-start, walk-step}
 use Rattle.hv_counts.specs.declared.due.Due.{Due}
+use Rattle.hv_counts.specs.declared.spot.Spot.{Spot}
 use Rattle.hv_counts.specs.Counts.{dues_of, dues_from, dues_in}
-use Rattle.hv_counts.specs.Places.{is_done, dues_then, dues_weight}
+use Rattle.hv_counts.specs.Places.{IsSpot, is_done, dues_then, dues_weight}
 
 -- ---- what a transaction had written at a place
 

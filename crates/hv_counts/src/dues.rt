@@ -1,35 +1,18 @@
-ghost use Rattle.std.specs.Prelude.{◌≡◌, ℕ, ◌+◌, ◌++◌, IfOk, OnOk, map, take};
+ghost use Rattle.std.specs.Prelude.{◌≡◌, ℕ, ◌+◌, ◌++◌, IfOk, OnOk, take};
 ghost use Rattle.std.specs.List.{flat_map};
 ghost use Rattle.std.specs.Option.{option_copied};
 ghost use Rattle.hv_history.specs.State.{state_of, numbered};
 ghost use Rattle.hv_book.specs.Commits.{wrote_in};
 ghost use Rattle.hv_book.specs.Past.{total};
-ghost use Rattle.hv_earlier.specs.Fates.{fate_of};
-ghost use Rattle.hv_earlier.specs.Places.{IsSpot};
 ghost use Rattle.hv_counts.specs.Counts.{due_of, dues_in};
-ghost use Rattle.hv_counts.specs.Places.{is_done, dues_then, dues_weight};
+ghost use Rattle.hv_counts.specs.Places.{IsSpot, dues_then, dues_weight};
 
 use crate::due::Due;
+use crate::spot::{Spot, had_committed, spot_at};
 use hv_base::{Duplicate, List, NoMemory, TableId, Touch};
 use hv_book::Book;
-use hv_earlier::{Fate, Spot, fate_in, spot_at};
 use hv_ids::{IdNote, PlacedIds};
 use std::alloc::Global;
-
-fn is_done(fate: Option<Fate>) -> bool
-    ensures { result ≡ is_done fate }
-{
-    matches!(fate, Some(Fate::Committed))
-}
-
-/// Whether the transaction of that number had committed before the place.
-fn had_committed(book: &Book, spot: Spot, txn: u64) -> bool
-    requires { IsSpot book.now.entries spot }
-    ensures { result
-        ≡ is_done (numbered (map fate_of (state_of (take spot.position book.now.entries)).transactions) txn) }
-{
-    is_done(fate_in(book.transactions(), spot.position, spot.transactions, txn))
-}
 
 /// What the transaction of that number wrote, where it had committed its writes before the place.
 fn wrote_then(book: &Book, spot: Spot, txn: u64) -> Option<&List<Touch>>
@@ -168,5 +151,6 @@ pub fn dues_at(
     ensures dues { IfOk result (λ dues. (weight : Due → ℕ) → total weight dues.items
         ≡ total weight (dues_in (state_of (take position book.now.entries)) table.0)) }
 {
-    dues_then(alloc, book, spot_at(book, position, table.0))
+    let spot = spot_at(alloc, book, position, table)?;
+    dues_then(alloc, book, spot)
 }

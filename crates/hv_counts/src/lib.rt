@@ -7,6 +7,7 @@ mod due;
 mod dues;
 mod level;
 mod miscount;
+mod spot;
 mod tally;
 
 pub use counted::Counted;

@@ -8,7 +8,4 @@ mod exceptions;
 mod fates;
 
 pub use catalogs::catalog_at;
-pub use counts::spot_at;
 pub use earlier::{PastIds, ids_at, list_at};
-pub use exceptions::Spot;
-pub use fates::{Fate, fate_in};
