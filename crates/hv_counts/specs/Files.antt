@@ -1,0 +1,51 @@
+-- Whether the files that are read of a table, by the files that are chosen under a list of its write ids, have as many records as its
+-- commits say.
+use Rattle.std.specs.Prelude.{◌≡◌, Bool, List, map}
+use Rattle.std.specs.List.{AllByRecursion}
+use Rattle.hv_shelf.specs.declared.place.Place.{Place}
+use Rattle.hv_shelf.specs.Disk.{Tree, places_of}
+use Rattle.hv_logic.specs.declared.catalog.TableInfo.{TableInfo}
+use Rattle.hv_wids.specs.WriteIds.{WriteIds}
+use Rattle.hv_history.specs.declared.entry.FilePlace.{FilePlace}
+use Rattle.hv_choosing.specs.declared.listing.DirFile.{DirFile}
+use Rattle.hv_choosing.specs.Listing.{AreListed}
+use Rattle.hv_choosing.specs.Taken.{files_taken}
+use Rattle.hv_tables.specs.Reading.{Sheet, sheet_file, IsSheet}
+use Rattle.hv_tables.specs.Damage.{told_place}
+use Rattle.hv_counts.specs.declared.due.Due.{Due}
+use Rattle.hv_counts.specs.Counts.{IsCounted, AreOwn}
+use Rattle.hv_counts.specs.Miscounts.{IsMiscounted}
+
+-- the files of a kind that are taken were read
+pub record AreSheets (deletes : Bool) (info : TableInfo) (list : WriteIds) (files : Tree) (sheets : List Sheet) : Type 0 where
+  pub named : List DirFile
+  pub listed : AreListed (places_of info.table files) named
+  pub files_are : map sheet_file sheets ≡ files_taken deletes list named
+  pub each : AllByRecursion (IsSheet deletes files) sheets
+
+-- they were read and have so many records, where all stand in own directories
+pub record HasCounts (deletes : Bool) (info : TableInfo) (list : WriteIds) (files : Tree) (dues : List Due) : Type 0 where
+  pub sheets : List Sheet
+  pub read : AreSheets deletes info list files sheets
+  pub counted : AreOwn (map sheet_file sheets) → IsCounted deletes dues sheets
+
+-- those of both kinds
+abbrev pub AreCountedBoth : TableInfo → WriteIds → Tree → List Due → Type 0
+AreCountedBoth info list files dues = (deletes : Bool) → HasCounts deletes info list files dues
+
+-- those of a kind were read, stand in own directories and don't have so many records
+pub record IsUncounted (info : TableInfo) (list : WriteIds) (files : Tree) (dues : List Due) : Type 0 where
+  pub deletes : Bool
+  pub sheets : List Sheet
+  pub read : AreSheets deletes info list files sheets
+  pub own : AreOwn (map sheet_file sheets)
+  pub differ : IsCounted deletes dues sheets → ⊥
+
+-- what is told of them
+pub record IsToldUncounted (info : TableInfo) (list : WriteIds) (files : Tree) (dues : List Due) (told : FilePlace) : Type 0 where
+  pub deletes : Bool
+  pub sheets : List Sheet
+  pub read : AreSheets deletes info list files sheets
+  pub place : Place
+  pub place_is : told ≡ told_place place told.at
+  pub miscounted : IsMiscounted deletes info.table.0 dues sheets place told.at
