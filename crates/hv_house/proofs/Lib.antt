@@ -12,4 +12,5 @@ pub mod Putting
 pub mod Rooms
 pub mod Past
 pub mod Seen
+pub mod Listings
 pub mod Beginning

@@ -7,6 +7,7 @@ mod fault;
 mod files;
 mod house;
 mod laws;
+mod listing;
 mod noting;
 mod seeing;
 
@@ -14,3 +15,4 @@ pub use boot::BootFault;
 pub use fault::{HouseFault, RowFault};
 pub use house::House;
 pub use laws::seen_is_content;
+pub use listing::{GetFault, Listing};
