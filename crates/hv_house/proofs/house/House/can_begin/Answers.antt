@@ -1,9 +1,8 @@
-use Rattle.std.proofs.Common.{◌≡◌, ◌+◌, ◌≤◌, ◌∙◌, true, List, None, sym, ap, subst}
-use Rattle.std.specs.Prelude.{IsTrue}
+use Rattle.std.proofs.Common.{◌≡◌, ◌∙◌, true, List, None, sym, ap, subst}
 use Rattle.hv_base.specs.declared.ids.Limits.{Limits}
 use Rattle.hv_history.specs.declared.entry.Entry.{Entry}
 use Rattle.hv_history.specs.State.{state_of}
-use Rattle.hv_history.specs.Legal.{load, HasRoom}
+use Rattle.hv_history.specs.Legal.{HasRoom}
 use Rattle.hv_house.specs.House.{entries_of}
 use Rattle.hv_house.specs.Asking.{holder_against, lock_state}
 use Rattle.hv_house.proofs.Beginning.{begin-fits, free-of}
