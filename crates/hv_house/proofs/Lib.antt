@@ -14,3 +14,4 @@ pub mod Past
 pub mod Seen
 pub mod Listings
 pub mod Beginning
+pub mod Naming

@@ -1,5 +1,6 @@
 pub mod Asking
 pub mod Booting
+pub mod Calls
 pub mod Faults
 pub mod House
 pub mod Listing

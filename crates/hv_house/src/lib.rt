@@ -3,6 +3,7 @@
 
 mod asking;
 mod boot;
+mod calls;
 mod fault;
 mod files;
 mod house;
@@ -12,6 +13,7 @@ mod noting;
 mod seeing;
 
 pub use boot::BootFault;
+pub use calls::EntryFault;
 pub use fault::{HouseFault, RowFault};
 pub use house::House;
 pub use laws::seen_is_content;
