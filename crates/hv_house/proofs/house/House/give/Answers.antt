@@ -5,11 +5,6 @@ use Rattle.hv_house.proofs.Naming.{given-next}
 use Rattle.hv_house.proofs.house.House.give.Goals as goal
 
 pub note_entry-requires : goal.note_entry-requires
-note_entry-requires g c κs within = (
-  search rules,
-  c.requires.1.0,
-  refl,
-  short_given c.args.txn c.args.table c.in-Some.write,
-  given-next g.limits (entries_of c.args.self.now) c.args.txn c.args.table c.in-Some.write.0 c.in-Some.ensures.next c.requires.1.1.1,
-  tt,
-)
+note_entry-requires g c κs within =
+    let fits = given-next g.limits (entries_of c.args.self.now) c.args.txn c.args.table c.in-Some.write.0 c.in-Some.ensures.next c.requires.1.1.1 in
+    (search rules, (c.requires.1.0, (refl, (short_given c.args.txn c.args.table c.in-Some.write, (fits, tt)))))
