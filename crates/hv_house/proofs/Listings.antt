@@ -1,5 +1,5 @@
 -- Calls that read: what each leaves of the house, and what is found.
-use Rattle.std.proofs.Common.{◌≡◌, ◌<◌, ◌≤◌, ℕ, ◌-◌, ◌^◌, nat_lt, Bool, true, false, Option, Some, None, Result, Ok, Err, List, [], take, option_map, refl, sym, ap, ◌∙◌, subst, arith, IsErrOf}
+use Rattle.std.proofs.Common.{◌≡◌, ◌<◌, ◌≤◌, ℕ, ◌-◌, ◌^◌, nat_lt, Bool, true, false, Option, Some, None, Result, Ok, Err, List, take, option_map, refl, sym, ap, ◌∙◌, subst, arith}
 use Rattle.std.specs.Prelude.{if◌then◌else◌, IfOk, IfErr, IsErrAnd}
 use Rattle.std.proofs.lemmas.Bool.{ltb-true}
 use Rattle.std.specs.FinMap as tree
@@ -11,7 +11,7 @@ use Rattle.hv_base.specs.declared.ids.TableId.{TableId}
 use Rattle.hv_shelf.specs.declared.fault.ShelfFault.{ShelfFault}
 use Rattle.hv_shelf.specs.declared.fault.ShelfFault.TheVariants as shelf
 use Rattle.hv_shelf.specs.declared.place.Place.{Place}
-use Rattle.hv_shelf.specs.Disk.{Store, Tree, places_of}
+use Rattle.hv_shelf.specs.Disk.{Store, places_of}
 use Rattle.hv_logic.specs.declared.catalog.TableInfo.{TableInfo}
 use Rattle.hv_wids.specs.WriteIds.{WriteIds}
 use Rattle.hv_choosing.specs.declared.listing.DirFile.{DirFile}
@@ -20,15 +20,15 @@ use Rattle.hv_history.specs.State.{nothing_yet, state_of}
 use Rattle.hv_history.specs.Legal.{AllFit}
 use Rattle.hv_earlier.specs.Lists.{catalog_at}
 use Rattle.hv_stands.specs.Reading.{table_of_name}
-use Rattle.hv_stands.specs.Files.{Stands, made_at}
+use Rattle.hv_stands.specs.Files.{Stands}
 use Rattle.hv_stands.proofs.Keeping.{sound-all, nothing-sound}
 use Rattle.hv_trail.specs.declared.trail.Reader.TheVariants.{Txn}
-use Rattle.hv_trail.specs.Steps.{Call, Read, Outcome, Done, Closed, Refused, Failed, Step}
+use Rattle.hv_trail.specs.Steps.{Call, Read, Done, Refused, Step}
 use Rattle.hv_house.specs.declared.fault.HouseFault.{HouseFault}
 use Rattle.hv_house.specs.declared.fault.HouseFault.TheVariants as fault
 use Rattle.hv_house.specs.declared.fault.RowFault.TheVariants as row_fault
 use Rattle.hv_house.specs.declared.house.House.{House}
-use Rattle.hv_house.specs.Faults.{house_fault, HasRisen, FileCause}
+use Rattle.hv_house.specs.Faults.{house_fault, HasRisen}
 use Rattle.hv_house.specs.House.{entries_of, IsAsked, IsReadyWithin, StaysPutWithin}
 use Rattle.hv_house.specs.Seeing.{info_of_name}
 use Rattle.hv_house.specs.Steps.{seen_of, fault_outcome, outcome_of, GainsBy, IsMarkedFor}

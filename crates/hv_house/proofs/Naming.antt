@@ -1,12 +1,11 @@
 -- What a call that notes one entry by its name leaves, and when it is refused.
-use Rattle.std.proofs.Common.{◌≡◌, ℕ, ◌+◌, ◌<◌, ◌≤◌, Bool, true, false, is_none, Option, Some, None, Result, Ok, Err, List, [], ◌∷◌, length, map, refl, sym, ap, ◌∙◌, subst, arith, IsErrOf}
-use Rattle.std.specs.Prelude.{◌↔◌, IsTrue, IsSome, IsSomeAnd, IfErr}
+use Rattle.std.proofs.Common.{◌≡◌, ℕ, ◌+◌, ◌<◌, ◌≤◌, Bool, true, false, is_none, Option, Some, None, Ok, Err, List, [], ◌∷◌, length, map, refl, sym, ap, ◌∙◌, subst, arith, IsErrOf}
+use Rattle.std.specs.Prelude.{◌↔◌, IsTrue, IsSome, IsSomeAnd}
 use Rattle.std.specs.Prelude.{nat_lt}
 use Rattle.std.specs.Option.{option_map}
 use Rattle.std.proofs.lemmas.Bool.Decides.{nat_tests}
 use Rattle.hv_base.specs.declared.ids.TxnId.{TxnId}
 use Rattle.hv_base.specs.declared.ids.TableId.{TableId}
-use Rattle.hv_base.specs.declared.ids.WriteId.{WriteId}
 use Rattle.hv_base.specs.declared.ids.Limits.{Limits}
 use Rattle.hv_base.specs.Told.{Moves, StaysTold}
 use Rattle.hv_shelf.specs.Disk.{Store}
@@ -30,9 +29,9 @@ use Rattle.hv_house.specs.declared.fault.HouseFault.TheVariants as house_fault
 use Rattle.hv_house.specs.declared.calls.EntryFault.{EntryFault}
 use Rattle.hv_house.specs.declared.calls.EntryFault.TheVariants as fault
 use Rattle.hv_house.specs.Faults.{HasRisen, EndsRun}
-use Rattle.hv_house.specs.House.{entries_of, IsReadyWithin, StaysReadyWithin, IsNoted, IsHalted}
+use Rattle.hv_house.specs.House.{IsReadyWithin, StaysReadyWithin, IsNoted, IsHalted}
 use Rattle.hv_house.specs.Steps.{seen_of, fault_outcome}
-use Rattle.hv_house.specs.Calls.{entry_outcome, place_ended, HasEndedAt, HasNotEnded, HasNoRoom, IfOpen, CanBeGiven, next_id, next_given, next_table, IsHouseFault, EntryStepWithin}
+use Rattle.hv_house.specs.Calls.{entry_outcome, place_ended, HasEndedAt, HasNotEnded, HasNoRoom, IfOpen, CanBeGiven, next_given, next_table, IsHouseFault, EntryStepWithin}
 use Rattle.hv_house.proofs.Stays.{stays_of}
 use Rattle.hv_house.proofs.Steps.{noting-one, step-halted}
 

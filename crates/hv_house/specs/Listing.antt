@@ -1,5 +1,5 @@
 -- The files of a table that a reader takes, and the bytes of one of them; how a call that reads ends.
-use Rattle.std.specs.Prelude.{◌≡◌, ℕ, ◌≤◌, Bool, true, false, Option, Some, List, Result, Ok, Err, IfErr}
+use Rattle.std.specs.Prelude.{◌≡◌, ℕ, ◌≤◌, true, false, Option, Some, List, Result, Ok, Err, IfErr}
 use Rattle.hv_base.specs.Told.{Tells}
 use Rattle.hv_base.specs.declared.ids.Limits.{Limits}
 use Rattle.hv_base.specs.declared.ids.TableId.{TableId}
