@@ -12,4 +12,6 @@ pub mod Putting
 pub mod Rooms
 pub mod Past
 pub mod Seen
+pub mod Listings
 pub mod Beginning
+pub mod Naming

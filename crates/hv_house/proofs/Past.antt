@@ -38,7 +38,7 @@ info-by : (b : Bool) (table : Table) (rest : Option TableInfo) (more : Option Ta
 info-by true table rest more e = refl
 info-by false table rest more e = e
 
-infos-named : (name : List ℕ) (tables : List Table) → AllByRecursion IsLive tables
+pub infos-named : (name : List ℕ) (tables : List Table) → AllByRecursion IsLive tables
     → info_of_name name (live_infos tables) ≡ option_map info_in (table_of_name name tables)
 infos-named name [] live = refl
 infos-named name (table ∷ tables) live =

@@ -1,6 +1,8 @@
 pub mod Asking
 pub mod Booting
+pub mod Calls
 pub mod Faults
 pub mod House
+pub mod Listing
 pub mod Seeing
 pub mod Steps
