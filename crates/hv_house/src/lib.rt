@@ -3,13 +3,13 @@
 
 mod asking;
 mod boot;
+mod failing;
 mod fault;
 mod files;
 mod house;
 mod laws;
 mod listing;
 mod noting;
-mod seeing;
 
 pub use boot::BootFault;
 pub use fault::{HouseFault, RowFault};
