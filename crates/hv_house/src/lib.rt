@@ -4,13 +4,13 @@
 mod asking;
 mod boot;
 mod calls;
+mod failing;
 mod fault;
 mod files;
 mod house;
 mod laws;
 mod listing;
 mod noting;
-mod seeing;
 
 pub use boot::BootFault;
 pub use calls::EntryFault;
