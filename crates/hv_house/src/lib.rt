@@ -6,6 +6,7 @@ mod boot;
 mod fault;
 mod files;
 mod house;
+mod housed;
 mod laws;
 mod noting;
 mod seeing;

@@ -1,0 +1,75 @@
+-- A statement that is begun by an act.
+use Rattle.std.proofs.Common.{◌≡◌, ℕ, ◌+◌, Bool, false, Option, Some, None, Result, Ok, Err, List, [], ◌∷◌, length, map, refl, sym, ap, ◌∙◌, subst}
+use Rattle.hv_base.specs.declared.ids.TxnId.{TxnId}
+use Rattle.hv_ast.specs.declared.statement.Stmt.{Stmt}
+use Rattle.hv_shelf.specs.Disk.{Store}
+use Rattle.hv_history.specs.declared.entry.Entry.{Entry}
+use Rattle.hv_history.specs.State.{state_of}
+use Rattle.hv_history.specs.Legal.{HasRoom, profile}
+use Rattle.hv_stands.specs.Running.{next_number}
+use Rattle.hv_trail.specs.declared.trail.TrailItem.{TrailItem}
+use Rattle.hv_trail.specs.declared.trail.TrailItem.TheVariants.{Noted}
+use Rattle.hv_trail.specs.Trail.{book_of}
+use Rattle.hv_trail.specs.Kept.{trail_of}
+use Rattle.hv_trail.specs.Steps.{Begin, Done, begun, gains, Step}
+use Rattle.hv_house.specs.declared.fault.HouseFault.{HouseFault}
+use Rattle.hv_house.specs.declared.fault.HouseFault.TheVariants as fault
+use Rattle.hv_house.specs.declared.house.House.{House}
+use Rattle.hv_house.specs.House.{entries_of, IsReady, StaysReady}
+use Rattle.hv_house.specs.Faults.{EndsRun}
+use Rattle.hv_house.specs.Asking.{CanBegin}
+use Rattle.hv_house.specs.Steps.{seen_of, fault_outcome}
+use Rattle.hv_acts.specs.declared.opening.Begun.{Begun}
+use Rattle.hv_acts.specs.declared.fault.BeginFault.{BeginFault}
+use Rattle.hv_acts.specs.declared.fault.BeginFault.TheVariants as hindered
+use Rattle.hv_acts.specs.Beginning.{begin_outcome, begin_call, call_to_begin, adds_beginning, IsHindered, HasBegun, BeginAnswers, BeginStep}
+use Rattle.hv_acts.proofs.Steps.{book-is, asked, keeps-noted}
+
+module _ {D : Type 0} (told : D → Option Store) (faults : D → ℕ) (session : List ℕ) (number : ℕ) (text : List ℕ) (tree : Stmt) where
+  pub begin-done : (start : Begun) (before now : House D) → IsReady told before → IsReady told now → CanBegin (entries_of before) tree
+      → start.txn.0 ≡ next_number (entries_of before) → start.place ≡ length (entries_of before) + 1
+      → Step told faults (Begin (record { 0 = next_number (entries_of before) }) session number text) Done (seen_of before) (seen_of now)
+      → BeginStep told faults session number text tree before now (Ok start)
+  begin-done start before now was ready can txn place step = record {
+    keeps = λ open. ready;
+    step = subst (λ (book : List Entry). Step told faults (Begin (record { 0 = next_number book }) session number text) Done (seen_of before) (seen_of now))
+        (sym (book-is before)) step;
+    answers = subst (λ (book : List Entry). HasBegun book tree start) (sym (book-is before)) (record { fit = was.fit; can = can; txn_is = txn; place_is = place });
+  }
+
+  pub begin-failed : (why : HouseFault) (before now : House D) → before.trail.closed ≡ false → StaysReady told why now → EndsRun why
+      → Step told faults (Begin (record { 0 = next_number (entries_of before) }) session number text) (fault_outcome why) (seen_of before) (seen_of now)
+      → BeginStep told faults session number text tree before now (Err (hindered.House why))
+  begin-failed why before now running stays ends step = record {
+    keeps = keeps-noted told before now running why stays ends step.closed;
+    step = subst (λ (book : List Entry). Step told faults (Begin (record { 0 = next_number book }) session number text) (fault_outcome why) (seen_of before) (seen_of now))
+        (sym (book-is before)) step;
+    answers = tt;
+  }
+
+  pub begin-hindered : (why : BeginFault) (house : House D) → IsReady told house → IsHindered (trail_of house.trail) tree why → (CanBegin (entries_of house) tree → ⊥)
+      → BeginStep told faults session number text tree house house (Err why)
+  begin-hindered (hindered.Held by) house ready is not = record { keeps = λ open. ready; step = asked told faults (seen_of house); answers = is }
+  begin-hindered (hindered.Full entries) house ready is not = record {
+    keeps = λ open. ready;
+    step = asked told faults (seen_of house);
+    answers = (is.0, is.1, λ room. not (subst (λ (book : List Entry). CanBegin book tree) (book-is house) (room, is.1)));
+  }
+  begin-hindered (hindered.House why) house ready is not = absurd is
+
+-- ---- what it adds
+
+adds-no-beginning : (trail : List TrailItem) (session : List ℕ) (number : ℕ) (text : List ℕ) (why : BeginFault)
+    → gains (begin_call trail session number text (Err why)) (begin_outcome (Err why)) ≡ []
+adds-no-beginning trail session number text (hindered.Held by) = refl
+adds-no-beginning trail session number text (hindered.Full entries) = refl
+adds-no-beginning trail session number text (hindered.House fault.Store) = refl
+adds-no-beginning trail session number text (hindered.House fault.NoMemory) = refl
+adds-no-beginning trail session number text (hindered.House (fault.Failed count)) = refl
+
+pub adds-its-beginning : (trail : List TrailItem) (session : List ℕ) (number : ℕ) (text : List ℕ) (tree : Stmt) (result : Result Begun BeginFault)
+    → BeginAnswers trail tree result → gains (begin_call trail session number text result) (begin_outcome result) ≡ adds_beginning session number text result
+adds-its-beginning trail session number text tree (Ok start) answers =
+    let same : start.txn ≡ record { 0 = next_number (book_of trail) } = λ i. record { 0 = answers.txn_is i } in
+    ap (λ (txn : TxnId). map Noted (begun txn session number text)) (sym same)
+adds-its-beginning trail session number text tree (Err why) answers = adds-no-beginning trail session number text why

@@ -1,0 +1,240 @@
+-- A transaction that is committed by an act, or aborted since a commit conflicts with it.
+use Rattle.std.proofs.Common.{◌≡◌, ◌⊎◌, inl, inr, ℕ, Bool, true, false, true≢false, Option, Some, None, Result, Ok, Err, List, [], ◌∷◌, length, refl, sym, ap, ◌∙◌, subst}
+use Rattle.std.specs.Prelude.{IsSomeAnd}
+use Rattle.std.specs.List.{slice_get}
+use Rattle.hv_base.specs.Told.{Moves}
+use Rattle.hv_base.specs.declared.ids.TxnId.{TxnId}
+use Rattle.hv_base.specs.declared.ids.TableId.{TableId}
+use Rattle.hv_base.specs.declared.ids.Touch.{Touch}
+use Rattle.hv_shelf.specs.Disk.{Store}
+use Rattle.hv_history.specs.declared.entry.Entry.{Entry}
+use Rattle.hv_history.specs.declared.entry.Entry.TheVariants as entry
+use Rattle.hv_history.specs.declared.entry.Cause.TheVariants as cause
+use Rattle.hv_history.specs.declared.state.Table.{Table}
+use Rattle.hv_history.specs.declared.state.Transaction.{Transaction}
+use Rattle.hv_history.specs.State.{State, state_of, numbered}
+use Rattle.hv_history.specs.Legal.{Of, IsRunning}
+use Rattle.hv_conflicts.specs.declared.meeting.Clash.{Clash}
+use Rattle.hv_conflicts.specs.Clashes.{IsClash}
+use Rattle.hv_trail.specs.declared.trail.Reader.TheVariants.{Txn}
+use Rattle.hv_trail.specs.Trail.{book_of, state_at, broken}
+use Rattle.hv_trail.specs.Kept.{trail_of}
+use Rattle.hv_trail.specs.Steps.{Note, Commit, Done, Closed, Conflict, HouseSeen, gains, Step}
+use Rattle.hv_house.specs.declared.fault.HouseFault.{HouseFault}
+use Rattle.hv_house.specs.declared.fault.HouseFault.TheVariants as fault
+use Rattle.hv_house.specs.declared.house.House.{House}
+use Rattle.hv_house.specs.House.{entries_of, IsReady, StaysReady}
+use Rattle.hv_house.specs.Faults.{EndsRun}
+use Rattle.hv_house.specs.Steps.{seen_of, fault_outcome, IsPutWhole, CanCommit}
+use Rattle.hv_acts.specs.declared.committing.Committed.{Committed}
+use Rattle.hv_acts.specs.declared.committing.Committed.TheVariants as committed
+use Rattle.hv_acts.specs.declared.fault.ActFault.{ActFault}
+use Rattle.hv_acts.specs.declared.fault.ActFault.TheVariants as act
+use Rattle.hv_acts.specs.Answers.{act_outcome, call_behind, answer_call, answer_outcome, IsLate, EntryFits, EntryStep}
+use Rattle.hv_acts.specs.Putting.{Runs}
+use Rattle.hv_acts.specs.Committing.{commit_outcome, adds_commit, WasPut, WasPutWhole, IsConflict, CommitStep}
+use Rattle.hv_acts.proofs.Steps.{book-is, asked, keeps-noted, lacking-commit}
+use Rattle.hv_acts.proofs.Notes.{why-of, asked-late}
+use Rattle.hv_acts.proofs.Puts.{holds-id}
+
+-- ---- what it rests on
+
+record IsThere (tables : List Table) (number : ℕ) (P : Table → Type 0) : Type 0 where
+  table : Table
+  here : numbered tables number ≡ Some table
+  is : P table
+
+there : (tables : List Table) (number : ℕ) (P : Table → Type 0) → IsSomeAnd (numbered tables number) P → IsThere tables number P
+there tables number P = by (numbered tables number) refl
+  where
+    by : (o : Option Table) → numbered tables number ≡ o → IsSomeAnd o P → IsThere tables number P
+    by None here is = absurd is
+    by (Some table) here is = record { table = table; here = here; is = is }
+
+put-whole : {D : Type 0} (house : House D) (txn : TxnId) (wrote : List Touch) → Runs (trail_of house.trail) txn → WasPutWhole (trail_of house.trail) txn wrote
+    → IsPutWhole (entries_of house) (trail_of house.trail) txn wrote
+put-whole house txn wrote runs was =
+    let at = there (state_at (trail_of house.trail)).tables was.info.table.0 (λ (table : Table). table.info ≡ was.info) was.here in
+    record {
+      info = was.info;
+      table = at.table;
+      here = subst (λ (book : List Entry). numbered (state_of book).tables was.info.table.0 ≡ Some at.table) (book-is house) at.here;
+      same = at.is;
+      effect = was.effect;
+      write = was.write;
+      touches = was.touches;
+      holds = holds-id house txn was.info.table.0 was.write runs was.given;
+      files = was.files;
+    }
+
+pub can-commit : {D : Type 0} (house : House D) (txn : TxnId) (wrote : List Touch) → Runs (trail_of house.trail) txn → broken (Txn txn) (trail_of house.trail) ≡ None
+    → WasPut (trail_of house.trail) txn wrote → CanCommit (entries_of house) (trail_of house.trail) txn wrote
+can-commit house txn wrote runs unbroken (inl none) = record { unbroken = unbroken; put = inl none }
+can-commit house txn wrote runs unbroken (inr was) = record { unbroken = unbroken; put = inr (put-whole house txn wrote runs was) }
+
+-- ---- the steps
+
+moves-by : (a b : Option Store) (P Q : Store → Store → Type 0) → ((x y : Store) → P x y → Q x y) → Moves P a b → Moves Q a b
+moves-by None None P Q f moved = tt
+moves-by None (Some y) P Q f moved = absurd moved
+moves-by (Some x) None P Q f moved = absurd moved
+moves-by (Some x) (Some y) P Q f moved = f x y moved
+
+module _ {D : Type 0} (told : D → Option Store) (faults : D → ℕ) (txn : TxnId) (wrote : List Touch) (before now : HouseSeen D) where
+  commits : Step told faults (Note (entry.Commit txn wrote)) Done before now → Step told faults (Commit txn wrote) Done before now
+  commits s = record {
+    may = tt;
+    trail = s.trail;
+    store = s.store;
+    closed = s.closed;
+    shut_out = s.shut_out;
+    locks = s.locks;
+    counts = s.counts;
+    rest = s.rest;
+  }
+
+  commit-fails : (why : HouseFault) → Step told faults (Note (entry.Commit txn wrote)) (fault_outcome why) before now
+      → Step told faults (Commit txn wrote) (fault_outcome why) before now
+  commit-fails fault.Store s = record {
+    may = tt;
+    trail = s.trail;
+    store = moves-by (told before.shelf) (told now.shelf) _ _ (λ a b moved. inl moved) s.store;
+    closed = s.closed;
+    shut_out = s.shut_out;
+    locks = s.locks;
+    counts = s.counts;
+    rest = s.rest;
+  }
+  commit-fails fault.NoMemory s = record {
+    may = tt;
+    trail = s.trail;
+    store = s.store;
+    closed = s.closed;
+    shut_out = s.shut_out;
+    locks = s.locks;
+    counts = s.counts;
+    rest = s.rest;
+  }
+  commit-fails (fault.Failed count) s = absurd s.may
+
+  pub conflicts : (by : TxnId) (table : TableId) (partition : List ℕ) → before.closed ≡ false
+      → Step told faults (Note (entry.Abort txn (cause.Conflict by table partition))) Done before now
+      → Step told faults (Commit txn wrote) (Conflict by table partition) before now
+  conflicts by table partition open s = record {
+    may = tt;
+    trail = s.trail;
+    store = s.store;
+    closed = s.closed;
+    shut_out = λ shut. absurd (true≢false (sym shut ∙ open));
+    locks = s.locks;
+    counts = s.counts;
+    rest = s.rest;
+  }
+
+  pub conflict-fails : (by : TxnId) (table : TableId) (partition : List ℕ) (why : HouseFault)
+      → Step told faults (Note (entry.Abort txn (cause.Conflict by table partition))) (fault_outcome why) before now
+      → Step told faults (Commit txn wrote) (fault_outcome why) before now
+  conflict-fails by table partition fault.Store s = record {
+    may = tt;
+    trail = s.trail;
+    store = moves-by (told before.shelf) (told now.shelf) _ _ (λ a b moved. inr (by, table, partition, moved)) s.store;
+    closed = s.closed;
+    shut_out = s.shut_out;
+    locks = s.locks;
+    counts = s.counts;
+    rest = s.rest;
+  }
+  conflict-fails by table partition fault.NoMemory s = record {
+    may = tt;
+    trail = s.trail;
+    store = s.store;
+    closed = s.closed;
+    shut_out = s.shut_out;
+    locks = s.locks;
+    counts = s.counts;
+    rest = s.rest;
+  }
+  conflict-fails by table partition (fault.Failed count) s = absurd s.may
+
+  pub commit-behind : (why : ActFault) → Step told faults (call_behind (Note (entry.Commit txn wrote)) why) (act_outcome why) before now
+      → Step told faults (call_behind (Commit txn wrote) why) (act_outcome why) before now
+  commit-behind (act.Ended at) s = s
+  commit-behind (act.Full entries) s = s
+  commit-behind (act.Broken put count) s = s
+  commit-behind act.Unfit s = s
+  commit-behind (act.House why) s = commit-fails why s
+
+-- ---- what is promised of a commit
+
+module _ {D : Type 0} (told : D → Option Store) (faults : D → ℕ) (txn : TxnId) (wrote : List Touch) where
+  pub commit-done : (at : ℕ) (before now : House D) → broken (Txn txn) (trail_of before.trail) ≡ None → at ≡ length (book_of (trail_of before.trail))
+      → EntryStep told faults txn (entry.Commit txn wrote) before now (Ok tt) → CommitStep told faults txn wrote before now (Ok (committed.Done at))
+  commit-done at before now unbroken place s = record {
+    keeps = s.keeps;
+    step = commits told faults txn wrote (seen_of before) (seen_of now) s.step;
+    answers = record { place = place; unbroken = unbroken; fits = s.answers.0 };
+  }
+
+  pub commit-failed : (why : ActFault) (before now : House D) → EntryStep {T = Unit {0}} told faults txn (entry.Commit txn wrote) before now (Err why)
+      → CommitStep told faults txn wrote before now (Err why)
+  commit-failed why before now s = record {
+    keeps = s.keeps;
+    step = commit-behind told faults txn wrote (seen_of before) (seen_of now) why s.step;
+    answers = s.answers;
+  }
+
+  pub commit-late : (why : ActFault) (house : House D) → IsReady told house → IsLate (trail_of house.trail) txn why
+      → (EntryFits (trail_of house.trail) (entry.Commit txn wrote) → ⊥) → CommitStep told faults txn wrote house house (Err why)
+  commit-late why house ready late not = record {
+    keeps = λ open. ready;
+    step = asked-late told faults (seen_of house) (trail_of house.trail) txn (Commit txn wrote) why late;
+    answers = why-of (trail_of house.trail) txn (EntryFits (trail_of house.trail) (entry.Commit txn wrote)) why late not;
+  }
+
+  pub commit-broken : (put : Bool) (count : ℕ) (house : House D) → IsReady told house → broken (Txn txn) (trail_of house.trail) ≡ Some (put, count)
+      → CommitStep told faults txn wrote house house (Err (act.Broken put count))
+  commit-broken put count house ready is = record { keeps = λ open. ready; step = asked told faults (seen_of house); answers = is }
+
+  pub commit-lacks : (house : House D) → IsReady told house → CommitStep told faults txn wrote house house (Err (act.House fault.NoMemory))
+  commit-lacks house ready = record {
+    keeps = λ open. ready;
+    step = lacking-commit told faults (seen_of house) txn wrote ready.kept.running;
+    answers = tt;
+  }
+
+  pub conflict-done : (by : TxnId) (table : TableId) (partition : List ℕ) (at : ℕ) (before now : House D) → IsReady told before → IsReady told now
+      → at ≡ length (book_of (trail_of before.trail)) → IsConflict (trail_of before.trail) txn wrote by table partition
+      → Step told faults (Note (entry.Abort txn (cause.Conflict by table partition))) Done (seen_of before) (seen_of now)
+      → CommitStep told faults txn wrote before now (Ok (committed.Conflict at by table partition))
+  conflict-done by table partition at before now was ready place is s = record {
+    keeps = λ open. ready;
+    step = conflicts told faults txn wrote (seen_of before) (seen_of now) by table partition was.kept.running s;
+    answers = (place, is);
+  }
+
+  pub conflict-failed : (by : TxnId) (table : TableId) (partition : List ℕ) (why : HouseFault) (before now : House D) → before.trail.closed ≡ false
+      → StaysReady told why now → EndsRun why
+      → Step told faults (Note (entry.Abort txn (cause.Conflict by table partition))) (fault_outcome why) (seen_of before) (seen_of now)
+      → CommitStep told faults txn wrote before now (Err (act.House why))
+  conflict-failed by table partition why before now running stays ends s = record {
+    keeps = keeps-noted told before now running why stays ends s.closed;
+    step = conflict-fails told faults txn wrote (seen_of before) (seen_of now) by table partition why s;
+    answers = tt;
+  }
+
+-- ---- what it adds
+
+adds-no-commit : (txn : TxnId) (wrote : List Touch) (why : ActFault) → gains (call_behind (Commit txn wrote) why) (act_outcome why) ≡ []
+adds-no-commit txn wrote (act.Ended at) = refl
+adds-no-commit txn wrote (act.Full entries) = refl
+adds-no-commit txn wrote (act.Broken put count) = refl
+adds-no-commit txn wrote act.Unfit = refl
+adds-no-commit txn wrote (act.House fault.Store) = refl
+adds-no-commit txn wrote (act.House fault.NoMemory) = refl
+adds-no-commit txn wrote (act.House (fault.Failed count)) = refl
+
+pub adds-its-end : (txn : TxnId) (wrote : List Touch) (result : Result Committed ActFault)
+    → gains (answer_call (Commit txn wrote) result) (commit_outcome result) ≡ adds_commit txn wrote result
+adds-its-end txn wrote (Ok (committed.Done at)) = refl
+adds-its-end txn wrote (Ok (committed.Conflict at by table partition)) = refl
+adds-its-end txn wrote (Err why) = adds-no-commit txn wrote why
