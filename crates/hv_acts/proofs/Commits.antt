@@ -13,7 +13,8 @@ use Rattle.hv_history.specs.declared.entry.Cause.TheVariants as cause
 use Rattle.hv_history.specs.declared.state.Table.{Table}
 use Rattle.hv_history.specs.declared.state.Transaction.{Transaction}
 use Rattle.hv_history.specs.State.{State, state_of, numbered}
-use Rattle.hv_history.specs.Legal.{Of, IsRunning}
+use Rattle.hv_history.specs.Legal.{Of, IsRunning, ConflictFits, CommitFits}
+use Rattle.hv_conflicts.proofs.ClashLemmas.{clash-fits}
 use Rattle.hv_conflicts.specs.declared.meeting.Clash.{Clash}
 use Rattle.hv_conflicts.specs.Clashes.{IsClash}
 use Rattle.hv_trail.specs.declared.trail.Reader.TheVariants.{Txn}
@@ -23,16 +24,17 @@ use Rattle.hv_trail.specs.Steps.{Note, Commit, Done, Closed, Conflict, HouseSeen
 use Rattle.hv_house.specs.declared.fault.HouseFault.{HouseFault}
 use Rattle.hv_house.specs.declared.fault.HouseFault.TheVariants as fault
 use Rattle.hv_house.specs.declared.house.House.{House}
-use Rattle.hv_house.specs.House.{entries_of, IsReady, StaysReady}
+use Rattle.hv_house.specs.House.{entries_of, IsReady, IsSmall, StaysReady}
 use Rattle.hv_house.specs.Faults.{EndsRun}
 use Rattle.hv_house.specs.Steps.{seen_of, fault_outcome, IsPutWhole, CanCommit}
 use Rattle.hv_acts.specs.declared.committing.Committed.{Committed}
 use Rattle.hv_acts.specs.declared.committing.Committed.TheVariants as committed
+use Rattle.hv_acts.specs.declared.committing.Shared.{Shared}
 use Rattle.hv_acts.specs.declared.fault.ActFault.{ActFault}
 use Rattle.hv_acts.specs.declared.fault.ActFault.TheVariants as act
 use Rattle.hv_acts.specs.Answers.{act_outcome, call_behind, answer_call, answer_outcome, IsLate, EntryFits, EntryStep}
 use Rattle.hv_acts.specs.Putting.{Runs}
-use Rattle.hv_acts.specs.Committing.{commit_outcome, adds_commit, WasPut, WasPutWhole, IsConflict, CommitStep}
+use Rattle.hv_acts.specs.Committing.{commit_outcome, adds_commit, WasPut, WasPutWhole, IsSharedBy, IsConflict, CommitStep}
 use Rattle.hv_acts.proofs.Steps.{book-is, asked, keeps-noted, lacking-commit}
 use Rattle.hv_acts.proofs.Notes.{why-of, asked-late}
 use Rattle.hv_acts.proofs.Puts.{holds-id}
@@ -71,6 +73,41 @@ pub can-commit : {D : Type 0} (house : House D) (txn : TxnId) (wrote : List Touc
     → WasPut (trail_of house.trail) txn wrote → CanCommit (entries_of house) (trail_of house.trail) txn wrote
 can-commit house txn wrote runs unbroken (inl none) = record { unbroken = unbroken; put = inl none }
 can-commit house txn wrote runs unbroken (inr was) = record { unbroken = unbroken; put = inr (put-whole house txn wrote runs was) }
+
+-- ---- a conflict
+
+pub small-shared : (txn by : TxnId) (touch : Touch) (shared : Shared) → IsSharedBy touch shared → IsSmall (entry.Abort txn (cause.Conflict by touch.table touch.partition))
+    → IsSmall (entry.Abort txn (cause.Conflict by shared.table shared.partition))
+small-shared txn by touch shared is small =
+    subst (λ (t : TableId). IsSmall (entry.Abort txn (cause.Conflict by t shared.partition))) (sym is.table)
+    (subst (λ (p : List ℕ). IsSmall (entry.Abort txn (cause.Conflict by touch.table p))) (sym is.partition) small)
+
+conflict-at : (state : State) (txn : TxnId) (wrote : List Touch) (clash : Clash) (o : Option Transaction) → numbered state.transactions txn.0 ≡ o → IsSomeAnd o IsRunning
+    → (is : IsClash state txn.0 wrote clash) → IsSomeAnd o (ConflictFits state clash.by.0 is.touch.table.0 is.touch.partition)
+conflict-at state txn wrote clash None here runs is = runs
+conflict-at state txn wrote clash (Some t) here runs is = clash-fits state txn.0 t wrote clash is.touch here runs is is.found
+
+pub fits-shared : {D : Type 0} (house : House D) (txn : TxnId) (wrote : List Touch) (clash : Clash) (shared : Shared) → Runs (trail_of house.trail) txn
+    → (is : IsClash (state_at (trail_of house.trail)) txn.0 wrote clash) → IsSharedBy is.touch shared
+    → EntryFits (trail_of house.trail) (entry.Abort txn (cause.Conflict clash.by shared.table shared.partition))
+fits-shared house txn wrote clash shared runs is by =
+    subst (λ (t : TableId). EntryFits (trail_of house.trail) (entry.Abort txn (cause.Conflict clash.by t shared.partition))) (sym by.table)
+    (subst (λ (p : List ℕ). EntryFits (trail_of house.trail) (entry.Abort txn (cause.Conflict clash.by is.touch.table p))) (sym by.partition)
+    (conflict-at (state_at (trail_of house.trail)) txn wrote clash (numbered (state_at (trail_of house.trail)).transactions txn.0) refl runs is))
+
+pub clash-trail : {D : Type 0} (house : House D) (txn : TxnId) (entries : List Entry) (xs ys : List Touch) (clash : Clash) → entries ≡ entries_of house → xs ≡ ys
+    → IsClash (state_of entries) txn.0 xs clash → IsClash (state_at (trail_of house.trail)) txn.0 ys clash
+clash-trail house txn entries xs ys clash are same is =
+    subst (λ (ts : List Touch). IsClash (state_at (trail_of house.trail)) txn.0 ts clash) same
+    (subst (λ (book : List Entry). IsClash (state_of book) txn.0 xs clash) (are ∙ sym (book-is house)) is)
+
+runs-by : (state : State) (wrote : List Touch) (o : Option Transaction) → IsSomeAnd o (CommitFits state wrote) → IsSomeAnd o IsRunning
+runs-by state wrote None fits = fits
+runs-by state wrote (Some t) fits = fits.running
+
+-- what commits runs
+pub commit-runs : {D : Type 0} (house : House D) (txn : TxnId) (wrote : List Touch) → EntryFits (trail_of house.trail) (entry.Commit txn wrote) → Runs (trail_of house.trail) txn
+commit-runs house txn wrote fits = runs-by (state_at (trail_of house.trail)) wrote (numbered (state_at (trail_of house.trail)).transactions txn.0) fits
 
 -- ---- the steps
 
@@ -120,12 +157,12 @@ module _ {D : Type 0} (told : D → Option Store) (faults : D → ℕ) (txn : Tx
   pub conflicts : (by : TxnId) (table : TableId) (partition : List ℕ) → before.closed ≡ false
       → Step told faults (Note (entry.Abort txn (cause.Conflict by table partition))) Done before now
       → Step told faults (Commit txn wrote) (Conflict by table partition) before now
-  conflicts by table partition open s = record {
+  conflicts by table partition still s = record {
     may = tt;
     trail = s.trail;
     store = s.store;
     closed = s.closed;
-    shut_out = λ shut. absurd (true≢false (sym shut ∙ open));
+    shut_out = λ shut. absurd (true≢false (sym shut ∙ still));
     locks = s.locks;
     counts = s.counts;
     rest = s.rest;
@@ -186,18 +223,18 @@ module _ {D : Type 0} (told : D → Option Store) (faults : D → ℕ) (txn : Tx
   pub commit-late : (why : ActFault) (house : House D) → IsReady told house → IsLate (trail_of house.trail) txn why
       → (EntryFits (trail_of house.trail) (entry.Commit txn wrote) → ⊥) → CommitStep told faults txn wrote house house (Err why)
   commit-late why house ready late not = record {
-    keeps = λ open. ready;
+    keeps = λ still. ready;
     step = asked-late told faults (seen_of house) (trail_of house.trail) txn (Commit txn wrote) why late;
     answers = why-of (trail_of house.trail) txn (EntryFits (trail_of house.trail) (entry.Commit txn wrote)) why late not;
   }
 
   pub commit-broken : (put : Bool) (count : ℕ) (house : House D) → IsReady told house → broken (Txn txn) (trail_of house.trail) ≡ Some (put, count)
       → CommitStep told faults txn wrote house house (Err (act.Broken put count))
-  commit-broken put count house ready is = record { keeps = λ open. ready; step = asked told faults (seen_of house); answers = is }
+  commit-broken put count house ready is = record { keeps = λ still. ready; step = asked told faults (seen_of house); answers = is }
 
   pub commit-lacks : (house : House D) → IsReady told house → CommitStep told faults txn wrote house house (Err (act.House fault.NoMemory))
   commit-lacks house ready = record {
-    keeps = λ open. ready;
+    keeps = λ still. ready;
     step = lacking-commit told faults (seen_of house) txn wrote ready.kept.running;
     answers = tt;
   }
@@ -207,7 +244,7 @@ module _ {D : Type 0} (told : D → Option Store) (faults : D → ℕ) (txn : Tx
       → Step told faults (Note (entry.Abort txn (cause.Conflict by table partition))) Done (seen_of before) (seen_of now)
       → CommitStep told faults txn wrote before now (Ok (committed.Conflict at by table partition))
   conflict-done by table partition at before now was ready place is s = record {
-    keeps = λ open. ready;
+    keeps = λ still. ready;
     step = conflicts told faults txn wrote (seen_of before) (seen_of now) by table partition was.kept.running s;
     answers = (place, is);
   }

@@ -1,5 +1,5 @@
 -- A file that is put by an act.
-use Rattle.std.proofs.Common.{◌≡◌, ℕ, Bool, false, Option, Some, None, Result, Ok, Err, List, [], ◌∷◌, refl, sym, ap, subst}
+use Rattle.std.proofs.Common.{◌≡◌, ℕ, Bool, false, Option, Some, None, IsTrue, Result, Ok, Err, List, [], ◌∷◌, refl, sym, ap, subst}
 use Rattle.std.specs.Prelude.{IsSomeAnd}
 use Rattle.hv_base.specs.declared.ids.TxnId.{TxnId}
 use Rattle.hv_shelf.specs.declared.place.Place.{Place}
@@ -25,7 +25,7 @@ use Rattle.hv_acts.specs.declared.fault.ActFault.TheVariants as act
 use Rattle.hv_acts.specs.Answers.{act_outcome, call_behind, answer_call, answer_outcome, IsLate}
 use Rattle.hv_acts.specs.Putting.{HasIdFor, Runs, adds_fault, adds_file, FileStep}
 use Rattle.hv_acts.proofs.Steps.{book-is, keeps-put}
-use Rattle.hv_acts.proofs.Notes.{why-of, asked-late}
+use Rattle.hv_acts.proofs.Notes.{why-of, asked-late, no-true}
 
 -- ---- its own file
 
@@ -38,6 +38,14 @@ runs-book house txn = subst (λ (book : List Entry). Of (state_of book) txn.0 Is
 
 pub runs-trail : {D : Type 0} (house : House D) (txn : TxnId) → Of (state_of (entries_of house)) txn.0 IsRunning → Runs (trail_of house.trail) txn
 runs-trail house txn = subst (λ (book : List Entry). Of (state_of book) txn.0 IsRunning) (sym (book-is house))
+
+pub runs-of : {D : Type 0} (house : House D) (txn : TxnId) (entries : List Entry) → entries ≡ entries_of house → Of (state_of entries) txn.0 IsRunning → Runs (trail_of house.trail) txn
+runs-of house txn entries are runs = runs-trail house txn (subst (λ (book : List Entry). Of (state_of book) txn.0 IsRunning) are runs)
+
+pub not-running : {D : Type 0} (house : House D) (txn : TxnId) (entries : List Entry) (b : Bool) → entries ≡ entries_of house → (Of (state_of entries) txn.0 IsRunning → IsTrue b) → b ≡ false
+    → Runs (trail_of house.trail) txn → ⊥
+not-running house txn entries b are tests is runs =
+    no-true b is (tests (subst (λ (book : List Entry). Of (state_of book) txn.0 IsRunning) (sym are) (runs-book house txn runs)))
 
 pub holds-id : {D : Type 0} (house : House D) (txn : TxnId) (table write : ℕ) → Runs (trail_of house.trail) txn
     → IsSomeAnd (numbered (state_at (trail_of house.trail)).transactions txn.0) (IsGiven table write) → HoldsId (entries_of house) txn.0 table write
@@ -59,7 +67,7 @@ own-file house by place file has runs = record {
 module _ {D : Type 0} (told : D → Option Store) (faults : D → ℕ) (by : TxnId) (place : Place) (file : OutFile) where
   pub file-done : (before now : House D) → Runs (trail_of before.trail) by → IsReady told now → IsEncoded file
       → Step told faults (Put (Txn by) place (bytes_of file)) Done (seen_of before) (seen_of now) → FileStep told faults by place file before now (Ok tt)
-  file-done before now runs ready encoded step = record { keeps = λ open. ready; step = step; answers = (runs, encoded) }
+  file-done before now runs ready encoded step = record { keeps = λ still. ready; step = step; answers = (runs, encoded) }
 
   pub file-failed : (why : HouseFault) (before now : House D) → before.trail.closed ≡ false → StaysPut told why now
       → Step told faults (Put (Txn by) place (bytes_of file)) (fault_outcome why) (seen_of before) (seen_of now)
@@ -70,7 +78,7 @@ module _ {D : Type 0} (told : D → Option Store) (faults : D → ℕ) (by : Txn
   pub file-late : (why : ActFault) (house : House D) → IsReady told house → IsLate (trail_of house.trail) by why → (Runs (trail_of house.trail) by → ⊥)
       → FileStep told faults by place file house house (Err why)
   file-late why house ready late not = record {
-    keeps = λ open. ready;
+    keeps = λ still. ready;
     step = asked-late told faults (seen_of house) (trail_of house.trail) by (Put (Txn by) place (bytes_of file)) why late;
     answers = why-of (trail_of house.trail) by (Runs (trail_of house.trail) by) why late not;
   }

@@ -47,12 +47,12 @@ module _ {D : Type 0} (told : D → Option Store) (faults : D → ℕ) (seen : H
 
   -- nothing was noted for want of memory
   pub lacking-commit : (txn : TxnId) (wrote : List Touch) → seen.closed ≡ false → Step told faults (Commit txn wrote) Refused seen seen
-  lacking-commit txn wrote open = record {
+  lacking-commit txn wrote still = record {
     may = tt;
     trail = sym (append-nil seen.trail);
     store = moves-same (told seen.shelf) _ (λ s. record { tree_is = refl; reads = λ reads. reads });
     closed = or-false seen.closed;
-    shut_out = λ shut. absurd (true≢false (sym shut ∙ open));
+    shut_out = λ shut. absurd (true≢false (sym shut ∙ still));
     locks = refl;
     counts = omega arith;
     rest = record { start = refl; opened = refl; limits = refl };
@@ -88,16 +88,16 @@ module _ {D : Type 0} (told : D → Option Store) (faults : D → ℕ) (seen : H
 
 -- what closed the house is no readiness
 shut-closed : (before now : Bool) → before ≡ false → now ≡ before || true → now ≡ false → ⊥
-shut-closed before now running closed open = true≢false (sym (closed ∙ ap (λ b. b || true) running) ∙ open)
+shut-closed before now running closed still = true≢false (sym (closed ∙ ap (λ b. b || true) running) ∙ still)
 
 module _ {D : Type 0} (told : D → Option Store) (before now : House D) (running : before.trail.closed ≡ false) where
   pub keeps-noted : (why : HouseFault) → StaysReady told why now → EndsRun why → now.trail.closed ≡ before.trail.closed || shuts (fault_outcome why)
       → IsReadyOrClosed told now
-  keeps-noted fault.Store stays ends closed = λ open. absurd (shut-closed before.trail.closed now.trail.closed running closed open)
-  keeps-noted fault.NoMemory stays ends closed = λ open. stays.ready refl
+  keeps-noted fault.Store stays ends closed = λ still. absurd (shut-closed before.trail.closed now.trail.closed running closed still)
+  keeps-noted fault.NoMemory stays ends closed = λ still. stays.ready refl
   keeps-noted (fault.Failed count) stays ends closed = absurd ends
 
   pub keeps-put : (why : HouseFault) → StaysPut told why now → now.trail.closed ≡ before.trail.closed || shuts (fault_outcome why) → IsReadyOrClosed told now
-  keeps-put fault.Store stays closed = λ open. absurd (shut-closed before.trail.closed now.trail.closed running closed open)
-  keeps-put fault.NoMemory stays closed = λ open. stays
-  keeps-put (fault.Failed count) stays closed = λ open. stays
+  keeps-put fault.Store stays closed = λ still. absurd (shut-closed before.trail.closed now.trail.closed running closed still)
+  keeps-put fault.NoMemory stays closed = λ still. stays
+  keeps-put (fault.Failed count) stays closed = λ still. stays

@@ -24,7 +24,10 @@ pub struct GiveId {
 fn next_id<D: Shelf>(house: &House<D>, table: TableId) -> WriteId
     ensures next { result ≡ next_id (trail_of house.now.trail) table }
 {
-    house.next_write(table).unwrap_or(WriteId(1))
+    match house.next_write(table) {
+        Some(write) => write,
+        None => WriteId(1),
+    }
 }
 
 #[tactic(auto, using(crate::proofs::Shorts::short_given))]

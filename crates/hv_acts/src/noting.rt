@@ -31,7 +31,8 @@ pub(crate) fn late<D: Shelf>(house: &House<D>, txn: TxnId) -> ActFault
 {
     match state_of(house.book(), txn) {
         TxnState::Ended { at } => ActFault::Ended { at },
-        TxnState::Unknown | TxnState::Running { .. } => ActFault::Unfit,
+        TxnState::Unknown => ActFault::Unfit,
+        TxnState::Running { .. } => ActFault::Unfit,
     }
 }
 
