@@ -1,17 +1,13 @@
 -- A statement that is begun by an act.
-use Rattle.std.proofs.Common.{◌≡◌, ℕ, ◌+◌, Bool, false, Option, Some, None, Result, Ok, Err, List, [], ◌∷◌, length, map, refl, sym, ap, ◌∙◌, subst}
+use Rattle.std.proofs.Common.{◌≡◌, ℕ, ◌+◌, false, Option, Some, None, Ok, Err, List, length, refl, sym, ap, ◌∙◌, subst}
 use Rattle.hv_base.specs.declared.ids.TxnId.{TxnId}
 use Rattle.hv_ast.specs.declared.statement.Stmt.{Stmt}
 use Rattle.hv_shelf.specs.Disk.{Store}
 use Rattle.hv_history.specs.declared.entry.Entry.{Entry}
-use Rattle.hv_history.specs.State.{state_of}
-use Rattle.hv_history.specs.Legal.{HasRoom, profile}
 use Rattle.hv_stands.specs.Running.{next_number}
-use Rattle.hv_trail.specs.declared.trail.TrailItem.{TrailItem}
-use Rattle.hv_trail.specs.declared.trail.TrailItem.TheVariants.{Noted}
 use Rattle.hv_trail.specs.Trail.{book_of}
 use Rattle.hv_trail.specs.Kept.{trail_of}
-use Rattle.hv_trail.specs.Steps.{Begin, Done, begun, gains, Step}
+use Rattle.hv_trail.specs.Steps.{Begin, Done, begun, Step}
 use Rattle.hv_house.specs.declared.fault.HouseFault.{HouseFault}
 use Rattle.hv_house.specs.declared.fault.HouseFault.TheVariants as fault
 use Rattle.hv_house.specs.declared.house.House.{House}
@@ -24,7 +20,7 @@ use Rattle.hv_house.specs.Steps.{seen_of, fault_outcome}
 use Rattle.hv_acts.specs.declared.opening.Begun.{Begun}
 use Rattle.hv_acts.specs.declared.fault.BeginFault.{BeginFault}
 use Rattle.hv_acts.specs.declared.fault.BeginFault.TheVariants as hindered
-use Rattle.hv_acts.specs.Beginning.{begin_outcome, begin_call, call_to_begin, adds_beginning, IsHindered, HasBegun, BeginAnswers, BeginStep}
+use Rattle.hv_acts.specs.Beginning.{IsHindered, HasBegun, BeginStep}
 use Rattle.hv_acts.proofs.Steps.{book-is, asked, keeps-noted}
 
 -- ---- what stands in its way
@@ -80,20 +76,3 @@ module _ {D : Type 0} (told : D → Option Store) (faults : D → ℕ) (session 
     answers = (is.0, is.1, λ room. not (subst (λ (book : List Entry). CanBegin book tree) (book-is house) (room, is.1)));
   }
   begin-hindered (hindered.House why) house ready is not = absurd is
-
--- ---- what it adds
-
-adds-no-beginning : (trail : List TrailItem) (session : List ℕ) (number : ℕ) (text : List ℕ) (why : BeginFault)
-    → gains (begin_call trail session number text (Err why)) (begin_outcome (Err why)) ≡ []
-adds-no-beginning trail session number text (hindered.Held by) = refl
-adds-no-beginning trail session number text (hindered.Full entries) = refl
-adds-no-beginning trail session number text (hindered.House fault.Store) = refl
-adds-no-beginning trail session number text (hindered.House fault.NoMemory) = refl
-adds-no-beginning trail session number text (hindered.House (fault.Failed count)) = refl
-
-pub adds-its-beginning : (trail : List TrailItem) (session : List ℕ) (number : ℕ) (text : List ℕ) (tree : Stmt) (result : Result Begun BeginFault)
-    → BeginAnswers trail tree result → gains (begin_call trail session number text result) (begin_outcome result) ≡ adds_beginning session number text result
-adds-its-beginning trail session number text tree (Ok start) answers =
-    let same : start.txn ≡ record { 0 = next_number (book_of trail) } = λ i. record { 0 = answers.txn_is i } in
-    ap (λ (txn : TxnId). map Noted (begun txn session number text)) (sym same)
-adds-its-beginning trail session number text tree (Err why) answers = adds-no-beginning trail session number text why

@@ -1,7 +1,6 @@
 -- A transaction that is committed by an act, or aborted since a commit conflicts with it.
-use Rattle.std.proofs.Common.{◌≡◌, ◌⊎◌, inl, inr, ℕ, Bool, true, false, true≢false, Option, Some, None, Result, Ok, Err, List, [], ◌∷◌, length, refl, sym, ap, ◌∙◌, subst}
+use Rattle.std.proofs.Common.{◌≡◌, inl, inr, ℕ, false, Option, Some, None, Err, List, refl, sym, ◌∙◌, subst}
 use Rattle.std.specs.Prelude.{IsSomeAnd}
-use Rattle.std.specs.List.{slice_get}
 use Rattle.hv_base.specs.Told.{Moves}
 use Rattle.hv_base.specs.declared.ids.TxnId.{TxnId}
 use Rattle.hv_base.specs.declared.ids.TableId.{TableId}
@@ -13,29 +12,28 @@ use Rattle.hv_history.specs.declared.entry.Cause.TheVariants as cause
 use Rattle.hv_history.specs.declared.state.Table.{Table}
 use Rattle.hv_history.specs.declared.state.Transaction.{Transaction}
 use Rattle.hv_history.specs.State.{State, state_of, numbered}
-use Rattle.hv_history.specs.Legal.{Of, IsRunning, ConflictFits, CommitFits}
+use Rattle.hv_history.specs.Legal.{IsRunning, ConflictFits, CommitFits}
 use Rattle.hv_conflicts.proofs.ClashLemmas.{clash-fits}
 use Rattle.hv_conflicts.specs.declared.meeting.Clash.{Clash}
 use Rattle.hv_conflicts.specs.Clashes.{IsClash}
 use Rattle.hv_trail.specs.declared.trail.Reader.TheVariants.{Txn}
-use Rattle.hv_trail.specs.Trail.{book_of, state_at, broken}
+use Rattle.hv_trail.specs.Trail.{state_at, broken}
 use Rattle.hv_trail.specs.Kept.{trail_of}
-use Rattle.hv_trail.specs.Steps.{Note, Commit, Done, Closed, Conflict, HouseSeen, gains, Step}
+use Rattle.hv_trail.specs.Steps.{Note, Commit, Conflict, HouseSeen, Step}
 use Rattle.hv_house.specs.declared.fault.HouseFault.{HouseFault}
 use Rattle.hv_house.specs.declared.fault.HouseFault.TheVariants as fault
 use Rattle.hv_house.specs.declared.house.House.{House}
 use Rattle.hv_house.specs.House.{entries_of, IsReady, IsSmall, StaysReady}
 use Rattle.hv_house.specs.Faults.{EndsRun}
 use Rattle.hv_house.specs.Steps.{seen_of, fault_outcome, IsPutWhole, CanCommit}
-use Rattle.hv_acts.specs.declared.committing.Committed.{Committed}
 use Rattle.hv_acts.specs.declared.committing.Committed.TheVariants as committed
 use Rattle.hv_acts.specs.declared.committing.Shared.{Shared}
 use Rattle.hv_acts.specs.declared.fault.ActFault.{ActFault}
 use Rattle.hv_acts.specs.declared.fault.ActFault.TheVariants as act
-use Rattle.hv_acts.specs.Answers.{act_outcome, call_behind, answer_call, answer_outcome, IsLate, EntryFits, EntryStep}
+use Rattle.hv_acts.specs.Answers.{act_outcome, call_behind, IsLate, EntryFits, EntryStep}
 use Rattle.hv_acts.specs.Putting.{Runs}
-use Rattle.hv_acts.specs.Committing.{commit_outcome, adds_commit, WasPut, WasPutWhole, IsSharedBy, IsConflict, CommitStep}
-use Rattle.hv_acts.proofs.Steps.{book-is, asked, keeps-noted, lacking-commit}
+use Rattle.hv_acts.specs.Committing.{WasPut, WasPutWhole, IsSharedBy, CommitStep}
+use Rattle.hv_acts.proofs.Steps.{book-is, keeps-noted}
 use Rattle.hv_acts.proofs.Notes.{why-of, asked-late}
 use Rattle.hv_acts.proofs.Puts.{holds-id}
 
@@ -118,18 +116,6 @@ moves-by (Some x) None P Q f moved = absurd moved
 moves-by (Some x) (Some y) P Q f moved = f x y moved
 
 module _ {D : Type 0} (told : D → Option Store) (faults : D → ℕ) (txn : TxnId) (wrote : List Touch) (before now : HouseSeen D) where
-  commits : Step told faults (Note (entry.Commit txn wrote)) Done before now → Step told faults (Commit txn wrote) Done before now
-  commits s = record {
-    may = tt;
-    trail = s.trail;
-    store = s.store;
-    closed = s.closed;
-    shut_out = s.shut_out;
-    locks = s.locks;
-    counts = s.counts;
-    rest = s.rest;
-  }
-
   commit-fails : (why : HouseFault) → Step told faults (Note (entry.Commit txn wrote)) (fault_outcome why) before now
       → Step told faults (Commit txn wrote) (fault_outcome why) before now
   commit-fails fault.Store s = record {
@@ -153,20 +139,6 @@ module _ {D : Type 0} (told : D → Option Store) (faults : D → ℕ) (txn : Tx
     rest = s.rest;
   }
   commit-fails (fault.Failed count) s = absurd s.may
-
-  pub conflicts : (by : TxnId) (table : TableId) (partition : List ℕ) → before.closed ≡ false
-      → Step told faults (Note (entry.Abort txn (cause.Conflict by table partition))) Done before now
-      → Step told faults (Commit txn wrote) (Conflict by table partition) before now
-  conflicts by table partition still s = record {
-    may = tt;
-    trail = s.trail;
-    store = s.store;
-    closed = s.closed;
-    shut_out = λ shut. absurd (true≢false (sym shut ∙ still));
-    locks = s.locks;
-    counts = s.counts;
-    rest = s.rest;
-  }
 
   pub conflict-fails : (by : TxnId) (table : TableId) (partition : List ℕ) (why : HouseFault)
       → Step told faults (Note (entry.Abort txn (cause.Conflict by table partition))) (fault_outcome why) before now
@@ -204,14 +176,6 @@ module _ {D : Type 0} (told : D → Option Store) (faults : D → ℕ) (txn : Tx
 -- ---- what is promised of a commit
 
 module _ {D : Type 0} (told : D → Option Store) (faults : D → ℕ) (txn : TxnId) (wrote : List Touch) where
-  pub commit-done : (at : ℕ) (before now : House D) → broken (Txn txn) (trail_of before.trail) ≡ None → at ≡ length (book_of (trail_of before.trail))
-      → EntryStep told faults txn (entry.Commit txn wrote) before now (Ok tt) → CommitStep told faults txn wrote before now (Ok (committed.Done at))
-  commit-done at before now unbroken place s = record {
-    keeps = s.keeps;
-    step = commits told faults txn wrote (seen_of before) (seen_of now) s.step;
-    answers = record { place = place; unbroken = unbroken; fits = s.answers.0 };
-  }
-
   pub commit-failed : (why : ActFault) (before now : House D) → EntryStep {T = Unit {0}} told faults txn (entry.Commit txn wrote) before now (Err why)
       → CommitStep told faults txn wrote before now (Err why)
   commit-failed why before now s = record {
@@ -228,27 +192,6 @@ module _ {D : Type 0} (told : D → Option Store) (faults : D → ℕ) (txn : Tx
     answers = why-of (trail_of house.trail) txn (EntryFits (trail_of house.trail) (entry.Commit txn wrote)) why late not;
   }
 
-  pub commit-broken : (put : Bool) (count : ℕ) (house : House D) → IsReady told house → broken (Txn txn) (trail_of house.trail) ≡ Some (put, count)
-      → CommitStep told faults txn wrote house house (Err (act.Broken put count))
-  commit-broken put count house ready is = record { keeps = λ still. ready; step = asked told faults (seen_of house); answers = is }
-
-  pub commit-lacks : (house : House D) → IsReady told house → CommitStep told faults txn wrote house house (Err (act.House fault.NoMemory))
-  commit-lacks house ready = record {
-    keeps = λ still. ready;
-    step = lacking-commit told faults (seen_of house) txn wrote ready.kept.running;
-    answers = tt;
-  }
-
-  pub conflict-done : (by : TxnId) (table : TableId) (partition : List ℕ) (at : ℕ) (before now : House D) → IsReady told before → IsReady told now
-      → at ≡ length (book_of (trail_of before.trail)) → IsConflict (trail_of before.trail) txn wrote by table partition
-      → Step told faults (Note (entry.Abort txn (cause.Conflict by table partition))) Done (seen_of before) (seen_of now)
-      → CommitStep told faults txn wrote before now (Ok (committed.Conflict at by table partition))
-  conflict-done by table partition at before now was ready place is s = record {
-    keeps = λ still. ready;
-    step = conflicts told faults txn wrote (seen_of before) (seen_of now) by table partition was.kept.running s;
-    answers = (place, is);
-  }
-
   pub conflict-failed : (by : TxnId) (table : TableId) (partition : List ℕ) (why : HouseFault) (before now : House D) → before.trail.closed ≡ false
       → StaysReady told why now → EndsRun why
       → Step told faults (Note (entry.Abort txn (cause.Conflict by table partition))) (fault_outcome why) (seen_of before) (seen_of now)
@@ -258,20 +201,3 @@ module _ {D : Type 0} (told : D → Option Store) (faults : D → ℕ) (txn : Tx
     step = conflict-fails told faults txn wrote (seen_of before) (seen_of now) by table partition why s;
     answers = tt;
   }
-
--- ---- what it adds
-
-adds-no-commit : (txn : TxnId) (wrote : List Touch) (why : ActFault) → gains (call_behind (Commit txn wrote) why) (act_outcome why) ≡ []
-adds-no-commit txn wrote (act.Ended at) = refl
-adds-no-commit txn wrote (act.Full entries) = refl
-adds-no-commit txn wrote (act.Broken put count) = refl
-adds-no-commit txn wrote act.Unfit = refl
-adds-no-commit txn wrote (act.House fault.Store) = refl
-adds-no-commit txn wrote (act.House fault.NoMemory) = refl
-adds-no-commit txn wrote (act.House (fault.Failed count)) = refl
-
-pub adds-its-end : (txn : TxnId) (wrote : List Touch) (result : Result Committed ActFault)
-    → gains (answer_call (Commit txn wrote) result) (commit_outcome result) ≡ adds_commit txn wrote result
-adds-its-end txn wrote (Ok (committed.Done at)) = refl
-adds-its-end txn wrote (Ok (committed.Conflict at by table partition)) = refl
-adds-its-end txn wrote (Err why) = adds-no-commit txn wrote why

@@ -1,5 +1,5 @@
 -- An entry that is noted where it fits.
-use Rattle.std.proofs.Common.{◌≡◌, ℕ, ◌+◌, ◌↔◌, not, length, Bool, false, true, Option, Some, None, Result, Ok, Err, IfOk, IsTrue, List, [], ◌∷◌, map, true≢false, refl, sym, ap, ◌∙◌, subst}
+use Rattle.std.proofs.Common.{◌≡◌, ℕ, ◌+◌, ◌↔◌, not, length, Bool, false, true, Option, Some, None, Ok, Err, IsTrue, List, map, true≢false, refl, sym, ap, ◌∙◌, subst}
 use Rattle.hv_base.specs.declared.ids.TxnId.{TxnId}
 use Rattle.std.specs.Option.{option_map}
 use Rattle.std.proofs.lemmas.List.{length-map}
@@ -10,7 +10,6 @@ use Rattle.hv_base.specs.declared.ids.WriteId.{WriteId}
 use Rattle.hv_shelf.specs.Disk.{Store}
 use Rattle.hv_history.specs.declared.entry.Entry.{Entry}
 use Rattle.hv_history.specs.declared.entry.Entry.TheVariants as entry
-use Rattle.hv_history.specs.declared.entry.Cause.{Cause}
 use Rattle.hv_history.specs.declared.entry.Cause.TheVariants as cause
 use Rattle.hv_history.specs.declared.state.Table.{Table}
 use Rattle.hv_history.specs.State.{state_of, numbered}
@@ -19,21 +18,17 @@ use Rattle.hv_meta.specs.declared.facts.TxnState.{TxnState}
 use Rattle.hv_meta.specs.declared.facts.TxnState.TheVariants as standings
 use Rattle.hv_meta.specs.States.{state_in}
 use Rattle.hv_trail.specs.declared.trail.TrailItem.{TrailItem}
-use Rattle.hv_trail.specs.declared.trail.TrailItem.TheVariants.{Noted}
-use Rattle.hv_trail.specs.Trail.{book_of, state_at}
+use Rattle.hv_trail.specs.Trail.{state_at}
 use Rattle.hv_trail.specs.Kept.{trail_of}
-use Rattle.hv_trail.specs.Steps.{Call, Note, Closed, Done, HouseSeen, gains, Step}
-use Rattle.hv_house.specs.declared.fault.HouseFault.{HouseFault}
+use Rattle.hv_trail.specs.Steps.{Call, Note, Done, HouseSeen, Step}
 use Rattle.hv_house.specs.declared.fault.HouseFault.TheVariants as fault
 use Rattle.hv_house.specs.declared.house.House.{House}
-use Rattle.hv_house.specs.House.{entries_of, IsReady, StaysReady}
-use Rattle.hv_house.specs.Faults.{EndsRun}
-use Rattle.hv_house.specs.Steps.{seen_of, fault_outcome, IsMarked}
-use Rattle.hv_house.specs.Housed.{IsReadyOrClosed}
+use Rattle.hv_house.specs.House.{entries_of, IsReady}
+use Rattle.hv_house.specs.Steps.{seen_of}
 use Rattle.hv_acts.specs.declared.fault.ActFault.{ActFault}
 use Rattle.hv_acts.specs.declared.fault.ActFault.TheVariants as act
-use Rattle.hv_acts.specs.Answers.{act_outcome, call_behind, answer_call, answer_outcome, adds_entry, IsLate, IsWhy, HasNotEnded, id_behind, next_id, next_table, Answers, EntryFits, EntryStep, HasItsMark}
-use Rattle.hv_acts.proofs.Steps.{book-is, asked, shut-note, keeps-noted}
+use Rattle.hv_acts.specs.Answers.{act_outcome, call_behind, IsLate, IsWhy, HasNotEnded, id_behind, next_id, next_table, EntryFits, EntryStep}
+use Rattle.hv_acts.proofs.Steps.{book-is, asked}
 
 -- ---- why it was refused
 
@@ -129,11 +124,6 @@ module _ {D : Type 0} (told : D → Option Store) (faults : D → ℕ) (txn : Tx
       → EntryFits (trail_of before.trail) event → EntryStep told faults txn event before now (Ok x)
   step-done x before now ready step fits = record { keeps = λ still. ready; step = step; answers = (fits, tt) }
 
-  pub step-failed : {T : Type 0} (why : HouseFault) (before now : House D) → before.trail.closed ≡ false → StaysReady told why now → EndsRun why
-      → Step told faults (Note event) (fault_outcome why) (seen_of before) (seen_of now) → EntryStep {T = T} told faults txn event before now (Err (act.House why))
-  step-failed why before now running stays ends step =
-      record { keeps = keeps-noted told before now running why stays ends step.closed; step = step; answers = tt }
-
   pub step-late : {T : Type 0} (why : ActFault) (house : House D) → IsReady told house → IsLate (trail_of house.trail) txn why → (EntryFits (trail_of house.trail) event → ⊥)
       → EntryStep {T = T} told faults txn event house house (Err why)
   step-late why house ready late not = record {
@@ -141,49 +131,3 @@ module _ {D : Type 0} (told : D → Option Store) (faults : D → ℕ) (txn : Tx
     step = asked-late told faults (seen_of house) (trail_of house.trail) txn (Note event) why late;
     answers = why-of (trail_of house.trail) txn (EntryFits (trail_of house.trail) event) why late not;
   }
-
-  -- another value is answered in its place
-  pub step-as : {S T : Type 0} (x : S) (y : T) (before now : House D) → EntryStep told faults txn event before now (Ok x) → EntryStep told faults txn event before now (Ok y)
-  step-as x y before now s = record { keeps = s.keeps; step = s.step; answers = s.answers }
-
-  pub step-still : {S T : Type 0} (why : ActFault) (before now : House D) → EntryStep {T = S} told faults txn event before now (Err why)
-      → EntryStep {T = T} told faults txn event before now (Err why)
-  step-still why before now s = record { keeps = s.keeps; step = s.step; answers = s.answers }
-
--- ---- what it adds, and what is answered
-
-adds-nothing : (event : Entry) (why : ActFault) → gains (call_behind (Note event) why) (act_outcome why) ≡ []
-adds-nothing event (act.Ended at) = refl
-adds-nothing event (act.Full entries) = refl
-adds-nothing event (act.Broken put count) = refl
-adds-nothing event act.Unfit = refl
-adds-nothing event (act.House fault.Store) = refl
-adds-nothing event (act.House fault.NoMemory) = refl
-adds-nothing event (act.House (fault.Failed count)) = refl
-
-pub adds-its : {T : Type 0} (of : T → Entry) (event : Entry) (result : Result T ActFault) → IfOk result (λ x. of x ≡ event)
-    → gains (answer_call (Note event) result) (answer_outcome result) ≡ adds_entry of result
-adds-its of event (Ok x) same = ap (λ (e : Entry). Noted e ∷ []) (sym same)
-adds-its of event (Err why) same = adds-nothing event why
-
-pub answers-its : {T : Type 0} (trail : List TrailItem) (txn : TxnId) (Fact : Type 0) (is : T → Type 0) (result : Result T ActFault)
-    → Answers trail txn Fact (λ x. Unit {0}) result → IfOk result is → Answers trail txn Fact is result
-answers-its trail txn Fact is (Ok x) answers so = (answers.0, so)
-answers-its trail txn Fact is (Err why) answers so = answers
-
--- ---- an abort has the mark that the house asks for
-
-pub is-marked : {D : Type 0} (house : House D) (txn : TxnId) (why : Cause) → HasItsMark (trail_of house.trail) txn why → IsMarked house (entry.Abort txn why)
-is-marked house txn (cause.Refused number) mark = tt
-is-marked house txn (cause.Conflict by table partition) mark = tt
-is-marked house txn (cause.Request by) mark = tt
-is-marked house txn cause.Full mark = tt
-is-marked house txn (cause.Twice partition row) mark = tt
-is-marked house txn (cause.Blocked holder) mark = tt
-is-marked house txn (cause.ReadFault count) mark = mark
-is-marked house txn (cause.WriteFault count) mark = mark
-is-marked house txn (cause.Damaged place) mark = tt
-is-marked house txn cause.RowLimit mark = tt
-is-marked house txn cause.PartitionLimit mark = tt
-is-marked house txn cause.Memory mark = tt
-is-marked house txn cause.Lost mark = tt

@@ -1,5 +1,5 @@
 -- A file that is put by an act.
-use Rattle.std.proofs.Common.{◌≡◌, ℕ, Bool, false, Option, Some, None, IsTrue, Result, Ok, Err, List, [], ◌∷◌, refl, sym, ap, subst}
+use Rattle.std.proofs.Common.{◌≡◌, ℕ, Bool, false, Option, Some, None, IsTrue, Ok, Err, List, sym, subst}
 use Rattle.std.specs.Prelude.{IsSomeAnd}
 use Rattle.hv_base.specs.declared.ids.TxnId.{TxnId}
 use Rattle.hv_shelf.specs.declared.place.Place.{Place}
@@ -11,20 +11,19 @@ use Rattle.hv_history.specs.State.{state_of, numbered}
 use Rattle.hv_history.specs.Legal.{Of, IsRunning}
 use Rattle.hv_tables.specs.Putting.{IsEncoded, bytes_of}
 use Rattle.hv_trail.specs.declared.trail.Reader.TheVariants.{Txn}
-use Rattle.hv_trail.specs.Trail.{book_of, state_at}
+use Rattle.hv_trail.specs.Trail.{state_at}
 use Rattle.hv_trail.specs.Kept.{trail_of}
 use Rattle.hv_trail.specs.Lasting.{IsGiven}
-use Rattle.hv_trail.specs.Steps.{Put, Done, gains, Step}
-use Rattle.hv_house.specs.declared.fault.HouseFault.{HouseFault}
+use Rattle.hv_trail.specs.Steps.{Put, Done, Step}
 use Rattle.hv_house.specs.declared.fault.HouseFault.TheVariants as fault
 use Rattle.hv_house.specs.declared.house.House.{House}
-use Rattle.hv_house.specs.House.{entries_of, IsReady, StaysPut}
-use Rattle.hv_house.specs.Steps.{seen_of, fault_outcome, HoldsId, IsOwnFile}
+use Rattle.hv_house.specs.House.{entries_of, IsReady}
+use Rattle.hv_house.specs.Steps.{seen_of, HoldsId, IsOwnFile}
 use Rattle.hv_acts.specs.declared.fault.ActFault.{ActFault}
 use Rattle.hv_acts.specs.declared.fault.ActFault.TheVariants as act
-use Rattle.hv_acts.specs.Answers.{act_outcome, call_behind, answer_call, answer_outcome, IsLate}
-use Rattle.hv_acts.specs.Putting.{HasIdFor, Runs, adds_fault, adds_file, FileStep}
-use Rattle.hv_acts.proofs.Steps.{book-is, keeps-put}
+use Rattle.hv_acts.specs.Answers.{IsLate}
+use Rattle.hv_acts.specs.Putting.{HasIdFor, Runs, FileStep}
+use Rattle.hv_acts.proofs.Steps.{book-is}
 use Rattle.hv_acts.proofs.Notes.{why-of, asked-late, no-true}
 
 -- ---- its own file
@@ -69,12 +68,6 @@ module _ {D : Type 0} (told : D → Option Store) (faults : D → ℕ) (by : Txn
       → Step told faults (Put (Txn by) place (bytes_of file)) Done (seen_of before) (seen_of now) → FileStep told faults by place file before now (Ok tt)
   file-done before now runs ready encoded step = record { keeps = λ still. ready; step = step; answers = (runs, encoded) }
 
-  pub file-failed : (why : HouseFault) (before now : House D) → before.trail.closed ≡ false → StaysPut told why now
-      → Step told faults (Put (Txn by) place (bytes_of file)) (fault_outcome why) (seen_of before) (seen_of now)
-      → FileStep told faults by place file before now (Err (act.House why))
-  file-failed why before now running stays step =
-      record { keeps = keeps-put told before now running why stays step.closed; step = step; answers = tt }
-
   pub file-late : (why : ActFault) (house : House D) → IsReady told house → IsLate (trail_of house.trail) by why → (Runs (trail_of house.trail) by → ⊥)
       → FileStep told faults by place file house house (Err why)
   file-late why house ready late not = record {
@@ -82,17 +75,3 @@ module _ {D : Type 0} (told : D → Option Store) (faults : D → ℕ) (by : Txn
     step = asked-late told faults (seen_of house) (trail_of house.trail) by (Put (Txn by) place (bytes_of file)) why late;
     answers = why-of (trail_of house.trail) by (Runs (trail_of house.trail) by) why late not;
   }
-
-adds-of-fault : (by : TxnId) (place : Place) (bytes : List ℕ) (why : ActFault) → gains (call_behind (Put (Txn by) place bytes) why) (act_outcome why) ≡ adds_fault by why
-adds-of-fault by place bytes (act.Ended at) = refl
-adds-of-fault by place bytes (act.Full entries) = refl
-adds-of-fault by place bytes (act.Broken put count) = refl
-adds-of-fault by place bytes act.Unfit = refl
-adds-of-fault by place bytes (act.House fault.Store) = refl
-adds-of-fault by place bytes (act.House fault.NoMemory) = refl
-adds-of-fault by place bytes (act.House (fault.Failed count)) = refl
-
-pub adds-its-mark : (by : TxnId) (place : Place) (bytes : List ℕ) (result : Result (Unit {0}) ActFault)
-    → gains (answer_call (Put (Txn by) place bytes) result) (answer_outcome result) ≡ adds_file by place result
-adds-its-mark by place bytes (Ok done) = refl
-adds-its-mark by place bytes (Err why) = adds-of-fault by place bytes why

@@ -10,7 +10,7 @@ use Rattle.hv_base.specs.declared.ids.Touch.{Touch}
 use Rattle.hv_history.specs.declared.entry.Entry.TheVariants as entry
 use Rattle.hv_history.specs.declared.entry.Cause.TheVariants as cause
 use Rattle.hv_history.specs.Spelling.{touch_spelling, entry_spelling}
-use Rattle.hv_bytes.proofs.Lengths.{length-four, length-eight, length-text}
+use Rattle.hv_bytes.proofs.Lengths.{length-eight, length-text}
 use Rattle.hv_journal.proofs.Lengths.{length-touches}
 use Rattle.hv_house.specs.House.{IsSmall}
 

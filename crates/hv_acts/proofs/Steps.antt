@@ -1,23 +1,18 @@
 -- Steps that change nothing: where a test refused the act, and where the house is closed.
-use Rattle.std.proofs.Common.{arith, ◌≡◌, inl, ℕ, Bool, true, false, Option, Some, None, List, [], ◌++◌, refl, sym, ap, ◌∙◌, append-nil, true≢false}
+use Rattle.std.proofs.Common.{arith, ◌≡◌, ℕ, Bool, true, false, Option, Some, None, [], ◌++◌, refl, sym, ap, ◌∙◌, append-nil, true≢false}
 use Rattle.std.specs.Prelude.{◌||◌}
 use Rattle.hv_base.specs.Told.{Moves}
-use Rattle.hv_base.specs.declared.ids.TxnId.{TxnId}
-use Rattle.hv_base.specs.declared.ids.Touch.{Touch}
-use Rattle.hv_shelf.specs.declared.place.Place.{Place}
 use Rattle.hv_shelf.specs.Disk.{Store}
-use Rattle.hv_history.specs.declared.entry.Entry.{Entry}
-use Rattle.hv_trail.specs.declared.trail.Reader.{Reader}
 use Rattle.hv_trail.specs.Trail.{book_of}
 use Rattle.hv_trail.specs.Kept.{trail_of}
-use Rattle.hv_trail.specs.Steps.{HouseSeen, Call, Note, Begin, Commit, Put, Ask, Outcome, Closed, Refused, gains, shuts, locks_after, MayEnd, Changes, IsShutOut, Step}
+use Rattle.hv_trail.specs.Steps.{HouseSeen, Call, Ask, Closed, Refused, gains, shuts, locks_after, MayEnd, Changes, IsShutOut, Step}
 use Rattle.hv_trail.proofs.KeptLaws.{trail-book}
 use Rattle.hv_house.specs.declared.fault.HouseFault.{HouseFault}
 use Rattle.hv_house.specs.declared.fault.HouseFault.TheVariants as fault
 use Rattle.hv_house.specs.declared.house.House.{House}
-use Rattle.hv_house.specs.House.{entries_of, IsReady, StaysReady, StaysPut}
+use Rattle.hv_house.specs.House.{entries_of, StaysReady}
 use Rattle.hv_house.specs.Faults.{EndsRun}
-use Rattle.hv_house.specs.Steps.{seen_of, fault_outcome}
+use Rattle.hv_house.specs.Steps.{fault_outcome}
 use Rattle.hv_house.specs.Housed.{IsReadyOrClosed}
 
 -- the book of a house is that of its trail
@@ -45,19 +40,6 @@ module _ {D : Type 0} (told : D → Option Store) (faults : D → ℕ) (seen : H
     rest = record { start = refl; opened = refl; limits = refl };
   }
 
-  -- nothing was noted for want of memory
-  pub lacking-commit : (txn : TxnId) (wrote : List Touch) → seen.closed ≡ false → Step told faults (Commit txn wrote) Refused seen seen
-  lacking-commit txn wrote still = record {
-    may = tt;
-    trail = sym (append-nil seen.trail);
-    store = moves-same (told seen.shelf) _ (λ s. record { tree_is = refl; reads = λ reads. reads });
-    closed = or-false seen.closed;
-    shut_out = λ shut. absurd (true≢false (sym shut ∙ still));
-    locks = refl;
-    counts = omega arith;
-    rest = record { start = refl; opened = refl; limits = refl };
-  }
-
   shut : (call : Call) → MayEnd call Closed → gains call Closed ≡ [] → ((s : Store) → Changes (book_of seen.trail) call Closed s s)
       → locks_after call Closed seen.locks ≡ seen.locks → IsShutOut call Closed → seen.closed ≡ true → Step told faults call Closed seen seen
   shut call may none same locks out closed = record {
@@ -71,19 +53,6 @@ module _ {D : Type 0} (told : D → Option Store) (faults : D → ℕ) (seen : H
     rest = record { start = refl; opened = refl; limits = refl };
   }
 
-  pub shut-note : (event : Entry) → seen.closed ≡ true → Step told faults (Note event) Closed seen seen
-  shut-note event closed = shut (Note event) tt refl (λ s. record { tree_is = refl; reads = λ reads. inl reads }) refl refl closed
-
-  pub shut-begin : (txn : TxnId) (session : List ℕ) (number : ℕ) (text : List ℕ) → seen.closed ≡ true → Step told faults (Begin txn session number text) Closed seen seen
-  shut-begin txn session number text closed =
-      shut (Begin txn session number text) tt refl (λ s. record { tree_is = refl; reads = λ reads. inl reads }) refl refl closed
-
-  pub shut-commit : (txn : TxnId) (wrote : List Touch) → seen.closed ≡ true → Step told faults (Commit txn wrote) Closed seen seen
-  shut-commit txn wrote closed = shut (Commit txn wrote) tt refl (λ s. inl (record { tree_is = refl; reads = λ reads. inl reads })) refl refl closed
-
-  pub shut-put : (by : Reader) (place : Place) (bytes : List ℕ) → seen.closed ≡ true → Step told faults (Put by place bytes) Closed seen seen
-  shut-put by place bytes closed = shut (Put by place bytes) tt refl (λ s. inl refl) refl refl closed
-
 -- ---- between two calls
 
 -- what closed the house is no readiness
@@ -96,8 +65,3 @@ module _ {D : Type 0} (told : D → Option Store) (before now : House D) (runnin
   keeps-noted fault.Store stays ends closed = λ still. absurd (shut-closed before.trail.closed now.trail.closed running closed still)
   keeps-noted fault.NoMemory stays ends closed = λ still. stays.ready refl
   keeps-noted (fault.Failed count) stays ends closed = absurd ends
-
-  pub keeps-put : (why : HouseFault) → StaysPut told why now → now.trail.closed ≡ before.trail.closed || shuts (fault_outcome why) → IsReadyOrClosed told now
-  keeps-put fault.Store stays closed = λ still. absurd (shut-closed before.trail.closed now.trail.closed running closed still)
-  keeps-put fault.NoMemory stays closed = λ still. stays
-  keeps-put (fault.Failed count) stays closed = λ still. stays
