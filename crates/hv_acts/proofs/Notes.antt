@@ -95,7 +95,7 @@ pub next-none : {D : Type 0} (house : House D) (table : TableId) (o : Option Wri
     → record { 0 = 1 } ≡ next_id (trail_of house.trail) table
 next-none house table o none next =
     let number = id-none (numbered (state_at (trail_of house.trail)).tables table.0)
-        (subst (λ (book : List Entry). NextOf book table None) (sym (book-is house)) (subst (NextOf (entries_of house) table) none next)) in
+    (subst (λ (book : List Entry). NextOf book table None) (sym (book-is house)) (subst (NextOf (entries_of house) table) none next)) in
     λ i. record { 0 = number i }
 
 -- the next table

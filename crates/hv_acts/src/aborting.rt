@@ -21,11 +21,7 @@ pub struct AbortFor {
     pub cause: Cause,
 }
 
-fn abort_for<D: Shelf>(
-    house: &mut House<D>,
-    txn: TxnId,
-    cause: Cause,
-) -> Result<u64, ActFault>
+fn abort_for<D: Shelf>(house: &mut House<D>, txn: TxnId, cause: Cause) -> Result<u64, ActFault>
     requires ready { IsReady D.told house.old }
     requires small { IsSmall (entry.Abort txn cause) }
     requires marked { HasItsMark (trail_of house.old.trail) txn cause }

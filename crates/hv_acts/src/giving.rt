@@ -31,11 +31,7 @@ fn next_id<D: Shelf>(house: &House<D>, table: TableId) -> WriteId
 }
 
 #[tactic(auto, using(crate::proofs::Shorts::short_given))]
-fn give_id<D: Shelf>(
-    house: &mut House<D>,
-    txn: TxnId,
-    table: TableId,
-) -> Result<WriteId, ActFault>
+fn give_id<D: Shelf>(house: &mut House<D>, txn: TxnId, table: TableId) -> Result<WriteId, ActFault>
     requires ready { IsReady D.told house.old }
     ensures noted { EntryStep D.told D.faults txn
         (entry.Given txn table (next_id (trail_of house.old.trail) table)) house.old house.new result }

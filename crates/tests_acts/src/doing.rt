@@ -215,11 +215,15 @@ pub(crate) fn begin_words<D: Shelf + Drop, W: Actor<D, House<D>>>(
         (W.own actor.old) (W.own actor.new) (W.seen actor.old) (W.seen actor.new) }
 {
     match what_is_asked(alloc, words) {
-        Ok(Some(Asked {
-            session,
-            text,
-            tree,
-        })) => begin_read(alloc, actor, session, text, tree),
+        Ok(
+            Some(
+                Asked {
+                    session,
+                    text,
+                    tree,
+                },
+            ),
+        ) => begin_read(alloc, actor, session, text, tree),
         Ok(None) => answer(alloc, "no statement"),
         Err(NoMemory) => Err(NoMemory),
     }
