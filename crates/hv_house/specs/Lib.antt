@@ -4,5 +4,6 @@ pub mod Calls
 pub mod Faults
 pub mod House
 pub mod Listing
+pub mod Housed
 pub mod Seeing
 pub mod Steps

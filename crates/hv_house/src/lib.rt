@@ -8,6 +8,7 @@ mod failing;
 mod fault;
 mod files;
 mod house;
+mod housed;
 mod laws;
 mod listing;
 mod noting;
