@@ -1,9 +1,8 @@
 -- What a call that reads is as a step.
-use Rattle.std.proofs.Common.{◌≡◌, ◌≤◌, ℕ, true, false, true≢false, Option, Some, None, Result, Err, List, [], ◌++◌, refl, sym, ap, ◌∙◌, subst, arith, append-nil}
-use Rattle.std.specs.Prelude.{◌||◌, ◌∷◌, Contains, IfErr}
+use Rattle.std.proofs.Common.{◌≡◌, ◌≤◌, ℕ, true, false, true≢false, Option, Some, None, List, [], ◌++◌, refl, sym, ap, ◌∙◌, subst, arith, append-nil}
+use Rattle.std.specs.Prelude.{◌||◌, ◌∷◌, Contains}
 use Rattle.std.proofs.lemmas.List.Elements.{Contains-append_right}
 use Rattle.hv_base.specs.declared.ids.TxnId.{TxnId}
-use Rattle.hv_base.specs.declared.ids.Limits.{Limits}
 use Rattle.hv_base.specs.Told.{Moves}
 use Rattle.hv_shelf.specs.Disk.{Store}
 use Rattle.hv_history.specs.declared.entry.Entry.{Entry}
@@ -21,8 +20,8 @@ use Rattle.hv_house.specs.declared.fault.RowFault.{RowFault}
 use Rattle.hv_house.specs.declared.fault.RowFault.TheVariants as row_fault
 use Rattle.hv_house.specs.declared.house.House.{House}
 use Rattle.hv_house.specs.Faults.{HasRisenReading}
-use Rattle.hv_house.specs.House.{entries_of, IsReadyWithin, StaysReadWithin}
-use Rattle.hv_house.specs.Steps.{seen_of, reading_outcome, read_outcome, KeepsFault, GainsBy, IsMarkedFor}
+use Rattle.hv_house.specs.House.{entries_of}
+use Rattle.hv_house.specs.Steps.{seen_of, reading_outcome, KeepsFault, GainsBy, IsMarkedFor}
 use Rattle.hv_house.proofs.Steps.{same-trail}
 
 -- ---- what the trail gains

@@ -1,18 +1,13 @@
 -- What is seen of a table at a place of the book.
-use Rattle.std.proofs.Common.{refl, ◌≡◌, ℕ, ◌<◌, Bool, false, Option, Some, None, Result, Err, List, [], length, take, sym, ap, ◌∙◌, subst}
-use Rattle.std.specs.Prelude.{IfErr}
+use Rattle.std.proofs.Common.{◌≡◌, ℕ, ◌<◌, Some, List, length, take}
 use Rattle.hv_base.specs.declared.ids.Limits.{Limits}
-use Rattle.hv_base.specs.Told.{Tells}
-use Rattle.hv_shelf.specs.Disk.{Store, Tree}
-use Rattle.hv_logic.specs.declared.catalog.TableInfo.{TableInfo}
+use Rattle.hv_shelf.specs.Disk.{Tree}
 use Rattle.hv_logic.specs.declared.effect.Found.{Found}
 use Rattle.hv_dirs.specs.Names.{write_end}
 use Rattle.hv_history.specs.declared.entry.Entry.{Entry}
 use Rattle.hv_history.specs.declared.state.Table.{Table}
 use Rattle.hv_history.specs.State.{State, nothing_yet, content_of, state_of}
 use Rattle.hv_history.specs.Legal.{AllFit, profile}
-use Rattle.hv_meta.specs.Catalogs.{live_infos}
-use Rattle.hv_earlier.specs.Lists.{list_at, catalog_at}
 use Rattle.hv_stands.specs.Files.{Stands}
 use Rattle.hv_stands.specs.Sound.{IsSound, KeepsAll}
 use Rattle.hv_stands.specs.Reading.{table_of_name}
@@ -23,11 +18,9 @@ use Rattle.hv_stands.proofs.Tables.{named-numbered}
 use Rattle.hv_tables.specs.Reading.{AreRows, IsSpoiled as IsSpoiledOf}
 use Rattle.hv_tables.specs.Laws.{StoodAt}
 use Rattle.hv_tables.proofs.StoredRows.{rows-stood, none-was-spoiled}
-use Rattle.hv_house.specs.declared.fault.RowFault.{RowFault}
-use Rattle.hv_house.specs.Faults.{IsDamage}
-use Rattle.hv_house.specs.Seeing.{ids_in, info_of_name, AreRead, IsSeenOf, IsSpoiled}
+use Rattle.hv_house.specs.Seeing.{ids_in}
 use Rattle.hv_house.proofs.Rooms.{front-fits}
-use Rattle.hv_house.proofs.Past.{named-some, named-none, all-named, says-committed}
+use Rattle.hv_house.proofs.Past.{all-named, says-committed}
 
 module _ (limits : Limits) (book : List Entry) (place : ℕ) (fit : AllFit limits nothing_yet book) where
   abbrev then-state : State
