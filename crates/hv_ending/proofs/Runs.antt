@@ -1,5 +1,5 @@
 -- How the run goes on from call to call, or stops.
-use Rattle.std.proofs.Common.{◌≡◌, ℕ, ◌≤◌, inl, Option, Some, None, Result, Ok, Err, IfOk, IfErr, List, [], ◌∷◌, ◌++◌, length, refl, sym, ap, ◌∙◌, subst, append_assoc, append-nil, arith}
+use Rattle.std.proofs.Common.{◌≡◌, ℕ, ◌≤◌, inl, Option, Some, None, Result, Ok, Err, IfOk, IfErr, List, [], ◌∷◌, ◌++◌, refl, sym, ap, ◌∙◌, subst, append_assoc, append-nil, arith}
 use Rattle.hv_base.specs.Faults.{Rose}
 use Rattle.hv_base.specs.Told.{Tells, Moves}
 use Rattle.hv_base.proofs.ToldLemmas.{Moves-then, Moves-same, Moves-weaken}
