@@ -40,7 +40,9 @@ use Rattle.hv_house.proofs.Beginning.{load-behind-opened, holder-behind-opened}
 use Rattle.hv_house.specs.Steps.{IsMarked}
 use Rattle.hv_ending.specs.declared.ready.Way.{Way}
 use Rattle.hv_ending.specs.declared.ready.Reply.{Reply}
-use Rattle.hv_ending.specs.Ending.{KeepsCount, IsUndamaged, EndsUncommitted, IsAborted, HasStopped, aborting, HasReplied}
+use Rattle.hv_ending.specs.Ending.{KeepsCount, IsUndamaged, EndsUncommitted, IsAborted, HasStopped, StillOpens, aborting, HasReplied}
+use Rattle.hv_ending.specs.Steps.{StandsWith}
+use Rattle.hv_ending.proofs.Opens.{halted-opens, one-halted-opens, event-stands}
 use Rattle.hv_base.specs.declared.ids.TxnId.{TxnId}
 use Rattle.hv_session.proofs.Shorts.{short_blocked, short_full}
 use Rattle.hv_session.specs.declared.paused.Taken.{Taken}
@@ -162,6 +164,14 @@ module _ {D : Type 0} (told : D → Option Store) (before now : House D) where
 pub memory-away : (first now : List Entry) (asking : Asking) (reply : Reply) → now ≡ first → IsLine (cause_text None cause.Memory) reply → IsTurnedAway first now asking reply
 memory-away first now asking reply same line hold is = inr (inr (inr (record { book = same; unended = line.unended; is_refused = line.refusal; line = line.line_is })))
 
+-- the two entries that begin a statement leave the files standing
+beginning-faithful : (book : List Entry) (asking : Asking) (store : Store) → BeginFits book asking → IsFaithful book store → IsFaithful (book ++ beginning_of book asking) store
+beginning-faithful book asking store fits faithful =
+    let one : IsFaithful (book ++ opening book asking ∷ []) store = (event-stands book (opening book asking) store tt (λ fit. tt) faithful).with_it fits.0 in
+    let both : IsFaithful ((book ++ opening book asking ∷ []) ++ starting (next_number book) ∷ []) store =
+    (event-stands (book ++ opening book asking ∷ []) (starting (next_number book)) store tt (λ fit. tt) one).with_it fits.1 in
+    subst (λ (b : List Entry). IsFaithful b store) (append_assoc book (opening book asking ∷ []) (starting (next_number book) ∷ [])) both
+
 -- ---- where the note of an opening was refused
 
 module _ {D : Type 0} (told : D → Option Store) (faults : D → ℕ) (before now : House D) where
@@ -170,25 +180,30 @@ module _ {D : Type 0} (told : D → Option Store) (faults : D → ℕ) (before n
 
   -- memory lacked, and the reply says so
   unopened-ok : (events : List Entry) (why : HouseFault) (reply : Reply) → AreHalted told events why before now → StaysReady told why now
-      → faults before.shelf ≤ faults now.shelf → why ≡ fault.NoMemory → IsPart told faults its_number before now (Ok reply)
+      → faults before.shelf ≤ faults now.shelf → why ≡ fault.NoMemory
+      → IsPart told faults (IsFaithful (entries_of before)) its_number before now (Ok reply)
   unopened-ok events why reply halted stays later is =
       passed-part told faults its_number before now reply
       (lacks-passed told before now faults its_number events
       (subst (λ (w : HouseFault). AreHalted told events w before now) is halted) (subst (λ (w : HouseFault). StaysReady told w now) is stays) later)
 
   -- or the run ends
-  pub unopened-part : {T : Type 0} (event : Entry) (why : HouseFault) (result : Result Reply HouseFault) → IsOf its_number event → Fits profile (state_of (entries_of before)) event
+  pub unopened-part : {T : Type 0} (event : Entry) (why : HouseFault) (result : Result Reply HouseFault) → IsOf its_number event → IsBegun event → Fits profile (state_of (entries_of before)) event
       → AreHalted told (event ∷ []) why before now → StaysReady told why now
       → StaysTold (told before.shelf) (told now.shelf) → EndsRun why → FileCause {T = T} (faults before.shelf) (faults now.shelf) (Err why)
       → IfOk result (λ reply. (why ≡ fault.NoMemory) × IsLine (cause_text None cause.Memory) reply) → IfErr result (λ failed. failed ≡ why)
-      → IsPart told faults its_number before now result
-  unopened-part event why (Ok reply) of_it fits halted stays tells ends cause memory failed = unopened-ok (event ∷ []) why reply halted stays cause.later memory.0
-  unopened-part {T = T} event why (Err other) of_it fits halted stays tells ends cause memory failed =
-      subst (λ (w : HouseFault). IsPart {T = Reply} told faults its_number before now (Err w)) (sym failed) (record {
+      → IsPart told faults (IsFaithful (entries_of before)) its_number before now result
+  unopened-part event why (Ok reply) of_it begun fits halted stays tells ends cause memory failed = unopened-ok (event ∷ []) why reply halted stays cause.later memory.0
+  unopened-part {T = T} event why (Err other) of_it begun fits halted stays tells ends cause memory failed =
+      subst (λ (w : HouseFault). IsPart {T = Reply} told faults (IsFaithful (entries_of before)) its_number before now (Err w)) (sym failed) (record {
         done = tt;
         keeps = same-files (state_of (entries_of before)).tables (told before.shelf) (told now.shelf) halted.tree;
         tells = tells;
         stopped = halted-stopped told before now its_number event why halted of_it fits;
+        opens = λ shows. one-halted-opens told event why before now halted fits
+            (told-map (IsFaithful (entries_of before)) (StandsWith (entries_of before) event)
+            (λ s faithful. event-stands (entries_of before) event s (begun-quiet event begun) (λ fit. begun-true (state_of (entries_of before)) event begun) faithful)
+            (told before.shelf) shows);
         ends = ends;
         cause = record { later = cause.later; failed = cause.failed };
       })
@@ -206,6 +221,9 @@ module _ {D : Type 0} (told : D → Option Store) (faults : D → ℕ) (before n
         keeps = same-files (state_of (entries_of before)).tables (told before.shelf) (told now.shelf) halted.tree;
         tells = tells;
         stopped = inr (halted-beginning told before now asking why halted fits);
+        opens = λ shows. halted-opens told (beginning_of (entries_of before) asking) why before now halted shows
+            (told-map (IsFaithful (entries_of before)) (IsFaithful (entries_of before ++ beginning_of (entries_of before) asking))
+            (λ s faithful. beginning-faithful (entries_of before) asking s fits faithful) (told before.shelf) shows);
         ends = ends;
         cause = record { later = cause.later; failed = cause.failed };
       })
@@ -388,9 +406,10 @@ module _ (holder : Option ℕ) {D : Type 0} (told : D → Option Store) (faults 
   pub aborted-part : (result : Result Reply HouseFault) → IfOk result (λ _. IsReady told now)
       → IfOk result (λ _. IsAborted txn (hindrance_of holder) (entries_of before) (entries_of now))
       → Moves KeepsTree (told before.shelf) (told now.shelf) → StaysTold (told before.shelf) (told now.shelf)
-      → IfErr result (λ failed. HasStopped told txn failed before now) → IfErr result EndsRun → FileCause (faults before.shelf) (faults now.shelf) result
-      → IsPart told faults txn before now result
-  aborted-part (Ok reply) ready aborted tree tells stopped ends cause = record {
+      → IfErr result (λ failed. HasStopped told txn failed before now) → (Shows told before (entries_of before) → IfErr result (λ _. StillOpens told now))
+      → IfErr result EndsRun → FileCause (faults before.shelf) (faults now.shelf) result
+      → IsPart told faults (IsFaithful (entries_of before)) txn before now result
+  aborted-part (Ok reply) ready aborted tree tells stopped opens ends cause = record {
     done = record {
       ready = ready;
       added = record {
@@ -403,14 +422,16 @@ module _ (holder : Option ℕ) {D : Type 0} (told : D → Option Store) (faults 
     keeps = same-files (state_of (entries_of before)).tables (told before.shelf) (told now.shelf) tree;
     tells = tells;
     stopped = tt;
+    opens = λ shows. tt;
     ends = tt;
     cause = cause;
   }
-  aborted-part (Err failed) ready aborted tree tells stopped ends cause = record {
+  aborted-part (Err failed) ready aborted tree tells stopped opens ends cause = record {
     done = tt;
     keeps = same-files (state_of (entries_of before)).tables (told before.shelf) (told now.shelf) tree;
     tells = tells;
     stopped = stopped;
+    opens = opens;
     ends = ends;
     cause = cause;
   }
@@ -460,9 +481,9 @@ pub opened-runs : (book : List Entry) (first asking : Asking) (event : Entry) (t
 unfolding text_of
 opened-runs book first asking event tree one other runs = subst (λ (t : List ℕ). Runs t tree) (ap text_of (sym one ∙ other)) runs
 
-pub renumbered : {D T : Type 0} (told : D → Option Store) (faults : D → ℕ) (before now : House D) (txn number : ℕ) (result : Result T HouseFault) → txn ≡ number
-    → IsPart told faults txn before now result → IsPart told faults number before now result
-renumbered told faults before now txn number result is part = subst (λ (n : ℕ). IsPart told faults n before now result) is part
+pub renumbered : {D T : Type 0} {Known : Store → Type 0} (told : D → Option Store) (faults : D → ℕ) (before now : House D) (txn number : ℕ) (result : Result T HouseFault) → txn ≡ number
+    → IsPart told faults Known txn before now result → IsPart told faults Known number before now result
+renumbered {Known = Known} told faults before now txn number result is part = subst (λ (n : ℕ). IsPart told faults Known n before now result) is part
 
 pub opened-is : (book : List Entry) (asking : Asking) (txn : TxnId) → txn.0 ≡ next_number book → entry.Opened txn asking.session asking.number asking.text ≡ opening book asking
 opened-is book asking txn is = ap (λ (n : ℕ). entry.Opened (record { 0 = n }) asking.session asking.number asking.text) is

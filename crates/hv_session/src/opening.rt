@@ -8,7 +8,7 @@ ghost use Rattle.hv_history.specs.Legal.{Fits, profile};
 ghost use Rattle.hv_history.specs.State.{state_of};
 ghost use Rattle.hv_stands.specs.Running.{Asking as Asked, next_number, opening, IsWaiting};
 ghost use Rattle.hv_house.specs.Faults.{EndsRun};
-ghost use Rattle.hv_house.specs.House.{entries_of, BeginFits, IsReady, Shows};
+ghost use Rattle.hv_house.specs.House.{entries_of, BeginFits, IsReady, IsFaithful, Shows};
 ghost use Rattle.hv_house.specs.Asking.{CanBegin, holder_against};
 ghost use Rattle.hv_house.specs.declared.fault.HouseFault.TheVariants.{NoMemory as OutOfMemory};
 ghost use Rattle.hv_session.specs.Lines.{IsLine};
@@ -81,7 +81,8 @@ fn note_and_abort<D: Shelf>(
         × Runs asking.text kept × Runs asking.text tree.now × (length asking.text ≤ 32768) × (length asking.session ≤ 32) }
     requires cannot { CanBegin profile (entries_of house.old) tree.now → ⊥ }
     requires fits { Fits profile (state_of (entries_of house.old)) opened }
-    ensures part { IsPart D.told D.faults (next_number (entries_of house.old)) house.old house.new result }
+    ensures part { IsPart D.told D.faults (IsFaithful (entries_of house.old))
+        (next_number (entries_of house.old)) house.old house.new result }
     ensures truly { (asking : Asked) → opened ≡ opening (entries_of house.old) asking → Shows D.told house.old (entries_of house.old)
         → IfOk result (λ reply. ShowsAnd D.told house.new (λ _. IsTurnedAway
         (entries_of house.old) (entries_of house.new) asking reply)) }
@@ -108,7 +109,8 @@ fn turn_away<D: Shelf>(
     requires short { length asking.text ≤ 32768 }
     requires named { length asking.session ≤ 32 }
     requires cannot { CanBegin profile (entries_of house.old) tree.now → ⊥ }
-    ensures part { IsPart D.told D.faults (next_number (entries_of house.old)) house.old house.new result }
+    ensures part { IsPart D.told D.faults (IsFaithful (entries_of house.old))
+        (next_number (entries_of house.old)) house.old house.new result }
     ensures truly { Shows D.told house.old (entries_of house.old)
         → IfOk result (λ reply. ShowsAnd D.told house.new (λ _. IsTurnedAway
         (entries_of house.old) (entries_of house.new) (asked_of asking) reply)) }
