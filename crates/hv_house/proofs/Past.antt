@@ -8,7 +8,7 @@ use Rattle.std.specs.List.{slice_get, AllByRecursion}
 use Rattle.std.specs.Option.{option_map}
 use Rattle.hv_wids.specs.declared.list.Exception.{Exception}
 use Rattle.hv_wids.specs.Between.{has}
-use Rattle.hv_wids.specs.WriteIds.{WriteIds, ids_of, is_valid}
+use Rattle.hv_wids.specs.WriteIds.{ids_of}
 use Rattle.hv_logic.specs.declared.catalog.TableInfo.{TableInfo}
 use Rattle.hv_history.specs.declared.state.Ending.{Ending}
 use Rattle.hv_history.specs.declared.state.Ending.TheVariants.{Committed, Aborted, Made, Dropped}
@@ -38,7 +38,7 @@ info-by : (b : Bool) (table : Table) (rest : Option TableInfo) (more : Option Ta
 info-by true table rest more e = refl
 info-by false table rest more e = e
 
-infos-named : (name : List ℕ) (tables : List Table) → AllByRecursion IsLive tables
+pub infos-named : (name : List ℕ) (tables : List Table) → AllByRecursion IsLive tables
     → info_of_name name (live_infos tables) ≡ option_map info_in (table_of_name name tables)
 infos-named name [] live = refl
 infos-named name (table ∷ tables) live =

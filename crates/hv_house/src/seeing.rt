@@ -1,5 +1,6 @@
 ghost use Rattle.std.specs.Prelude.{◌≡◌, ◌<◌, false, Some, [], take, IfOk, IfErr};
 ghost use Rattle.std.specs.Option.{option_copied};
+ghost use Rattle.hv_base.specs.declared.ids.Limits.{Limits};
 ghost use Rattle.hv_base.specs.Told.{Tells};
 ghost use Rattle.hv_history.specs.State.{state_of};
 ghost use Rattle.hv_stands.specs.Reading.{table_of_name};
@@ -8,7 +9,7 @@ ghost use Rattle.hv_trail.specs.declared.trail.Reader.TheVariants.{Txn};
 ghost use Rattle.hv_trail.specs.Steps.{Step};
 ghost use Rattle.hv_trail.specs.Steps as calls;
 ghost use Rattle.hv_house.specs.Faults.{failed_with, read_fault, ReadCause, IsShortDamage, IsDamage};
-ghost use Rattle.hv_house.specs.House.{entries_of, IsReady, StaysRead, IsAsked};
+ghost use Rattle.hv_house.specs.House.{entries_of, IsReadyWithin, StaysReadWithin, IsAsked};
 ghost use Rattle.hv_house.specs.Steps.{seen_of, reading_outcome, read_outcome, KeepsFault, GainsBy, IsMarkedFor};
 ghost use Rattle.hv_house.specs.Seeing.{info_of_name, AreRead, IsSeenOf, IsSpoiled};
 
@@ -88,7 +89,8 @@ impl<D: Shelf> House<D> {
         info: &TableInfo,
         list: &WriteIdList,
     ) -> Result<List<Found>, RowFault>
-        requires ready { IsReady D.told self.old }
+        ghost limits: { Limits }
+        requires ready { IsReadyWithin limits D.told self.old }
         ensures asked { IsAsked D.told self.old self.new }
         ensures short { IfErr result IsShortDamage }
         ensures rows { IfOk result (λ rows. Tells (D.told self.old.shelf)
@@ -120,7 +122,8 @@ impl<D: Shelf> House<D> {
         name: &Text,
         reads: bool,
     ) -> Result<Option<Seen>, RowFault>
-        requires ready { IsReady D.told self.old }
+        ghost limits: { Limits }
+        requires ready { IsReadyWithin limits D.told self.old }
         ensures asked { IsAsked D.told self.old self.new }
         ensures short { IfErr result IsShortDamage }
         ensures seen { IfOk result (λ seen. IsSeenOf (D.told self.old.shelf) reads
@@ -128,8 +131,8 @@ impl<D: Shelf> House<D> {
             (table_of_name name.now (state_of (take place (entries_of self.old))).tables) seen) }
         ensures damage { IfErr result (λ fault. IsDamage fault
             → IsSpoiled (D.told self.old.shelf) (state_of (take place (entries_of self.old)))) }
-        ensures ready { IfOk result (λ _. IsReady D.told self.new) }
-        ensures stays { IfErr result (λ why. StaysRead D.told why self.new) }
+        ensures ready { IfOk result (λ _. IsReadyWithin limits D.told self.new) }
+        ensures stays { IfErr result (λ why. StaysReadWithin limits D.told why self.new) }
         ensures marked { IfErr result (IsMarkedFor self.new by) }
         ensures step { Step D.told D.faults (calls.Read (Some (Txn by))) (read_outcome result)
             (seen_of self.old) (seen_of self.new) }

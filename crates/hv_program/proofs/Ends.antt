@@ -192,7 +192,7 @@ record IsDone (status low high : ℕ) (opened : List Entry) (actions : List Acti
   served : ServedOf status low high opened actions written now before store
 
 -- the book that was opened is the one to which the store opens
-same-opened : (told : Option Store) (store : Store) (opened start : List Entry) → told ≡ Some store → OpensTo opened store → Opens told start → Opening opened start
+same-opened : (told : Option Store) (store : Store) (opened start : List Entry) → told ≡ Some store → OpensTo opened store → Opens profile told start → Opening opened start
 same-opened told store opened start at opens is =
     let reads : IsJournalOf profile is.0 store.journal =
     subst (λ (o : Option Store). Tells o (λ s. IsJournalOf profile is.0 s.journal)) at is.1.reads in
@@ -253,7 +253,7 @@ are-told sink sink' told begun told' written store heard moves stays at_sink at_
 
 -- what a run was promised, by what is told
 record Promised (low high : ℕ) (ran : Result Bool Stop) (actions : List Action) (start book : List Entry) (sink sink' : Option (List ℕ)) (told begun told' : Option Store) : Type 0 where
-  is : Opens told start
+  is : Opens profile told start
   reads : IfOk ran (λ _. Holds told' book)
   shows : Tells begun (IsFaithful start) → IfOk ran (λ _. Tells told' (IsFaithful book))
   prints : Tells begun (IsFaithful start) → IfOk ran (λ refused. Tells begun (λ _. PrintsAll low high start book actions sink sink' refused))
@@ -277,7 +277,7 @@ promised-told low high opened actions ran sink sink' told begun told' start book
     are.tree opens
 
 ended : (low high : ℕ) (opened : List Entry) (actions : List Action) (ran : Result Bool Stop) (sink sink' : Option (List ℕ)) (told begun told' : Option Store) (start book : List Entry)
-    → Opens told start → Moves KeepsTree told begun
+    → Opens profile told start → Moves KeepsTree told begun
     → IfOk ran (λ _. Holds told' book)
     → (Tells begun (IsFaithful start) → IfOk ran (λ _. Tells told' (IsFaithful book)))
     → (Tells begun (IsFaithful start) → IfOk ran (λ refused. Tells begun (λ _. PrintsAll low high start book actions sink sink' refused)))
@@ -301,7 +301,7 @@ ok_then (Ok b) A B f a = f a
 ok_then (Err why) A B f a = tt
 
 Serves-ran : (low high : ℕ) (actions : List Action) (ran : Result Bool Stop) (sink sink' : Option (List ℕ)) (told begun told' : Option Store) (start book : List Entry) (IsReadyNow : Type 0)
-    → Opens told start → Moves KeepsTree told begun
+    → Opens profile told start → Moves KeepsTree told begun
     → (IsReadyNow → Holds told' book) → IfOk ran (λ _. IsReadyNow)
     → (Tells begun (IsFaithful start) → IfOk ran (λ _. Tells told' (IsFaithful book)))
     → (Tells begun (IsFaithful start) → IfOk ran (λ refused. Tells begun (λ _. PrintsAll low high start book actions sink sink' refused)))
@@ -386,7 +386,7 @@ halts-widened (Err why) (Some s) told first low high start book actions sink sin
 pub Serves-run : (status first low high last : ℕ) (actions given : List Action) (ran : Result Bool Stop) (sink sink' : Option (List ℕ)) (told begun told' closed : Option Store)
     (start book : List Entry) (IsReadyNow : Type 0)
     → status ≡ ran_status ran → first ≤ low → last ≡ high → given ≡ actions → closed ≡ told'
-    → Opens told start → Moves KeepsTree told begun
+    → Opens profile told start → Moves KeepsTree told begun
     → (IsReadyNow → Holds told' book) → IfOk ran (λ _. IsReadyNow)
     → (Tells begun (IsFaithful start) → IfOk ran (λ _. Tells told' (IsFaithful book)))
     → (Tells begun (IsFaithful start) → IfOk ran (λ refused. Tells begun (λ _. PrintsAll low high start book given sink sink' refused)))
@@ -405,7 +405,7 @@ Serves-run status first low high last actions given ran sink sink' told begun to
 
 -- ---- an opening that stopped
 
-cut-opening : (why : BootFault) (told told' : Option Store) (store : Store) (opened : List Entry) → told ≡ Some store → OpensTo opened store → StopsOpening told told' why
+cut-opening : (why : BootFault) (told told' : Option Store) (store : Store) (opened : List Entry) → told ≡ Some store → OpensTo opened store → StopsOpening profile told told' why
     → Tells told' (λ s. IsCutOpening why opened s.journal)
 cut-opening why None told' store opened at opens stops = cc
 cut-opening why (Some s) None store opened at opens stops = tt
@@ -421,37 +421,37 @@ unopened written before (Some s) (Some s') Keeps e tree keeps =
     (s', refl, record { wrote = refl; files = tree ∙ ap (λ (x : Store). x.tree) (same_some s before e); keeps = keeps })
 
 Serves-five : (low high : ℕ) (actions : List Action) (sink : Option (List ℕ)) (told told' : Option Store) → Moves KeepsTree told told'
-    → StopsOpening told told' boot.Store → Serves 5 low high actions sink sink told told'
+    → StopsOpening profile told told' boot.Store → Serves 5 low high actions sink sink told told'
 Serves-five low high actions sink told told' tree stops = λ written store opened at_sink at_told opens.
     let there = unopened written store told told' _ at_told tree (cut-opening boot.Store told told' store opened at_told opens stops) in
     record { now = written; store = there.0; sink_tells = at_sink; store_tells = there.1; served = served-five low high opened actions written written store there.0 (inr there.2) }
 
 Serves-seven : (low high : ℕ) (actions : List Action) (sink : Option (List ℕ)) (told told' : Option Store) → Moves KeepsTree told told'
-    → StopsOpening told told' boot.NoMemory → Serves 7 low high actions sink sink told told'
+    → StopsOpening profile told told' boot.NoMemory → Serves 7 low high actions sink sink told told'
 Serves-seven low high actions sink told told' tree stops = λ written store opened at_sink at_told opens.
     let there = unopened written store told told' _ at_told tree (cut-opening boot.NoMemory told told' store opened at_told opens stops) in
     record { now = written; store = there.0; sink_tells = at_sink; store_tells = there.1; served = served-seven low high opened actions written written store there.0 (inr there.2) }
 
 pub Serves-store : (status low high : ℕ) (actions : List Action) (sink : Option (List ℕ)) (told told' : Option Store) (why : BootFault) → status ≡ 5 → why ≡ boot.Store → Moves KeepsTree told told'
-    → StopsOpening told told' why → Serves status low high actions sink sink told told'
+    → StopsOpening profile told told' why → Serves status low high actions sink sink told told'
 Serves-store status low high actions sink told told' why e is tree stops =
     subst (λ n. Serves n low high actions sink sink told told') (sym e)
-    (Serves-five low high actions sink told told' tree (subst (StopsOpening told told') is stops))
+    (Serves-five low high actions sink told told' tree (subst (StopsOpening profile told told') is stops))
 
 pub Serves-memory : (status low high : ℕ) (actions : List Action) (sink : Option (List ℕ)) (told told' : Option Store) (why : BootFault) → status ≡ 7 → why ≡ boot.NoMemory → Moves KeepsTree told told'
-    → StopsOpening told told' why → Serves status low high actions sink sink told told'
+    → StopsOpening profile told told' why → Serves status low high actions sink sink told told'
 Serves-memory status low high actions sink told told' why e is tree stops =
     subst (λ n. Serves n low high actions sink sink told told') (sym e)
-    (Serves-seven low high actions sink told told' tree (subst (StopsOpening told told') is stops))
+    (Serves-seven low high actions sink told told' tree (subst (StopsOpening profile told told') is stops))
 
 -- ---- a journal that isn't opened
 
-never-opens : (told : Option Store) (store : Store) (opened : List Entry) → told ≡ Some store → OpensTo opened store → Tells told HasNoBook → ⊥
+never-opens : (told : Option Store) (store : Store) (opened : List Entry) → told ≡ Some store → OpensTo opened store → Tells told (HasNoBook profile) → ⊥
 never-opens told store opened at opens shut =
-    let here : HasNoBook store = subst (λ (o : Option Store). Tells o HasNoBook) at shut in
+    let here : HasNoBook profile store = subst (λ (o : Option Store). Tells o (HasNoBook profile)) at shut in
     here opened (record { journal = opens.journal; fit = opens.faithful.legal.fit })
 
-pub Serves-bad : (status low high : ℕ) (actions : List Action) (sink sink' : Option (List ℕ)) (told told' : Option Store) → Tells told HasNoBook
+pub Serves-bad : (status low high : ℕ) (actions : List Action) (sink sink' : Option (List ℕ)) (told told' : Option Store) → Tells told (HasNoBook profile)
     → Serves status low high actions sink sink' told told'
 Serves-bad status low high actions sink sink' told told' shut = λ written store opened at_sink at_told opens. absurd (never-opens told store opened at_told opens shut)
 
@@ -465,10 +465,10 @@ served-nine low high opened actions written now before after = record {
   memory = λ e. absurd (omega (arith, e));
 }
 
-full-book : (told : Option Store) (store : Store) (opened : List Entry) → told ≡ Some store → OpensTo opened store → Tells told HasFullBook
+full-book : (told : Option Store) (store : Store) (opened : List Entry) → told ≡ Some store → OpensTo opened store → Tells told (HasFullBook profile)
     → profile.entries < load (state_of opened) + 1
 full-book told store opened at opens full =
-    let here : HasFullBook store = subst (λ (o : Option Store). Tells o HasFullBook) at full in
+    let here : HasFullBook profile store = subst (λ (o : Option Store). Tells o (HasFullBook profile)) at full in
     here opened (record { journal = opens.journal; fit = opens.faithful.legal.fit })
 
 -- a content that a move made, where it was told
@@ -477,7 +477,7 @@ moved P None b x e m = cc
 moved P (Some z) None x e m = absurd m
 moved P (Some z) (Some y) x e m = (y, refl, subst (λ w. P w y) (same_some z x e) m)
 
-pub Serves-full : (status low high : ℕ) (actions : List Action) (sink sink' : Option (List ℕ)) (told told' : Option Store) (faults faults' : ℕ) → told' ≡ told → Tells told HasFullBook
+pub Serves-full : (status low high : ℕ) (actions : List Action) (sink sink' : Option (List ℕ)) (told told' : Option Store) (faults faults' : ℕ) → told' ≡ told → Tells told (HasFullBook profile)
     → IsSaid 9 full_line sink sink' faults faults' status → Serves status low high actions sink sink' told told'
 Serves-full status low high actions sink sink' told told' faults faults' same full (inl said) = λ written store opened at_sink at_told opens.
     let there = moved (Gains full_line) sink sink' written at_sink said.1.wrote in

@@ -235,7 +235,7 @@ module _ (first before now : List Entry) (asking : Asking) (book : before ≡ fi
   same-added : (xs ys : List Entry) → now ≡ before ++ xs → now ≡ before ++ ys → xs ≡ ys
   same-added xs ys x y = append_cancel_left before xs ys (sym x ∙ y)
 
-  pub goes-taken : (hold : Option Stage) (files : Tree) (tree : Stmt) (way : Taken) → Runs asking.text tree → CanBegin first tree → StandsHeld now asking way
+  pub goes-taken : (hold : Option Stage) (files : Tree) (tree : Stmt) (way : Taken) → Runs asking.text tree → CanBegin profile first tree → StandsHeld now asking way
       → GoesInTime hold (next_number first) before now way
       → StandsTruly before now files (next_number first) way → IsTakenAs first now files asking hold way
   goes-taken hold files tree (taken.Replied reply) runs can stands goes truly = inl (record {
@@ -254,7 +254,7 @@ module _ (first before now : List Entry) (asking : Asking) (book : before ≡ fi
     book = begun-book goes.added goes.book;
     txn_is = goes.in_time.0;
     runs = stands.under_way.runs;
-    can = subst (CanBegin first) (one-tree asking.text tree paused.tree runs stands.under_way.runs) can;
+    can = subst (CanBegin profile first) (one-tree asking.text tree paused.tree runs stands.under_way.runs) can;
     at_hold = goes.in_time.1;
     truly = truly;
   }
@@ -266,7 +266,7 @@ module _ (first before now : List Entry) (asking : Asking) (book : before ≡ fi
 -- ---- it is turned away
 
 -- it can't start, though no lock is held against it: there is no room
-cannot-lacks : (book : List Entry) (tree : Stmt) → (CanBegin book tree → ⊥) → holder_against book tree ≡ None → profile.entries < load (state_of book) + 3
+cannot-lacks : (book : List Entry) (tree : Stmt) → (CanBegin profile book tree → ⊥) → holder_against book tree ≡ None → profile.entries < load (state_of book) + 3
 cannot-lacks book tree cannot free = by (nat_lt profile.entries (load (state_of book) + 3)) refl
   where
     by : (b : Bool) → nat_lt profile.entries (load (state_of book) + 3) ≡ b → profile.entries < load (state_of book) + 3
@@ -274,7 +274,7 @@ cannot-lacks book tree cannot free = by (nat_lt profile.entries (load (state_of 
     by false is = absurd (cannot (grind (arith, nat_tests, is), free))
 
 -- nor behind its Opened
-pub lacks-behind : (book now : List Entry) (asking : Asking) (tree : Stmt) → now ≡ book ++ opening book asking ∷ [] → (CanBegin book tree → ⊥) → LacksRoom now tree
+pub lacks-behind : (book now : List Entry) (asking : Asking) (tree : Stmt) → now ≡ book ++ opening book asking ∷ [] → (CanBegin profile book tree → ⊥) → LacksRoom now tree
 lacks-behind book now asking tree is cannot free =
     let before : holder_against book tree ≡ None =
     sym (ap (λ (b : List Entry). holder_against b tree) is ∙ holder-behind-opened book asking tree) ∙ free in
@@ -297,13 +297,13 @@ module _ (first before now : List Entry) (asking : Asking) (book : before ≡ fi
   hindrance-whole (Some holder) why (inl is) = subst (λ (w : Cause). IsUndamaged (aborting (next_number first) w)) (sym is) tt
 
   -- it is aborted for what stands in its way
-  why-not : (tree : Stmt) → (CanBegin first tree → ⊥) → (holder : Option ℕ) → holder_against first tree ≡ holder → (why : Cause)
+  why-not : (tree : Stmt) → (CanBegin profile first tree → ⊥) → (holder : Option ℕ) → holder_against first tree ≡ holder → (why : Cause)
       → (why ≡ hindrance_of holder) ⊎ (why ≡ cause.Memory) → IsWhyNot first tree why
   why-not tree cannot holder here why (inr memory) = subst (IsWhyNot first tree) (sym memory) cannot
   why-not tree cannot None here why (inl is) = subst (IsWhyNot first tree) (sym is) (here, cannot-lacks first tree cannot here)
   why-not tree cannot (Some holder) here why (inl is) = subst (IsWhyNot first tree) (sym is) here
 
-  pub aborted-away : (tree : Stmt) (reply : Reply) → Runs asking.text tree → (CanBegin first tree → ⊥)
+  pub aborted-away : (tree : Stmt) (reply : Reply) → Runs asking.text tree → (CanBegin profile first tree → ⊥)
       → IsAborted (next_number first) (hindrance_of (holder_against before tree)) before now
       → HasReplied now (next_number first) reply.text reply.refused reply.ended → IsTurnedAway first now asking reply
   aborted-away tree reply runs cannot aborted answered hold is =
@@ -419,7 +419,7 @@ module _ (holder : Option ℕ) {D : Type 0} (told : D → Option Store) (faults 
 
 pub turned-away : {D : Type 0} (told : D → Option Store) (faults : D → ℕ) (txn : ℕ) (before between now : House D) (asking : Asking) (said : Stmt) (result : Result Reply HouseFault)
     → entries_of between ≡ entries_of before ++ opening (entries_of before) asking ∷ [] → txn ≡ next_number (entries_of before)
-    → (CanBegin (entries_of before) said → ⊥)
+    → (CanBegin profile (entries_of before) said → ⊥)
     → IsWaiting (entries_of between) asking txn said → AbortsOpened told faults said txn between now result → Shows told between (entries_of between)
     → IfOk result (λ reply. ShowsAnd told now (λ _. IsTurnedAway (entries_of before) (entries_of now) asking reply))
 turned-away told faults txn before between now asking said (Err why) book is cannot waits aborts shows = tt
@@ -484,7 +484,7 @@ kept-on first before now asking book txn is hold (Ok way) goes stands =
 
 pub goes-on : {D : Type 0} (told : D → Option Store) (first before now : House D) (asking : Asking)
     → entries_of before ≡ entries_of first ++ opening (entries_of first) asking ∷ starting (next_number (entries_of first)) ∷ [] → (txn : ℕ) → txn ≡ next_number (entries_of first)
-    → (hold : Option Stage) (tree : Stmt) (result : Result Taken HouseFault) → Runs asking.text tree → CanBegin (entries_of first) tree
+    → (hold : Option Stage) (tree : Stmt) (result : Result Taken HouseFault) → Runs asking.text tree → CanBegin profile (entries_of first) tree
     → IfOk result (StandsHeld (entries_of now) asking) → IfOk result (GoesInTime hold txn (entries_of before) (entries_of now))
     → IfOk result (λ way. ShowsAnd told now (λ s. StandsTruly (entries_of before) (entries_of now) s.tree txn way))
     → IfOk result (λ way. ShowsAnd told now (λ s. IsTakenAs (entries_of first) (entries_of now) s.tree asking hold way))

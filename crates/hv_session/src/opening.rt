@@ -79,7 +79,7 @@ fn note_and_abort<D: Shelf>(
     requires ready { IsReady D.told house.old }
     requires opened { (asking : Asked) × (opened ≡ opening (entries_of house.old) asking)
         × Runs asking.text kept × Runs asking.text tree.now × (length asking.text ≤ 32768) × (length asking.session ≤ 32) }
-    requires cannot { CanBegin (entries_of house.old) tree.now → ⊥ }
+    requires cannot { CanBegin profile (entries_of house.old) tree.now → ⊥ }
     requires fits { Fits profile (state_of (entries_of house.old)) opened }
     ensures part { IsPart D.told D.faults (next_number (entries_of house.old)) house.old house.new result }
     ensures truly { (asking : Asked) → opened ≡ opening (entries_of house.old) asking → Shows D.told house.old (entries_of house.old)
@@ -107,7 +107,7 @@ fn turn_away<D: Shelf>(
     requires tree { Runs asking.text tree.now }
     requires short { length asking.text ≤ 32768 }
     requires named { length asking.session ≤ 32 }
-    requires cannot { CanBegin (entries_of house.old) tree.now → ⊥ }
+    requires cannot { CanBegin profile (entries_of house.old) tree.now → ⊥ }
     ensures part { IsPart D.told D.faults (next_number (entries_of house.old)) house.old house.new result }
     ensures truly { Shows D.told house.old (entries_of house.old)
         → IfOk result (λ reply. ShowsAnd D.told house.new (λ _. IsTurnedAway
@@ -147,7 +147,7 @@ fn begin<D: Shelf>(
     requires short { length asking.text ≤ 32768 }
     requires named { length asking.session ≤ 32 }
     requires hold { IsHold asking.hold }
-    requires can { CanBegin (entries_of house.old) tree }
+    requires can { CanBegin profile (entries_of house.old) tree }
     requires fits { BeginFits (entries_of house.old) (asked_of asking) }
     ensures taking { IsTaking D.told D.faults (asked_of asking) house.old house.new result }
     ensures held { IfOk result (IsKeptIn (entries_of house.old) (entries_of house.new) (asked_of asking)) }

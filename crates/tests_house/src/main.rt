@@ -7,6 +7,7 @@ mod changes;
 mod ending;
 mod opening;
 mod playing;
+mod room;
 mod showing;
 
 use crate::playing::play;
