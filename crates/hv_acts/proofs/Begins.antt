@@ -4,6 +4,7 @@ use Rattle.hv_base.specs.declared.ids.TxnId.{TxnId}
 use Rattle.hv_ast.specs.declared.statement.Stmt.{Stmt}
 use Rattle.hv_shelf.specs.Disk.{Store}
 use Rattle.hv_history.specs.declared.entry.Entry.{Entry}
+use Rattle.hv_history.specs.Legal.{profile}
 use Rattle.hv_stands.specs.Running.{next_number}
 use Rattle.hv_trail.specs.Trail.{book_of}
 use Rattle.hv_trail.specs.Kept.{trail_of}
@@ -46,7 +47,7 @@ held-free house tree state is free =
     ap (λ (book : List Entry). holder_against book tree) (book-is house) ∙ free-of (holder_against (entries_of house) tree) state is free
 
 module _ {D : Type 0} (told : D → Option Store) (faults : D → ℕ) (session : List ℕ) (number : ℕ) (text : List ℕ) (tree : Stmt) where
-  pub begin-done : (start : Begun) (before now : House D) → IsReady told before → IsReady told now → CanBegin (entries_of before) tree
+  pub begin-done : (start : Begun) (before now : House D) → IsReady told before → IsReady told now → CanBegin profile (entries_of before) tree
       → start.txn.0 ≡ next_number (entries_of before) → start.place ≡ length (entries_of before) + 1
       → Step told faults (Begin (record { 0 = next_number (entries_of before) }) session number text) Done (seen_of before) (seen_of now)
       → BeginStep told faults session number text tree before now (Ok start)
@@ -67,12 +68,12 @@ module _ {D : Type 0} (told : D → Option Store) (faults : D → ℕ) (session 
     answers = tt;
   }
 
-  pub begin-hindered : (why : BeginFault) (house : House D) → IsReady told house → IsHindered (trail_of house.trail) tree why → (CanBegin (entries_of house) tree → ⊥)
+  pub begin-hindered : (why : BeginFault) (house : House D) → IsReady told house → IsHindered (trail_of house.trail) tree why → (CanBegin profile (entries_of house) tree → ⊥)
       → BeginStep told faults session number text tree house house (Err why)
   begin-hindered (hindered.Held by) house ready is not = record { keeps = λ still. ready; step = asked told faults (seen_of house); answers = is }
   begin-hindered (hindered.Full entries) house ready is not = record {
     keeps = λ still. ready;
     step = asked told faults (seen_of house);
-    answers = (is.0, is.1, λ room. not (subst (λ (book : List Entry). CanBegin book tree) (book-is house) (room, is.1)));
+    answers = (is.0, is.1, λ room. not (subst (λ (book : List Entry). CanBegin profile book tree) (book-is house) (room, is.1)));
   }
   begin-hindered (hindered.House why) house ready is not = absurd is

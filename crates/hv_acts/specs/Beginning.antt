@@ -56,7 +56,7 @@ IsHindered trail tree (hindered.House why) = ⊥
 -- it was begun: all that the book had fits, nothing stood in the way, and it has the next number and the next two places
 pub record HasBegun (book : List Entry) (tree : Stmt) (start : Begun) : Type 0 where
   pub fit : AllFitting book
-  pub can : CanBegin book tree
+  pub can : CanBegin profile book tree
   pub txn_is : start.txn.0 ≡ next_number book
   pub place_is : start.place ≡ length book + 1
 
