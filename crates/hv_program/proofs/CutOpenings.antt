@@ -49,7 +49,7 @@ front-faithful : (book front more : List Entry) (store : Store) → HasRoom prof
     → IsFaithful book store → IsFaithful (book ++ front) store
 front-faithful book front more store room parts faithful =
     faithful-behind book front store
-    (legal-front (state_of book) front more (subst (IsLegalFrom profile (state_of book)) parts (opened-book book room)))
+    (legal-front (state_of book) front more (subst (IsLegalFrom profile (state_of book)) parts (opened-book profile book room)))
     (quiet-front front more (subst (AllByRecursion CommitsNothing) parts (tt, quiet-lost (open_numbers (state_of book))))) faithful
 
 opens-front : (book front : List Entry) (store : Store) → IsJournal (book ++ front) store.journal → IsFaithful (book ++ front) store → OpensLater book store

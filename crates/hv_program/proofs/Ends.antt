@@ -28,7 +28,7 @@ use Rattle.hv_program.specs.Own.{Grows}
 use Rattle.hv_program.specs.Running.{PrintsAll, CutsOff, StopsIn, Halts, HasAll}
 use Rattle.hv_program.proofs.OwnEntries.{grows-wider}
 use Rattle.hv_program.proofs.CutOpenings.{cut-opens-later, later-behind}
-use Rattle.hv_program.specs.Results.{IsBookOf, HasBook, IsServed, IsCutOff, IsStopped, IsUnopened, ReadsFurther, StopsForMemory, StopsForStore}
+use Rattle.hv_program.specs.Results.{IsBookOf, HasBook, IsServed, IsCutOff, IsStopped, IsUnopened, ReadsTo, ReadsFurther, StopsForMemory, StopsForStore}
 use Rattle.hv_program.specs.Serving.{ran_status, IsCutFull, ServedOf, Serves, IsSaid}
 
 pub tells-still : {A : Type 0} (a b : Option A) (x : A) → StaysTold a b → a ≡ Some x → (y : A) × (b ≡ Some y)
@@ -177,7 +177,7 @@ served-by low high opened actions (Err stop.Store) written now before after book
     served-five low high opened actions written now before after (inl (stopped fault.Store (Some after) low high actions written now (opening_of opened) book (ReadsFurther after.journal) halts.0
     halts.0.stops.leaves after halts.1))
 served-by low high opened actions (Err stop.NoMemory) written now before after book reads shows prints halts =
-    served-seven low high opened actions written now before after (inl (stopped fault.NoMemory (Some after) low high actions written now (opening_of opened) book (λ standing act b. Reads b after.journal) halts.0
+    served-seven low high opened actions written now before after (inl (stopped fault.NoMemory (Some after) low high actions written now (opening_of opened) book (ReadsTo after.journal) halts.0
     halts.0.stops.leaves.2 after halts.1))
 
 -- ---- with what the outside tells
@@ -543,5 +543,5 @@ pub lacked-opens : (low high : ℕ) (book : List Entry) (actions : List Action) 
     → StopsForMemory low high book actions written now before store → OpensLater book store
 lacked-opens low high book actions written now before store room (inl is) =
     later-behind book (opening_entries (state_of book)) (opening_of book) store refl
-    (stopped-opens low high (opening_of book) actions written now store (λ standing act b. Reads b store.journal) is)
+    (stopped-opens low high (opening_of book) actions written now store (ReadsTo store.journal) is)
 lacked-opens low high book actions written now before store room (inr is) = is.opens room

@@ -84,10 +84,14 @@ pub record IsUnopened (book : List Entry) (written now : List ℕ) (before after
   pub keeps : Keeps after.journal
   pub opens : HasRoom profile (state_of book) 1 → OpensLater book after
 
--- for want of memory: the journal reads to the book
+-- the journal reads to the book
+abbrev pub ReadsTo : List ℕ → Standing → Action → List Entry → Type 0
+ReadsTo bytes before action book = Reads book bytes
+
+-- for want of memory
 abbrev pub StopsForMemory : ℕ → ℕ → List Entry → List Action → List ℕ → List ℕ → Store → Store → Type 0
 StopsForMemory low high before actions written now store store' =
-    IsStopped low high (opening_of before) actions written now store' (λ standing action book. Reads book store'.journal)
+    IsStopped low high (opening_of before) actions written now store' (ReadsTo store'.journal)
     ⊎ IsUnopened before written now store store' (IsCutOpening fault.NoMemory before)
 
 -- the journal reads to the book, or to the book and what further entries of a stopped action it may have

@@ -5,8 +5,7 @@ ghost use Rattle.hv_directives.specs.declared.actions.Action.{Action};
 ghost use Rattle.hv_history.specs.State.{state_of};
 ghost use Rattle.hv_history.specs.Legal.{HasRoom, profile};
 ghost use Rattle.hv_ending.specs.Ending.{OpensLater};
-ghost use Rattle.hv_program.specs.Doing.{Standing};
-ghost use Rattle.hv_program.specs.Results.{IsServed, IsCutOff, IsStopped, StopsForMemory, StopsForStore};
+ghost use Rattle.hv_program.specs.Results.{IsServed, IsCutOff, IsStopped, ReadsTo, ReadsFurther, StopsForMemory, StopsForStore};
 
 /// What a run leaves opens again, however it ended: to a legal book that begins with the book it was opened with, and with all that was
 /// noted by then. A run that stopped in its opening leaves a front of that behind the book, where there was room for it.
@@ -16,8 +15,9 @@ pub fn opens_again()
     ensures cut { (low high : ℕ) (start : List Entry) (actions : List Action) (written now : List ℕ) (store : Store)
         → IsCutOff low high start actions written now store → OpensLater start store }
     ensures stopped { (low high : ℕ) (start : List Entry) (actions : List Action) (written now : List ℕ) (store : Store)
-        (Keeps : Standing → Action → List Entry → Type 0)
-        → IsStopped low high start actions written now store Keeps → OpensLater start store }
+        → IsStopped low high start actions written now store (ReadsFurther store.journal) → OpensLater start store }
+    ensures ran_out { (low high : ℕ) (start : List Entry) (actions : List Action) (written now : List ℕ) (store : Store)
+        → IsStopped low high start actions written now store (ReadsTo store.journal) → OpensLater start store }
     ensures failed { (low high : ℕ) (book : List Entry) (actions : List Action) (written now : List ℕ) (before store : Store)
         → HasRoom profile (state_of book) 1
         → StopsForStore low high book actions written now before store → OpensLater book store }
