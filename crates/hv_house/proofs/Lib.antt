@@ -11,4 +11,5 @@ pub mod Ready
 pub mod Putting
 pub mod Past
 pub mod Seen
+pub mod Listings
 pub mod Beginning

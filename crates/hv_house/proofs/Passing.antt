@@ -1,26 +1,11 @@
--- What is passed on of files that are read.
+-- What is passed on of a fault.
 use Rattle.std.proofs.Common.{◌≡◌, ℕ, ◌≤◌, Result, Ok, Err, sym, subst, arith}
 use Rattle.std.specs.Prelude.{IfErr}
 use Rattle.hv_base.specs.Faults.{Rose}
-use Rattle.hv_tables.specs.declared.fault.RowFault.{RowFault as ReadFault}
-use Rattle.hv_tables.specs.declared.fault.RowFault.TheVariants as read
-use Rattle.hv_tables.specs.Faults.{IsShortDamage as IsShortRead, IsDamage as IsDamageRead}
 use Rattle.hv_house.specs.declared.fault.HouseFault.{HouseFault}
 use Rattle.hv_house.specs.declared.fault.HouseFault.TheVariants as fault
-use Rattle.hv_house.specs.Faults.{read_fault, HasRisen, FileCause, IsShortDamage, IsDamage}
+use Rattle.hv_house.specs.Faults.{HasRisen, FileCause}
 use Rattle.hv_house.specs.Booting.{boot_fault, IsBootStore}
-
--- ---- a fault of reading
-
-pub short-read : (count : ℕ) (why : ReadFault) → IsShortRead why → IsShortDamage (read_fault count why)
-short-read count (read.Damaged place) short = short
-short-read count read.Failed short = tt
-short-read count read.NoMemory short = tt
-
-pub damage-read : (count : ℕ) (why : ReadFault) → IsDamage (read_fault count why) → IsDamageRead why
-damage-read count (read.Damaged place) damage = tt
-damage-read count read.Failed damage = absurd damage
-damage-read count read.NoMemory damage = absurd damage
 
 -- ---- what a call passes up
 

@@ -38,35 +38,12 @@ info-by : (b : Bool) (table : Table) (rest : Option TableInfo) (more : Option Ta
 info-by true table rest more e = refl
 info-by false table rest more e = e
 
-infos-named : (name : List ℕ) (tables : List Table) → AllByRecursion IsLive tables
+pub infos-named : (name : List ℕ) (tables : List Table) → AllByRecursion IsLive tables
     → info_of_name name (live_infos tables) ≡ option_map info_in (table_of_name name tables)
 infos-named name [] live = refl
 infos-named name (table ∷ tables) live =
     ap (λ b. info_of_name name (info_if b table.info ++ live_infos tables)) live.0
     ∙ info-by (pointwise nat_eq table.info.shape.name name) table (info_of_name name (live_infos tables)) (table_of_name name tables) (infos-named name tables live.1)
-
-pub record IsNamed (name : List ℕ) (tables : List Table) (info : TableInfo) : Type 0 where
-  pub table : Table
-  pub named : table_of_name name tables ≡ Some table
-  pub info_is : table.info ≡ info
-
-some-named : (o : Option Table) (info : TableInfo) → Some info ≡ option_map info_in o → (table : Table) × (o ≡ Some table) × (table.info ≡ info)
-some-named None info e = cc
-some-named (Some table) info e = (table, refl, cc)
-
-pub named-some : (name : List ℕ) (tables : List Table) (info : TableInfo) → AllByRecursion IsLive tables
-    → Some info ≡ info_of_name name (live_infos tables) → IsNamed name tables info
-named-some name tables info live e =
-    let found = some-named (table_of_name name tables) info (e ∙ infos-named name tables live) in
-    record { table = found.0; named = found.1; info_is = found.2 }
-
-none-named : (o : Option Table) → None ≡ option_map info_in o → o ≡ None
-none-named None e = refl
-none-named (Some table) e = cc
-
-pub named-none : (name : List ℕ) (tables : List Table) → AllByRecursion IsLive tables
-    → None ≡ info_of_name name (live_infos tables) → table_of_name name tables ≡ None
-named-none name tables live e = none-named (table_of_name name tables) (e ∙ infos-named name tables live)
 
 by-name : (P : Table → Type 0) (b : Bool) (first table : Table) (rest : Option Table) → P first → (rest ≡ Some table → P table)
     → cond b (Some first) rest ≡ Some table → P table

@@ -127,30 +127,3 @@ read-marked by (row_fault.House (fault.Failed count)) before now gained =
 read-marked by (row_fault.House fault.Store) before now gained = tt
 read-marked by (row_fault.House fault.NoMemory) before now gained = tt
 read-marked by (row_fault.Damaged place) before now gained = tt
-
--- ---- what is passed up
-
-pub marked-up : {D T : Type 0} (by : TxnId) (result : Result T RowFault) (why same : RowFault) (now : House D) → result ≡ Err same → same ≡ why
-    → IsMarkedFor now by why → IfErr result (IsMarkedFor now by)
-marked-up {T = T} by result why same now is e marked =
-    subst (λ (r : Result T RowFault). IfErr r (IsMarkedFor now by)) (sym is) (subst (IsMarkedFor now by) (sym e) marked)
-
-pub step-up : {D T : Type 0} (told : D → Option Store) (faults : D → ℕ) (call : Call) (result : Result T RowFault) (why same : RowFault) (before now : House D)
-    → result ≡ Err same → same ≡ why → Step told faults call (reading_outcome why) (seen_of before) (seen_of now)
-    → Step told faults call (read_outcome result) (seen_of before) (seen_of now)
-step-up {T = T} told faults call result why same before now is e step =
-    subst (λ (r : Result T RowFault). Step told faults call (read_outcome r) (seen_of before) (seen_of now)) (sym is)
-    (subst (λ (w : RowFault). Step told faults call (reading_outcome w) (seen_of before) (seen_of now)) (sym e) step)
-
-pub stays-up : {D T : Type 0} (told : D → Option Store) (result : Result T RowFault) (why same : RowFault) (now : House D)
-    → result ≡ Err same → same ≡ why → StaysRead told why now → IfErr result (λ w. StaysRead told w now)
-stays-up {T = T} told result why same now is e stays =
-    subst (λ (r : Result T RowFault). IfErr r (λ w. StaysRead told w now)) (sym is) (subst (λ (w : RowFault). StaysRead told w now) (sym e) stays)
-
--- nothing was read, for want of memory
-pub step-idle : {D T : Type 0} (told : D → Option Store) (faults : D → ℕ) (by : Option Reader) (result : Result T RowFault) (house : House D)
-    → result ≡ Err (row_fault.House fault.NoMemory) → IsReady told house → Step told faults (Read by) (read_outcome result) (seen_of house) (seen_of house)
-step-idle {T = T} told faults by result house is ready =
-    step-up {T = T} told faults (Read by) result (row_fault.House fault.NoMemory) (row_fault.House fault.NoMemory) house house is refl
-    (step-unread told faults by house house ready.kept.running refl (omega arith) (row_fault.House fault.NoMemory) tt
-    (gains-nothing (Read by) Refused house house refl refl ready.kept.running refl refl refl refl refl refl))

@@ -3,8 +3,6 @@ use Rattle.std.specs.Prelude.{◌≡◌, ℕ, ◌-◌, ◌^◌, ◌<◌, ◌≤�
 use Rattle.hv_base.specs.Faults.{Rose}
 use Rattle.hv_shelf.specs.declared.fault.ShelfFault.{ShelfFault}
 use Rattle.hv_shelf.specs.declared.fault.ShelfFault.TheVariants as shelf
-use Rattle.hv_tables.specs.declared.fault.RowFault.{RowFault as ReadFault}
-use Rattle.hv_tables.specs.declared.fault.RowFault.TheVariants as read
 use Rattle.hv_tables.specs.Faults.{IsShort}
 use Rattle.hv_house.specs.declared.fault.HouseFault.{HouseFault}
 use Rattle.hv_house.specs.declared.fault.HouseFault.TheVariants as fault
@@ -23,11 +21,6 @@ house_fault count shelf.NoMemory = fault.NoMemory
 abbrev pub put_result : ℕ → Result (Unit {0}) ShelfFault → Result (Unit {0}) HouseFault
 put_result count (Ok done) = Ok done
 put_result count (Err why) = Err (house_fault count why)
-
-abbrev pub read_fault : ℕ → ReadFault → RowFault
-read_fault count (read.Damaged place) = row_fault.Damaged place
-read_fault count read.Failed = row_fault.House (failed_with count)
-read_fault count read.NoMemory = row_fault.House fault.NoMemory
 
 -- the store failed only where its count of faults rose
 pub record StoreCause (faults faults' : ℕ) (Fails : Type 0) : Type 0 where

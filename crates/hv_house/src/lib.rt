@@ -3,14 +3,16 @@
 
 mod asking;
 mod boot;
+mod failing;
 mod fault;
 mod files;
 mod house;
 mod laws;
+mod listing;
 mod noting;
-mod seeing;
 
 pub use boot::BootFault;
 pub use fault::{HouseFault, RowFault};
 pub use house::House;
 pub use laws::seen_is_content;
+pub use listing::{GetFault, Listing};

@@ -23,6 +23,7 @@ use hv_house::{House, RowFault};
 use hv_logic::{Meaning, Seen, TableInfo, named};
 use hv_names::names_in;
 use hv_shelf::Shelf;
+use hv_viewing::see;
 use std::alloc::Global;
 
 fn are_values(rows: &Rows) -> bool
@@ -92,7 +93,7 @@ fn look<D: Shelf>(
 {
     match seen_before(alloc, name, seen)? {
         Some(table) => Ok(Some(table)),
-        None => house.see(alloc, by, place, name, reads),
+        None => see(alloc, house, by, place, name, reads),
     }
 }
 

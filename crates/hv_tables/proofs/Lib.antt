@@ -1,6 +1,5 @@
 pub mod Names
 pub mod Fronts
-pub mod Sheets
 pub mod Puts
 pub mod Members
 pub mod Onces

@@ -1,5 +1,5 @@
 -- Rows in their order, each once.
-use Rattle.std.proofs.Common.{◌≡◌, suc, inl, inr, List, [], ◌∷◌, map, refl, sym, ap, ◌∙◌, subst, arith, IsPermutation, IsSorted}
+use Rattle.std.proofs.Common.{◌≡◌, suc, Result, Ok, Err, IfOk, inl, inr, List, [], ◌∷◌, map, refl, sym, ap, ◌∙◌, subst, arith, IsPermutation, IsSorted}
 use Rattle.std.specs.declared.cmp.Ordering.TheVariants.{Less}
 use Rattle.std.specs.Ordering.{is_eq, eq_by_cmp}
 use Rattle.std.specs.Cmp.{eq_by_cmp_equiv}
@@ -60,3 +60,7 @@ once-sorted rows sorted once permuted up filtered =
           let tied = Any-dedup (eq_by_cmp_equiv placed_total) sorted x (Contains-permutation rows sorted x permuted (in-contains x rows h)) in
           (tied.1, contained (dedup (eq_by_cmp placed_cmp) sorted) tied.1 (tied.0, tied.2, tied.3), tied.4);
     })
+
+pub if-ok : {T E : Type 0} (r : Result T E) (P Q : T → Type 0) → ((x : T) → P x → Q x) → IfOk r P → IfOk r Q
+if-ok (Ok x) P Q f p = f x p
+if-ok (Err e) P Q f p = tt

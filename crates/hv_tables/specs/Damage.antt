@@ -13,8 +13,6 @@ use Rattle.hv_choosing.specs.Listing.{AreListed}
 use Rattle.hv_choosing.specs.Taken.{files_taken}
 use Rattle.hv_rowfile.specs.declared.record.Rec.{Rec}
 use Rattle.hv_rowfile.specs.Layout.{IsFile, IsDamagedAt, file_spelling}
-use Rattle.hv_tables.specs.declared.fault.RowFault.{RowFault}
-use Rattle.hv_tables.specs.declared.fault.RowFault.TheVariants as fault
 use Rattle.hv_tables.specs.Amiss.{first_amiss}
 use Rattle.hv_tables.specs.Reading.{LacksAt}
 
@@ -43,22 +41,11 @@ IsWrongAt deletes bucket span (Some bytes) at = IsDamagedAt bytes at ⊎ IsOther
 abbrev pub told_place : Place → ℕ → FilePlace
 told_place place at = record { table = place.table; partition = place.partition; dir = place.dir; bucket = place.bucket; at = at }
 
--- where damage is told, it is that of this place and offset
-abbrev pub TellsPlace : Place → ℕ → RowFault → Type 0
-TellsPlace place at (fault.Damaged told) = told ≡ told_place place at
-TellsPlace place at fault.Failed = Unit {0}
-TellsPlace place at fault.NoMemory = Unit {0}
-
 -- the place that is told is this one, and there doesn't stand the file of a kind and of these write ids, from the offset on that is told
 pub record IsDamagedFile (files : Tree) (place : Place) (deletes : Bool) (span : Span) (told : FilePlace) : Type 0 where
   pub place_is : told ≡ told_place place told.at
   pub wrong : IsWrongAt deletes place.bucket span (tree.get files place) told.at
   pub lacks : LacksAt files place deletes span
-
-abbrev pub TellsFile : Tree → Place → Bool → Span → RowFault → Type 0
-TellsFile files place deletes span (fault.Damaged told) = IsDamagedFile files place deletes span told
-TellsFile files place deletes span fault.Failed = Unit {0}
-TellsFile files place deletes span fault.NoMemory = Unit {0}
 
 -- it is one of these files of a kind
 pub record IsOneDamaged (deletes : Bool) (files : Tree) (taken : List DirFile) (told : FilePlace) : Type 0 where
@@ -66,19 +53,9 @@ pub record IsOneDamaged (deletes : Bool) (files : Tree) (taken : List DirFile) (
   pub among : Contains taken one
   pub file : IsDamagedFile files one.place deletes (span_of one.dir) told
 
-abbrev pub TellsOne : Bool → Tree → List DirFile → RowFault → Type 0
-TellsOne deletes files taken (fault.Damaged told) = IsOneDamaged deletes files taken told
-TellsOne deletes files taken fault.Failed = Unit {0}
-TellsOne deletes files taken fault.NoMemory = Unit {0}
-
 -- it is one of the files of a table that are read
 pub record IsOneSpoiled (info : TableInfo) (list : WriteIds) (files : Tree) (told : FilePlace) : Type 0 where
   pub deletes : Bool
   pub named : List DirFile
   pub listed : AreListed (places_of info.table files) named
   pub one : IsOneDamaged deletes files (files_taken deletes list named) told
-
-abbrev pub TellsDamage : TableInfo → WriteIds → Tree → RowFault → Type 0
-TellsDamage info list files (fault.Damaged told) = IsOneSpoiled info list files told
-TellsDamage info list files fault.Failed = Unit {0}
-TellsDamage info list files fault.NoMemory = Unit {0}

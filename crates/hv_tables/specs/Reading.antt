@@ -131,9 +131,3 @@ pub record IsSpoiled (info : TableInfo) (list : WriteIds) (files : Tree) : Type 
   pub named : List DirFile
   pub listed : AreListed (places_of info.table files) named
   pub lacks : LacksOne deletes files (files_taken deletes list named)
-
--- of a table's files, these were read
-pub record ReadsUpTo {D X : Type 0} (told : D → Option Store) (faults : D → ℕ) (first now : D) (deletes : Bool) (taken : List DirFile) (pick : Sheet → List X) (items : List X) : Type 0 where
-  pub same : told now ≡ told first
-  pub later : faults first ≤ faults now
-  pub reads : Tells (told first) (λ s. Reads deletes s.tree taken pick items)

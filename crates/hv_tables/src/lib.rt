@@ -1,17 +1,17 @@
-//! The rows of a table, read from its files, and the files of a change, put into a store.
+//! The rows of a table, by the records of its files, and the files of a change, put into a store.
 #![tactic(auto)]
 
 mod amiss;
-mod fault;
 mod laws;
-mod once;
 mod placed;
 mod putting;
-mod reading;
 mod row_at;
 mod rows;
+mod single;
 
-pub use fault::RowFault;
+pub use amiss::first_amiss;
 pub use laws::rows_stood;
 pub use putting::{place_of_file, put_file};
-pub use reading::read_rows;
+pub use row_at::RowAt;
+pub use rows::{Partition, push_all_deleted, push_rows, rows_rising};
+pub use single::once;

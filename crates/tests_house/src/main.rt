@@ -5,6 +5,7 @@
 mod asking;
 mod changes;
 mod ending;
+mod laying;
 mod opening;
 mod playing;
 mod showing;

@@ -9,11 +9,12 @@ ghost use Rattle.hv_house.specs.Steps.{IsMarked};
 use crate::showing::{rows_text, started};
 use hv_ast::{Stmt, discard};
 use hv_base::{NoMemory, TableId, Text, TxnId};
-use hv_history::{Cause, Entry};
+use hv_history::{Cause, Entry, FilePlace};
 use hv_house::{House, HouseFault, RowFault};
 use hv_locks::LockState;
 use hv_reading::read_statement;
 use hv_shelf::Shelf;
+use hv_viewing::see as see_table;
 use std::alloc::Global;
 
 /// The longest text of a statement.
@@ -99,6 +100,14 @@ fn line_of_start(alloc: Global, txn: TxnId, place: u64) -> Result<String, NoMemo
     Ok(format!(in alloc; "transaction {} starts at {place}", txn.0)?)
 }
 
+fn damage_line(alloc: Global, at: &FilePlace) -> Result<String, NoMemory> {
+    let (offset, partition) = (at.at, &at.partition);
+    Ok(format!(in alloc;
+        "damaged at {offset} of {partition} {} {}",
+        at.dir, at.bucket
+    )?)
+}
+
 /// The rows of a table as they stood where a transaction started.
 pub(crate) fn see<D: Shelf>(
     alloc: Global,
@@ -113,10 +122,10 @@ pub(crate) fn see<D: Shelf>(
     let Some(place) = started(house.book(), txn) else {
         return Ok(answer(alloc, "refused")?);
     };
-    match house.see(alloc, txn, place, &name, true) {
+    match see_table(alloc, house, txn, place, &name, true) {
         Ok(Some(seen)) => Ok(rows_text(alloc, seen.rows.as_slice())?),
         Ok(None) => Ok(answer(alloc, "no table")?),
-        Err(RowFault::Damaged(_)) => Ok(answer(alloc, "damaged")?),
+        Err(RowFault::Damaged(at)) => Ok(damage_line(alloc, &at)?),
         Err(RowFault::House(fault)) => Err(fault),
     }
 }

@@ -5,6 +5,7 @@ ghost use Rattle.tests_house.specs.Asking.{IsOpen};
 
 use crate::changes::{Kept, number, piece, put};
 use crate::ending::commit;
+use crate::laying::lay;
 use crate::opening::{abort, answer, begin, create, give, see};
 use crate::showing::{book_text, files_text};
 use hv_base::{TableId, TxnId};
@@ -78,7 +79,8 @@ fn answered(
     }
 }
 
-/// Does what each line of the input says. `new` goes on with an empty store, `again` opens the store once more.
+/// Does what each line of the input says. `new` goes on with an empty store, `again` opens the store once more,
+/// and `lay` lays a file into it before.
 pub(crate) fn play(rt: &HostRuntime, alloc: Global) -> io::Result<()> {
     let mut house = fresh(alloc)?;
     let mut kept: Vec<Kept> = Vec::new(alloc);
@@ -95,6 +97,13 @@ pub(crate) fn play(rt: &HostRuntime, alloc: Global) -> io::Result<()> {
             let store = house.close();
             house = opened(alloc, store)?;
             println!(rt; "again: done")?;
+            continue;
+        }
+        if line.starts_with("lay ") {
+            let mut store = house.close();
+            let laid = lay(alloc, &mut store, line) == Ok(true);
+            house = opened(alloc, store)?;
+            println!(rt; "lay: {}", if laid { "done" } else { "refused" })?;
             continue;
         }
         let Ok(text) = answered(alloc, &mut house, &mut kept, line) else {

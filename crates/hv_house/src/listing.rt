@@ -1,0 +1,238 @@
+//! Tables, their files, and the bytes of a file, each by one call for a transaction that reads.
+
+ghost use Rattle.std.specs.Prelude.{◌≡◌, ℕ, ◌<◌, List, Some, None, false, take, option_map, IfOk, IfErr};
+ghost use Rattle.std.specs.FinMap as tree;
+ghost use Rattle.std.specs.Option.{option_copied};
+ghost use Rattle.hv_base.specs.Told.{Tells};
+ghost use Rattle.hv_shelf.specs.Disk.{places_of};
+ghost use Rattle.hv_history.specs.State.{state_of};
+ghost use Rattle.hv_stands.specs.Reading.{table_of_name};
+ghost use Rattle.hv_trail.specs.declared.trail.Reader.TheVariants.{Txn};
+ghost use Rattle.hv_trail.specs.Steps.{Step};
+ghost use Rattle.hv_trail.specs.Steps as calls;
+ghost use Rattle.hv_house.specs.declared.fault.RowFault.TheVariants as row_fault;
+ghost use Rattle.hv_house.specs.Faults.{FileCause, house_fault};
+ghost use Rattle.hv_house.specs.House.{entries_of, IsAsked, IsReady, StaysPut};
+ghost use Rattle.hv_house.specs.Seeing.{ids_in, info_of_name};
+ghost use Rattle.hv_house.specs.Steps.{seen_of, fault_outcome, outcome_of, GainsBy, IsMarkedFor};
+ghost use Rattle.hv_house.specs.Listing.{AreTaken, AreTakenOf, IsMade, IsNotFound, ReadStep, GetCause, info_in, get_outcome, IsMarkedGetting, StaysGot};
+
+use crate::fault::HouseFault;
+use crate::house::House;
+use hv_base::{Duplicate, NoMemory, TableId, Text, TxnId};
+use hv_choosing::{DirFile, list_files, take_files};
+use hv_earlier::{catalog_at, list_at};
+use hv_logic::TableInfo;
+use hv_shelf::{Place, Shelf, ShelfFault};
+use hv_trail::Reader;
+use hv_wids::WriteIdList;
+use std::alloc::Global;
+use thiserror::Error;
+
+/// The files of a table that a reader takes, and the list of the table's write ids by which it takes them.
+#[derive(Drop)]
+pub struct Listing {
+    pub list: WriteIdList,
+    /// Those of rows.
+    pub inserts: Vec<DirFile>,
+    /// Those of deletes.
+    pub deletes: Vec<DirFile>,
+}
+
+/// Why the bytes of a file were not got.
+#[derive(Clone, Copy, Debug, Error)]
+pub enum GetFault {
+    /// No file stands there.
+    #[error("no such file")]
+    NotFound,
+    /// A call of the house failed.
+    #[error("the house failed")]
+    House(HouseFault),
+}
+
+/// The first table of that name.
+fn first_named<'a>(name: &Text, infos: &'a [TableInfo]) -> Option<&'a TableInfo>
+    ensures { option_copied result ≡ info_of_name name.now infos.now }
+{
+    for info in infos {
+        if info.shape.name == *name {
+            return Some(info);
+        }
+    }
+    None
+}
+
+/// The description of the table of that name.
+fn info_named(
+    alloc: Global,
+    name: &Text,
+    infos: &[TableInfo],
+) -> Result<Option<TableInfo>, NoMemory>
+    ensures { IfOk result (λ info. info ≡ info_of_name name.now infos.now) }
+{
+    match first_named(name, infos) {
+        Some(info) => Ok(Some(info.duplicate(alloc)?)),
+        None => Ok(None),
+    }
+}
+
+/// Of the files at these places, those that a reader takes under its list.
+fn take_of(alloc: Global, list: WriteIdList, places: Vec<Place>) -> Result<Listing, NoMemory>
+    ensures list { IfOk result (λ listing. listing.list ≡ list) }
+    ensures files { IfOk result (λ listing. AreTakenOf places.items listing.list listing.inserts.items listing.deletes.items) }
+{
+    let files = list_files(alloc, places)?;
+    let taken = take_files(alloc, &list, &files)?;
+    Ok(Listing {
+        list,
+        inserts: taken.inserts,
+        deletes: taken.deletes,
+    })
+}
+
+impl<D: Shelf> House<D> {
+    /// What a fault of the store is for a transaction that reads.
+    fn fail_get(&mut self, by: TxnId, fault: ShelfFault) -> HouseFault
+        requires running { self.old.trail.closed ≡ false }
+        requires room { 0 < self.old.trail.room }
+        ensures fault { result ≡ house_fault (D.faults self.old.shelf) fault }
+        ensures shelf { self.new.shelf ≡ self.old.shelf }
+        ensures gains { GainsBy (calls.Read (Some (Txn by))) (fault_outcome result)
+            self.old self.new }
+    {
+        match fault {
+            ShelfFault::Failed => self.fail(Some(Reader::Txn(by)), false),
+            ShelfFault::NoMemory => HouseFault::NoMemory,
+        }
+    }
+
+    /// The places of a table's files, rising.
+    fn places(&mut self, alloc: Global, by: TxnId, table: TableId) -> Result<Vec<Place>, HouseFault>
+        requires ready { IsReady D.told self.old }
+        ensures places { IfOk result (λ places. Tells (D.told self.old.shelf)
+            (λ s. places.items ≡ places_of table s.tree)) }
+        ensures read { ReadStep D.told D.faults by self.old self.new result }
+    {
+        self.trail.reserve_mark()?;
+        match self.shelf.list(alloc, table) {
+            Ok(places) => Ok(places),
+            Err(fault) => Err(self.fail_get(by, fault)),
+        }
+    }
+
+    /// The bytes of the file at a place, where one stands there.
+    fn file_at(
+        &mut self,
+        alloc: Global,
+        by: TxnId,
+        place: &Place,
+    ) -> Result<Option<Vec<u8>>, HouseFault>
+        requires ready { IsReady D.told self.old }
+        ensures bytes { IfOk result (λ file. Tells (D.told self.old.shelf)
+            (λ s. option_map (λ v. v.items) file ≡ tree.get s.tree place.now)) }
+        ensures read { ReadStep D.told D.faults by self.old self.new result }
+    {
+        self.trail.reserve_mark()?;
+        match self.shelf.get(alloc, place) {
+            Ok(file) => Ok(file),
+            Err(fault) => Err(self.fail_get(by, fault)),
+        }
+    }
+
+    /// The files of a table that are taken under the list that it had at a place of the book.
+    fn files_at(
+        &mut self,
+        alloc: Global,
+        by: TxnId,
+        place: u64,
+        table: TableId,
+    ) -> Result<Listing, HouseFault>
+        requires ready { IsReady D.told self.old }
+        ensures list { IfOk result (λ listing.
+            listing.list ≡ ids_in (state_of (take place (entries_of self.old))) table.0) }
+        ensures files { IfOk result (λ listing. Tells (D.told self.old.shelf)
+            (λ s. AreTaken table listing.list s.tree listing.inserts.items listing.deletes.items)) }
+        ensures read { ReadStep D.told D.faults by self.old self.new result }
+    {
+        let list = list_at(alloc, self.trail.book(), place as usize, table)?;
+        let places = self.places(alloc, by, table)?;
+        Ok(take_of(alloc, list, places)?)
+    }
+
+    /// The table of that name as it stood at a place of the book; None where there was none. A place is a number of entries, from 0 on:
+    /// those before it count.
+    ///
+    /// # Errors
+    /// Where memory lacks.
+    pub fn find(
+        &self,
+        alloc: Global,
+        place: u64,
+        name: &Text,
+    ) -> Result<Option<TableInfo>, NoMemory>
+        requires ready { IsReady D.told self.now }
+        ensures found { IfOk result (λ found. found ≡ option_map info_in
+            (table_of_name name.now (state_of (take place (entries_of self.now))).tables)) }
+    {
+        let catalog = catalog_at(alloc, self.trail.book(), place as usize)?;
+        info_named(alloc, name, catalog.tables.as_slice())
+    }
+
+    /// The files of a table that a reader takes under the list that the table's write ids had at a place of the book, and this list. A call
+    /// that failed is marked as this transaction's.
+    ///
+    /// # Errors
+    /// `NoMemory` where memory lacks. `Failed` where the store failed, with its count of faults; `Store` where that is the last one: the
+    /// house is closed.
+    pub fn list(
+        &mut self,
+        alloc: Global,
+        by: TxnId,
+        place: u64,
+        table: TableId,
+    ) -> Result<Listing, HouseFault>
+        requires ready { IsReady D.told self.old }
+        ensures asked { IsAsked D.told self.old self.new }
+        ensures list { IfOk result (λ listing.
+            listing.list ≡ ids_in (state_of (take place (entries_of self.old))) table.0) }
+        ensures files { IfOk result (λ listing. Tells (D.told self.old.shelf)
+            (λ s. AreTaken table listing.list s.tree listing.inserts.items listing.deletes.items)) }
+        ensures ready { IfOk result (λ _. IsReady D.told self.new) }
+        ensures stays { IfErr result (λ why. StaysPut D.told why self.new) }
+        ensures marked { IfErr result (λ why. IsMarkedFor self.new by (row_fault.House why)) }
+        ensures step { Step D.told D.faults (calls.Read (Some (Txn by))) (outcome_of result)
+            (seen_of self.old) (seen_of self.new) }
+        ensures cause { FileCause (D.faults self.old.shelf) (D.faults self.new.shelf) result }
+    {
+        self.files_at(alloc, by, place, table)
+    }
+
+    /// The bytes of the file at a place. A call that failed is marked as this transaction's.
+    ///
+    /// # Errors
+    /// `NotFound` where no file stands there. Else as `list`.
+    pub fn get(&mut self, alloc: Global, by: TxnId, place: &Place) -> Result<Vec<u8>, GetFault>
+        requires ready { IsReady D.told self.old }
+        ensures asked { IsAsked D.told self.old self.new }
+        ensures bytes { IfOk result (λ bytes. Tells (D.told self.old.shelf)
+            (λ s. tree.get s.tree place.now ≡ Some bytes.items)) }
+        ensures none { IfErr result (λ why. IsNotFound why
+            → Tells (D.told self.old.shelf) (λ s. tree.get s.tree place.now ≡ None)) }
+        ensures made { (bytes : List ℕ) → IsMade D.told self.old place.now bytes
+            → IfOk result (λ found. Tells (D.told self.old.shelf) (λ _. found.items ≡ bytes)) }
+        ensures found { (bytes : List ℕ) → IsMade D.told self.old place.now bytes
+            → IfErr result (λ why. Tells (D.told self.old.shelf) (λ _. IsNotFound why → ⊥)) }
+        ensures ready { IfOk result (λ _. IsReady D.told self.new) }
+        ensures stays { IfErr result (λ why. StaysGot D.told why self.new) }
+        ensures marked { IfErr result (IsMarkedGetting self.new by) }
+        ensures step { Step D.told D.faults (calls.Read (Some (Txn by))) (get_outcome result)
+            (seen_of self.old) (seen_of self.new) }
+        ensures cause { GetCause (D.faults self.old.shelf) (D.faults self.new.shelf) result }
+    {
+        match self.file_at(alloc, by, place) {
+            Ok(Some(bytes)) => Ok(bytes),
+            Ok(None) => Err(GetFault::NotFound),
+            Err(why) => Err(GetFault::House(why)),
+        }
+    }
+}

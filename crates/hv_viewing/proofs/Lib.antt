@@ -1,0 +1,3 @@
+pub mod Sheets
+pub mod Looking
+pub mod Seen

@@ -1,0 +1,83 @@
+-- What is seen of a table that was found by its name.
+use Rattle.std.proofs.Common.{◌≡◌, ℕ, Bool, true, false, Option, Some, None, Result, Ok, Err, List, [], option_map, refl, sym, ap, ◌∙◌, subst}
+use Rattle.std.specs.Prelude.{IfOk, IfErr, IsErrAnd}
+use Rattle.hv_base.specs.Told.{Tells}
+use Rattle.hv_shelf.specs.Disk.{Store, places_of}
+use Rattle.hv_wids.specs.WriteIds.{WriteIds}
+use Rattle.hv_logic.specs.declared.catalog.TableInfo.{TableInfo}
+use Rattle.hv_logic.specs.declared.effect.Found.{Found}
+use Rattle.hv_history.specs.declared.state.Table.{Table}
+use Rattle.hv_history.specs.State.{State}
+use Rattle.hv_stands.specs.Reading.{table_of_name}
+use Rattle.hv_tables.specs.Reading.{AreRows, IsSpoiled as IsSpoiledOf}
+use Rattle.hv_house.specs.declared.fault.RowFault.{RowFault}
+use Rattle.hv_house.specs.Faults.{IsDamage}
+use Rattle.hv_house.specs.Listing.{info_in}
+use Rattle.hv_house.specs.Seeing.{ids_in, AreRead, SeesRows, IsSeenOf, IsSpoiled}
+
+-- ---- rows
+
+pub read-told : (o : Option Store) (info : TableInfo) (list : WriteIds) (reads : Bool) (rows : List Found) → Tells o (λ s. AreRows info list s.tree rows)
+    → Tells o (AreRead reads info list rows)
+read-told None info list reads rows are = tt
+read-told (Some s) info list reads rows are = λ _. are
+
+pub unread : (o : Option Store) (info : TableInfo) (list : WriteIds) (reads : Bool) (rows : List Found) → reads ≡ false → Tells o (AreRead reads info list rows)
+unread None info list reads rows none = tt
+unread (Some s) info list reads rows none = λ some. let never : true ≡ false = sym some ∙ none in cc
+
+-- ---- by the name
+
+record IsNamed (name : List ℕ) (state : State) (info : TableInfo) : Type 0 where
+  table : Table
+  named : table_of_name name state.tables ≡ Some table
+  info_is : table.info ≡ info
+
+named-by : (name : List ℕ) (state : State) (o : Option Table) → table_of_name name state.tables ≡ o → (info : TableInfo) → Some info ≡ option_map info_in o
+    → IsNamed name state info
+named-by name state None is info e = cc
+named-by name state (Some table) is info e = record { table = table; named = is; info_is = cc }
+
+named : (name : List ℕ) (state : State) (found : Option TableInfo) (info : TableInfo) → found ≡ option_map info_in (table_of_name name state.tables) → found ≡ Some info
+    → IsNamed name state info
+named name state found info is some = named-by name state (table_of_name name state.tables) refl info (sym some ∙ is)
+
+pub seen-found : (told : Option Store) (reads : Bool) (name : List ℕ) (state : State) (found : Option TableInfo) (info : TableInfo) (rows : List Found)
+    → found ≡ option_map info_in (table_of_name name state.tables) → found ≡ Some info
+    → Tells told (AreRead reads info (ids_in state info.table.0) rows) → (reads ≡ false → rows ≡ [])
+    → IsSeenOf told reads state (table_of_name name state.tables) (Some (record { info = info; rows = rows }))
+seen-found told reads name state found info rows is some read none =
+    let by = named name state found info is some in
+    subst (λ (o : Option Table). IsSeenOf told reads state o (Some (record { info = info; rows = rows }))) (sym by.named) (
+      rows,
+      ap (λ (i : TableInfo). Some (record { info = i; rows = rows })) (sym by.info_is),
+      record { read = subst (λ (i : TableInfo). Tells told (AreRead reads i (ids_in state i.table.0) rows)) (sym by.info_is) read; none = none },
+    )
+
+none-of : (o : Option Table) → None ≡ option_map info_in o → o ≡ None
+none-of None e = refl
+none-of (Some table) e = cc
+
+pub seen-none : (told : Option Store) (reads : Bool) (name : List ℕ) (state : State) (found : Option TableInfo)
+    → found ≡ option_map info_in (table_of_name name state.tables) → found ≡ None → IsSeenOf told reads state (table_of_name name state.tables) None
+seen-none told reads name state found is none =
+    subst (λ (o : Option Table). IsSeenOf told reads state o None) (sym (none-of (table_of_name name state.tables) (sym none ∙ is))) refl
+
+pub spoiled : (told : Option Store) (name : List ℕ) (state : State) (found : Option TableInfo) (info : TableInfo)
+    → found ≡ option_map info_in (table_of_name name state.tables) → found ≡ Some info
+    → Tells told (λ s. IsSpoiledOf info (ids_in state info.table.0) s.tree) → IsSpoiled told state
+spoiled told name state found info is some lacks =
+    let by = named name state found info is some in
+    record {
+      name = name;
+      table = by.table;
+      named = by.named;
+      lacks = subst (λ (i : TableInfo). Tells told (λ s. IsSpoiledOf i (ids_in state i.table.0) s.tree)) (sym by.info_is) lacks;
+    }
+
+-- ---- what is passed up of a fault
+
+pub damage-up : {T : Type 0} (S : Type 0) (result : Result T RowFault) (why : RowFault) → IsErrAnd result (λ w. w ≡ why) → (IsDamage why → S)
+    → IfErr result (λ w. IsDamage w → S)
+damage-up S (Ok x) why left spoils = absurd left
+damage-up S (Err w) why left spoils = subst (λ (v : RowFault). IsDamage v → S) (sym left) spoils
