@@ -1,3 +1,4 @@
 pub mod Sheets
 pub mod Looking
 pub mod Seen
+pub mod Counts

@@ -1,6 +1,7 @@
 //! What a transaction sees of a table as it stood at a place of a house's book: its files are listed by one call of the house and got each by one.
 #![tactic(auto)]
 
+mod counting;
 mod damage;
 mod reading;
 mod seeing;
