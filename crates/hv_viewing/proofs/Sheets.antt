@@ -34,6 +34,7 @@ use Rattle.hv_tables.proofs.Fronts.{none-amiss, own-none}
 use Rattle.hv_house.specs.declared.fault.RowFault.{RowFault}
 use Rattle.hv_house.specs.declared.fault.RowFault.TheVariants as fault
 use Rattle.hv_house.specs.Faults.{IsDamage}
+use Rattle.hv_house.specs.Listing.{AreTaken}
 use Rattle.hv_viewing.specs.Damage.{TellsPlace, TellsFile, TellsOne, TellsDamage}
 
 -- ---- one file
@@ -222,6 +223,52 @@ module _ (info : TableInfo) (list : WriteIds) where
         lacks = record { one = file.one.one; among = file.one.among; lacks = file.one.file.lacks };
       }
   spoiled-told (Some s) places named deletes taken (fault.House cause) are listed tare one damage = absurd damage
+
+-- ---- of the files that were listed
+
+module _ (info : TableInfo) (list ids : WriteIds) (same : list ≡ ids) (first : Option Store) (inserted deleted : List DirFile)
+    (taken : Tells first (λ s. AreTaken info.table list s.tree inserted deleted)) where
+  pub rows-taken : (second third : Option Store) → second ≡ first → third ≡ second → (gone others : List RowAt) (rows once : List Found) → IsPermutation gone others
+      → Tells second (λ s. Reads true s.tree deleted (deleted_in list) gone) → Tells third (λ s. Reads false s.tree inserted (left_in list others info.shape) rows)
+      → AreOnce found_cmp rows once → Tells first (λ s. AreRows info ids s.tree once)
+  rows-taken second third at here gone others rows once permuted deletes inserts risen =
+      by first taken (subst (λ (x : Option Store). Tells x (λ s. Reads true s.tree deleted (deleted_in list) gone)) at deletes)
+      (subst (λ (x : Option Store). Tells x (λ s. Reads false s.tree inserted (left_in list others info.shape) rows)) (here ∙ at) inserts)
+    where
+      by : (o : Option Store) → Tells o (λ s. AreTaken info.table list s.tree inserted deleted) → Tells o (λ s. Reads true s.tree deleted (deleted_in list) gone)
+          → Tells o (λ s. Reads false s.tree inserted (left_in list others info.shape) rows) → Tells o (λ s. AreRows info ids s.tree once)
+      by None are ds is = tt
+      by (Some s) are ds is =
+          subst (λ l. AreRows info l s.tree once) same
+          (rows-one info list s (places_of info.table s.tree) are.named inserted deleted gone others rows once refl are.listed are.deletes_are are.inserts_are permuted ds is risen)
+
+  pub damage-taken : (deletes : Bool) (why : RowFault) (second : Option Store) → second ≡ first → Tells second (λ s. TellsOne deletes s.tree (cond deletes deleted inserted) why)
+      → Tells first (λ s. TellsDamage info ids s.tree why)
+  damage-taken deletes why second at one = by deletes first taken (subst (λ (x : Option Store). Tells x (λ s. TellsOne deletes s.tree (cond deletes deleted inserted) why)) at one)
+    where
+      by : (d : Bool) (o : Option Store) → Tells o (λ s. AreTaken info.table list s.tree inserted deleted) → Tells o (λ s. TellsOne d s.tree (cond d deleted inserted) why)
+          → Tells o (λ s. TellsDamage info ids s.tree why)
+      by d None are told = tt
+      by true (Some s) are told = subst (λ l. TellsDamage info l s.tree why) same (damage-told info list (Some s) (places_of info.table s.tree) are.named true deleted why refl are.listed are.deletes_are told)
+      by false (Some s) are told = subst (λ l. TellsDamage info l s.tree why) same (damage-told info list (Some s) (places_of info.table s.tree) are.named false inserted why refl are.listed are.inserts_are told)
+
+  pub spoiled-taken : (deletes : Bool) (why : RowFault) (second : Option Store) → second ≡ first → Tells second (λ s. TellsOne deletes s.tree (cond deletes deleted inserted) why)
+      → IsDamage why → Tells first (λ s. IsSpoiled info ids s.tree)
+  spoiled-taken deletes why second at one damage = by deletes first taken (subst (λ (x : Option Store). Tells x (λ s. TellsOne deletes s.tree (cond deletes deleted inserted) why)) at one)
+    where
+      by : (d : Bool) (o : Option Store) → Tells o (λ s. AreTaken info.table list s.tree inserted deleted) → Tells o (λ s. TellsOne d s.tree (cond d deleted inserted) why)
+          → Tells o (λ s. IsSpoiled info ids s.tree)
+      by d None are told = tt
+      by true (Some s) are told =
+          subst (λ l. IsSpoiled info l s.tree) same (spoiled-told info list (Some s) (places_of info.table s.tree) are.named true deleted why refl are.listed are.deletes_are told damage)
+      by false (Some s) are told =
+          subst (λ l. IsSpoiled info l s.tree) same (spoiled-told info list (Some s) (places_of info.table s.tree) are.named false inserted why refl are.listed are.inserts_are told damage)
+
+-- no damage is told
+pub told-none : (info : TableInfo) (ids : WriteIds) (o : Option Store) (why : RowFault) → (IsDamage why → ⊥) → Tells o (λ s. TellsDamage info ids s.tree why)
+told-none info ids None why none = tt
+told-none info ids (Some s) (fault.Damaged place) none = absurd (none tt)
+told-none info ids (Some s) (fault.House why) none = tt
 
 -- what was told of a store that wasn't changed
 pub told-at : (P : Store → Type 0) (o before : Option Store) → o ≡ before → Tells o P → Tells before P

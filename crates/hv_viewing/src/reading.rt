@@ -216,6 +216,7 @@ fn list_files<D: Shelf>(
     ensures files { IfOk result (λ listing. Tells (D.told house.old.shelf)
         (λ s. AreTaken table listing.list s.tree listing.inserts.items listing.deletes.items)) }
     ensures short { IfErr result IsShortDamage }
+    ensures whole { IfErr result (λ why. IsDamage why → ⊥) }
 {
     match house.list(alloc, by, place, table) {
         Ok(listing) => Ok(listing),
