@@ -15,10 +15,9 @@ use Rattle.hv_choosing.specs.Taken.{files_taken}
 use Rattle.hv_rowfile.specs.declared.record.Rec.{Rec}
 use Rattle.hv_history.specs.declared.entry.FilePlace.{FilePlace}
 use Rattle.hv_tables.specs.Reading.{HoldsAt, Sheet, sheet_file, Reads}
-use Rattle.hv_tables.specs.Damage.{IsOneDamaged}
 use Rattle.hv_counts.specs.declared.counted.Counted.{Counted}
 use Rattle.hv_counts.specs.declared.due.Due.{Due}
-use Rattle.hv_counts.specs.Counts.{AreOwn, IsCounted, due_at, due_sum, stored_sum}
+use Rattle.hv_counts.specs.Counts.{AreOwn, IsCounted, due_at}
 use Rattle.hv_counts.specs.Miscounts.{counted_of, AreCounted, IsMiscounted}
 use Rattle.hv_counts.specs.Files.{AreSheets, AreCountedBoth, IsUncounted, IsToldUncounted}
 use Rattle.hv_house.specs.declared.fault.RowFault.{RowFault}
@@ -115,7 +114,7 @@ miscounted-as deletes table dues others sheets place at same is = record {
 }
 
 module _ (info : TableInfo) (list : WriteIds) (inserts deletes : List DirFile) where
-  abbrev of_kind : Bool → List DirFile
+  abbrev pub of_kind : Bool → List DirFile
   of_kind true = deletes
   of_kind false = inserts
 
@@ -179,3 +178,21 @@ module _ (info : TableInfo) (list : WriteIds) (inserts deletes : List DirFile) w
   amiss-so (Some s) kind dues others (fault.Damaged place) same taken (inl one) damage =
       inl (spoiled-told info list (Some s) (places_of info.table s.tree) taken.named kind (of_kind kind) (fault.Damaged place) refl taken.listed (kind-is kind s.tree taken) one tt)
   amiss-so (Some s) kind dues others (fault.Damaged place) same taken (inr is) damage = inr (uncounted-one s.tree others place (told-one s kind dues others place same taken is))
+
+-- ---- of the files that were listed
+
+module _ (info : TableInfo) (list ids : WriteIds) (is : list ≡ ids) (first : Option Store) (inserts deletes : List DirFile)
+    (taken : Tells first (λ s. AreTaken info.table list s.tree inserts deletes)) (dues others : List Due) (same : AreAsMany dues others) where
+  pub amiss-taken : (kind : Bool) (why : RowFault) (second : Option Store) → second ≡ first
+      → Tells second (λ s. TellsKind kind info.table.0 s.tree (of_kind info list inserts deletes kind) dues why) → IsDamage why → Tells first (λ s. IsAmissOf info ids s.tree others)
+  amiss-taken kind why second at told damage =
+      subst (λ l. Tells first (λ s. IsAmissOf info l s.tree others)) is
+      (amiss-so info list inserts deletes first kind dues others why same taken
+      (subst (λ (x : Option Store). Tells x (λ s. TellsKind kind info.table.0 s.tree (of_kind info list inserts deletes kind) dues why)) at told) damage)
+
+  pub counted-taken : (second third : Option Store) → second ≡ first → third ≡ second → Tells second (λ s. HasKindCounts true s.tree deletes dues)
+      → Tells third (λ s. HasKindCounts false s.tree inserts dues) → Tells first (λ s. AreCountedBoth info ids s.tree others)
+  counted-taken second third at here removed added =
+      subst (λ l. Tells first (λ s. AreCountedBoth info l s.tree others)) is
+      (both-counted info list inserts deletes first dues others same taken (subst (λ (x : Option Store). Tells x (λ s. HasKindCounts true s.tree deletes dues)) at removed)
+      (subst (λ (x : Option Store). Tells x (λ s. HasKindCounts false s.tree inserts dues)) (here ∙ at) added))
