@@ -116,6 +116,10 @@ own-went-alone gained own own' a b w =
 
 -- ---- what one hold left
 
+-- what a step adds is what its act adds
+pub added-is : (house now : List TrailItem) (gained added : List TrailItem) → now ≡ house ++ gained → gained ≡ added → now ≡ house ++ added
+added-is house now gained added adds same = adds ∙ ap (λ xs. house ++ xs) same
+
 pub went-held : (B : List TrailItem → Type 0) → AreRows B → {D : Type 0} (root : D) (seen now gained : List TrailItem) (own own' : List ℕ) (house : HouseSeen D)
     → Reached B root seen house → now ≡ house.trail ++ gained → own' ≡ own ++ numbers_from (length house.trail) (length gained)
     → Went B gained own own' seen now
@@ -155,7 +159,7 @@ reached-behind before now adds = record { start = adds.start; others = adds.gain
 
 -- what was held of a store and a trail is held of their equals
 pub held-same : {D : Type 0} (told : D → Option Store) (faults : D → ℕ) (B : List TrailItem → Type 0) (root root' : D) (seen seen' last : List TrailItem)
-    (call : Call) (outcome : Outcome) (does : HouseSeen D → Type 0) → root ≡ root' → seen ≡ seen'
+    (call : HouseSeen D → Call) (outcome : Outcome) (does : HouseSeen D → Type 0) → root ≡ root' → seen ≡ seen'
     → Held told faults B root seen last call outcome does → Held told faults B root' seen' last call outcome does
 held-same told faults B root root' seen seen' last call outcome does e f held =
     subst (λ r. Held told faults B r seen' last call outcome does) e (subst (λ xs. Held told faults B root xs last call outcome does) f held)

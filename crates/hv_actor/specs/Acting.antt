@@ -49,11 +49,11 @@ pub record Went (between : List TrailItem → Type 0) (gained : List TrailItem) 
 
 -- one step, over a house that was reached
 pub record Held {D : Type 0} (told : D → Option Store) (faults : D → ℕ) (between : List TrailItem → Type 0) (root : D) (seen seen' : List TrailItem)
-    (call : Call) (outcome : Outcome) (does : HouseSeen D → Type 0) : Type 0 where
+    (call : HouseSeen D → Call) (outcome : Outcome) (does : HouseSeen D → Type 0) : Type 0 where
   pub house : HouseSeen D
   pub then_ : HouseSeen D
   pub reached : Reached between root seen house
-  pub step : Step told faults call outcome house then_
+  pub step : Step told faults (call house) outcome house then_
   pub does_it : does house
   pub saw : seen' ≡ then_.trail
 
@@ -79,7 +79,6 @@ pub record Adds {D : Type 0} (before now : HouseSeen D) : Type 0 where
   pub gains : List TrailItem
   pub trail : now.trail ≡ before.trail ++ gains
   pub start : now.start ≡ before.start
-  pub opened : now.opened ≡ before.opened
 
 -- the places of one among others: those that it keeps, and from `since` on all of them
 abbrev pub own_among : List ℕ → ℕ → List TrailItem → List ℕ

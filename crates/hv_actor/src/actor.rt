@@ -10,6 +10,9 @@ use std::alloc::Global;
 pub trait Housed<D: Shelf>: Drop {
     ghost seen: { Self → HouseSeen D };
 
+    /// What holds of it between two calls. Each act keeps it.
+    ghost keeps: { Self → Type 0 };
+
     /// How many items its trail has.
     fn items(&self) -> u64
         ensures items { result ≡ length (seen self.now).trail };
@@ -27,18 +30,24 @@ pub trait Act<D: Shelf, H: Housed<D>>: Drop {
     /// When it may be done.
     ghost can: { Self → HouseSeen D → Type 0 };
 
-    /// The call that it makes, by what it answers.
-    ghost call: { Self → Self.Answer → Call };
+    /// The call that it makes on a house as it was, by what it answers.
+    ghost call: { Self → HouseSeen D → Self.Answer → Call };
 
     /// How that call ended.
     ghost outcome: { Self → Self.Answer → Outcome };
+
+    /// What it adds, by its answer alone.
+    ghost adds: { Self → Self.Answer → List TrailItem };
 
     /// What is true of its answer, over the house as it was.
     ghost does: { Self → HouseSeen D → Self.Answer → Type 0 };
 
     fn act(self, alloc: Global, house: &mut H) -> Self::Answer
+        requires keeps { H.keeps house.old }
         requires can { can self (H.seen house.old) }
-        ensures step { Step D.told D.faults (call self result) (outcome self result) (H.seen house.old) (H.seen house.new) }
+        ensures keeps { H.keeps house.new }
+        ensures step { Step D.told D.faults (call self (H.seen house.old) result) (outcome self result) (H.seen house.old) (H.seen house.new) }
+        ensures adds { gains (call self (H.seen house.old) result) (outcome self result) ≡ adds self result }
         ensures does { does self (H.seen house.old) result };
 }
 
@@ -56,13 +65,18 @@ pub trait Actor<D: Shelf, H: Housed<D>> {
     /// What others may add between two of its steps.
     ghost between: { List TrailItem → Type 0 };
 
+    /// What holds of it between two steps.
+    ghost keeps: { Self → Type 0 };
+
     /// Lets one step happen. What the house is then was seen, and what the step added is its own.
     fn hold<A: Act<D, H>>(&mut self, alloc: Global, act: A) -> A::Answer
+        requires keeps { keeps self.old }
         requires can { (house : HouseSeen D) → Reached between (root self.old) (seen self.old) house → A.can act house }
+        ensures keeps { keeps self.new }
         ensures root { root self.new ≡ root self.old }
         ensures held { Held D.told D.faults between (root self.old) (seen self.old) (seen self.new)
-            (A.call act result) (A.outcome act result) (λ house. A.does act house result) }
-        ensures went { Went between (gains (A.call act result) (A.outcome act result))
+            (λ house. A.call act house result) (A.outcome act result) (λ house. A.does act house result) }
+        ensures went { Went between (A.adds act result)
             (own self.old) (own self.new) (seen self.old) (seen self.new) };
 
     /// What two rows of others' items may be, they may be together.
@@ -81,6 +95,8 @@ impl<D: Shelf, H: Housed<D>> Actor<D, H> for H {
     ghost own = { λ h. own_alone (H.seen h) };
 
     ghost between = { Nothing };
+
+    ghost keeps = { λ h. H.keeps h };
 
     ghost rows = { nothing_rows };
 

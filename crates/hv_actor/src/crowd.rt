@@ -1,5 +1,5 @@
 ghost use Rattle.std.specs.Prelude.{◌≡◌, ◌≤◌, ◌<◌, ◌+◌, ◌-◌, ◌++◌, min, length, vec_len, vec_capacity, IfOk, true};
-ghost use Rattle.hv_trail.specs.Steps.{HouseSeen, gains};
+ghost use Rattle.hv_trail.specs.Steps.{HouseSeen};
 ghost use Rattle.hv_actor.specs.Acting.{Reached, Held, Went, Adds, Anything, numbers_from, own_among};
 
 use crate::actor::{Act, Actor, Housed};
@@ -12,6 +12,8 @@ use std::marker::PhantomData;
 pub trait Others<D: Shelf, H: Housed<D>>: Drop {
     /// Lets them do what they want to do now.
     fn go(&mut self, alloc: Global, house: &mut H)
+        requires keeps { H.keeps house.old }
+        ensures keeps { H.keeps house.new }
         ensures adds { Adds (H.seen house.old) (H.seen house.new) };
 }
 
@@ -74,6 +76,35 @@ impl<D: Shelf, H: Housed<D>, O: Others<D, H>> Crowd<D, H, O> {
         } = self;
         house
     }
+
+    /// The house and the others, when all is done.
+    pub fn into_parts(self) -> (H, O)
+        ensures house { result.0 ≡ self.house }
+        ensures others { result.1 ≡ self.others }
+    {
+        let Crowd {
+            house,
+            others,
+            early: _early,
+            since: _since,
+            store: _store,
+        } = self;
+        (house, others)
+    }
+
+    /// The places of its own that it keeps: all of them up to the place from which on each is its own.
+    pub fn kept(&self) -> &[u64]
+        ensures kept { result.now ≡ self.now.early.items }
+    {
+        &self.early
+    }
+
+    /// The place from which on each is its own.
+    pub fn since(&self) -> u64
+        ensures since { result ≡ self.now.since }
+    {
+        self.since
+    }
 }
 
 impl<D: Shelf, H: Housed<D>, O: Others<D, H>> Crowd<D, H, O> {
@@ -96,13 +127,15 @@ impl<D: Shelf, H: Housed<D>, O: Others<D, H>> Crowd<D, H, O> {
 
     /// One step, behind those of the others.
     fn behind_others<A: Act<D, H>>(&mut self, alloc: Global, act: A) -> A::Answer
+        requires keeps { H.keeps self.old.house }
         requires can { (house : HouseSeen D) → Reached Anything (H.seen self.old.house).start (H.seen self.old.house).trail house → A.can act house }
         requires room { vec_len self.old.early + 2 ≤ vec_capacity self.old.early }
         requires since { self.old.since ≡ length (H.seen self.old.house).trail }
+        ensures keeps { H.keeps self.new.house }
         ensures root { (H.seen self.new.house).start ≡ (H.seen self.old.house).start }
         ensures held { Held D.told D.faults Anything (H.seen self.old.house).start (H.seen self.old.house).trail (H.seen self.new.house).trail
-            (A.call act result) (A.outcome act result) (λ house. A.does act house result) }
-        ensures went { Went Anything (gains (A.call act result) (A.outcome act result))
+            (λ house. A.call act house result) (A.outcome act result) (λ house. A.does act house result) }
+        ensures went { Went Anything (A.adds act result)
             (own_among self.old.early.items self.old.since (H.seen self.old.house).trail)
             (own_among self.new.early.items self.new.since (H.seen self.new.house).trail)
             (H.seen self.old.house).trail (H.seen self.new.house).trail }
@@ -118,12 +151,14 @@ impl<D: Shelf, H: Housed<D>, O: Others<D, H>> Crowd<D, H, O> {
 
     /// One step, and nobody comes before it.
     fn undisturbed<A: Act<D, H>>(&mut self, alloc: Global, act: A) -> A::Answer
+        requires keeps { H.keeps self.old.house }
         requires can { (house : HouseSeen D) → Reached Anything (H.seen self.old.house).start (H.seen self.old.house).trail house → A.can act house }
         requires since { self.old.since ≤ length (H.seen self.old.house).trail }
+        ensures keeps { H.keeps self.new.house }
         ensures root { (H.seen self.new.house).start ≡ (H.seen self.old.house).start }
         ensures held { Held D.told D.faults Anything (H.seen self.old.house).start (H.seen self.old.house).trail (H.seen self.new.house).trail
-            (A.call act result) (A.outcome act result) (λ house. A.does act house result) }
-        ensures went { Went Anything (gains (A.call act result) (A.outcome act result))
+            (λ house. A.call act house result) (A.outcome act result) (λ house. A.does act house result) }
+        ensures went { Went Anything (A.adds act result)
             (own_among self.old.early.items self.old.since (H.seen self.old.house).trail)
             (own_among self.new.early.items self.new.since (H.seen self.new.house).trail)
             (H.seen self.old.house).trail (H.seen self.new.house).trail }
@@ -143,6 +178,8 @@ impl<D: Shelf, H: Housed<D>, O: Others<D, H>> Actor<D, H> for Crowd<D, H, O> {
     ghost own = { λ c. own_among c.early.items c.since (H.seen c.house).trail };
 
     ghost between = { Anything };
+
+    ghost keeps = { λ c. H.keeps c.house };
 
     ghost rows = { anything_rows };
 

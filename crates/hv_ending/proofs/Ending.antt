@@ -44,11 +44,12 @@ use Rattle.hv_ending.specs.declared.ready.Way.{Way}
 use Rattle.hv_ending.specs.declared.ready.End.TheVariants as end
 use Rattle.hv_ending.specs.declared.ready.PutFiles.{PutFiles}
 use Rattle.hv_ending.specs.declared.ready.Ready.{Ready}
-use Rattle.hv_ending.specs.Ending.{KeepsCount, IsUndamaged, IsNoEnd, aborting, committing, creating, IsChangeReady, IsTrulyReady, HasReplied, places_of_files, IsOfChange}
-use Rattle.hv_ending.specs.Steps.{Goes, LacksMemory, AbortedOrLacks, DoneOrLacks, conflict_cause, Conclusion}
+use Rattle.hv_ending.specs.Ending.{KeepsCount, IsUndamaged, IsNoEnd, aborting, committing, creating, IsChangeReady, IsTrulyReady, EndsTruly, HasReplied, places_of_files, IsOfChange}
+use Rattle.hv_ending.specs.Steps.{Goes, StandsWith, LacksMemory, AbortedOrLacks, DoneOrLacks, conflict_cause, Conclusion}
 use Rattle.hv_ending.proofs.Books.{of-here, legal-next, abort-true, commit-true, abort-answered, as-replied, names-last}
 use Rattle.hv_ending.proofs.Touched.{touch-of-table, found-given}
 use Rattle.hv_ending.proofs.Readying.{told-on, same-stands}
+use Rattle.hv_ending.proofs.Runs.{goes-known}
 
 -- ---- what fits
 
@@ -165,7 +166,7 @@ pub record EndsWell (way : Way) (ready : Ready) (book : List Entry) (event : Ent
   pub ended_is : reply.ended ≡ Some (length book)
 
 module _ {D : Type 0} (told : D → Option Store) (faults : D → ℕ) (way : Way) (ready : Ready) (before now : House D) where
-  ended-conclusion : (event : Entry) (reply : Reply) → Goes told faults KeepsTree way.txn.0 before now (Ok reply)
+  ended-conclusion : (event : Entry) (reply : Reply) → Goes told faults KeepsTree (EndsTruly (entries_of before) way ready) way.txn.0 before now (Ok reply)
       → entries_of now ≡ entries_of before ++ event ∷ [] → KeepsCount (faults before.shelf) (faults now.shelf) event
       → EndsWell way ready (entries_of before) event reply → Conclusion told faults way ready before now (Ok reply)
   ended-conclusion event reply goes book counts well = record {
@@ -188,7 +189,8 @@ module _ {D : Type 0} (told : D → Option Store) (faults : D → ℕ) (way : Wa
     last = names-last (entries_of before) (entries_of now) event reply book well.ended_is;
   }
 
-  pub stopped-conclusion : (why : HouseFault) → Goes {T = Reply} told faults KeepsTree way.txn.0 before now (Err why) → Conclusion told faults way ready before now (Err why)
+  pub stopped-conclusion : (why : HouseFault) → Goes {T = Reply} told faults KeepsTree (EndsTruly (entries_of before) way ready) way.txn.0 before now (Err why)
+      → Conclusion told faults way ready before now (Err why)
   stopped-conclusion why goes = record {
     goes = goes;
     added = tt;
@@ -213,14 +215,41 @@ module _ {D : Type 0} (told : D → Option Store) (faults : D → ℕ) (way : Wa
     ended_is = lacks.ended_is;
   }
 
-  lacking : (reply : Reply) → IsReady told before → Goes told faults KeepsTree way.txn.0 before now (Ok reply)
+  lacking : (reply : Reply) → IsReady told before → Goes told faults KeepsTree (EndsTruly (entries_of before) way ready) way.txn.0 before now (Ok reply)
       → LacksMemory way.txn.0 (entries_of before) (entries_of now) reply → Conclusion told faults way ready before now (Ok reply)
   lacking reply go goes lacks = ended-conclusion (aborting way.txn.0 cause.Memory) reply goes lacks.book tt (lacking-well reply go lacks)
 
-  pub lacking-conclusion : (result : Result Reply HouseFault) → IsReady told before → Goes told faults KeepsTree way.txn.0 before now result
+  -- it suffices that the files stand
+  faithful-goes : (result : Result Reply HouseFault) → Goes told faults KeepsTree (IsFaithful (entries_of before)) way.txn.0 before now result
+      → Goes told faults KeepsTree (EndsTruly (entries_of before) way ready) way.txn.0 before now result
+  faithful-goes result goes =
+      goes-known told faults KeepsTree (IsFaithful (entries_of before)) (EndsTruly (entries_of before) way ready) way.txn.0 before now result
+      (λ s ends. ends.faithful) goes
+
+  -- an entry that is true and leaves them standing
+  well-goes : (event : Entry) (result : Result Reply HouseFault)
+      → ((files : Tree) (asking : Asking) (said : Stmt) → IsTrulyReady (entries_of before) files asking way.txn.0 way.place said ready
+      → Fits profile (state_of (entries_of before)) event → IsTruthful (state_of (entries_of before)) event)
+      → ((files : Tree) (asking : Asking) (said : Stmt) → IsTrulyReady (entries_of before) files asking way.txn.0 way.place said ready
+      → Fits profile (state_of (entries_of before)) event → Stands (state_of (entries_of before)) files → Stands (state_of (entries_of before ++ event ∷ [])) files)
+      → Goes told faults KeepsTree (StandsWith (entries_of before) event) way.txn.0 before now result
+      → Goes told faults KeepsTree (EndsTruly (entries_of before) way ready) way.txn.0 before now result
+  well-goes event result says stands goes =
+      goes-known told faults KeepsTree (StandsWith (entries_of before) event) (EndsTruly (entries_of before) way ready) way.txn.0 before now result
+      (λ s ends. record {
+        alone = ends.faithful;
+        with_it = λ fits. record {
+          stands = stands s.tree ends.asking ends.said ends.truly fits ends.faithful.stands;
+          legal = legal-next (entries_of before) event ends.faithful.legal fits (says s.tree ends.asking ends.said ends.truly fits);
+        };
+      })
+      goes
+
+  pub lacking-conclusion : (result : Result Reply HouseFault) → IsReady told before
+      → Goes told faults KeepsTree (IsFaithful (entries_of before)) way.txn.0 before now result
       → IfOk result (LacksMemory way.txn.0 (entries_of before) (entries_of now)) → Conclusion told faults way ready before now result
-  lacking-conclusion (Ok reply) go goes lacks = lacking reply go goes lacks
-  lacking-conclusion (Err why) go goes lacks = stopped-conclusion why goes
+  lacking-conclusion (Ok reply) go goes lacks = lacking reply go (faithful-goes (Ok reply) goes) lacks
+  lacking-conclusion (Err why) go goes lacks = stopped-conclusion why (faithful-goes (Err why) goes)
 
 -- ---- what a commit needs
 
@@ -261,64 +290,131 @@ module _ {D : Type 0} (told : D → Option Store) (faults : D → ℕ) (way : Wa
   near : length (entries_of before) < write_end
   near = omega (arith, go.kept.few)
 
-  pub commit-conclusion : (wrote : List Touch) (name : List ℕ) (put : PutFiles) (result : Result Reply HouseFault) → Goes told faults KeepsTree way.txn.0 before now result
+  pub commit-conclusion : (wrote : List Touch) (name : List ℕ) (put : PutFiles) (result : Result Reply HouseFault)
+      → Goes told faults KeepsTree (StandsWith (entries_of before) (committing way.txn.0 wrote)) way.txn.0 before now result
       → IfOk result (DoneOrLacks way.txn.0 (committing way.txn.0 wrote) text (entries_of before) (entries_of now))
       → Conclusion told faults way (record { end = end.Commit wrote name put; text = text }) before now result
-  commit-conclusion wrote name put (Err why) goes done = stopped-conclusion told faults way (record { end = end.Commit wrote name put; text = text }) before now why goes
-  commit-conclusion wrote name put (Ok reply) goes (inr lacks) = lacking told faults way (record { end = end.Commit wrote name put; text = text }) before now reply go goes lacks
-  commit-conclusion wrote name put (Ok reply) goes (inl done) =
-      ended-conclusion told faults way (record { end = end.Commit wrote name put; text = text }) before now (committing way.txn.0 wrote) reply goes done.book tt (record {
+  commit-conclusion wrote name put result goes done = by result (on result goes) done
+    where
+      ready : Ready
+      ready = record { end = end.Commit wrote name put; text = text }
+
+      event : Entry
+      event = committing way.txn.0 wrote
+
+      says : (files : Tree) (asking : Asking) (said : Stmt) → IsTrulyReady (entries_of before) files asking way.txn.0 way.place said ready
+          → IsTruthful (state_of (entries_of before)) event
+      says files asking said truly = commit-says (entries_of before) files asking way.txn.0 way.place said wrote name put text truly
+
+      stands : (files : Tree) (asking : Asking) (said : Stmt) → IsTrulyReady (entries_of before) files asking way.txn.0 way.place said ready
+          → Fits profile (state_of (entries_of before)) event → Stands (state_of (entries_of before)) files → Stands (state_of (entries_of before ++ event ∷ [])) files
+      stands files asking said truly fits standing =
+          commit-stands (entries_of before) files asking way.txn.0 way.place said wrote name put text truly go.fit near fits standing
+
+      on : (result : Result Reply HouseFault) → Goes told faults KeepsTree (StandsWith (entries_of before) event) way.txn.0 before now result
+          → Goes told faults KeepsTree (EndsTruly (entries_of before) way ready) way.txn.0 before now result
+      on result goes =
+          well-goes told faults way ready before now event result (λ files asking said truly fits. says files asking said truly) stands goes
+
+      by : (result : Result Reply HouseFault) → Goes told faults KeepsTree (EndsTruly (entries_of before) way ready) way.txn.0 before now result
+          → IfOk result (DoneOrLacks way.txn.0 event text (entries_of before) (entries_of now)) → Conclusion told faults way ready before now result
+      by (Err why) goes done = stopped-conclusion told faults way ready before now why goes
+      by (Ok reply) goes (inr lacks) = lacking told faults way ready before now reply go goes lacks
+      by (Ok reply) goes (inl done) = ended-conclusion told faults way ready before now event reply goes done.book tt (record {
         fits = done.fits;
         of_it = refl;
         undamaged = tt;
         ends = λ never. never;
-        says = λ files asking said truly. commit-says (entries_of before) files asking way.txn.0 way.place said wrote name put text truly;
-        stands = λ files asking said truly stands. commit-stands (entries_of before) files asking way.txn.0 way.place said wrote name put text truly go.fit near done.fits stands;
+        says = says;
+        stands = λ files asking said truly standing. stands files asking said truly done.fits standing;
         answered = λ files asking said truly. commit-answered (entries_of before) files asking way.txn.0 way.place said wrote name put text truly reply done.text_is done.accepted done.ended_is;
         ended_is = done.ended_is;
       })
 
   pub conflict-conclusion : (wrote : List Touch) (name : List ℕ) (put : PutFiles) (clash : Clash) (touch : Touch) (result : Result Reply HouseFault)
       → IsClash (state_of (entries_of before)) way.txn.0 wrote clash → slice_get wrote clash.at ≡ Some touch
-      → Goes told faults KeepsTree way.txn.0 before now result
+      → Goes told faults KeepsTree (StandsWith (entries_of before) (aborting way.txn.0 (conflict_cause clash.by touch))) way.txn.0 before now result
       → IfOk result (AbortedOrLacks way.txn.0 (conflict_cause clash.by touch) (conflict_text clash.by.0 name touch.partition) (entries_of before) (entries_of now))
       → Conclusion told faults way (record { end = end.Commit wrote name put; text = text }) before now result
-  conflict-conclusion wrote name put clash touch (Err why) met found goes done =
-      stopped-conclusion told faults way (record { end = end.Commit wrote name put; text = text }) before now why goes
-  conflict-conclusion wrote name put clash touch (Ok reply) met found goes (inr lacks) =
-      lacking told faults way (record { end = end.Commit wrote name put; text = text }) before now reply go goes lacks
-  conflict-conclusion wrote name put clash touch (Ok reply) met found goes (inl done) =
-      ended-conclusion told faults way (record { end = end.Commit wrote name put; text = text }) before now (aborting way.txn.0 (conflict_cause clash.by touch)) reply goes done.book tt (record {
+  conflict-conclusion wrote name put clash touch result met found goes done = by result (on result goes) done
+    where
+      ready : Ready
+      ready = record { end = end.Commit wrote name put; text = text }
+
+      event : Entry
+      event = aborting way.txn.0 (conflict_cause clash.by touch)
+
+      says : (files : Tree) (asking : Asking) (said : Stmt) → IsTrulyReady (entries_of before) files asking way.txn.0 way.place said ready
+          → IsTruthful (state_of (entries_of before)) event
+      says files asking said truly = conflict-says (entries_of before) files asking way.txn.0 way.place said wrote name put text truly clash touch met found
+
+      stands : (files : Tree) (asking : Asking) (said : Stmt) → IsTrulyReady (entries_of before) files asking way.txn.0 way.place said ready
+          → Fits profile (state_of (entries_of before)) event → Stands (state_of (entries_of before)) files → Stands (state_of (entries_of before ++ event ∷ [])) files
+      stands files asking said truly fits standing = other-entries-stand (entries_of before) event files go.fit fits tt standing
+
+      on : (result : Result Reply HouseFault) → Goes told faults KeepsTree (StandsWith (entries_of before) event) way.txn.0 before now result
+          → Goes told faults KeepsTree (EndsTruly (entries_of before) way ready) way.txn.0 before now result
+      on result goes =
+          well-goes told faults way ready before now event result (λ files asking said truly fits. says files asking said truly) stands goes
+
+      by : (result : Result Reply HouseFault) → Goes told faults KeepsTree (EndsTruly (entries_of before) way ready) way.txn.0 before now result
+          → IfOk result (AbortedOrLacks way.txn.0 (conflict_cause clash.by touch) (conflict_text clash.by.0 name touch.partition) (entries_of before) (entries_of now))
+          → Conclusion told faults way ready before now result
+      by (Err why) goes done = stopped-conclusion told faults way ready before now why goes
+      by (Ok reply) goes (inr lacks) = lacking told faults way ready before now reply go goes lacks
+      by (Ok reply) goes (inl done) = ended-conclusion told faults way ready before now event reply goes done.book tt (record {
         fits = done.fits;
         of_it = refl;
         undamaged = tt;
         ends = λ never. never;
-        says = λ files asking said truly. conflict-says (entries_of before) files asking way.txn.0 way.place said wrote name put text truly clash touch met found;
-        stands = λ files asking said truly stands.
-            other-entries-stand (entries_of before) (aborting way.txn.0 (conflict_cause clash.by touch)) files go.fit done.fits tt stands;
+        says = says;
+        stands = λ files asking said truly standing. stands files asking said truly done.fits standing;
         answered = λ files asking said truly.
             conflict-answered (entries_of before) files asking way.txn.0 way.place said wrote name put text truly clash touch met found go.fit reply done.text_is done.refusal done.ended_is;
         ended_is = done.ended_is;
       })
 
-  pub create-conclusion : (table : TableId) (result : Result Reply HouseFault) → Goes told faults KeepsTree way.txn.0 before now result
+  pub create-conclusion : (table : TableId) (result : Result Reply HouseFault)
+      → Goes told faults KeepsTree (StandsWith (entries_of before) (creating way.txn.0 table)) way.txn.0 before now result
       → IfOk result (DoneOrLacks way.txn.0 (creating way.txn.0 table) text (entries_of before) (entries_of now))
       → Conclusion told faults way (record { end = end.Create; text = text }) before now result
-  create-conclusion table (Err why) goes done = stopped-conclusion told faults way (record { end = end.Create; text = text }) before now why goes
-  create-conclusion table (Ok reply) goes (inr lacks) = lacking told faults way (record { end = end.Create; text = text }) before now reply go goes lacks
-  create-conclusion table (Ok reply) goes (inl done) =
-      ended-conclusion told faults way (record { end = end.Create; text = text }) before now (creating way.txn.0 table) reply goes done.book tt (record {
+  create-conclusion table result goes done = by result (on result goes) done
+    where
+      ready : Ready
+      ready = record { end = end.Create; text = text }
+
+      event : Entry
+      event = creating way.txn.0 table
+
+      says : (files : Tree) (asking : Asking) (said : Stmt) → IsTrulyReady (entries_of before) files asking way.txn.0 way.place said ready
+          → IsTruthful (state_of (entries_of before)) event
+      says files asking said truly =
+          of-here (λ (t : Transaction). IsMake (meaning t)) (state_of (entries_of before)) way.txn.0 _ truly.to_end.under_way.here truly.truly.makes
+
+      stands : (files : Tree) (asking : Asking) (said : Stmt) → IsTrulyReady (entries_of before) files asking way.txn.0 way.place said ready
+          → Fits profile (state_of (entries_of before)) event → Stands (state_of (entries_of before)) files → Stands (state_of (entries_of before ++ event ∷ [])) files
+      stands files asking said truly fits standing =
+          quiet-entries-stand (entries_of before) asking way.txn.0 way.place said truly.to_end.given event files go.fit fits
+          truly.to_end.under_way (refl, truly.truly.none) standing
+
+      on : (result : Result Reply HouseFault) → Goes told faults KeepsTree (StandsWith (entries_of before) event) way.txn.0 before now result
+          → Goes told faults KeepsTree (EndsTruly (entries_of before) way ready) way.txn.0 before now result
+      on result goes =
+          well-goes told faults way ready before now event result (λ files asking said truly fits. says files asking said truly) stands goes
+
+      by : (result : Result Reply HouseFault) → Goes told faults KeepsTree (EndsTruly (entries_of before) way ready) way.txn.0 before now result
+          → IfOk result (DoneOrLacks way.txn.0 event text (entries_of before) (entries_of now)) → Conclusion told faults way ready before now result
+      by (Err why) goes done = stopped-conclusion told faults way ready before now why goes
+      by (Ok reply) goes (inr lacks) = lacking told faults way ready before now reply go goes lacks
+      by (Ok reply) goes (inl done) = ended-conclusion told faults way ready before now event reply goes done.book tt (record {
         fits = done.fits;
         of_it = refl;
         undamaged = tt;
         ends = λ never. never;
-        says = λ files asking said truly.
-            of-here (λ (t : Transaction). IsMake (meaning t)) (state_of (entries_of before)) way.txn.0 _ truly.to_end.under_way.here truly.truly.makes;
-        stands = λ files asking said truly stands.
-            quiet-entries-stand (entries_of before) asking way.txn.0 way.place said truly.to_end.given (creating way.txn.0 table) files go.fit done.fits
-            truly.to_end.under_way (refl, truly.truly.none) stands;
+        says = says;
+        stands = λ files asking said truly standing. stands files asking said truly done.fits standing;
         answered = λ files asking said truly.
-            as-replied (entries_of before ++ creating way.txn.0 table ∷ []) way.txn.0 _ _ _ reply (done.text_is ∙ truly.truly.reply) done.accepted done.ended_is
+            as-replied (entries_of before ++ event ∷ []) way.txn.0 _ _ _ reply (done.text_is ∙ truly.truly.reply) done.accepted done.ended_is
             (create-replies (entries_of before) asking way.txn.0 way.place said truly.to_end.given truly.to_end.under_way table);
         ended_is = done.ended_is;
       })

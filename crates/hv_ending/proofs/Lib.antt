@@ -2,6 +2,7 @@ pub mod Runs
 pub mod Replied
 pub mod Puts
 pub mod Books
+pub mod Opens
 pub mod Touched
 pub mod Shorts
 pub mod Readying

@@ -25,9 +25,9 @@ use Rattle.hv_ending.specs.declared.ready.End.{End}
 use Rattle.hv_ending.specs.declared.ready.Prepared.{Prepared}
 use Rattle.hv_ending.specs.declared.ready.Prepared.TheVariants as prepared
 use Rattle.hv_ending.specs.declared.ready.Ready.{Ready}
-use Rattle.hv_ending.specs.Ending.{KeepsCount, IsUndamaged, aborting, EndsUncommitted, Prepares, EndCanBeNoted, EndIsTrue, IsReadyToEnd, IsTrulyPrepared, HasReplied, idle_end}
-use Rattle.hv_ending.specs.Steps.{Goes, HasAborted, LacksMemory, IsWithdrawn, CauseIsMeant, EndsBy, ended, IsMadeReady, Preparation}
-use Rattle.hv_ending.proofs.Runs.{goes-by, goes-ended}
+use Rattle.hv_ending.specs.Ending.{KeepsCount, IsUndamaged, aborting, EndsUncommitted, Prepares, EndCanBeNoted, EndIsTrue, IsReadyToEnd, IsTrulyPrepared, HasReplied, MeansThis, idle_end}
+use Rattle.hv_ending.specs.Steps.{Goes, StandsWith, HasAborted, LacksMemory, IsWithdrawn, CauseIsMeant, EndsBy, ended, IsMadeReady, Preparation}
+use Rattle.hv_ending.proofs.Runs.{goes-by, goes-known, goes-ended}
 use Rattle.hv_ending.proofs.Shorts.{short_idle}
 use Rattle.hv_ending.proofs.Touched.{nothing-touched}
 use Rattle.hv_ending.proofs.Books.{legal-next, abort-true, abort-answered, as-replied, names-last}
@@ -122,16 +122,43 @@ module _ {D : Type 0} (told : D → Option Store) (faults : D → ℕ) (way : Wa
         (as-replied (entries_of before ++ aborting way.txn.0 ends.why ∷ []) way.txn.0 _ _ _ reply ends.done.text_is ends.done.refusal ends.done.ended_is
         (abort-answered (entries_of before) asking way.txn.0 way.place said [] under ends.why ends.uncommitted))
 
+  -- files of write ids that were given are among those that are as they were
+  kept-goes : {T : Type 0} (result : Result T HouseFault) → Goes told faults KeepsTree (MeansThis (entries_of before) way meaning) way.txn.0 before now result
+      → Goes told faults (KeepsGiven (state_of (entries_of before)).tables) (MeansThis (entries_of before) way meaning) way.txn.0 before now result
+  kept-goes result goes =
+      goes-by told faults KeepsTree (KeepsGiven (state_of (entries_of before)).tables) (MeansThis (entries_of before) way meaning) way.txn.0 before now result
+      (keeps-given (state_of (entries_of before)).tables) goes
+
+  -- it suffices that the files stand
+  meant-goes : {T : Type 0} (result : Result T HouseFault) → Goes told faults KeepsTree (IsFaithful (entries_of before)) way.txn.0 before now result
+      → Goes told faults KeepsTree (MeansThis (entries_of before) way meaning) way.txn.0 before now result
+  meant-goes result goes =
+      goes-known told faults KeepsTree (IsFaithful (entries_of before)) (MeansThis (entries_of before) way meaning) way.txn.0 before now result
+      (λ s means. means.faithful) goes
+
+  -- the abort for a cause that its meaning gives leaves them standing
+  caused-goes : {T : Type 0} (why : Cause) (result : Result T HouseFault) → CauseIsMeant [] (Some meaning) why
+      → Goes told faults KeepsTree (StandsWith (entries_of before) (aborting way.txn.0 why)) way.txn.0 before now result
+      → Goes told faults KeepsTree (MeansThis (entries_of before) way meaning) way.txn.0 before now result
+  caused-goes why result is_so goes =
+      goes-known told faults KeepsTree (StandsWith (entries_of before) (aborting way.txn.0 why)) (MeansThis (entries_of before) way meaning) way.txn.0 before now result
+      (λ s means. record {
+        alone = means.faithful;
+        with_it = λ fits.
+            abort-faithful (entries_of before) means.asking way.txn.0 way.place means.said [] why s s means.under_way fits
+            (subst (λ (o : Option Meaning). CauseIsMeant [] o why) (sym means.means) is_so) means.faithful.stands means.faithful;
+      })
+      goes
+
   pub always-told : (P : Type 0) (o : Option Store) → P → Tells o (λ _. P)
   always-told P None p = tt
   always-told P (Some s) p = p
 
-  pub ended-preparation : (reply : Reply) → Goes told faults KeepsTree way.txn.0 before now (Ok reply)
+  pub ended-preparation : (reply : Reply) → Goes told faults KeepsTree (MeansThis (entries_of before) way meaning) way.txn.0 before now (Ok reply)
       → EndsBy (CauseIsMeant [] (Some meaning)) way.txn.0 (faults before.shelf) (faults now.shelf) (entries_of before) (entries_of now) reply
       → Preparation told faults way meaning before now (Ok (prepared.Ended reply))
   ended-preparation reply goes ends = record {
-    goes = goes-by told faults KeepsTree (KeepsGiven (state_of (entries_of before)).tables) way.txn.0 before now (Ok (prepared.Ended reply))
-        (keeps-given (state_of (entries_of before)).tables) (goes-ended told faults KeepsTree way.txn.0 before now (Ok reply) goes);
+    goes = kept-goes (Ok (prepared.Ended reply)) (goes-ended told faults KeepsTree (MeansThis (entries_of before) way meaning) way.txn.0 before now (Ok reply) goes);
     prepares = ended-prepares reply ends;
     stands = λ asking said under. tt;
     shows = λ asking said under means shows. ended-shows reply ends goes.moves asking said under means shows;
@@ -141,7 +168,8 @@ module _ {D : Type 0} (told : D → Option Store) (faults : D → ℕ) (way : Wa
 
   -- ---- the run has stopped
 
-  pub stopped-preparation : (why : HouseFault) → Goes {T = Prepared} told faults (KeepsGiven (state_of (entries_of before)).tables) way.txn.0 before now (Err why)
+  pub stopped-preparation : (why : HouseFault)
+      → Goes {T = Prepared} told faults (KeepsGiven (state_of (entries_of before)).tables) (MeansThis (entries_of before) way meaning) way.txn.0 before now (Err why)
       → Preparation told faults way meaning before now (Err why)
   stopped-preparation why goes = record {
     goes = goes;
@@ -154,33 +182,31 @@ module _ {D : Type 0} (told : D → Option Store) (faults : D → ℕ) (way : Wa
 
   -- ---- by its reply, or the run has stopped
 
-  pub withdrawn-preparation : (result : Result Reply HouseFault) → Goes told faults KeepsTree way.txn.0 before now result
+  pub withdrawn-preparation : (result : Result Reply HouseFault) → Goes told faults KeepsTree (MeansThis (entries_of before) way meaning) way.txn.0 before now result
       → IfOk result (EndsBy (CauseIsMeant [] (Some meaning)) way.txn.0 (faults before.shelf) (faults now.shelf) (entries_of before) (entries_of now))
       → Preparation told faults way meaning before now (ended result)
   withdrawn-preparation (Ok reply) goes ends = ended-preparation reply goes ends
   withdrawn-preparation (Err why) goes ends =
-      stopped-preparation why
-      (goes-by told faults KeepsTree (KeepsGiven (state_of (entries_of before)).tables) way.txn.0 before now (Err why)
-      (keeps-given (state_of (entries_of before)).tables) (goes-ended told faults KeepsTree way.txn.0 before now (Err why) goes))
+      stopped-preparation why (kept-goes (Err why) (goes-ended told faults KeepsTree (MeansThis (entries_of before) way meaning) way.txn.0 before now (Err why) goes))
 
   -- for a cause that its meaning gives
   pub caused-preparation : (why : Cause) (result : Result Reply HouseFault) → CauseIsMeant [] (Some meaning) why → EndsUncommitted why
       → IsUndamaged (aborting way.txn.0 why) → KeepsCount (faults before.shelf) (faults now.shelf) (aborting way.txn.0 why)
-      → Goes told faults KeepsTree way.txn.0 before now result
+      → Goes told faults KeepsTree (StandsWith (entries_of before) (aborting way.txn.0 why)) way.txn.0 before now result
       → IfOk result (IsWithdrawn way.txn.0 why (entries_of before) (entries_of now)) → Preparation told faults way meaning before now (ended result)
   caused-preparation why (Ok reply) is_so uncommitted undamaged counts goes withdrawn =
-      withdrawn-preparation (Ok reply) goes
+      withdrawn-preparation (Ok reply) (caused-goes why (Ok reply) is_so goes)
       (ends-for (CauseIsMeant [] (Some meaning)) way.txn.0 (faults before.shelf) (faults now.shelf) why (entries_of before) (entries_of now) reply
       is_so tt uncommitted undamaged counts withdrawn)
-  caused-preparation why (Err fault) is_so uncommitted undamaged counts goes withdrawn = withdrawn-preparation (Err fault) goes tt
+  caused-preparation why (Err fault) is_so uncommitted undamaged counts goes withdrawn = withdrawn-preparation (Err fault) (caused-goes why (Err fault) is_so goes) tt
 
   -- for want of memory
-  pub lacking-preparation : (result : Result Reply HouseFault) → Goes told faults KeepsTree way.txn.0 before now result
+  pub lacking-preparation : (result : Result Reply HouseFault) → Goes told faults KeepsTree (IsFaithful (entries_of before)) way.txn.0 before now result
       → IfOk result (LacksMemory way.txn.0 (entries_of before) (entries_of now)) → Preparation told faults way meaning before now (ended result)
   lacking-preparation (Ok reply) goes lacks =
-      withdrawn-preparation (Ok reply) goes
+      withdrawn-preparation (Ok reply) (meant-goes (Ok reply) goes)
       (ends-lacking (CauseIsMeant [] (Some meaning)) way.txn.0 (faults before.shelf) (faults now.shelf) (entries_of before) (entries_of now) reply tt lacks)
-  lacking-preparation (Err fault) goes lacks = withdrawn-preparation (Err fault) goes tt
+  lacking-preparation (Err fault) goes lacks = withdrawn-preparation (Err fault) (meant-goes (Err fault) goes) tt
 
   -- ---- it is ready
 
@@ -200,12 +226,11 @@ module _ {D : Type 0} (told : D → Option Store) (faults : D → ℕ) (way : Wa
         (subst (λ (e : End). EndIsTrue files (Some meaning) [] e ready.text) (sym end_is)
         (subst (EndIsTrue files (Some meaning) [] last) (sym text_is) truly))
 
-    pub ready-preparation : Goes {T = Prepared} told faults KeepsTree way.txn.0 before now (Ok (prepared.Ready ready))
+    pub ready-preparation : Goes {T = Prepared} told faults KeepsTree (IsFaithful (entries_of before)) way.txn.0 before now (Ok (prepared.Ready ready))
         → ((files : Tree) → EndIsTrue files (Some meaning) [] last text)
         → Preparation told faults way meaning before now (Ok (prepared.Ready ready))
     ready-preparation goes truly = record {
-      goes = goes-by told faults KeepsTree (KeepsGiven (state_of (entries_of before)).tables) way.txn.0 before now (Ok (prepared.Ready ready))
-          (keeps-given (state_of (entries_of before)).tables) goes;
+      goes = kept-goes (Ok (prepared.Ready ready)) (meant-goes (Ok (prepared.Ready ready)) goes);
       prepares = record {
         added = [];
         book = same ∙ sym (append-nil (entries_of before));
@@ -234,24 +259,22 @@ module _ {D : Type 0} (told : D → Option Store) (faults : D → ℕ) (way : Wa
     }
 
   pub made-preparation : (last : End) (text : List ℕ) (result : Result Prepared HouseFault) → EndCanBeNoted (entries_of before) way.txn.0 [] last
-      → ((files : Tree) → EndIsTrue files (Some meaning) [] last text) → Goes told faults KeepsTree way.txn.0 before now result
+      → ((files : Tree) → EndIsTrue files (Some meaning) [] last text) → Goes told faults KeepsTree (IsFaithful (entries_of before)) way.txn.0 before now result
       → IfOk result (IsMadeReady way.txn.0 last text (entries_of before) (entries_of now))
       → Preparation told faults way meaning before now result
   made-preparation last text (Ok (prepared.Ready ready)) can truly goes made =
       ready-preparation last text ready made.0 made.1 made.2 can goes truly
   made-preparation last text (Ok (prepared.Ended reply)) can truly goes made =
       ended-preparation reply
-      (record { ready = goes.ready; moves = goes.moves; stopped = tt; ends = tt; cause = record { later = goes.cause.later; failed = tt } })
+      (record { ready = goes.ready; moves = goes.moves; stopped = tt; opens = λ known. tt; ends = tt; cause = record { later = goes.cause.later; failed = tt } })
       (ends-for (CauseIsMeant [] (Some meaning)) way.txn.0 (faults before.shelf) (faults now.shelf) cause.Memory (entries_of before) (entries_of now) reply
       tt tt tt tt tt made)
   made-preparation last text (Err why) can truly goes made =
-      stopped-preparation why
-      (goes-by told faults KeepsTree (KeepsGiven (state_of (entries_of before)).tables) way.txn.0 before now (Err why)
-      (keeps-given (state_of (entries_of before)).tables) goes)
+      stopped-preparation why (kept-goes (Err why) (meant-goes (Err why) goes))
 
   -- without a touch
   pub idle-preparation : (last : End) (text : List ℕ) (result : Result Prepared HouseFault) → last ≡ idle_end → TouchesAreMeant [] (Some meaning)
-      → text ≡ committed_text (Some meaning) [] → Goes told faults KeepsTree way.txn.0 before now result
+      → text ≡ committed_text (Some meaning) [] → Goes told faults KeepsTree (IsFaithful (entries_of before)) way.txn.0 before now result
       → IfOk result (IsMadeReady way.txn.0 last text (entries_of before) (entries_of now)) → Preparation told faults way meaning before now result
   idle-preparation last text result is are says goes made =
       made-preparation idle_end text result (record { small = short_idle way.txn.0; touched = nothing-touched; change = inl refl })

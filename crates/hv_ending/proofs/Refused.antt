@@ -1,13 +1,13 @@
 -- A transaction is aborted for a cause that is handed in.
-use Rattle.std.proofs.Common.{◌≡◌, ◌⊎◌, inl, inr, ℕ, true, Option, Some, None, Result, Ok, Err, IfOk, List, [], ◌∷◌, ◌++◌, length, sym, subst}
+use Rattle.std.proofs.Common.{◌≡◌, ◌⊎◌, inl, inr, ℕ, true, Option, Some, None, Result, Ok, Err, IfOk, IfErr, List, [], ◌∷◌, ◌++◌, length, sym, subst}
 use Rattle.hv_base.specs.Told.{Tells, Moves}
 use Rattle.hv_shelf.specs.Disk.{Store}
 use Rattle.hv_ast.specs.declared.statement.Stmt.{Stmt}
 use Rattle.hv_history.specs.declared.entry.Entry.{Entry}
 use Rattle.hv_history.specs.declared.entry.Cause.{Cause}
 use Rattle.hv_history.specs.declared.entry.Cause.TheVariants as cause
-use Rattle.hv_history.specs.State.{state_of, numbered}
-use Rattle.hv_history.specs.Legal.{Fits, CauseFits, CauseIsTrue, IsTruthful, profile}
+use Rattle.hv_history.specs.State.{state_of}
+use Rattle.hv_history.specs.Legal.{Fits, IsTruthful, profile}
 use Rattle.hv_history.specs.Answers.{cause_text}
 use Rattle.hv_journal.specs.Appending.{KeepsTree}
 use Rattle.hv_stands.specs.Running.{Asking, IsWaiting, IsUnderWay}
@@ -16,9 +16,10 @@ use Rattle.hv_house.specs.declared.fault.HouseFault.{HouseFault}
 use Rattle.hv_house.specs.declared.house.House.{House}
 use Rattle.hv_house.specs.House.{entries_of, IsReady, IsFaithful, Shows}
 use Rattle.hv_ending.specs.declared.ready.Reply.{Reply}
-use Rattle.hv_ending.specs.Ending.{aborting, EndsUncommitted, NamesLast, HasReplied}
-use Rattle.hv_ending.specs.Steps.{HasAborted, IsWithdrawn}
-use Rattle.hv_ending.proofs.Books.{some-more, legal-next, as-replied, names-last, abort-answered, waiting-abort-answered}
+use Rattle.hv_ending.specs.Ending.{aborting, EndsUncommitted, NamesLast, HasReplied, StillOpens}
+use Rattle.hv_ending.specs.Steps.{Goes, StandsWith, HasAborted, IsWithdrawn}
+use Rattle.hv_ending.proofs.Opens.{both-told, event-stands, memory-true}
+use Rattle.hv_ending.proofs.Books.{legal-next, as-replied, names-last, abort-answered, waiting-abort-answered}
 use Rattle.hv_ending.proofs.Readying.{told-on, same-stands}
 
 -- the cause of a withdrawal is none of a conflict
@@ -55,11 +56,6 @@ refused-waiting book now txn why (Ok reply) withdrawn asking said waiting =
     replied book now txn withdrawn.of reply withdrawn.done (waiting-abort-answered book asking txn said withdrawn.of waiting)
 refused-waiting book now txn why (Err fault) withdrawn asking said waiting = tt
 
--- want of memory is true of every transaction
-memory-true : (book : List Entry) (txn : ℕ) → Fits profile (state_of book) (aborting txn cause.Memory) → IsTruthful (state_of book) (aborting txn cause.Memory)
-memory-true book txn fits =
-    some-more (CauseFits profile (state_of book) txn cause.Memory) (CauseIsTrue (state_of book) cause.Memory) (numbered (state_of book).transactions txn) (λ t open_. tt) fits
-
 of-true : (book : List Entry) (txn : ℕ) (of why : Cause) → (of ≡ why) ⊎ (of ≡ cause.Memory) → Fits profile (state_of book) (aborting txn of)
     → IsTruthful (state_of book) (aborting txn why) → IsTruthful (state_of book) (aborting txn of)
 of-true book txn of why (inl same) fits says = subst (λ (c : Cause). IsTruthful (state_of book) (aborting txn c)) (sym same) says
@@ -82,3 +78,13 @@ refused-shows told before now txn why (Ok reply) ready moves withdrawn says show
           (of-true (entries_of before) txn withdrawn.of why withdrawn.is withdrawn.done.fits is_so);
     }))
     says shows
+
+-- where the run stopped in it, the store opens again
+pub refused-opens : {D : Type 0} (told : D → Option Store) (faults : D → ℕ) (before now : House D) (txn : ℕ) (why : Cause) (result : Result Reply HouseFault)
+    → Goes told faults KeepsTree (StandsWith (entries_of before) (aborting txn why)) txn before now result
+    → Tells (told before.shelf) (λ _. IsTruthful (state_of (entries_of before)) (aborting txn why)) → Shows told before (entries_of before)
+    → IfErr result (λ _. StillOpens told now)
+refused-opens told faults before now txn why result goes says shows =
+    goes.opens
+    (both-told (λ _. IsTruthful (state_of (entries_of before)) (aborting txn why)) (IsFaithful (entries_of before)) (StandsWith (entries_of before) (aborting txn why))
+    (told before.shelf) (λ s is_so faithful. event-stands (entries_of before) (aborting txn why) s tt (λ fits. is_so) faithful) says shows)

@@ -1,7 +1,7 @@
 -- How the run goes on from call to call, or stops.
-use Rattle.std.proofs.Common.{◌≡◌, ℕ, ◌≤◌, inl, Option, Some, None, Result, Ok, Err, IfOk, IfErr, List, [], ◌∷◌, ◌++◌, length, refl, sym, ap, ◌∙◌, subst, append_assoc, append-nil, arith}
+use Rattle.std.proofs.Common.{◌≡◌, ℕ, ◌≤◌, inl, Option, Some, None, Result, Ok, Err, IfOk, IfErr, List, [], ◌∷◌, ◌++◌, refl, sym, ap, ◌∙◌, subst, append_assoc, append-nil, arith}
 use Rattle.hv_base.specs.Faults.{Rose}
-use Rattle.hv_base.specs.Told.{Moves}
+use Rattle.hv_base.specs.Told.{Tells, Moves}
 use Rattle.hv_base.proofs.ToldLemmas.{Moves-then, Moves-same, Moves-weaken}
 use Rattle.hv_shelf.specs.Disk.{Store}
 use Rattle.hv_history.specs.declared.entry.Entry.{Entry}
@@ -14,10 +14,11 @@ use Rattle.hv_house.specs.declared.fault.HouseFault.{HouseFault}
 use Rattle.hv_house.specs.declared.fault.HouseFault.TheVariants as fault
 use Rattle.hv_house.specs.declared.house.House.{House}
 use Rattle.hv_house.specs.Faults.{FileCause, EndsRun, HasRisen}
-use Rattle.hv_house.specs.House.{entries_of, IsReady, IsHalted, Leaves}
+use Rattle.hv_house.specs.House.{entries_of, IsReady, IsFaithful, IsHalted, Leaves}
 use Rattle.hv_ending.specs.declared.ready.Reply.{Reply}
-use Rattle.hv_ending.specs.Ending.{IsNoEnd, HasStopped}
-use Rattle.hv_ending.specs.Steps.{Goes, IsAdded, IsLeftOut, ended}
+use Rattle.hv_ending.specs.Ending.{IsNoEnd, HasStopped, StillOpens}
+use Rattle.hv_ending.specs.Steps.{Goes, StandsWith, IsAdded, IsLeftOut, ended}
+use Rattle.hv_ending.proofs.Opens.{also-told, moved-told, same-faithful, one-halted-opens}
 
 -- ---- counts of faults
 
@@ -133,69 +134,94 @@ module _ {D : Type 0} (told : D → Option Store) where
 -- ---- what comes of a call
 
 module _ {D : Type 0} (told : D → Option Store) (faults : D → ℕ) where
-  pub goes-ok : {T : Type 0} (step : Store → Store → Type 0) (txn : ℕ) (before now : House D) (x : T) → IsReady told now
-      → Moves step (told before.shelf) (told now.shelf) → faults before.shelf ≤ faults now.shelf → Goes told faults step txn before now (Ok x)
-  goes-ok step txn before now x ready moves later = record {
+  pub goes-ok : {T : Type 0} (step : Store → Store → Type 0) (Known : Store → Type 0) (txn : ℕ) (before now : House D) (x : T) → IsReady told now
+      → Moves step (told before.shelf) (told now.shelf) → faults before.shelf ≤ faults now.shelf → Goes told faults step Known txn before now (Ok x)
+  goes-ok step Known txn before now x ready moves later = record {
     ready = ready;
     moves = moves;
     stopped = tt;
+    opens = λ known. tt;
     ends = tt;
     cause = cause-ok (faults before.shelf) (faults now.shelf) x later;
   }
 
-  pub goes-err : {T : Type 0} (step : Store → Store → Type 0) (txn : ℕ) (before now : House D) (why : HouseFault)
-      → Moves step (told before.shelf) (told now.shelf) → HasStopped told txn why before now → EndsRun why
-      → faults before.shelf ≤ faults now.shelf → HasRisen (faults before.shelf) (faults now.shelf) why
-      → Goes {T = T} told faults step txn before now (Err why)
-  goes-err step txn before now why moves stopped ends later risen = record {
+  pub goes-err : {T : Type 0} (step : Store → Store → Type 0) (Known : Store → Type 0) (txn : ℕ) (before now : House D) (why : HouseFault)
+      → Moves step (told before.shelf) (told now.shelf) → HasStopped told txn why before now → (Tells (told before.shelf) Known → StillOpens told now)
+      → EndsRun why → faults before.shelf ≤ faults now.shelf → HasRisen (faults before.shelf) (faults now.shelf) why
+      → Goes {T = T} told faults step Known txn before now (Err why)
+  goes-err step Known txn before now why moves stopped opens ends later risen = record {
     ready = tt;
     moves = moves;
     stopped = stopped;
+    opens = opens;
     ends = ends;
     cause = cause-err (faults before.shelf) (faults now.shelf) why later risen;
   }
 
   -- one entry was noted
-  pub added-goes : {T : Type 0} (txn : ℕ) (event : Entry) (before now : House D) (x : T) → IsAdded told faults event before now
-      → Goes told faults KeepsTree txn before now (Ok x)
-  added-goes txn event before now x added = goes-ok KeepsTree txn before now x added.ready added.tree added.later
+  pub added-goes : {T : Type 0} (Known : Store → Type 0) (txn : ℕ) (event : Entry) (before now : House D) (x : T) → IsAdded told faults event before now
+      → Goes told faults KeepsTree Known txn before now (Ok x)
+  added-goes Known txn event before now x added = goes-ok KeepsTree Known txn before now x added.ready added.tree added.later
 
   -- or wasn't
   pub left-goes : {T : Type 0} (txn : ℕ) (event : Entry) (before now : House D) (why : HouseFault) → IsOf txn event
-      → IsLeftOut told faults event why before now → Goes {T = T} told faults KeepsTree txn before now (Err why)
+      → IsLeftOut told faults event why before now → Goes {T = T} told faults KeepsTree (StandsWith (entries_of before) event) txn before now (Err why)
   left-goes txn event before now why of_it left =
-      goes-err KeepsTree txn before now why left.halted.tree (halted-stopped told txn event why before now of_it left.halted left.fits) left.ends left.later left.risen
+      goes-err KeepsTree (StandsWith (entries_of before) event) txn before now why left.halted.tree
+      (halted-stopped told txn event why before now of_it left.halted left.fits) (one-halted-opens told event why before now left.halted left.fits)
+      left.ends left.later left.risen
 
   -- behind one that wasn't, another call goes on
   pub left-then : {T : Type 0} (txn : ℕ) (event : Entry) (first before now : House D) (why : HouseFault) (result : Result T HouseFault)
-      → IsLeftOut told faults event why first before → Goes told faults KeepsTree txn before now result → Goes told faults KeepsTree txn first now result
+      → IsLeftOut told faults event why first before → Goes told faults KeepsTree (IsFaithful (entries_of before)) txn before now result
+      → Goes told faults KeepsTree (StandsWith (entries_of first) event) txn first now result
   left-then txn event first before now why (Ok x) left goes =
-      goes-ok KeepsTree txn first now x goes.ready (tree-then (told first.shelf) (told before.shelf) (told now.shelf) left.halted.tree goes.moves)
+      goes-ok KeepsTree (StandsWith (entries_of first) event) txn first now x goes.ready
+      (tree-then (told first.shelf) (told before.shelf) (told now.shelf) left.halted.tree goes.moves)
       (omega (arith, left.later, goes.cause.later))
   left-then txn event first before now why (Err failed) left goes =
-      goes-err KeepsTree txn first now failed (tree-then (told first.shelf) (told before.shelf) (told now.shelf) left.halted.tree goes.moves)
-      (stopped-earlier told txn failed first before now left.halted.entries goes.stopped) goes.ends (omega (arith, left.later, goes.cause.later))
+      goes-err KeepsTree (StandsWith (entries_of first) event) txn first now failed
+      (tree-then (told first.shelf) (told before.shelf) (told now.shelf) left.halted.tree goes.moves)
+      (stopped-earlier told txn failed first before now left.halted.entries goes.stopped)
+      (λ known. goes.opens
+      (moved-told KeepsTree (StandsWith (entries_of first) event) (IsFaithful (entries_of before)) (told first.shelf) (told before.shelf) left.halted.tree
+      (λ x y same stands. subst (λ (b : List Entry). IsFaithful b y) (sym left.halted.entries) (same-faithful (entries_of first) x y same stands.alone)) known))
+      goes.ends (omega (arith, left.later, goes.cause.later))
       (risen-earlier (faults first.shelf) (faults before.shelf) (faults now.shelf) failed left.later goes.cause.failed)
 
   pub tried-goes : {T : Type 0} (txn : ℕ) (event : Entry) (before now : House D) (result : Result T HouseFault) → IsOf txn event
       → IfOk result (λ _. IsAdded told faults event before now) → IfErr result (λ why. IsLeftOut told faults event why before now)
-      → Goes told faults KeepsTree txn before now result
-  tried-goes txn event before now (Ok x) of_it added left = added-goes txn event before now x added
+      → Goes told faults KeepsTree (StandsWith (entries_of before) event) txn before now result
+  tried-goes txn event before now (Ok x) of_it added left = added-goes (StandsWith (entries_of before) event) txn event before now x added
   tried-goes txn event before now (Err why) of_it added left = left-goes txn event before now why of_it left
 
   -- by another step
-  pub goes-by : {T : Type 0} (step other : Store → Store → Type 0) (txn : ℕ) (before now : House D) (result : Result T HouseFault)
-      → ((a b : Store) → step a b → other a b) → Goes told faults step txn before now result → Goes told faults other txn before now result
-  goes-by step other txn before now result also goes = record {
+  pub goes-by : {T : Type 0} (step other : Store → Store → Type 0) (Known : Store → Type 0) (txn : ℕ) (before now : House D) (result : Result T HouseFault)
+      → ((a b : Store) → step a b → other a b) → Goes told faults step Known txn before now result → Goes told faults other Known txn before now result
+  goes-by step other Known txn before now result also goes = record {
     ready = goes.ready;
     moves = Moves-weaken step other also (told before.shelf) (told now.shelf) goes.moves;
     stopped = goes.stopped;
+    opens = goes.opens;
+    ends = goes.ends;
+    cause = goes.cause;
+  }
+
+  -- where more is known
+  pub goes-known : {T : Type 0} (step : Store → Store → Type 0) (Known More : Store → Type 0) (txn : ℕ) (before now : House D) (result : Result T HouseFault)
+      → ((s : Store) → More s → Known s) → Goes told faults step Known txn before now result → Goes told faults step More txn before now result
+  goes-known step Known More txn before now result also goes = record {
+    ready = goes.ready;
+    moves = goes.moves;
+    stopped = goes.stopped;
+    opens = λ more. goes.opens (also-told More Known (told before.shelf) also more);
     ends = goes.ends;
     cause = goes.cause;
   }
 
   -- with its reply
-  pub goes-ended : (step : Store → Store → Type 0) (txn : ℕ) (before now : House D) (result : Result Reply HouseFault)
-      → Goes told faults step txn before now result → Goes told faults step txn before now (ended result)
-  goes-ended step txn before now (Ok reply) goes = goes-ok step txn before now _ goes.ready goes.moves goes.cause.later
-  goes-ended step txn before now (Err why) goes = goes-err step txn before now why goes.moves goes.stopped goes.ends goes.cause.later goes.cause.failed
+  pub goes-ended : (step : Store → Store → Type 0) (Known : Store → Type 0) (txn : ℕ) (before now : House D) (result : Result Reply HouseFault)
+      → Goes told faults step Known txn before now result → Goes told faults step Known txn before now (ended result)
+  goes-ended step Known txn before now (Ok reply) goes = goes-ok step Known txn before now _ goes.ready goes.moves goes.cause.later
+  goes-ended step Known txn before now (Err why) goes =
+      goes-err step Known txn before now why goes.moves goes.stopped goes.opens goes.ends goes.cause.later goes.cause.failed

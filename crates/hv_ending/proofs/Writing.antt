@@ -2,7 +2,7 @@
 use Rattle.std.proofs.Common.{◌≡◌, ℕ, ◌+◌, ◌<◌, ◌≤◌, inr, Option, Some, None, Result, Ok, Err, IfOk, List, [], ◌∷◌, ◌++◌, length, take, refl, sym, ap, ◌∙◌, subst, append_assoc, length-append, arith}
 use Rattle.std.specs.List.{AllByRecursion}
 use Rattle.hv_base.specs.Faults.{Rose}
-use Rattle.hv_base.specs.Told.{Moves}
+use Rattle.hv_base.specs.Told.{Tells, Moves}
 use Rattle.hv_base.proofs.ToldLemmas.{Moves-then, Moves-weaken}
 use Rattle.hv_base.specs.declared.ids.Touch.{Touch}
 use Rattle.hv_base.specs.declared.ids.WriteId.{WriteId}
@@ -39,7 +39,7 @@ use Rattle.hv_stands.proofs.StatementFiles.{files-put, puts-stand, other-entries
 use Rattle.hv_house.specs.declared.fault.HouseFault.{HouseFault}
 use Rattle.hv_house.specs.declared.fault.HouseFault.TheVariants as fault
 use Rattle.hv_house.specs.declared.house.House.{House}
-use Rattle.hv_house.specs.House.{entries_of, IsReady, IsFaithful}
+use Rattle.hv_house.specs.House.{entries_of, IsReady, IsFaithful, Shows}
 use Rattle.hv_ending.specs.declared.ready.Reply.{Reply}
 use Rattle.hv_ending.specs.declared.ready.Way.{Way}
 use Rattle.hv_ending.specs.declared.ready.End.TheVariants as end
@@ -47,8 +47,9 @@ use Rattle.hv_ending.specs.declared.ready.End.{End}
 use Rattle.hv_ending.specs.declared.ready.Prepared.{Prepared}
 use Rattle.hv_ending.specs.declared.ready.Prepared.TheVariants as prepared
 use Rattle.hv_ending.specs.declared.ready.Ready.{Ready}
-use Rattle.hv_ending.specs.Ending.{aborting, giving, EndCanBeNoted, EndIsTrue, IsReadyToEnd, IsTrulyPrepared, HasReplied, CanChange}
-use Rattle.hv_ending.specs.Steps.{Goes, IsAdded, LacksMemory, IsWithdrawn, IsAnyway, EndsBy, ended, IsNextOf, KeepsOutside, BreaksOff, IsWritten, Writing, Preparation}
+use Rattle.hv_ending.specs.Ending.{aborting, giving, EndCanBeNoted, EndIsTrue, IsReadyToEnd, IsTrulyPrepared, MeansThis, HasReplied, CanChange}
+use Rattle.hv_ending.specs.Steps.{Goes, StandsWith, StandsAnyway, IsAdded, LacksMemory, IsWithdrawn, IsAnyway, EndsBy, ended, IsNextOf, KeepsOutside, BreaksOff, IsWritten, Writing, Preparation}
+use Rattle.hv_ending.proofs.Opens.{also-told, moved-told, held-opens, fault-stands}
 use Rattle.hv_ending.proofs.Runs.{tree-same, goes-ok, goes-err, cause-ok, cause-err, kept-stopped, stopped-earlier, stopped-behind, risen-earlier}
 use Rattle.hv_ending.proofs.Books.{legal-next, means-still, abort-answered, as-replied, names-last, counts-earlier, change-stays}
 use Rattle.hv_ending.specs.declared.ready.PutFiles.{PutFiles}
@@ -83,13 +84,14 @@ rose-behind low count high above within = omega (arith, above, within)
 module _ {D : Type 0} (told : D → Option Store) (faults : D → ℕ) where
   -- memory lacked
   pub lacking-breaks : (txn low : ℕ) (before now : House D) (result : Result Reply HouseFault) → low ≤ faults before.shelf
-      → Goes told faults KeepsTree txn before now result → IfOk result (LacksMemory txn (entries_of before) (entries_of now))
+      → Goes told faults KeepsTree (IsFaithful (entries_of before)) txn before now result → IfOk result (LacksMemory txn (entries_of before) (entries_of now))
       → BreaksOff told faults txn low before now result
   lacking-breaks txn low before now (Ok reply) le goes lacks = record {
     ended = ends-lacking IsAnyway txn low (faults now.shelf) (entries_of before) (entries_of now) reply (λ given meaning. tt) lacks;
     ready = goes.ready;
     tree = goes.moves;
     stopped = tt;
+    opens = λ shows. tt;
     ends = tt;
     cause = cause-ok low (faults now.shelf) reply (omega (arith, le, goes.cause.later));
   }
@@ -98,6 +100,7 @@ module _ {D : Type 0} (told : D → Option Store) (faults : D → ℕ) where
     ready = tt;
     tree = goes.moves;
     stopped = goes.stopped;
+    opens = goes.opens;
     ends = goes.ends;
     cause = cause-err low (faults now.shelf) why (omega (arith, le, goes.cause.later))
         (risen-earlier low (faults before.shelf) (faults now.shelf) why le goes.cause.failed);
@@ -105,7 +108,8 @@ module _ {D : Type 0} (told : D → Option Store) (faults : D → ℕ) where
 
   -- the count of faults is kept
   pub failing-breaks : (txn low count : ℕ) (before now : House D) (result : Result Reply HouseFault) → low < count → count ≤ faults before.shelf
-      → Goes told faults KeepsTree txn before now result → IfOk result (IsWithdrawn txn (cause.WriteFault count) (entries_of before) (entries_of now))
+      → Goes told faults KeepsTree (StandsWith (entries_of before) (aborting txn (cause.WriteFault count))) txn before now result
+      → IfOk result (IsWithdrawn txn (cause.WriteFault count) (entries_of before) (entries_of now))
       → BreaksOff told faults txn low before now result
   failing-breaks txn low count before now (Ok reply) above within goes withdrawn = record {
     ended = ends-for IsAnyway txn low (faults now.shelf) (cause.WriteFault count) (entries_of before) (entries_of now) reply (λ given meaning. tt) (λ given meaning. tt)
@@ -113,6 +117,7 @@ module _ {D : Type 0} (told : D → Option Store) (faults : D → ℕ) where
     ready = goes.ready;
     tree = goes.moves;
     stopped = tt;
+    opens = λ shows. tt;
     ends = tt;
     cause = cause-ok low (faults now.shelf) reply (omega (arith, above, within, goes.cause.later));
   }
@@ -121,6 +126,9 @@ module _ {D : Type 0} (told : D → Option Store) (faults : D → ℕ) where
     ready = tt;
     tree = goes.moves;
     stopped = goes.stopped;
+    opens = λ shows. goes.opens
+        (also-told (IsFaithful (entries_of before)) (StandsWith (entries_of before) (aborting txn (cause.WriteFault count))) (told before.shelf)
+        (fault-stands (entries_of before) txn count) shows);
     ends = goes.ends;
     cause = cause-err low (faults now.shelf) why (omega (arith, above, within, goes.cause.later))
         (risen-earlier low (faults before.shelf) (faults now.shelf) why (omega (arith, above, within)) goes.cause.failed);
@@ -134,6 +142,7 @@ module _ {D : Type 0} (told : D → Option Store) (faults : D → ℕ) where
     ready = tt;
     tree = tree-same (told house.shelf);
     stopped = kept-stopped told txn fault.Store house house tt refl holds;
+    opens = λ shows. held-opens (entries_of house) (told house.shelf) holds shows;
     ends = tt;
     cause = cause-err low (faults house.shelf) fault.Store le rose;
   }
@@ -151,7 +160,7 @@ module _ {D : Type 0} (told : D → Option Store) (faults : D → ℕ) where
         → done ≡ prepared.Ready (record { end = end.Commit wrote info.shape.name by; text = text })
         → Writing told faults txn.0 info effect write wrote text before now (Ok done)
     put-writing before now by done puts is = subst (λ (d : Prepared). Writing told faults txn.0 info effect write wrote text before now (Ok d)) (sym is) (record {
-      goes = goes-ok told faults (KeepsOutside info.table.0 write) txn.0 before now _ puts.each.ready
+      goes = goes-ok told faults (KeepsOutside info.table.0 write) (StandsAnyway info.table.0 write (entries_of before)) txn.0 before now _ puts.each.ready
           (Moves-weaken (KeepsOthers info.table.0 write (files_of info.shape write 0 effect)) (KeepsOutside info.table.0 write)
           (keeps-outside info.table.0 write (files_of info.shape write 0 effect)) (told before.shelf) (told now.shelf) puts.each.others)
           puts.each.cause.later;
@@ -181,15 +190,26 @@ module _ {D : Type 0} (told : D → Option Store) (faults : D → ℕ) where
         same_book : entries_of mid ≡ entries_of before
         same_book = puts.each.book
 
+        -- what was put of them leaves the files standing
+        stands-put : Tells (told before.shelf) (StandsAnyway info.table.0 write (entries_of before)) → Shows told mid (entries_of mid)
+        stands-put known =
+            moved-told (KeepsOthers info.table.0 write (files_of info.shape write 0 effect)) (StandsAnyway info.table.0 write (entries_of before)) (IsFaithful (entries_of mid))
+            (told before.shelf) (told mid.shelf) puts.each.others
+            (λ x y kept anyway. subst (λ (b : List Entry). IsFaithful b y) (sym same_book)
+            (anyway y (keeps-outside info.table.0 write (files_of info.shape write 0 effect) x y kept)))
+            known
+
         by : (result : Result Reply HouseFault) → BreaksOff told faults txn.0 (faults before.shelf) mid now result
             → Writing told faults txn.0 info effect write wrote text before now (ended result)
         by (Ok reply) broken = record {
-          goes = goes-ok told faults (KeepsOutside info.table.0 write) txn.0 before now _ broken.ready (moves broken.tree) broken.cause.later;
+          goes = goes-ok told faults (KeepsOutside info.table.0 write) (StandsAnyway info.table.0 write (entries_of before)) txn.0 before now _ broken.ready
+              (moves broken.tree) broken.cause.later;
           writes = subst (λ (b : List Entry). EndsBy IsAnyway txn.0 (faults before.shelf) (faults now.shelf) b (entries_of now) reply) same_book broken.ended;
         }
         by (Err why) broken = record {
-          goes = goes-err told faults (KeepsOutside info.table.0 write) txn.0 before now why (moves broken.tree)
-              (stopped-earlier told txn.0 why before mid now same_book broken.stopped) broken.ends broken.cause.later broken.cause.failed;
+          goes = goes-err told faults (KeepsOutside info.table.0 write) (StandsAnyway info.table.0 write (entries_of before)) txn.0 before now why (moves broken.tree)
+              (stopped-earlier told txn.0 why before mid now same_book broken.stopped) (λ known. broken.opens (stands-put known))
+              broken.ends broken.cause.later broken.cause.failed;
           writes = tt;
         }
 
@@ -239,21 +259,6 @@ module _ {D : Type 0} (told : D → Option Store) (faults : D → ℕ) (way : Wa
       new-ids-others old_book info.table.0 table a c ready.fit near here
       (λ other not. outside-still info.table.0 write.0 a b c same kept other (subst (λ (n : ℕ). IsOfId info.table.0 n other → ⊥) (sym next) not))
 
-  given-goes : {T : Type 0} (result : Result T HouseFault) → Goes told faults (KeepsOutside info.table.0 write.0) way.txn.0 mid now result
-      → Goes told faults (KeepsGiven (state_of old_book).tables) way.txn.0 before now result
-  given-goes (Ok x) goes =
-      goes-ok told faults (KeepsGiven (state_of old_book).tables) way.txn.0 before now x goes.ready
-      (Moves-then KeepsTree (KeepsOutside info.table.0 write.0) (KeepsGiven (state_of old_book).tables) given-outside
-      (told before.shelf) (told mid.shelf) (told now.shelf) added.tree goes.moves)
-      (omega (arith, added.later, goes.cause.later))
-  given-goes (Err why) goes =
-      goes-err told faults (KeepsGiven (state_of old_book).tables) way.txn.0 before now why
-      (Moves-then KeepsTree (KeepsOutside info.table.0 write.0) (KeepsGiven (state_of old_book).tables) given-outside
-      (told before.shelf) (told mid.shelf) (told now.shelf) added.tree goes.moves)
-      (stopped-behind told way.txn.0 noted why before mid now added.book refl tt fits tt goes.stopped) goes.ends
-      (omega (arith, added.later, goes.cause.later))
-      (risen-earlier (faults before.shelf) (faults mid.shelf) (faults now.shelf) why added.later goes.cause.failed)
-
   module _ (asking : Asking) (said : Stmt) (under : IsUnderWay old_book asking way.txn.0 way.place said []) where
     under_with : IsUnderWay with_id asking way.txn.0 way.place said ids
     under_with = ids-given old_book asking way.txn.0 way.place said [] info.table write under
@@ -275,6 +280,30 @@ module _ {D : Type 0} (told : D → Option Store) (faults : D → ℕ) (way : Wa
         (subst (λ (n : ℕ). HasPut (with_files a.tree info.table.0 n (files_of info.shape n 0 effect)) info n effect) (sym next)
         (files-put old_book way.place said info effect table a.tree ready.fit near faithful.stands means here
         (subst (λ (n : ℕ). AllByRecursion HasFile (files_of info.shape n 0 effect)) next written.files) written.held))
+
+  -- whatever is put under its write id, the files stand
+  given-known : Tells (told before.shelf) (MeansThis old_book way (Change info effect)) → Tells (told mid.shelf) (StandsAnyway info.table.0 write.0 (entries_of mid))
+  given-known known =
+      moved-told KeepsTree (MeansThis old_book way (Change info effect)) (StandsAnyway info.table.0 write.0 (entries_of mid)) (told before.shelf) (told mid.shelf) added.tree
+      (λ a b same means. λ c kept. subst (λ (book : List Entry). IsFaithful book c) (sym added.book)
+      (faithful-with means.asking means.said means.under_way a c (outside-still info.table.0 write.0 a b c same kept) means.faithful))
+      known
+
+  given-goes : {T : Type 0} (result : Result T HouseFault)
+      → Goes told faults (KeepsOutside info.table.0 write.0) (StandsAnyway info.table.0 write.0 (entries_of mid)) way.txn.0 mid now result
+      → Goes told faults (KeepsGiven (state_of old_book).tables) (MeansThis old_book way (Change info effect)) way.txn.0 before now result
+  given-goes (Ok x) goes =
+      goes-ok told faults (KeepsGiven (state_of old_book).tables) (MeansThis old_book way (Change info effect)) way.txn.0 before now x goes.ready
+      (Moves-then KeepsTree (KeepsOutside info.table.0 write.0) (KeepsGiven (state_of old_book).tables) given-outside
+      (told before.shelf) (told mid.shelf) (told now.shelf) added.tree goes.moves)
+      (omega (arith, added.later, goes.cause.later))
+  given-goes (Err why) goes =
+      goes-err told faults (KeepsGiven (state_of old_book).tables) (MeansThis old_book way (Change info effect)) way.txn.0 before now why
+      (Moves-then KeepsTree (KeepsOutside info.table.0 write.0) (KeepsGiven (state_of old_book).tables) given-outside
+      (told before.shelf) (told mid.shelf) (told now.shelf) added.tree goes.moves)
+      (stopped-behind told way.txn.0 noted why before mid now added.book refl tt fits tt goes.stopped) (λ known. goes.opens (given-known known)) goes.ends
+      (omega (arith, added.later, goes.cause.later))
+      (risen-earlier (faults before.shelf) (faults mid.shelf) (faults now.shelf) why added.later goes.cause.failed)
 
   moves-outside : Moves (KeepsOutside info.table.0 write.0) (told mid.shelf) (told now.shelf) → Moves (KeepsOutside info.table.0 write.0) (told before.shelf) (told now.shelf)
   moves-outside moves =
@@ -302,7 +331,7 @@ module _ {D : Type 0} (told : D → Option Store) (faults : D → ℕ) (way : Wa
 
   -- ---- it is ready
 
-  module _ (done : Ready) (goes : Goes {T = Prepared} told faults (KeepsOutside info.table.0 write.0) way.txn.0 mid now (Ok (prepared.Ready done)))
+  module _ (done : Ready) (goes : Goes {T = Prepared} told faults (KeepsOutside info.table.0 write.0) (StandsAnyway info.table.0 write.0 (entries_of mid)) way.txn.0 mid now (Ok (prepared.Ready done)))
       (written : IsWritten told info effect write.0 wrote text mid now done) where
     same_with : entries_of now ≡ with_id
     same_with = written.book ∙ added.book
@@ -369,7 +398,7 @@ module _ {D : Type 0} (told : D → Option Store) (faults : D → ℕ) (way : Wa
 
   -- ---- or it has ended
 
-  module _ (reply : Reply) (goes : Goes {T = Prepared} told faults (KeepsOutside info.table.0 write.0) way.txn.0 mid now (Ok (prepared.Ended reply)))
+  module _ (reply : Reply) (goes : Goes {T = Prepared} told faults (KeepsOutside info.table.0 write.0) (StandsAnyway info.table.0 write.0 (entries_of mid)) way.txn.0 mid now (Ok (prepared.Ended reply)))
       (ends : EndsBy IsAnyway way.txn.0 (faults mid.shelf) (faults now.shelf) (entries_of mid) (entries_of now) reply) where
     abbrev ending : Entry
     ending = aborting way.txn.0 ends.why

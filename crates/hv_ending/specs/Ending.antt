@@ -5,6 +5,7 @@ use Rattle.std.specs.List.{AllByRecursion}
 use Rattle.hv_base.specs.declared.ids.TableId.{TableId}
 use Rattle.hv_base.specs.declared.ids.WriteId.{WriteId}
 use Rattle.hv_base.specs.declared.ids.Touch.{Touch}
+use Rattle.hv_base.specs.Told.{Tells}
 use Rattle.hv_shelf.specs.declared.place.Place.{Place}
 use Rattle.hv_shelf.specs.Disk.{Store, Tree}
 use Rattle.hv_ast.specs.declared.statement.Stmt.{Stmt}
@@ -28,8 +29,10 @@ use Rattle.hv_stands.specs.Files.{place_of_file}
 use Rattle.hv_stands.specs.Running.{Asking, AreOf, meant, IsUnderWay, HasAnswered, HasPut}
 use Rattle.hv_house.specs.declared.fault.HouseFault.{HouseFault}
 use Rattle.hv_house.specs.declared.house.House.{House}
-use Rattle.hv_house.specs.House.{entries_of, IsSmall, Leaves}
+use Rattle.hv_house.specs.House.{entries_of, IsSmall, IsFaithful, Leaves}
+use Rattle.hv_house.specs.Booting.{OpensTo}
 use Rattle.hv_ending.specs.declared.ready.Ready.{Ready}
+use Rattle.hv_ending.specs.declared.ready.Way.{Way}
 use Rattle.hv_ending.specs.declared.ready.Reply.{Reply}
 use Rattle.hv_ending.specs.declared.ready.End.{End}
 use Rattle.hv_ending.specs.declared.ready.End.TheVariants as end
@@ -240,6 +243,21 @@ abbrev pub IsTrulyPrepared : List Entry → Tree → Asking → ℕ → ℕ → 
 IsTrulyPrepared book files asking txn place said (prepared.Ready ready) = IsTrulyReady book files asking txn place said ready
 IsTrulyPrepared book files asking txn place said (prepared.Ended reply) = HasReplied book txn reply.text reply.refused reply.ended
 
+-- where all is told: the files stand for the book, in which the statement is under way, and it means this
+pub record MeansThis (book : List Entry) (way : Way) (meaning : Meaning) (store : Store) : Type 0 where
+  pub asking : Asking
+  pub said : Stmt
+  pub under_way : IsUnderWay book asking way.txn.0 way.place said []
+  pub means : meant (take way.place book) said ≡ Some meaning
+  pub faithful : IsFaithful book store
+
+-- or it will end as it means
+pub record EndsTruly (book : List Entry) (way : Way) (ready : Ready) (store : Store) : Type 0 where
+  pub asking : Asking
+  pub said : Stmt
+  pub truly : IsTrulyReady book store.tree asking way.txn.0 way.place said ready
+  pub faithful : IsFaithful book store
+
 -- ---- where it ended
 
 -- the reply names the place of the book's last entry
@@ -265,3 +283,14 @@ pub record HasStopped {D : Type 0} (told : D → Option Store) (txn : ℕ) (why 
   pub few : length further ≤ 1
   pub fit : AllFit profile (state_of (entries_of now)) further
   pub leaves : Leaves why further (told now.shelf) (entries_of now)
+
+-- the store opens to a book that begins with this one
+pub record OpensLater (start : List Entry) (store : Store) : Type 0 where
+  pub book : List Entry
+  pub opens : OpensTo book store
+  pub begins : (more : List Entry) × (book ≡ start ++ more)
+
+-- What the house leaves behind a stop opens again, where it tells: to its book, or to that and what was being noted, and all files of
+-- either stand.
+abbrev pub StillOpens : {D : Type 0} → (D → Option Store) → House D → Type 0
+StillOpens told now = Tells (told now.shelf) (OpensLater (entries_of now))

@@ -28,7 +28,7 @@ use Rattle.hv_stands.specs.Running.{Asking, meant, IsUnderWay, IsOfId, KeepsGive
 use Rattle.hv_house.specs.declared.fault.HouseFault.{HouseFault}
 use Rattle.hv_house.specs.declared.house.House.{House}
 use Rattle.hv_house.specs.Faults.{FileCause, EndsRun, HasRisen}
-use Rattle.hv_house.specs.House.{entries_of, IsReady, StaysReady, IsHalted, Shows}
+use Rattle.hv_house.specs.House.{entries_of, IsReady, StaysReady, IsHalted, IsFaithful, Shows}
 use Rattle.hv_ending.specs.declared.ready.Reply.{Reply}
 use Rattle.hv_ending.specs.declared.ready.Way.{Way}
 use Rattle.hv_ending.specs.declared.ready.End.{End}
@@ -37,18 +37,25 @@ use Rattle.hv_ending.specs.declared.ready.Prepared.{Prepared}
 use Rattle.hv_ending.specs.declared.ready.Prepared.TheVariants as prepared
 use Rattle.hv_ending.specs.declared.ready.PutFiles.{PutFiles}
 use Rattle.hv_ending.specs.declared.ready.Ready.{Ready}
-use Rattle.hv_ending.specs.Ending.{KeepsCount, IsUndamaged, aborting, EndsUncommitted, Prepares, Concludes, IsPreparedIn, IsTrulyPrepared, IsTrulyReady, NamesLast, EndedNamesLast, HasStopped, HasReplied, places_of_files}
+use Rattle.hv_ending.specs.Ending.{KeepsCount, IsUndamaged, aborting, EndsUncommitted, Prepares, Concludes, IsPreparedIn, IsTrulyPrepared, IsTrulyReady, MeansThis, EndsTruly, NamesLast, EndedNamesLast, HasStopped, StillOpens, HasReplied, places_of_files}
 use Rattle.hv_ending.specs.Putting.{PutsFiles}
 
 -- ---- whatever comes of a call
 
--- The house goes on or the run has stopped; the store made this step. One that lacked memory can go on.
-pub record Goes {D T : Type 0} (told : D → Option Store) (faults : D → ℕ) (step : Store → Store → Type 0) (txn : ℕ) (before now : House D) (result : Result T HouseFault) : Type 0 where
+-- The house goes on or the run has stopped; the store made this step. One that lacked memory can go on. Where the run has stopped the store
+-- opens again, if this was known of it before.
+pub record Goes {D T : Type 0} (told : D → Option Store) (faults : D → ℕ) (step : Store → Store → Type 0) (Known : Store → Type 0) (txn : ℕ) (before now : House D) (result : Result T HouseFault) : Type 0 where
   pub ready : IfOk result (λ _. IsReady told now)
   pub moves : Moves step (told before.shelf) (told now.shelf)
   pub stopped : IfErr result (λ why. HasStopped told txn why before now)
+  pub opens : Tells (told before.shelf) Known → IfErr result (λ _. StillOpens told now)
   pub ends : IfErr result EndsRun
   pub cause : FileCause (faults before.shelf) (faults now.shelf) result
+
+-- the files stand for the book, and where this entry fits, for the book and it
+pub record StandsWith (book : List Entry) (event : Entry) (store : Store) : Type 0 where
+  pub alone : IsFaithful book store
+  pub with_it : Fits profile (state_of book) event → IsFaithful (book ++ event ∷ []) store
 
 -- ---- one entry is to be noted
 
@@ -137,12 +144,17 @@ IsMadeReady txn last text before now (prepared.Ended reply) = IsWithdrawn txn ca
 abbrev pub KeepsOutside : ℕ → ℕ → Store → Store → Type 0
 KeepsOutside table write before now = (place : Place) → (IsOfId table write place → ⊥) → tree.get now.tree place ≡ tree.get before.tree place
 
+-- the files stand for the book, whatever is put in them
+abbrev pub StandsAnyway : ℕ → ℕ → List Entry → Store → Type 0
+StandsAnyway table write book before = (now : Store) → KeepsOutside table write before now → IsFaithful book now
+
 -- it ended for a fault of its files, which the store counted behind `low`, or the run has stopped for that
 pub record BreaksOff {D : Type 0} (told : D → Option Store) (faults : D → ℕ) (txn low : ℕ) (before now : House D) (result : Result Reply HouseFault) : Type 0 where
   pub ended : IfOk result (EndsBy IsAnyway txn low (faults now.shelf) (entries_of before) (entries_of now))
   pub ready : IfOk result (λ _. IsReady told now)
   pub tree : Moves KeepsTree (told before.shelf) (told now.shelf)
   pub stopped : IfErr result (λ why. HasStopped told txn why before now)
+  pub opens : Shows told before (entries_of before) → IfErr result (λ _. StillOpens told now)
   pub ends : IfErr result EndsRun
   pub cause : FileCause low (faults now.shelf) result
 
@@ -163,7 +175,7 @@ WritesBy told faults txn info effect write wrote text before now (prepared.Ended
     EndsBy IsAnyway txn (faults before.shelf) (faults now.shelf) (entries_of before) (entries_of now) reply
 
 pub record Writing {D : Type 0} (told : D → Option Store) (faults : D → ℕ) (txn : ℕ) (info : TableInfo) (effect : Effect) (write : ℕ) (wrote : List Touch) (text : List ℕ) (before now : House D) (result : Result Prepared HouseFault) : Type 0 where
-  pub goes : Goes told faults (KeepsOutside info.table.0 write) txn before now result
+  pub goes : Goes told faults (KeepsOutside info.table.0 write) (StandsAnyway info.table.0 write (entries_of before)) txn before now result
   pub writes : IfOk result (WritesBy told faults txn info effect write wrote text before now)
 
 -- ---- its end
@@ -189,7 +201,7 @@ pub record IsConflictOf (by : TxnId) (touch : Touch) (name : List ℕ) (found : 
 -- ---- all that is promised of preparing, and of ending
 
 pub record Preparation {D : Type 0} (told : D → Option Store) (faults : D → ℕ) (way : Way) (meaning : Meaning) (before now : House D) (result : Result Prepared HouseFault) : Type 0 where
-  pub goes : Goes told faults (KeepsGiven (state_of (entries_of before)).tables) way.txn.0 before now result
+  pub goes : Goes told faults (KeepsGiven (state_of (entries_of before)).tables) (MeansThis (entries_of before) way meaning) way.txn.0 before now result
   pub prepares : IfOk result (Prepares way.txn.0 (faults before.shelf) (faults now.shelf) (entries_of before) (entries_of now))
   pub stands : (asking : Asking) (said : Stmt) → IsUnderWay (entries_of before) asking way.txn.0 way.place said []
       → IfOk result (IsPreparedIn (entries_of now) asking way.txn.0 way.place said)
@@ -203,7 +215,7 @@ pub record Preparation {D : Type 0} (told : D → Option Store) (faults : D → 
   pub last : IfOk result (EndedNamesLast (entries_of now))
 
 pub record Conclusion {D : Type 0} (told : D → Option Store) (faults : D → ℕ) (way : Way) (ready : Ready) (before now : House D) (result : Result Reply HouseFault) : Type 0 where
-  pub goes : Goes told faults KeepsTree way.txn.0 before now result
+  pub goes : Goes told faults KeepsTree (EndsTruly (entries_of before) way ready) way.txn.0 before now result
   pub added : IfOk result (λ _. Concludes way.txn.0 (faults before.shelf) (faults now.shelf) (entries_of before) (entries_of now))
   pub shows : (asking : Asking) (said : Stmt)
       → Tells (told before.shelf) (λ s. IsTrulyReady (entries_of before) s.tree asking way.txn.0 way.place said ready)

@@ -18,8 +18,8 @@ ghost use Rattle.hv_house.specs.Faults.{FileCause, EndsRun};
 ghost use Rattle.hv_house.specs.House.{entries_of, IsSmall, IsReady, Shows};
 ghost use Rattle.hv_house.specs.Steps.{IsMarked};
 ghost use Rattle.hv_ending.specs.declared.ready.End.TheVariants as last;
-ghost use Rattle.hv_ending.specs.Ending.{aborting, committing, creating, Concludes, IsReadyToEnd, IsTrulyReady, NamesLast, HasStopped, HasReplied};
-ghost use Rattle.hv_ending.specs.Steps.{Goes, IsAdded, IsLeftOut, HasDone, DoneOrLacks, AbortedOrLacks, IsConflictOf, conflict_cause, Conclusion};
+ghost use Rattle.hv_ending.specs.Ending.{aborting, committing, creating, Concludes, IsReadyToEnd, IsTrulyReady, EndsTruly, NamesLast, HasStopped, StillOpens, HasReplied};
+ghost use Rattle.hv_ending.specs.Steps.{Goes, StandsWith, IsAdded, IsLeftOut, HasDone, DoneOrLacks, AbortedOrLacks, IsConflictOf, conflict_cause, Conclusion};
 
 use crate::ready::{End, PutFiles, Ready, Reply, Way};
 use crate::refusing::{abort_with, end_without, lack_memory, next_place, note};
@@ -74,7 +74,8 @@ fn note_end<D: Shelf>(
     requires memory { Fits profile (state_of (entries_of house.old)) (aborting txn.0 Memory) }
     ensures done { IfOk result (DoneOrLacks txn.0 entry text
         (entries_of house.old) (entries_of house.new)) }
-    ensures goes { Goes D.told D.faults KeepsTree txn.0 house.old house.new result }
+    ensures goes { Goes D.told D.faults KeepsTree (StandsWith (entries_of house.old) entry) txn.0
+        house.old house.new result }
 {
     match note_last(house, entry, text) {
         Ok(reply) => Ok(reply),
@@ -127,7 +128,9 @@ fn note_conflict<D: Shelf>(
     requires memory { Fits profile (state_of (entries_of house.old)) (aborting txn.0 Memory) }
     ensures aborted { IfOk result (AbortedOrLacks txn.0 conflict.cause conflict.text.items
         (entries_of house.old) (entries_of house.new)) }
-    ensures goes { Goes D.told D.faults KeepsTree txn.0 house.old house.new result }
+    ensures goes { Goes D.told D.faults KeepsTree
+        (StandsWith (entries_of house.old) (aborting txn.0 conflict.cause)) txn.0
+        house.old house.new result }
 {
     let Conflict { cause, text } = conflict;
     match abort_with(house, txn, cause, text) {
@@ -153,7 +156,9 @@ fn end_by_conflict<D: Shelf>(
         → IfOk result (AbortedOrLacks way.txn.0 (conflict_cause found.by touch)
         (conflict_text found.by.0 name.now touch.partition)
         (entries_of house.old) (entries_of house.new)) }
-    ensures goes { Goes D.told D.faults KeepsTree way.txn.0 house.old house.new result }
+    ensures goes { (touch : Touch) → slice_get wrote.now found.at ≡ Some touch
+        → Goes D.told D.faults KeepsTree (StandsWith (entries_of house.old)
+        (aborting way.txn.0 (conflict_cause found.by touch))) way.txn.0 house.old house.new result }
 {
     match conflict_at(alloc, found, wrote, name) {
         Ok(conflict) => note_conflict(alloc, house, way.txn, conflict),
@@ -309,6 +314,8 @@ pub fn conclude<D: Shelf>(
     ensures tells { StaysTold (D.told house.old.shelf) (D.told house.new.shelf) }
     ensures stopped { IfErr result (λ why.
         HasStopped D.told way.txn.0 why house.old house.new) }
+    ensures opens { Tells (D.told house.old.shelf) (EndsTruly (entries_of house.old) way ready)
+        → IfErr result (λ _. StillOpens D.told house.new) }
     ensures ends { IfErr result EndsRun }
     ensures cause { FileCause (D.faults house.old.shelf) (D.faults house.new.shelf) result }
 {

@@ -16,12 +16,12 @@ ghost use Rattle.hv_tables.specs.Putting.{CanPut};
 ghost use Rattle.hv_stands.specs.Laws.{changes_in};
 ghost use Rattle.hv_stands.specs.Running.{Asking, meant, IsUnderWay, KeepsGiven};
 ghost use Rattle.hv_house.specs.Faults.{FileCause, EndsRun, HasRisen};
-ghost use Rattle.hv_house.specs.House.{entries_of, IsSmall, IsReady, StaysPut, Shows};
+ghost use Rattle.hv_house.specs.House.{entries_of, IsSmall, IsReady, IsFaithful, StaysPut, Shows};
 ghost use Rattle.hv_house.specs.Steps.{HasBrokenPut, HoldsId, IsPutMarkedFor};
 ghost use Rattle.hv_ending.specs.declared.ready.End.TheVariants as last;
 ghost use Rattle.hv_ending.specs.declared.ready.Prepared.TheVariants as found;
-ghost use Rattle.hv_ending.specs.Ending.{giving, aborting, CanChange, CanEnd, Prepares, IsPreparedIn, IsTrulyPrepared, EndedNamesLast, HasStopped, idle_end};
-ghost use Rattle.hv_ending.specs.Steps.{ended, Goes, IsMadeReady, IsWithdrawn, IsNextOf, BreaksOff, Writing, Preparation};
+ghost use Rattle.hv_ending.specs.Ending.{giving, aborting, CanChange, CanEnd, Prepares, IsPreparedIn, IsTrulyPrepared, MeansThis, EndedNamesLast, HasStopped, StillOpens, idle_end};
+ghost use Rattle.hv_ending.specs.Steps.{ended, Goes, StandsWith, IsMadeReady, IsWithdrawn, IsNextOf, BreaksOff, Writing, Preparation};
 
 use crate::putting::put;
 use crate::ready::{End, Prepared, PutFiles, Ready, Reply, Way};
@@ -67,7 +67,8 @@ fn made_ready<D: Shelf>(
     requires fits { Fits profile (state_of (entries_of house.old)) (aborting txn.0 Memory) }
     ensures made { (wanted : List ℕ) → IfOk text (λ line. line.items ≡ wanted)
         → IfOk result (IsMadeReady txn.0 end wanted (entries_of house.old) (entries_of house.new)) }
-    ensures goes { Goes D.told D.faults KeepsTree txn.0 house.old house.new result }
+    ensures goes { Goes D.told D.faults KeepsTree (IsFaithful (entries_of house.old)) txn.0
+        house.old house.new result }
 {
     match text {
         Ok(text) => Ok(Prepared::Ready(Ready {
@@ -220,7 +221,8 @@ fn lack_room<D: Shelf>(alloc: Global, house: &mut House<D>, txn: TxnId) -> Resul
     requires fits { Fits profile (state_of (entries_of house.old)) (aborting txn.0 Memory) }
     ensures full { IfOk result
         (IsWithdrawn txn.0 Full (entries_of house.old) (entries_of house.new)) }
-    ensures goes { Goes D.told D.faults KeepsTree txn.0 house.old house.new result }
+    ensures goes { Goes D.told D.faults KeepsTree
+        (StandsWith (entries_of house.old) (aborting txn.0 Full)) txn.0 house.old house.new result }
 {
     if abort_fits(house, txn, Cause::Full) {
         withdraw(alloc, house, txn, Cause::Full)
@@ -418,6 +420,8 @@ pub fn prepare<D: Shelf>(
     ensures tells { StaysTold (D.told house.old.shelf) (D.told house.new.shelf) }
     ensures stopped { IfErr result (λ why.
         HasStopped D.told way.txn.0 why house.old house.new) }
+    ensures opens { Tells (D.told house.old.shelf) (MeansThis (entries_of house.old) way meaning)
+        → IfErr result (λ _. StillOpens D.told house.new) }
     ensures ends { IfErr result EndsRun }
     ensures cause { FileCause (D.faults house.old.shelf) (D.faults house.new.shelf) result }
 {

@@ -11,10 +11,10 @@ ghost use Rattle.hv_history.specs.declared.entry.Cause.TheVariants.{Memory};
 ghost use Rattle.hv_journal.specs.Appending.{KeepsTree};
 ghost use Rattle.hv_stands.specs.Running.{Asking, IsOf, IsWaiting, IsUnderWay};
 ghost use Rattle.hv_house.specs.Faults.{FileCause, EndsRun};
-ghost use Rattle.hv_house.specs.House.{entries_of, IsSmall, IsReady, StaysReady, Shows};
+ghost use Rattle.hv_house.specs.House.{entries_of, IsSmall, IsReady, StaysReady, IsFaithful, Shows};
 ghost use Rattle.hv_house.specs.Steps.{IsMarked};
-ghost use Rattle.hv_ending.specs.Ending.{aborting, EndsUncommitted, IsAborted, NamesLast, HasStopped, HasReplied};
-ghost use Rattle.hv_ending.specs.Steps.{Goes, IsAdded, IsLeftOut, HasAborted, LacksMemory, IsWithdrawn};
+ghost use Rattle.hv_ending.specs.Ending.{aborting, EndsUncommitted, IsAborted, NamesLast, HasStopped, StillOpens, HasReplied};
+ghost use Rattle.hv_ending.specs.Steps.{Goes, StandsWith, IsAdded, IsLeftOut, HasAborted, LacksMemory, IsWithdrawn};
 
 use crate::ready::Reply;
 use hv_base::{List, NoMemory, TxnId};
@@ -106,7 +106,8 @@ pub fn lack_memory<D: Shelf>(
     requires fits { Fits profile (state_of (entries_of house.old)) (aborting txn.0 Memory) }
     ensures aborted { IfOk result
         (LacksMemory txn.0 (entries_of house.old) (entries_of house.new)) }
-    ensures goes { Goes D.told D.faults KeepsTree txn.0 house.old house.new result }
+    ensures goes { Goes D.told D.faults KeepsTree (IsFaithful (entries_of house.old)) txn.0
+        house.old house.new result }
 {
     abort(alloc, house, txn, Cause::Memory)
 }
@@ -124,7 +125,8 @@ pub fn end_without<D: Shelf>(
         (LacksMemory txn.0 (entries_of house.old) (entries_of house.new)) }
     ensures goes { (first : House D) (event : Entry) → IsOf txn.0 event
         → IsLeftOut D.told D.faults event fault first house.old
-        → Goes D.told D.faults KeepsTree txn.0 first house.new result }
+        → Goes D.told D.faults KeepsTree (StandsWith (entries_of first) event) txn.0
+        first house.new result }
 {
     match fault {
         HouseFault::NoMemory => lack_memory(alloc, house, txn),
@@ -146,7 +148,8 @@ pub fn withdraw<D: Shelf>(
     requires marked { IsMarked house.old (aborting txn.0 cause) }
     ensures withdrawn { IfOk result
         (IsWithdrawn txn.0 cause (entries_of house.old) (entries_of house.new)) }
-    ensures goes { Goes D.told D.faults KeepsTree txn.0 house.old house.new result }
+    ensures goes { Goes D.told D.faults KeepsTree
+        (StandsWith (entries_of house.old) (aborting txn.0 cause)) txn.0 house.old house.new result }
 {
     match abort(alloc, house, txn, cause) {
         Ok(reply) => Ok(reply),
@@ -194,6 +197,10 @@ pub fn refuse<D: Shelf>(
     ensures tree { Moves KeepsTree (D.told house.old.shelf) (D.told house.new.shelf) }
     ensures tells { StaysTold (D.told house.old.shelf) (D.told house.new.shelf) }
     ensures stopped { IfErr result (λ why. HasStopped D.told txn.0 why house.old house.new) }
+    ensures opens { Tells (D.told house.old.shelf)
+        (λ _. IsTruthful (state_of (entries_of house.old)) (aborting txn.0 cause))
+        → Shows D.told house.old (entries_of house.old)
+        → IfErr result (λ _. StillOpens D.told house.new) }
     ensures ends { IfErr result EndsRun }
     ensures cause { FileCause (D.faults house.old.shelf) (D.faults house.new.shelf) result }
 {

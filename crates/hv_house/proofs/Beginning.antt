@@ -4,6 +4,7 @@ use Rattle.std.specs.Prelude.{◌||◌, if◌then◌else◌, IsSomeAnd, sum_by}
 use Rattle.std.specs.List.{list_any}
 use Rattle.std.specs.Option.{option_map}
 use Rattle.std.proofs.lemmas.List.Sums.{sum_by-append, sum_by-cons}
+use Rattle.hv_base.specs.declared.ids.Limits.{Limits}
 use Rattle.hv_ast.specs.declared.statement.Stmt.{Stmt}
 use Rattle.hv_locks.specs.declared.table.Lock.{Lock}
 use Rattle.hv_locks.specs.declared.table.LockState.TheVariants.{Granted}
@@ -15,7 +16,7 @@ use Rattle.hv_history.specs.declared.entry.Entry.TheVariants.{Opened}
 use Rattle.hv_history.specs.declared.state.Table.{Table}
 use Rattle.hv_history.specs.declared.state.Transaction.{Transaction}
 use Rattle.hv_history.specs.State.{State, numbered, opened, acted, after, state_of}
-use Rattle.hv_history.specs.Legal.{open_one, working_one, load, StartFits, holds_against, first_holder, locks_of, locks_of_tree, profile}
+use Rattle.hv_history.specs.Legal.{open_one, working_one, load, StartFits, holds_against, first_holder, locks_of, locks_of_tree}
 use Rattle.hv_book.specs.declared.notes.TableNote.{TableNote}
 use Rattle.hv_book.specs.Briefs.{brief_table}
 use Rattle.hv_book.specs.Notes.{notes_of}
@@ -24,7 +25,7 @@ use Rattle.hv_stands.specs.Running.{Asking, next_number, opening}
 use Rattle.hv_stands.proofs.Numbers.{numbered-map}
 use Rattle.hv_stands.proofs.Soundness.{all-numbered}
 use Rattle.hv_stands.proofs.Behind.{one-behind, opened-there}
-use Rattle.hv_house.specs.House.{BeginFits}
+use Rattle.hv_house.specs.House.{BeginFitsWithin}
 use Rattle.hv_house.specs.Asking.{holder_against, lock_state}
 
 -- ---- locks
@@ -74,9 +75,9 @@ module _ (s : State) (session : List ℕ) (number : ℕ) (text : List ℕ) where
         ap (sum_by working_one) jobs-same,
       )
 
-  started-fits : (tree : Stmt) → tree_of text ≡ Some tree → load s + 3 ≤ 131072 → first_holder (names_in tree) 1 s.transactions ≡ None
-      → StartFits profile (after s opened-entry) 0 (opened session number text)
-  started-fits tree is room free = record {
+  started-fits : (limits : Limits) (tree : Stmt) → tree_of text ≡ Some tree → load s + 3 ≤ limits.entries → first_holder (names_in tree) 1 s.transactions ≡ None
+      → StartFits limits (after s opened-entry) 0 (opened session number text)
+  started-fits limits tree is room free = record {
     waiting = record { unended = refl; unstarted = refl };
     first = refl;
     unlocked = subst (λ ts. list_any (holds_against (locks_of (opened session number text))) ts ≡ false) (sym behind-opened)
@@ -104,14 +105,14 @@ holder-behind-opened book asking tree =
     ∙ holder-more (names_in tree) 1 (state_of book).transactions asking.session asking.number asking.text
 
 -- where there is room for three, and no lock stands against it, a statement may be opened and started at once
-pub begin-fits : (book : List Entry) (tree : Stmt) → load (state_of book) + 3 ≤ 131072 → first_holder (names_in tree) 1 (state_of book).transactions ≡ None
-    → (asking : Asking) → Runs asking.text tree → BeginFits book asking
-begin-fits book tree room free asking runs =
+pub begin-fits : (limits : Limits) (book : List Entry) (tree : Stmt) → load (state_of book) + 3 ≤ limits.entries → first_holder (names_in tree) 1 (state_of book).transactions ≡ None
+    → (asking : Asking) → Runs asking.text tree → BeginFitsWithin limits book asking
+begin-fits limits book tree room free asking runs =
     let s : State = state_of book in (
       record { next = refl; statement = (tree, runs); room = omega (arith, room) },
-      subst (λ (now : State). IsSomeAnd (numbered now.transactions (next_number book)) (StartFits profile now 0)) (sym (one-behind book (opening book asking)))
-          (subst (λ (o : Option Transaction). IsSomeAnd o (StartFits profile (after s (opening book asking)) 0)) (sym (opened-there s asking.session asking.number asking.text))
-          (started-fits s asking.session asking.number asking.text tree runs.read room free)),
+      subst (λ (now : State). IsSomeAnd (numbered now.transactions (next_number book)) (StartFits limits now 0)) (sym (one-behind book (opening book asking)))
+          (subst (λ (o : Option Transaction). IsSomeAnd o (StartFits limits (after s (opening book asking)) 0)) (sym (opened-there s asking.session asking.number asking.text))
+          (started-fits s asking.session asking.number asking.text limits tree runs.read room free)),
     )
 
 -- ---- what a call answers

@@ -4,10 +4,10 @@ use Rattle.std.specs.Option.{option_map}
 use Rattle.std.specs.Prelude.{IfErr, slice_index_or, sum_by, is_none, Bool, true, false}
 use Rattle.std.proofs.lemmas.List.Sums.{sum_by-cons}
 use Rattle.hv_history.specs.declared.state.Transaction.{Transaction}
-use Rattle.hv_stands.specs.Statements.{AllFitting}
 use Rattle.hv_stands.proofs.Keeping.{sound-all, nothing-sound}
 use Rattle.hv_house.proofs.Openings.{opened-fits}
 use Rattle.std.proofs.lemmas.List.{length-map}
+use Rattle.hv_base.specs.declared.ids.Limits.{Limits}
 use Rattle.hv_base.specs.Told.{Tells, Moves}
 use Rattle.hv_shelf.specs.Disk.{Store}
 use Rattle.hv_history.specs.declared.entry.Entry.{Entry}
@@ -15,7 +15,7 @@ use Rattle.hv_history.specs.declared.entry.Entry.TheVariants.{Boot}
 use Rattle.hv_history.specs.Journal.{record_of, place_of, Reads, IsJournal}
 use Rattle.hv_history.specs.declared.state.Ending.{Ending}
 use Rattle.hv_history.specs.State.{State, Openings, nothing_yet, after, state_of}
-use Rattle.hv_history.specs.Legal.{is_open, one_if, open_one, working_one, load, AllFit, profile}
+use Rattle.hv_history.specs.Legal.{is_open, one_if, open_one, working_one, load, AllFit}
 use Rattle.hv_journal.specs.Appending.{Holds, KeepsTree, StaysShort}
 use Rattle.hv_journal.proofs.Lengths.{length-record}
 use Rattle.hv_book.specs.declared.openings.OpeningNotes.{OpeningNotes}
@@ -29,7 +29,7 @@ use Rattle.hv_house.specs.declared.house.House.{House}
 use Rattle.hv_house.specs.declared.fault.HouseFault.{HouseFault}
 use Rattle.hv_house.specs.declared.fault.HouseFault.TheVariants as house
 use Rattle.hv_house.specs.declared.boot.BootFault.TheVariants as fault
-use Rattle.hv_house.specs.House.{entries_of, IsKept, IsReady, IsHalted, Leaves}
+use Rattle.hv_house.specs.House.{entries_of, IsKept, IsReadyWithin, IsHalted, Leaves}
 use Rattle.hv_house.specs.Steps.{KeepsMarks, IsOpenedOver}
 use Rattle.hv_house.specs.Booting.{number_next, marked_from, open_numbers, lost_entry, opening_entries, opening_of, boot_fault, LeavesFront, IsCutOpening, CutsOpening, LosesSome, IsLearned}
 
@@ -269,38 +269,41 @@ counted-from : (s : State) (book : List Entry) → (fold after s book).entries �
 counted-from s [] = omega arith
 counted-from s (e ∷ book) = counted-from (after s e) book ∙ omega arith
 
-pub load-is : (book : List Entry) → AllFit profile nothing_yet book → load (state_of book) ≡ length book + length (open_numbers (state_of book))
-load-is book fit =
-    let idle : sum_by working_one (state_of book).jobs ≡ 0 = ap (sum_by working_one) (sound-all profile nothing_yet book fit nothing-sound).no_jobs in
+pub load-is : (limits : Limits) (book : List Entry) → AllFit limits nothing_yet book → load (state_of book) ≡ length book + length (open_numbers (state_of book))
+load-is limits book fit =
+    let idle : sum_by working_one (state_of book).jobs ≡ 0 = ap (sum_by working_one) (sound-all limits nothing_yet book fit nothing-sound).no_jobs in
     omega (arith, counted-from nothing_yet book, opens-counted 1 (state_of book).transactions, idle)
 
-pub load-small : (book : List Entry) → AllFit profile nothing_yet book → (unended : List ℕ) → unended ≡ open_numbers (state_of book) → length book + length unended + 1 ≤ 131072
-    → load (state_of book) + 1 ≤ profile.entries
-load-small book fit unended is room = omega (arith, load-is book fit, ap length is, room)
+pub load-small : (limits : Limits) (book : List Entry) → AllFit limits nothing_yet book → (unended : List ℕ) → unended ≡ open_numbers (state_of book) → length book + length unended + 1 ≤ limits.entries
+    → load (state_of book) + 1 ≤ limits.entries
+load-small limits book fit unended is room = omega (arith, load-is limits book fit, ap length is, room)
 
-pub load-full : (book : List Entry) → AllFit profile nothing_yet book → (unended : List ℕ) → unended ≡ open_numbers (state_of book) → 131072 < length book + length unended + 1
-    → profile.entries < load (state_of book) + 1
-load-full book fit unended is full = omega (arith, load-is book fit, ap length is, full)
+pub load-full : (limits : Limits) (book : List Entry) → AllFit limits nothing_yet book → (unended : List ℕ) → unended ≡ open_numbers (state_of book) → limits.entries < length book + length unended + 1
+    → limits.entries < load (state_of book) + 1
+load-full limits book fit unended is full = omega (arith, load-is limits book fit, ap length is, full)
 
 -- ---- the opened house
 
-pub raised-ready : {D : Type 0} (told : D → Option Store) (book : List Entry) (left : Left) (now : House D) → AllFit profile nothing_yet book → IsLearned book left
-    → length book + length left.unended.items + 1 ≤ 131072 → IsKept told now → entries_of now ≡ book ++ Boot left.runs ∷ map lost_entry left.unended.items
-    → (entries_of now ≡ opening_of book) × IsReady told now
-raised-ready told book left now fit is room kept entries =
+pub raised-ready : {D : Type 0} (limits : Limits) (told : D → Option Store) (book : List Entry) (left : Left) (now : House D) → now.limits ≡ limits → limits.entries ≤ 9999999 → AllFit limits nothing_yet book → IsLearned book left
+    → length book + length left.unended.items + 1 ≤ limits.entries → IsKept told now → entries_of now ≡ book ++ Boot left.runs ∷ map lost_entry left.unended.items
+    → (entries_of now ≡ opening_of book) × IsReadyWithin limits told now
+raised-ready limits told book left now same most fit is room kept entries =
     let whole : entries_of now ≡ opening_of book =
     entries ∙ (λ i. book ++ Boot (is.runs i) ∷ map lost_entry (is.open_are i)) in (
       whole,
       record {
         kept = kept;
-        fit = subst AllFitting (sym whole) (opened-fits book fit (load-small book fit left.unended.items is.open_are room));
+        limits_are = same;
+        within = most;
+        fit = subst (AllFit limits nothing_yet) (sym whole) (opened-fits limits book fit (load-small limits book fit left.unended.items is.open_are room));
       },
     )
 
 -- the items that stand are taken as those of the opening
-pub settled-ready : {D : Type 0} (told : D → Option Store) (before now : House D) → now.shelf ≡ before.shelf → now.place ≡ before.place
-    → entries_of now ≡ entries_of before → now.trail.closed ≡ before.trail.closed → IsReady told before → IsReady told now
-settled-ready told before now shelf place entries closed ready = record {
+pub settled-ready : {D : Type 0} (limits : Limits) (told : D → Option Store) (before now : House D) → now.shelf ≡ before.shelf → now.place ≡ before.place
+    → entries_of now ≡ entries_of before → now.limits ≡ before.limits → now.trail.closed ≡ before.trail.closed → IsReadyWithin limits told before
+    → IsReadyWithin limits told now
+settled-ready limits told before now shelf place entries same closed ready = record {
   kept = record {
     place = place ∙ ready.kept.place ∙ ap place_of (sym entries);
     near = omega (arith, place, ready.kept.near, ap length entries);
@@ -308,7 +311,9 @@ settled-ready told before now shelf place entries closed ready = record {
     reads = subst (λ d. Holds (told d) (entries_of now)) (sym shelf) (subst (Holds (told before.shelf)) (sym entries) ready.kept.reads);
     running = closed ∙ ready.kept.running;
   };
-  fit = subst AllFitting (sym entries) ready.fit;
+  limits_are = same ∙ ready.limits_are;
+  within = ready.within;
+  fit = subst (AllFit limits nothing_yet) (sym entries) ready.fit;
 }
 
 -- a trail without marks is its book, and all of it was left by the opening

@@ -22,10 +22,10 @@ truthful-from s (e ∷ book) more truthful next = (truthful.0, truthful-from (af
 pub opened-faithful : (book : List Entry) (store : Store) → HasRoom profile (state_of book) 1 → IsFaithful book store → IsFaithful (opening_of book) store
 opened-faithful book store room faithful =
     record {
-      stands = stands-opened book store.tree faithful.legal.fit room faithful.stands;
+      stands = stands-opened profile book store.tree faithful.legal.fit room faithful.stands;
       legal = record {
-        fit = opened-fits book faithful.legal.fit room;
-        truthful = truthful-from nothing_yet book (opening_entries (state_of book)) faithful.legal.truthful (opened-book book room).truthful;
+        fit = opened-fits profile book faithful.legal.fit room;
+        truthful = truthful-from nothing_yet book (opening_entries (state_of book)) faithful.legal.truthful (opened-book profile book room).truthful;
       };
     }
 

@@ -36,7 +36,7 @@ noted_near book events place now near small is = omega (arith, length-append boo
 
 -- what was written of entries, and their place behind the book, make them noted
 pub noted : {D : Type 0} (told : D → Option Store) (events : List Entry) (before now : House D) → IsKept told before
-    → AllByRecursion IsSmall events → length (entries_of before) + length events ≤ 131072
+    → AllByRecursion IsSmall events → length (entries_of before) + length events ≤ 9999999
     → entries_of now ≡ entries_of before ++ events
     → now.place ≡ before.place + place_of events
     → Holds (told now.shelf) (entries_of before ++ events)

@@ -9,7 +9,9 @@ pub mod Steps
 pub mod Reading
 pub mod Ready
 pub mod Putting
+pub mod Rooms
 pub mod Past
 pub mod Seen
 pub mod Listings
 pub mod Beginning
+pub mod Naming

@@ -1,8 +1,9 @@
 -- Calls that read: what each leaves of the house, and what is found.
-use Rattle.std.proofs.Common.{◌≡◌, ◌<◌, ◌≤◌, ℕ, ◌-◌, ◌^◌, nat_lt, Bool, true, false, Option, Some, None, Result, Ok, Err, List, [], take, option_map, refl, sym, ap, ◌∙◌, subst, arith, IsErrOf}
+use Rattle.std.proofs.Common.{◌≡◌, ◌<◌, ◌≤◌, ℕ, ◌-◌, ◌^◌, nat_lt, Bool, true, false, Option, Some, None, Result, Ok, Err, List, take, option_map, refl, sym, ap, ◌∙◌, subst, arith}
 use Rattle.std.specs.Prelude.{if◌then◌else◌, IfOk, IfErr, IsErrAnd}
 use Rattle.std.proofs.lemmas.Bool.{ltb-true}
 use Rattle.std.specs.FinMap as tree
+use Rattle.hv_base.specs.declared.ids.Limits.{Limits}
 use Rattle.hv_base.specs.Told.{Tells}
 use Rattle.hv_base.specs.Faults.{Rose}
 use Rattle.hv_base.specs.declared.ids.TxnId.{TxnId}
@@ -10,28 +11,29 @@ use Rattle.hv_base.specs.declared.ids.TableId.{TableId}
 use Rattle.hv_shelf.specs.declared.fault.ShelfFault.{ShelfFault}
 use Rattle.hv_shelf.specs.declared.fault.ShelfFault.TheVariants as shelf
 use Rattle.hv_shelf.specs.declared.place.Place.{Place}
-use Rattle.hv_shelf.specs.Disk.{Store, Tree, places_of}
+use Rattle.hv_shelf.specs.Disk.{Store, places_of}
 use Rattle.hv_logic.specs.declared.catalog.TableInfo.{TableInfo}
 use Rattle.hv_wids.specs.WriteIds.{WriteIds}
 use Rattle.hv_choosing.specs.declared.listing.DirFile.{DirFile}
 use Rattle.hv_history.specs.declared.entry.Entry.{Entry}
-use Rattle.hv_history.specs.State.{state_of}
+use Rattle.hv_history.specs.State.{nothing_yet, state_of}
+use Rattle.hv_history.specs.Legal.{AllFit}
 use Rattle.hv_earlier.specs.Lists.{catalog_at}
 use Rattle.hv_stands.specs.Reading.{table_of_name}
-use Rattle.hv_stands.specs.Statements.{AllFitting}
-use Rattle.hv_stands.specs.Files.{Stands, made_at}
-use Rattle.hv_stands.proofs.Fitting.{fitting-sound, fronts-fit}
+use Rattle.hv_stands.specs.Files.{Stands}
+use Rattle.hv_stands.proofs.Keeping.{sound-all, nothing-sound}
 use Rattle.hv_trail.specs.declared.trail.Reader.TheVariants.{Txn}
-use Rattle.hv_trail.specs.Steps.{Call, Read, Outcome, Done, Closed, Refused, Failed, Step}
+use Rattle.hv_trail.specs.Steps.{Call, Read, Done, Refused, Step}
 use Rattle.hv_house.specs.declared.fault.HouseFault.{HouseFault}
 use Rattle.hv_house.specs.declared.fault.HouseFault.TheVariants as fault
 use Rattle.hv_house.specs.declared.fault.RowFault.TheVariants as row_fault
 use Rattle.hv_house.specs.declared.house.House.{House}
-use Rattle.hv_house.specs.Faults.{house_fault, HasRisen, FileCause}
-use Rattle.hv_house.specs.House.{entries_of, IsAsked, IsReady, StaysPut}
+use Rattle.hv_house.specs.Faults.{house_fault, HasRisen}
+use Rattle.hv_house.specs.House.{entries_of, IsAsked, IsReadyWithin, StaysPutWithin}
 use Rattle.hv_house.specs.Seeing.{info_of_name}
 use Rattle.hv_house.specs.Steps.{seen_of, fault_outcome, outcome_of, GainsBy, IsMarkedFor}
 use Rattle.hv_house.specs.Listing.{AreTaken, AreTakenOf, IsMade, ReadStep, info_in}
+use Rattle.hv_house.proofs.Rooms.{front-fits}
 use Rattle.hv_house.proofs.Past.{infos-named}
 use Rattle.hv_house.proofs.Reading.{gains-nothing, gains-behind, step-read, step-unread, read-marked}
 use Rattle.hv_house.proofs.Ready.{read-ready, read-stays}
@@ -43,24 +45,24 @@ module _ {D : Type 0} (told : D → Option Store) (faults : D → ℕ) (by : Txn
   call = Read (Some (Txn by))
 
   -- nothing was asked, for want of memory
-  pub read-none : {T : Type 0} (before now : House D) (result : Result T HouseFault) → IsErrAnd result (λ why. why ≡ fault.NoMemory) → IsReady told before
+  pub read-none : {T : Type 0} (limits : Limits) (before now : House D) (result : Result T HouseFault) → IsErrAnd result (λ why. why ≡ fault.NoMemory) → IsReadyWithin limits told before
       → now.shelf ≡ before.shelf → now.place ≡ before.place → now.start ≡ before.start → entries_of now ≡ entries_of before → now.trail.marks ≡ before.trail.marks
-      → now.trail.opened ≡ before.trail.opened → now.trail.closed ≡ before.trail.closed → ReadStep told faults by before now result
-  read-none before now (Ok x) lacks ready same place start entries marks left closed = absurd lacks
-  read-none {T = T} before now (Err why) lacks ready same place start entries marks left closed =
+      → now.trail.opened ≡ before.trail.opened → now.limits ≡ before.limits → now.trail.closed ≡ before.trail.closed → ReadStep told faults by before now result
+  read-none limits before now (Ok x) lacks ready same place start entries marks left keeps closed = absurd lacks
+  read-none {T = T} limits before now (Err why) lacks ready same place start entries marks left keeps closed =
       subst (λ (w : HouseFault). ReadStep {T = T} told faults by before now (Err w)) (sym lacks) (record {
         store = ap told same;
-        gains = gains-nothing call Refused before now refl refl ready.kept.running place start entries marks left closed;
+        gains = gains-nothing call Refused before now refl refl ready.kept.running place start entries marks left keeps closed;
         cause = record { later = omega (arith, ap faults same); failed = tt };
       })
 
   -- it was asked, and answered
-  pub read-done : {T : Type 0} (before now : House D) (x : T) → IsReady told before → told now.shelf ≡ told before.shelf → faults before.shelf ≤ faults now.shelf
+  pub read-done : {T : Type 0} (limits : Limits) (before now : House D) (x : T) → IsReadyWithin limits told before → told now.shelf ≡ told before.shelf → faults before.shelf ≤ faults now.shelf
       → now.place ≡ before.place → now.start ≡ before.start → entries_of now ≡ entries_of before → now.trail.marks ≡ before.trail.marks
-      → now.trail.opened ≡ before.trail.opened → now.trail.closed ≡ before.trail.closed → ReadStep told faults by before now (Ok x)
-  read-done before now x ready same later place start entries marks left closed = record {
+      → now.trail.opened ≡ before.trail.opened → now.limits ≡ before.limits → now.trail.closed ≡ before.trail.closed → ReadStep told faults by before now (Ok x)
+  read-done limits before now x ready same later place start entries marks left keeps closed = record {
     store = same;
-    gains = gains-nothing call Done before now refl refl ready.kept.running place start entries marks left closed;
+    gains = gains-nothing call Done before now refl refl ready.kept.running place start entries marks left keeps closed;
     cause = record { later = later; failed = tt };
   }
 
@@ -77,11 +79,11 @@ module _ {D : Type 0} (told : D → Option Store) (faults : D → ℕ) (by : Txn
   pub read-failed : {T : Type 0} (before mid now : House D) (why : ShelfFault) (result : HouseFault) → told mid.shelf ≡ told before.shelf → faults before.shelf ≤ faults mid.shelf
       → (shelf.Failed ≡ why → Rose (faults before.shelf) (faults mid.shelf))
       → mid.place ≡ before.place → mid.start ≡ before.start → entries_of mid ≡ entries_of before → mid.trail.marks ≡ before.trail.marks
-      → mid.trail.opened ≡ before.trail.opened → mid.trail.closed ≡ before.trail.closed
+      → mid.trail.opened ≡ before.trail.opened → mid.limits ≡ before.limits → mid.trail.closed ≡ before.trail.closed
       → result ≡ house_fault (faults mid.shelf) why → now.shelf ≡ mid.shelf → GainsBy call (fault_outcome result) mid now → ReadStep {T = T} told faults by before now (Err result)
-  read-failed before mid now why result same later rose place start entries marks left closed is at gained = record {
+  read-failed before mid now why result same later rose place start entries marks left keeps closed is at gained = record {
     store = ap told at ∙ same;
-    gains = gains-behind call (fault_outcome result) before mid now place start entries marks left closed gained;
+    gains = gains-behind call (fault_outcome result) before mid now place start entries marks left keeps closed gained;
     cause = record {
       later = omega (arith, later, ap faults at);
       failed = subst (HasRisen (faults before.shelf) (faults now.shelf)) (sym is)
@@ -110,6 +112,7 @@ module _ {D : Type 0} (told : D → Option Store) (faults : D → ℕ) (by : Txn
           entries = gained.entries;
           start = gained.start;
           left = gained.left;
+          limits = gained.limits;
           trail = gained.trail;
           closed = gained.closed;
         };
@@ -128,25 +131,25 @@ module _ {D : Type 0} (told : D → Option Store) (faults : D → ℕ) (by : Txn
   pub asked-by : {T : Type 0} (before now : House D) (result : Result T HouseFault) → ReadStep told faults by before now result → IsAsked told before now
   asked-by before now result step = record { store = step.store; place = step.gains.place; book = step.gains.entries }
 
-  pub ready-by : {T : Type 0} (before now : House D) (result : Result T HouseFault) → IsReady told before → ReadStep told faults by before now result
-      → IfOk result (λ _. IsReady told now)
-  ready-by before now (Ok x) ready step = read-ready told before now call (asked-by before now (Ok x) step) step.gains ready
-  ready-by before now (Err why) ready step = tt
+  pub ready-by : {T : Type 0} (limits : Limits) (before now : House D) (result : Result T HouseFault) → IsReadyWithin limits told before → ReadStep told faults by before now result
+      → IfOk result (λ _. IsReadyWithin limits told now)
+  ready-by limits before now (Ok x) ready step = read-ready limits told before now call (asked-by before now (Ok x) step) step.gains ready
+  ready-by limits before now (Err why) ready step = tt
 
-  pub stays-by : {T : Type 0} (before now : House D) (result : Result T HouseFault) → IsReady told before → ReadStep told faults by before now result
-      → IfErr result (λ why. StaysPut told why now)
-  stays-by before now (Ok x) ready step = tt
-  stays-by before now (Err why) ready step = read-stays told before now call (row_fault.House why) (asked-by before now (Err why) step) step.gains ready
+  pub stays-by : {T : Type 0} (limits : Limits) (before now : House D) (result : Result T HouseFault) → IsReadyWithin limits told before → ReadStep told faults by before now result
+      → IfErr result (λ why. StaysPutWithin limits told why now)
+  stays-by limits before now (Ok x) ready step = tt
+  stays-by limits before now (Err why) ready step = read-stays limits told before now call (row_fault.House why) (asked-by before now (Err why) step) step.gains ready
 
   pub marked-by : {T : Type 0} (before now : House D) (result : Result T HouseFault) → ReadStep told faults by before now result
       → IfErr result (λ why. IsMarkedFor now by (row_fault.House why))
   marked-by before now (Ok x) step = tt
   marked-by before now (Err why) step = read-marked by (row_fault.House why) before now step.gains
 
-  pub step-by : {T : Type 0} (before now : House D) (result : Result T HouseFault) → IsReady told before → ReadStep told faults by before now result
+  pub step-by : {T : Type 0} (limits : Limits) (before now : House D) (result : Result T HouseFault) → IsReadyWithin limits told before → ReadStep told faults by before now result
       → Step told faults call (outcome_of result) (seen_of before) (seen_of now)
-  step-by before now (Ok x) ready step = step-read told faults (Some (Txn by)) before now ready.kept.running step.store step.cause.later step.gains
-  step-by before now (Err why) ready step =
+  step-by limits before now (Ok x) ready step = step-read told faults (Some (Txn by)) before now ready.kept.running step.store step.cause.later step.gains
+  step-by limits before now (Err why) ready step =
       step-unread told faults (Some (Txn by)) before now ready.kept.running step.store step.cause.later (row_fault.House why) step.cause.failed step.gains
 
 -- ---- what is found
@@ -155,11 +158,11 @@ pub on-found : {T E : Type 0} (r : Result T E) (P Q : T → Type 0) → ((x : T)
 on-found (Ok x) P Q f p = f x p
 on-found (Err e) P Q f p = tt
 
-pub found-named : (book : List Entry) (place : ℕ) → AllFitting book → (entries : List Entry) → entries ≡ book → (name : List ℕ) (infos : List TableInfo)
+pub found-named : (limits : Limits) (book : List Entry) (place : ℕ) → AllFit limits nothing_yet book → (entries : List Entry) → entries ≡ book → (name : List ℕ) (infos : List TableInfo)
     → infos ≡ catalog_at entries place → (found : Option TableInfo) → found ≡ info_of_name name infos
     → found ≡ option_map info_in (table_of_name name (state_of (take place book)).tables)
-found-named book place fit entries is name infos catalog found named =
-    let sound = fitting-sound (take place book) (fronts-fit book place fit) in
+found-named limits book place fit entries is name infos catalog found named =
+    let sound = sound-all limits nothing_yet (take place book) (front-fits limits book nothing_yet place fit) nothing-sound in
     named ∙ ap (info_of_name name) (catalog ∙ ap (λ b. catalog_at b place) is)
     ∙ infos-named name (state_of (take place book)).tables sound.tables.live
 

@@ -9,7 +9,8 @@ use Rattle.hv_history.specs.declared.state.Ending.{Ending}
 use Rattle.hv_history.specs.declared.state.Ending.TheVariants.{Aborted}
 use Rattle.hv_history.specs.declared.state.Transaction.{Transaction}
 use Rattle.hv_history.specs.State.{State, nothing_yet, numbered, changed, changed_at, unless_ended, while_open, ended, acted, after, state_of}
-use Rattle.hv_history.specs.Legal.{is_open, load, Fits, IsTruthful, AllFit, IsLegalFrom, LostFits, profile}
+use Rattle.hv_history.specs.Legal.{is_open, load, Fits, IsTruthful, AllFit, IsLegalFrom, LostFits}
+use Rattle.hv_base.specs.declared.ids.Limits.{Limits}
 use Rattle.hv_shelf.specs.Disk.{Tree}
 use Rattle.hv_stands.specs.Files.{Stands}
 use Rattle.hv_stands.specs.Sound.{IsSound}
@@ -59,38 +60,38 @@ aborted-there pre rest x s are unended =
 aborted-openings : (s : State) (number : ℕ) → IsTrue s.openings.only_lost → IsTrue (after s (lost_entry number)).openings.only_lost
 aborted-openings s number only = only
 
-lost-fits : (pre rest : List Transaction) (x : Transaction) (s : State) → s.transactions ≡ pre ++ x ∷ rest → is_open x ≡ true → IsTrue s.openings.only_lost
-    → Fits profile s (lost_entry (length pre + 1)) × IsTruthful s (lost_entry (length pre + 1))
-lost-fits pre rest x s are unended only =
+lost-fits : (limits : Limits) (pre rest : List Transaction) (x : Transaction) (s : State) → s.transactions ≡ pre ++ x ∷ rest → is_open x ≡ true → IsTrue s.openings.only_lost
+    → Fits limits s (lost_entry (length pre + 1)) × IsTruthful s (lost_entry (length pre + 1))
+lost-fits limits pre rest x s are unended only =
     let at : numbered s.transactions (length pre + 1) ≡ Some x = ap (λ ts. numbered ts (length pre + 1)) are ∙ numbered-at pre rest x in (
       subst (λ o. IsSomeAnd o (LostFits s)) (sym at) (record { unended = unended; behind = only }),
       subst (λ o. IsSomeAnd o (λ (t : Transaction). Unit {0})) (sym at) tt,
     )
 
-lost-by : (pre rest : List Transaction) (x : Transaction) (s : State) → s.transactions ≡ pre ++ x ∷ rest → IsTrue s.openings.only_lost → (b : Bool) → is_open x ≡ b
-    → (is_open x ≡ false → IsLegalFrom profile s (lost-numbers (length (pre ++ x ∷ []) + 1) rest))
-    → (is_open x ≡ true → IsLegalFrom profile (after s (lost_entry (length pre + 1))) (lost-numbers (length (pre ++ ended (Aborted s.entries Lost) x ∷ []) + 1) rest))
-    → IsLegalFrom profile s (map lost_entry (number_next b (length pre + 1) (marked_from (length pre + 1 + 1) (map is_open rest))))
-lost-by pre rest x s are only false is skip lose =
+lost-by : (limits : Limits) (pre rest : List Transaction) (x : Transaction) (s : State) → s.transactions ≡ pre ++ x ∷ rest → IsTrue s.openings.only_lost → (b : Bool) → is_open x ≡ b
+    → (is_open x ≡ false → IsLegalFrom limits s (lost-numbers (length (pre ++ x ∷ []) + 1) rest))
+    → (is_open x ≡ true → IsLegalFrom limits (after s (lost_entry (length pre + 1))) (lost-numbers (length (pre ++ ended (Aborted s.entries Lost) x ∷ []) + 1) rest))
+    → IsLegalFrom limits s (map lost_entry (number_next b (length pre + 1) (marked_from (length pre + 1 + 1) (map is_open rest))))
+lost-by limits pre rest x s are only false is skip lose =
     let next : length (pre ++ x ∷ []) + 1 ≡ length pre + 1 + 1 = omega (arith, length-append pre (x ∷ [])) in
-    subst (λ n. IsLegalFrom profile s (lost-numbers n rest)) next (skip is)
-lost-by pre rest x s are only true is skip lose =
+    subst (λ n. IsLegalFrom limits s (lost-numbers n rest)) next (skip is)
+lost-by limits pre rest x s are only true is skip lose =
     let next : length (pre ++ ended (Aborted s.entries Lost) x ∷ []) + 1 ≡ length pre + 1 + 1 = omega (arith, length-append pre (ended (Aborted s.entries Lost) x ∷ [])) in
-    let behind : IsLegalFrom profile (after s (lost_entry (length pre + 1))) (lost-numbers (length pre + 1 + 1) rest) =
-    subst (λ n. IsLegalFrom profile (after s (lost_entry (length pre + 1))) (lost-numbers n rest)) next (lose is) in
-    let here = lost-fits pre rest x s are is only in
+    let behind : IsLegalFrom limits (after s (lost_entry (length pre + 1))) (lost-numbers (length pre + 1 + 1) rest) =
+    subst (λ n. IsLegalFrom limits (after s (lost_entry (length pre + 1))) (lost-numbers n rest)) next (lose is) in
+    let here = lost-fits limits pre rest x s are is only in
     record {
       fit = (here.0, behind.fit);
       truthful = (here.1, behind.truthful);
     }
 
-lost-all : (pre rest : List Transaction) (s : State) → s.transactions ≡ pre ++ rest → IsTrue s.openings.only_lost
-    → IsLegalFrom profile s (lost-numbers (length pre + 1) rest)
-lost-all pre [] s are only = record { fit = tt; truthful = tt }
-lost-all pre (x ∷ rest) s are only =
-    lost-by pre rest x s are only (is_open x) refl
-    (λ closed. lost-all (pre ++ x ∷ []) rest s (are ∙ sym (append_assoc pre (x ∷ []) rest)) only)
-    (λ unended. lost-all (pre ++ ended (Aborted s.entries Lost) x ∷ []) rest (after s (lost_entry (length pre + 1)))
+lost-all : (limits : Limits) (pre rest : List Transaction) (s : State) → s.transactions ≡ pre ++ rest → IsTrue s.openings.only_lost
+    → IsLegalFrom limits s (lost-numbers (length pre + 1) rest)
+lost-all limits pre [] s are only = record { fit = tt; truthful = tt }
+lost-all limits pre (x ∷ rest) s are only =
+    lost-by limits pre rest x s are only (is_open x) refl
+    (λ closed. lost-all limits (pre ++ x ∷ []) rest s (are ∙ sym (append_assoc pre (x ∷ []) rest)) only)
+    (λ unended. lost-all limits (pre ++ ended (Aborted s.entries Lost) x ∷ []) rest (after s (lost_entry (length pre + 1)))
     (aborted-there pre rest x s are unended ∙ sym (append_assoc pre (ended (Aborted s.entries Lost) x ∷ []) rest))
     (aborted-openings s (length pre + 1) only))
 
@@ -101,41 +102,41 @@ unfolding acted
 booted s run = refl
 
 -- it is legal
-pub opened-book : (book : List Entry) → load (state_of book) + 1 ≤ profile.entries → IsLegalFrom profile (state_of book) (opening_entries (state_of book))
-opened-book book room =
+pub opened-book : (limits : Limits) (book : List Entry) → load (state_of book) + 1 ≤ limits.entries → IsLegalFrom limits (state_of book) (opening_entries (state_of book))
+opened-book limits book room =
     let s : State = state_of book in
     let one : State = after s (Boot s.openings.count) in
-    let lost : IsLegalFrom profile one (map lost_entry (open_numbers s)) =
-    subst (λ ts. IsLegalFrom profile one (map lost_entry (marked_from 1 (map is_open ts)))) (booted s s.openings.count) (lost-all [] one.transactions one refl refl) in
+    let lost : IsLegalFrom limits one (map lost_entry (open_numbers s)) =
+    subst (λ ts. IsLegalFrom limits one (map lost_entry (marked_from 1 (map is_open ts)))) (booted s s.openings.count) (lost-all limits [] one.transactions one refl refl) in
     record {
       fit = (record { next = refl; room = room }, lost.fit);
       truthful = (tt, lost.truthful);
     }
 
-fit-from : (s : State) (book more : List Entry) → AllFit profile s book → AllFit profile (fold after s book) more → AllFit profile s (book ++ more)
-fit-from s [] more fit next = next
-fit-from s (e ∷ book) more fit next = (fit.0, fit-from (after s e) book more fit.1 next)
+fit-from : (limits : Limits) (s : State) (book more : List Entry) → AllFit limits s book → AllFit limits (fold after s book) more → AllFit limits s (book ++ more)
+fit-from limits s [] more fit next = next
+fit-from limits s (e ∷ book) more fit next = (fit.0, fit-from limits (after s e) book more fit.1 next)
 
 -- and all of the book with its opening fits
-pub opened-fits : (book : List Entry) → AllFit profile nothing_yet book → load (state_of book) + 1 ≤ profile.entries → AllFit profile nothing_yet (opening_of book)
-opened-fits book fit room = fit-from nothing_yet book (opening_entries (state_of book)) fit (opened-book book room).fit
+pub opened-fits : (limits : Limits) (book : List Entry) → AllFit limits nothing_yet book → load (state_of book) + 1 ≤ limits.entries → AllFit limits nothing_yet (opening_of book)
+opened-fits limits book fit room = fit-from limits nothing_yet book (opening_entries (state_of book)) fit (opened-book limits book room).fit
 
 -- ---- its files
 
-stands-lost : (s : State) (numbers : List ℕ) (files : Tree) → AllFit profile s (map lost_entry numbers) → IsSound s → Stands s files
+stands-lost : (limits : Limits) (s : State) (numbers : List ℕ) (files : Tree) → AllFit limits s (map lost_entry numbers) → IsSound s → Stands s files
     → Stands (fold after s (map lost_entry numbers)) files
-stands-lost s [] files fit sound stands = stands
-stands-lost s (n ∷ numbers) files fit sound stands =
-    stands-lost (after s (lost_entry n)) numbers files fit.1 (sound-after profile s (lost_entry n) fit.0 sound)
-    (stands-after profile s (lost_entry n) files fit.0 sound tt stands)
+stands-lost limits s [] files fit sound stands = stands
+stands-lost limits s (n ∷ numbers) files fit sound stands =
+    stands-lost limits (after s (lost_entry n)) numbers files fit.1 (sound-after limits s (lost_entry n) fit.0 sound)
+    (stands-after limits s (lost_entry n) files fit.0 sound tt stands)
 
-pub stands-opened : (book : List Entry) (files : Tree) → AllFit profile nothing_yet book → load (state_of book) + 1 ≤ profile.entries
+pub stands-opened : (limits : Limits) (book : List Entry) (files : Tree) → AllFit limits nothing_yet book → load (state_of book) + 1 ≤ limits.entries
     → Stands (state_of book) files → Stands (state_of (opening_of book)) files
-stands-opened book files fit room stands =
+stands-opened limits book files fit room stands =
     let s : State = state_of book in
     let run : ℕ = s.openings.count in
-    let legal = opened-book book room in
-    let sound = sound-all profile nothing_yet book fit nothing-sound in
+    let legal = opened-book limits book room in
+    let sound = sound-all limits nothing_yet book fit nothing-sound in
     subst (λ n. Stands n files) (sym (fold-append after nothing_yet book (opening_entries s)))
-    (stands-lost (after s (Boot run)) (open_numbers s) files legal.fit.1 (sound-after profile s (Boot run) legal.fit.0 sound)
-    (stands-after profile s (Boot run) files legal.fit.0 sound tt stands))
+    (stands-lost limits (after s (Boot run)) (open_numbers s) files legal.fit.1 (sound-after limits s (Boot run) legal.fit.0 sound)
+    (stands-after limits s (Boot run) files legal.fit.0 sound tt stands))

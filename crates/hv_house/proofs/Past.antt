@@ -8,7 +8,7 @@ use Rattle.std.specs.List.{slice_get, AllByRecursion}
 use Rattle.std.specs.Option.{option_map}
 use Rattle.hv_wids.specs.declared.list.Exception.{Exception}
 use Rattle.hv_wids.specs.Between.{has}
-use Rattle.hv_wids.specs.WriteIds.{WriteIds, ids_of, is_valid}
+use Rattle.hv_wids.specs.WriteIds.{ids_of}
 use Rattle.hv_logic.specs.declared.catalog.TableInfo.{TableInfo}
 use Rattle.hv_history.specs.declared.state.Ending.{Ending}
 use Rattle.hv_history.specs.declared.state.Ending.TheVariants.{Committed, Aborted, Made, Dropped}

@@ -3,6 +3,7 @@ use Rattle.std.proofs.Common.{◌≡◌, ◌<◌, ◌≤◌, inl, inr, ℕ, ◌-
 use Rattle.std.specs.Prelude.{◌||◌, if◌then◌else◌, Contains, OnOk}
 use Rattle.std.proofs.lemmas.Bool.{ltb-true}
 use Rattle.hv_base.specs.declared.ids.TxnId.{TxnId}
+use Rattle.hv_base.specs.declared.ids.Limits.{Limits}
 use Rattle.hv_base.specs.Told.{Moves}
 use Rattle.hv_base.specs.Faults.{Rose}
 use Rattle.hv_base.proofs.ToldLemmas.{Moves-weaken}
@@ -22,22 +23,23 @@ use Rattle.hv_house.specs.declared.fault.HouseFault.{HouseFault}
 use Rattle.hv_house.specs.declared.fault.HouseFault.TheVariants as fault
 use Rattle.hv_house.specs.declared.house.House.{House}
 use Rattle.hv_house.specs.Faults.{put_result, HasRisen}
-use Rattle.hv_house.specs.House.{entries_of, IsReady, KeepsJournal}
-use Rattle.hv_house.specs.Steps.{seen_of, fault_outcome, outcome_of, KeepsFault, GainsBy, IsPutMarkedFor, PutStep}
+use Rattle.hv_house.specs.House.{entries_of, IsReadyWithin, KeepsJournal}
+use Rattle.hv_house.specs.Steps.{seen_of, fault_outcome, outcome_of, KeepsFault, GainsBy, IsPutMarkedFor, PutStepWithin}
 use Rattle.hv_house.proofs.Reading.{contains-last, gains-nothing}
 use Rattle.hv_house.proofs.Ready.{put-ready, put-stays}
 
 -- ---- what the trail gains
 
 pub gains-put : {D : Type 0} (by : TxnId) (place : Place) (bytes : List ℕ) (before now : House D) → before.trail.closed ≡ false
-    → now.place ≡ before.place → now.start ≡ before.start → entries_of now ≡ entries_of before → now.trail.opened ≡ before.trail.opened
+    → now.place ≡ before.place → now.start ≡ before.start → entries_of now ≡ entries_of before → now.trail.opened ≡ before.trail.opened → now.limits ≡ before.limits
     → trail_of now.trail ≡ trail_of before.trail ++ Marked (Wrote (Txn by) place) ∷ [] → now.trail.closed ≡ before.trail.closed
     → GainsBy (Put (Txn by) place bytes) Done before now
-gains-put by place bytes before now running at start entries left trail closed = record {
+gains-put by place bytes before now running at start entries left limits trail closed = record {
   place = at;
   entries = entries;
   start = start;
   left = left;
+  limits = limits;
   trail = trail;
   closed = closed ∙ running ∙ sym (ap (λ c. c || false) running);
 }
@@ -49,6 +51,7 @@ gains-put-fault by place bytes (fault.Failed count) before now running keeps = r
   entries = keeps.entries;
   start = keeps.start;
   left = keeps.left;
+  limits = keeps.limits;
   trail = keeps.trail;
   closed = keeps.closed ∙ running ∙ sym (ap (λ c. c || false) running);
 }
@@ -57,6 +60,7 @@ gains-put-fault by place bytes fault.Store before now running keeps = record {
   entries = keeps.entries;
   start = keeps.start;
   left = keeps.left;
+  limits = keeps.limits;
   trail = keeps.trail;
   closed = keeps.closed ∙ sym (ap (λ c. c || true) running);
 }
@@ -65,6 +69,7 @@ gains-put-fault by place bytes fault.NoMemory before now running keeps = record 
   entries = keeps.entries;
   start = keeps.start;
   left = keeps.left;
+  limits = keeps.limits;
   trail = keeps.trail;
   closed = keeps.closed ∙ running ∙ sym (ap (λ c. c || false) running);
 }
@@ -87,7 +92,7 @@ moves-equal R keeps a b same = subst (Moves R a) (sym same) (by a)
 
 -- ---- how a put ended
 
-module _ {D : Type 0} (told : D → Option Store) (faults : D → ℕ) (by : TxnId) (place : Place) (bytes : List ℕ) (before now : House D) (ready : IsReady told before) where
+module _ {D : Type 0} (limits : Limits) (told : D → Option Store) (faults : D → ℕ) (by : TxnId) (place : Place) (bytes : List ℕ) (before now : House D) (ready : IsReadyWithin limits told before) where
   abbrev call : Call
   call = Put (Txn by) place bytes
 
@@ -102,14 +107,14 @@ module _ {D : Type 0} (told : D → Option Store) (faults : D → ℕ) (by : Txn
     shut_out = λ shut. absurd (true≢false (sym shut ∙ ready.kept.running));
     locks = locks;
     counts = counts;
-    rest = record { start = ap (λ s. s.value) gained.start; opened = gained.left; limits = refl };
+    rest = record { start = ap (λ s. s.value) gained.start; opened = gained.left; limits = gained.limits };
   }
 
   done-ends : (x : Unit {0}) → Moves (HasFile place bytes) (told before.shelf) (told now.shelf) → faults before.shelf ≤ faults now.shelf → GainsBy call Done before now
-      → PutStep told faults by place bytes before now (Ok x)
+      → PutStepWithin limits told faults by place bytes before now (Ok x)
   done-ends x moves later gained = record {
     book = gained.entries;
-    ready = put-ready told before now call gained (Moves-weaken (HasFile place bytes) KeepsJournal (put-journal place bytes) (told before.shelf) (told now.shelf) moves) ready;
+    ready = put-ready limits told before now call gained (Moves-weaken (HasFile place bytes) KeepsJournal (put-journal place bytes) (told before.shelf) (told now.shelf) moves) ready;
     stays = tt;
     marked = tt;
     step = step-by Done tt moves refl later gained;
@@ -125,11 +130,11 @@ module _ {D : Type 0} (told : D → Option Store) (faults : D → ℕ) (by : Txn
 
   err-ends : (why : HouseFault) → Moves KeepsJournal (told before.shelf) (told now.shelf) → faults before.shelf ≤ faults now.shelf
       → HasRisen (faults before.shelf) (faults now.shelf) why → GainsBy call (fault_outcome why) before now
-      → Step told faults call (fault_outcome why) (seen_of before) (seen_of now) → PutStep told faults by place bytes before now (Err why)
+      → Step told faults call (fault_outcome why) (seen_of before) (seen_of now) → PutStepWithin limits told faults by place bytes before now (Err why)
   err-ends why keeps later risen gained step = record {
     book = gained.entries;
     ready = tt;
-    stays = put-stays told before now call why gained keeps ready;
+    stays = put-stays limits told before now call why gained keeps ready;
     marked = marked-behind why gained;
     step = step;
     cause = record { later = later; failed = risen };
@@ -140,7 +145,7 @@ module _ {D : Type 0} (told : D → Option Store) (faults : D → ℕ) (by : Txn
 
   torn-ends : (below : Bool) → nat_lt (faults now.shelf) (2 ^ 64 - 1) ≡ below → Moves (TornFile place) (told before.shelf) (told now.shelf)
       → faults before.shelf ≤ faults now.shelf → Rose (faults before.shelf) (faults now.shelf)
-      → GainsBy call (fault_outcome (counted below)) before now → PutStep told faults by place bytes before now (Err (counted below))
+      → GainsBy call (fault_outcome (counted below)) before now → PutStepWithin limits told faults by place bytes before now (Err (counted below))
   torn-ends true is moves later rose gained =
       let keeps = Moves-weaken (TornFile place) KeepsJournal (torn-journal place) (told before.shelf) (told now.shelf) moves in
       let few : faults now.shelf < 2 ^ 64 - 1 = ltb-true (faults now.shelf) (2 ^ 64 - 1) is in
@@ -151,7 +156,7 @@ module _ {D : Type 0} (told : D → Option Store) (faults : D → ℕ) (by : Txn
       err-ends fault.Store keeps later rose gained (step-by Closed tt moves refl later gained)
 
   same-ends : told now.shelf ≡ told before.shelf → faults before.shelf ≤ faults now.shelf → GainsBy call Refused before now
-      → PutStep told faults by place bytes before now (Err fault.NoMemory)
+      → PutStepWithin limits told faults by place bytes before now (Err fault.NoMemory)
   same-ends same later gained =
       err-ends fault.NoMemory (moves-equal KeepsJournal (λ s t e. ap (λ (x : Store). x.journal) e) (told before.shelf) (told now.shelf) same) later tt gained
       (step-by Refused tt (moves-equal (λ s t. t ≡ s) (λ s t e. e) (told before.shelf) (told now.shelf) same) refl later gained)
@@ -160,7 +165,7 @@ module _ {D : Type 0} (told : D → Option Store) (faults : D → ℕ) (by : Txn
       → (IsErrOf done shelf.Failed → Moves (TornFile place) (told before.shelf) (told now.shelf)) → (IsErrOf done shelf.NoMemory → told now.shelf ≡ told before.shelf)
       → StoreCause (faults before.shelf) (faults now.shelf) (IsErrOf done shelf.Failed)
       → GainsBy call (outcome_of (put_result (faults now.shelf) done)) before now
-      → PutStep told faults by place bytes before now (put_result (faults now.shelf) done)
+      → PutStepWithin limits told faults by place bytes before now (put_result (faults now.shelf) done)
   ends-of (Ok x) put torn same cause gained = done-ends x put cause.later gained
   ends-of (Err shelf.Failed) put torn same cause gained = torn-ends (nat_lt (faults now.shelf) (2 ^ 64 - 1)) refl (torn refl) cause.later (cause.failed refl) gained
   ends-of (Err shelf.NoMemory) put torn same cause gained = same-ends (same refl) cause.later gained
@@ -168,10 +173,10 @@ module _ {D : Type 0} (told : D → Option Store) (faults : D → ℕ) (by : Txn
   pub put-ends : (s : D) (done : Result (Unit {0}) ShelfFault) (result : Result (Unit {0}) HouseFault) → now.shelf ≡ s → result ≡ put_result (faults s) done
       → OnOk done (Moves (HasFile place bytes) (told before.shelf) (told s)) → (IsErrOf done shelf.Failed → Moves (TornFile place) (told before.shelf) (told s))
       → (IsErrOf done shelf.NoMemory → told s ≡ told before.shelf) → StoreCause (faults before.shelf) (faults s) (IsErrOf done shelf.Failed)
-      → GainsBy call (outcome_of result) before now → PutStep told faults by place bytes before now result
+      → GainsBy call (outcome_of result) before now → PutStepWithin limits told faults by place bytes before now result
   put-ends s done result at is put torn none cause gained =
       let here : result ≡ put_result (faults now.shelf) done = is ∙ ap (λ (x : D). put_result (faults x) done) (sym at) in
-      subst (PutStep told faults by place bytes before now) (sym here)
+      subst (PutStepWithin limits told faults by place bytes before now) (sym here)
       (ends-of done (subst (λ (x : D). OnOk done (Moves (HasFile place bytes) (told before.shelf) (told x))) (sym at) put)
       (subst (λ (x : D). IsErrOf done shelf.Failed → Moves (TornFile place) (told before.shelf) (told x)) (sym at) torn)
       (subst (λ (x : D). IsErrOf done shelf.NoMemory → told x ≡ told before.shelf) (sym at) none)
@@ -179,9 +184,9 @@ module _ {D : Type 0} (told : D → Option Store) (faults : D → ℕ) (by : Txn
       (subst (λ (r : Result (Unit {0}) HouseFault). GainsBy call (outcome_of r) before now) here gained))
 
 -- nothing was put, for want of memory
-pub idle-ends : {D : Type 0} (told : D → Option Store) (faults : D → ℕ) (by : TxnId) (place : Place) (bytes : List ℕ) (before now : House D) → IsReady told before
+pub idle-ends : {D : Type 0} (limits : Limits) (told : D → Option Store) (faults : D → ℕ) (by : TxnId) (place : Place) (bytes : List ℕ) (before now : House D) → IsReadyWithin limits told before
     → now.shelf ≡ before.shelf → now.place ≡ before.place → now.start ≡ before.start → entries_of now ≡ entries_of before → now.trail.marks ≡ before.trail.marks
-    → now.trail.opened ≡ before.trail.opened → now.trail.closed ≡ before.trail.closed → PutStep told faults by place bytes before now (Err fault.NoMemory)
-idle-ends told faults by place bytes before now ready same at start entries marks left closed =
-    same-ends told faults by place bytes before now ready (ap told same) (omega (arith, ap faults same))
-    (gains-nothing (Put (Txn by) place bytes) Refused before now refl refl ready.kept.running at start entries marks left closed)
+    → now.trail.opened ≡ before.trail.opened → now.limits ≡ before.limits → now.trail.closed ≡ before.trail.closed → PutStepWithin limits told faults by place bytes before now (Err fault.NoMemory)
+idle-ends limits told faults by place bytes before now ready same at start entries marks left keeps closed =
+    same-ends limits told faults by place bytes before now ready (ap told same) (omega (arith, ap faults same))
+    (gains-nothing (Put (Txn by) place bytes) Refused before now refl refl ready.kept.running at start entries marks left keeps closed)

@@ -1,6 +1,6 @@
 -- What a call that reads is as a step.
-use Rattle.std.proofs.Common.{◌≡◌, ◌≤◌, ℕ, true, false, true≢false, Option, Some, None, Result, Err, List, [], ◌++◌, refl, sym, ap, ◌∙◌, subst, arith, append-nil}
-use Rattle.std.specs.Prelude.{◌||◌, ◌∷◌, Contains, IfErr}
+use Rattle.std.proofs.Common.{◌≡◌, ◌≤◌, ℕ, true, false, true≢false, Option, Some, None, List, [], ◌++◌, refl, sym, ap, ◌∙◌, subst, arith, append-nil}
+use Rattle.std.specs.Prelude.{◌||◌, ◌∷◌, Contains}
 use Rattle.std.proofs.lemmas.List.Elements.{Contains-append_right}
 use Rattle.hv_base.specs.declared.ids.TxnId.{TxnId}
 use Rattle.hv_base.specs.Told.{Moves}
@@ -20,8 +20,8 @@ use Rattle.hv_house.specs.declared.fault.RowFault.{RowFault}
 use Rattle.hv_house.specs.declared.fault.RowFault.TheVariants as row_fault
 use Rattle.hv_house.specs.declared.house.House.{House}
 use Rattle.hv_house.specs.Faults.{HasRisenReading}
-use Rattle.hv_house.specs.House.{entries_of, IsReady, StaysRead}
-use Rattle.hv_house.specs.Steps.{seen_of, reading_outcome, read_outcome, KeepsFault, GainsBy, IsMarkedFor}
+use Rattle.hv_house.specs.House.{entries_of}
+use Rattle.hv_house.specs.Steps.{seen_of, reading_outcome, KeepsFault, GainsBy, IsMarkedFor}
 use Rattle.hv_house.proofs.Steps.{same-trail}
 
 -- ---- what the trail gains
@@ -29,12 +29,13 @@ use Rattle.hv_house.proofs.Steps.{same-trail}
 -- nothing was done
 pub gains-nothing : {D : Type 0} (call : Call) (outcome : Outcome) (before now : House D) → gains call outcome ≡ [] → shuts outcome ≡ false → before.trail.closed ≡ false
     → now.place ≡ before.place → now.start ≡ before.start → entries_of now ≡ entries_of before → now.trail.marks ≡ before.trail.marks
-    → now.trail.opened ≡ before.trail.opened → now.trail.closed ≡ before.trail.closed → GainsBy call outcome before now
-gains-nothing call outcome before now none open_ running place start entries marks left closed = record {
+    → now.trail.opened ≡ before.trail.opened → now.limits ≡ before.limits → now.trail.closed ≡ before.trail.closed → GainsBy call outcome before now
+gains-nothing call outcome before now none open_ running place start entries marks left limits closed = record {
   place = place;
   entries = entries;
   start = start;
   left = left;
+  limits = limits;
   trail = same-trail before now entries marks ∙ sym (append-nil (trail_of before.trail)) ∙ ap (λ items. trail_of before.trail ++ items) (sym none);
   closed = closed ∙ running ∙ sym (ap (λ c. before.trail.closed || c) open_ ∙ ap (λ c. c || false) running);
 }
@@ -47,6 +48,7 @@ gains-fault by (fault.Failed count) before now running keeps = record {
   entries = keeps.entries;
   start = keeps.start;
   left = keeps.left;
+  limits = keeps.limits;
   trail = keeps.trail;
   closed = keeps.closed ∙ running ∙ sym (ap (λ c. c || false) running);
 }
@@ -55,6 +57,7 @@ gains-fault by fault.Store before now running keeps = record {
   entries = keeps.entries;
   start = keeps.start;
   left = keeps.left;
+  limits = keeps.limits;
   trail = keeps.trail;
   closed = keeps.closed ∙ sym (ap (λ c. c || true) running);
 }
@@ -63,19 +66,21 @@ gains-fault by fault.NoMemory before now running keeps = record {
   entries = keeps.entries;
   start = keeps.start;
   left = keeps.left;
+  limits = keeps.limits;
   trail = keeps.trail;
   closed = keeps.closed ∙ running ∙ sym (ap (λ c. c || false) running);
 }
 
 -- behind a call that left the trail as it was
 pub gains-behind : {D : Type 0} (call : Call) (outcome : Outcome) (first before now : House D) → before.place ≡ first.place → before.start ≡ first.start
-    → entries_of before ≡ entries_of first → before.trail.marks ≡ first.trail.marks → before.trail.opened ≡ first.trail.opened → before.trail.closed ≡ first.trail.closed
+    → entries_of before ≡ entries_of first → before.trail.marks ≡ first.trail.marks → before.trail.opened ≡ first.trail.opened → before.limits ≡ first.limits → before.trail.closed ≡ first.trail.closed
     → GainsBy call outcome before now → GainsBy call outcome first now
-gains-behind call outcome first before now place start entries marks left closed gained = record {
+gains-behind call outcome first before now place start entries marks left limits closed gained = record {
   place = gained.place ∙ place;
   entries = gained.entries ∙ entries;
   start = gained.start ∙ start;
   left = gained.left ∙ left;
+  limits = gained.limits ∙ limits;
   trail = gained.trail ∙ ap (λ items. items ++ gains call outcome) (same-trail first before entries marks);
   closed = gained.closed ∙ ap (λ c. c || shuts outcome) closed;
 }
@@ -102,7 +107,7 @@ module _ {D : Type 0} (told : D → Option Store) (faults : D → ℕ) (by : Opt
     shut_out = λ shut. absurd (true≢false (sym shut ∙ running));
     locks = locks;
     counts = counts;
-    rest = record { start = ap (λ s. s.value) gained.start; opened = gained.left; limits = refl };
+    rest = record { start = ap (λ s. s.value) gained.start; opened = gained.left; limits = gained.limits };
   }
 
   pub step-read : GainsBy (Read by) Done before now → Step told faults (Read by) Done (seen_of before) (seen_of now)

@@ -1,28 +1,28 @@
 -- A house between two calls.
 use Rattle.std.proofs.Common.{◌≡◌, ◌+◌, ◌<◌, ◌≤◌, Bool, false, Option, Some, None, Result, Ok, Err, OnOk, List, [], ◌∷◌, ◌++◌, length, refl, sym, ap, ◌∙◌, subst, arith, append_assoc, length-append}
 use Rattle.std.specs.Prelude.{◌||◌}
+use Rattle.hv_base.specs.declared.ids.Limits.{Limits}
 use Rattle.hv_base.specs.Told.{Moves}
 use Rattle.hv_shelf.specs.Disk.{Store}
 use Rattle.hv_history.specs.declared.entry.Entry.{Entry}
-use Rattle.hv_history.specs.State.{state_of}
+use Rattle.hv_history.specs.State.{nothing_yet, state_of}
 use Rattle.hv_history.specs.Journal.{place_of, Reads}
-use Rattle.hv_history.specs.Legal.{Fits, profile}
+use Rattle.hv_history.specs.Legal.{Fits, AllFit}
 use Rattle.hv_journal.specs.Appending.{Holds}
 use Rattle.hv_trail.specs.Steps.{Call, Outcome, Done, shuts}
 use Rattle.hv_stands.specs.Running.{Asking, opening, starting, next_number}
-use Rattle.hv_stands.specs.Statements.{AllFitting}
-use Rattle.hv_stands.proofs.Fitting.{one-more-fits, fitting-room}
+use Rattle.hv_house.proofs.Rooms.{more-fits, room-within}
 use Rattle.hv_house.specs.declared.fault.HouseFault.{HouseFault}
 use Rattle.hv_house.specs.declared.fault.HouseFault.TheVariants as fault
 use Rattle.hv_house.specs.declared.fault.RowFault.{RowFault}
 use Rattle.hv_house.specs.declared.fault.RowFault.TheVariants as row_fault
 use Rattle.hv_house.specs.declared.house.House.{House}
 use Rattle.hv_house.specs.Steps.{ClosesBy, fault_outcome, reading_outcome, GainsBy}
-use Rattle.hv_house.specs.House.{entries_of, IsKept, IsReady, AreNoted, AreHalted, StaysReady, StaysPut, StaysRead, IsAsked, KeepsJournal, BeginFits, beginning_of}
+use Rattle.hv_house.specs.House.{entries_of, IsKept, IsReadyWithin, AreNoted, AreHalted, StaysReadyWithin, StaysPutWithin, StaysReadWithin, IsAsked, KeepsJournal, BeginFitsWithin, beginning_of}
 
 -- ---- it was only asked, or files were put
 
-module _ {D : Type 0} (told : D → Option Store) (before now : House D) where
+module _ {D : Type 0} (limits : Limits) (told : D → Option Store) (before now : House D) where
   same-kept : now.place ≡ before.place → entries_of now ≡ entries_of before → now.trail.closed ≡ before.trail.closed → Holds (told now.shelf) (entries_of before)
       → IsKept told before → IsKept told now
   same-kept place entries closed holds kept = record {
@@ -33,30 +33,33 @@ module _ {D : Type 0} (told : D → Option Store) (before now : House D) where
     running = closed ∙ kept.running;
   }
 
-  asked-holds : IsAsked told before now → IsReady told before → Holds (told now.shelf) (entries_of before)
+  asked-holds : IsAsked told before now → IsReadyWithin limits told before → Holds (told now.shelf) (entries_of before)
   asked-holds asked ready = subst (λ o. Holds o (entries_of before)) (sym asked.store) ready.kept.reads
 
-  pub asked-ready : IsAsked told before now → now.trail.closed ≡ before.trail.closed → IsReady told before → IsReady told now
-  asked-ready asked closed ready = record {
+  pub asked-ready : IsAsked told before now → now.limits ≡ before.limits → now.trail.closed ≡ before.trail.closed → IsReadyWithin limits told before
+      → IsReadyWithin limits told now
+  asked-ready asked same closed ready = record {
     kept = same-kept asked.place asked.book closed (asked-holds asked ready) ready.kept;
-    fit = subst AllFitting (sym asked.book) ready.fit;
+    limits_are = same ∙ ready.limits_are;
+    within = ready.within;
+    fit = subst (AllFit limits nothing_yet) (sym asked.book) ready.fit;
   }
 
   -- it was read, or that failed
-  still-closed : {b : Bool} → IsReady told before → b ≡ before.trail.closed || false → b ≡ before.trail.closed
+  still-closed : {b : Bool} → IsReadyWithin limits told before → b ≡ before.trail.closed || false → b ≡ before.trail.closed
   still-closed ready same = same ∙ ap (λ c. c || false) ready.kept.running ∙ sym ready.kept.running
 
-  pub read-ready : (call : Call) → IsAsked told before now → GainsBy call Done before now → IsReady told before → IsReady told now
-  read-ready call asked gains ready = asked-ready asked (still-closed ready gains.closed) ready
+  pub read-ready : (call : Call) → IsAsked told before now → GainsBy call Done before now → IsReadyWithin limits told before → IsReadyWithin limits told now
+  read-ready call asked gains ready = asked-ready asked gains.limits (still-closed ready gains.closed) ready
 
-  pub read-stays : (call : Call) (why : RowFault) → IsAsked told before now → GainsBy call (reading_outcome why) before now → IsReady told before → StaysRead told why now
-  read-stays call (row_fault.Damaged place) asked gains ready = asked-ready asked (still-closed ready gains.closed) ready
-  read-stays call (row_fault.House fault.NoMemory) asked gains ready = asked-ready asked (still-closed ready gains.closed) ready
-  read-stays call (row_fault.House (fault.Failed count)) asked gains ready = asked-ready asked (still-closed ready gains.closed) ready
+  pub read-stays : (call : Call) (why : RowFault) → IsAsked told before now → GainsBy call (reading_outcome why) before now → IsReadyWithin limits told before → StaysReadWithin limits told why now
+  read-stays call (row_fault.Damaged place) asked gains ready = asked-ready asked gains.limits (still-closed ready gains.closed) ready
+  read-stays call (row_fault.House fault.NoMemory) asked gains ready = asked-ready asked gains.limits (still-closed ready gains.closed) ready
+  read-stays call (row_fault.House (fault.Failed count)) asked gains ready = asked-ready asked gains.limits (still-closed ready gains.closed) ready
   read-stays call (row_fault.House fault.Store) asked gains ready = subst (Holds (told now.shelf)) (sym asked.book) (asked-holds asked ready)
 
   -- a file was put, or that failed
-  holds-behind : Moves KeepsJournal (told before.shelf) (told now.shelf) → IsReady told before → Holds (told now.shelf) (entries_of before)
+  holds-behind : Moves KeepsJournal (told before.shelf) (told now.shelf) → IsReadyWithin limits told before → Holds (told now.shelf) (entries_of before)
   holds-behind keeps ready = by (told before.shelf) (told now.shelf) keeps ready.kept.reads
     where
       by : (a b : Option Store) → Moves KeepsJournal a b → Holds a (entries_of before) → Holds b (entries_of before)
@@ -66,27 +69,29 @@ module _ {D : Type 0} (told : D → Option Store) (before now : House D) where
       by (Some s) (Some t) keeps holds = subst (Reads (entries_of before)) (sym keeps) holds
 
   put-kept : {outcome : Outcome} (call : Call) → shuts outcome ≡ false → GainsBy call outcome before now → Moves KeepsJournal (told before.shelf) (told now.shelf)
-      → IsReady told before → IsReady told now
+      → IsReadyWithin limits told before → IsReadyWithin limits told now
   put-kept {outcome = outcome} call open_ gains keeps ready = record {
     kept = same-kept gains.place gains.entries (still-closed ready (gains.closed ∙ ap (λ c. before.trail.closed || c) open_)) (holds-behind keeps ready) ready.kept;
-    fit = subst AllFitting (sym gains.entries) ready.fit;
+    limits_are = gains.limits ∙ ready.limits_are;
+    within = ready.within;
+    fit = subst (AllFit limits nothing_yet) (sym gains.entries) ready.fit;
   }
 
-  pub put-ready : (call : Call) → GainsBy call Done before now → Moves KeepsJournal (told before.shelf) (told now.shelf) → IsReady told before → IsReady told now
+  pub put-ready : (call : Call) → GainsBy call Done before now → Moves KeepsJournal (told before.shelf) (told now.shelf) → IsReadyWithin limits told before → IsReadyWithin limits told now
   put-ready call gains keeps ready = put-kept call refl gains keeps ready
 
   pub put-stays : (call : Call) (why : HouseFault) → GainsBy call (fault_outcome why) before now → Moves KeepsJournal (told before.shelf) (told now.shelf)
-      → IsReady told before → StaysPut told why now
+      → IsReadyWithin limits told before → StaysPutWithin limits told why now
   put-stays call fault.Store gains keeps ready = subst (Holds (told now.shelf)) (sym gains.entries) (holds-behind keeps ready)
   put-stays call fault.NoMemory gains keeps ready = put-kept call refl gains keeps ready
   put-stays call (fault.Failed count) gains keeps ready = put-kept call refl gains keeps ready
 
   -- nothing was noted for want of memory
-  pub halted-ready : (why : HouseFault) (events : List Entry) → AreHalted told events why before now → now.place ≡ before.place
-      → ClosesBy why before.trail.closed now.trail.closed → IsReady told before → StaysReady told why now
-  halted-ready fault.Store events halted place closed ready = record { ready = λ none. cc }
-  halted-ready (fault.Failed count) events halted place closed ready = record { ready = λ none. cc }
-  halted-ready fault.NoMemory events halted place closed ready = record {
+  pub halted-ready : (why : HouseFault) (events : List Entry) → AreHalted told events why before now → now.limits ≡ before.limits → now.place ≡ before.place
+      → ClosesBy why before.trail.closed now.trail.closed → IsReadyWithin limits told before → StaysReadyWithin limits told why now
+  halted-ready fault.Store events halted same place closed ready = record { ready = λ none. cc }
+  halted-ready (fault.Failed count) events halted same place closed ready = record { ready = λ none. cc }
+  halted-ready fault.NoMemory events halted same place closed ready = record {
     ready = λ _. record {
       kept = record {
         place = place ∙ ready.kept.place ∙ ap place_of (sym halted.entries);
@@ -95,29 +100,35 @@ module _ {D : Type 0} (told : D → Option Store) (before now : House D) where
         reads = subst (Holds (told now.shelf)) (sym halted.entries) halted.leaves;
         running = closed ∙ ready.kept.running;
       };
-      fit = subst AllFitting (sym halted.entries) ready.fit;
+      limits_are = same ∙ ready.limits_are;
+      within = ready.within;
+      fit = subst (AllFit limits nothing_yet) (sym halted.entries) ready.fit;
     };
   }
 
   -- an entry was noted that fits
-  pub noted-ready : (event : Entry) → AreNoted told (event ∷ []) before now → Fits profile (state_of (entries_of before)) event → IsReady told before
-      → IsReady told now
-  noted-ready event noted fits ready = record {
+  pub noted-ready : (event : Entry) → AreNoted told (event ∷ []) before now → now.limits ≡ before.limits → Fits limits (state_of (entries_of before)) event → IsReadyWithin limits told before
+      → IsReadyWithin limits told now
+  noted-ready event noted same fits ready = record {
     kept = noted.kept;
-    fit = subst AllFitting (sym noted.entries) (one-more-fits (entries_of before) event ready.fit fits);
+    limits_are = same ∙ ready.limits_are;
+    within = ready.within;
+    fit = subst (AllFit limits nothing_yet) (sym noted.entries) (more-fits limits (entries_of before) nothing_yet event ready.fit fits);
   }
 
   -- and both that begin a statement
-  pub begun-ready : (asking : Asking) → AreNoted told (beginning_of (entries_of before) asking) before now → BeginFits (entries_of before) asking
-      → IsReady told before → IsReady told now
-  begun-ready asking noted fits ready =
+  pub begun-ready : (asking : Asking) → AreNoted told (beginning_of (entries_of before) asking) before now → now.limits ≡ before.limits → BeginFitsWithin limits (entries_of before) asking
+      → IsReadyWithin limits told before → IsReadyWithin limits told now
+  begun-ready asking noted same fits ready =
       let book : List Entry = entries_of before in
-      let first : AllFitting (book ++ opening book asking ∷ []) = one-more-fits book (opening book asking) ready.fit fits.0 in
-      let both : AllFitting ((book ++ opening book asking ∷ []) ++ starting (next_number book) ∷ []) =
-      one-more-fits (book ++ opening book asking ∷ []) (starting (next_number book)) first fits.1 in
+      let first : AllFit limits nothing_yet (book ++ opening book asking ∷ []) = more-fits limits book nothing_yet (opening book asking) ready.fit fits.0 in
+      let both : AllFit limits nothing_yet ((book ++ opening book asking ∷ []) ++ starting (next_number book) ∷ []) =
+      more-fits limits (book ++ opening book asking ∷ []) nothing_yet (starting (next_number book)) first fits.1 in
       record {
         kept = noted.kept;
-        fit = subst AllFitting (append_assoc book (opening book asking ∷ []) (starting (next_number book) ∷ []) ∙ sym noted.entries) both;
+        limits_are = same ∙ ready.limits_are;
+        within = ready.within;
+        fit = subst (AllFit limits nothing_yet) (append_assoc book (opening book asking ∷ []) (starting (next_number book) ∷ []) ∙ sym noted.entries) both;
       }
 
 -- ---- of a result
@@ -128,11 +139,13 @@ on-ok (Err why) P Q f h = tt
 
 -- ---- there is room for what fits
 
-pub room-for : (book : List Entry) (event : Entry) → AllFitting book → Fits profile (state_of book) event → length book < 131072
-room-for book event fit fits = fitting-room book event fit fits
+pub room-for : (limits : Limits) (book : List Entry) (event : Entry) → limits.entries ≤ 9999999 → AllFit limits nothing_yet book → Fits limits (state_of book) event
+    → length book < 9999999
+room-for limits book event most fit fits = omega (arith, most, room-within limits book event fit fits)
 
-pub room-begin : (book : List Entry) (asking : Asking) → AllFitting book → BeginFits book asking → length book + 2 ≤ 131072
-room-begin book asking fit fits =
-    let first : AllFitting (book ++ opening book asking ∷ []) = one-more-fits book (opening book asking) fit fits.0 in
-    let room : length (book ++ opening book asking ∷ []) < 131072 = fitting-room (book ++ opening book asking ∷ []) (starting (next_number book)) first fits.1 in
-    omega (arith, room, length-append book (opening book asking ∷ []))
+pub room-begin : (limits : Limits) (book : List Entry) (asking : Asking) → limits.entries ≤ 9999999 → AllFit limits nothing_yet book → BeginFitsWithin limits book asking
+    → length book + 2 ≤ 9999999
+room-begin limits book asking most fit fits =
+    let first : AllFit limits nothing_yet (book ++ opening book asking ∷ []) = more-fits limits book nothing_yet (opening book asking) fit fits.0 in
+    let room : length (book ++ opening book asking ∷ []) < limits.entries = room-within limits (book ++ opening book asking ∷ []) (starting (next_number book)) first fits.1 in
+    omega (arith, most, room, length-append book (opening book asking ∷ []))

@@ -137,7 +137,7 @@ shut-or : (a b : Bool) → a ≡ false → b ≡ true → b ≡ a || true
 shut-or a b running shut = shut ∙ sym (ap (λ c. c || true) running)
 
 module _ {D : Type 0} (told : D → Option Store) (faults : D → ℕ) (call : Call) (events : List Entry) (noting : IsNoting call events)
-    (before now : House D) (running : before.trail.closed ≡ false) (start : now.start ≡ before.start) (left : now.trail.opened ≡ before.trail.opened)
+    (before now : House D) (running : before.trail.closed ≡ false) (start : now.start ≡ before.start) (left : now.trail.opened ≡ before.trail.opened) (limits : now.limits ≡ before.limits)
     (tree : Moves KeepsTree (told before.shelf) (told now.shelf)) (later : faults before.shelf ≤ faults now.shelf) where
   pub step-done : trail_of now.trail ≡ trail_of before.trail ++ map Noted events → now.trail.closed ≡ before.trail.closed
       → Holds (told now.shelf) (entries_of before ++ events) → Step told faults call Done (seen_of before) (seen_of now)
@@ -150,7 +150,7 @@ module _ {D : Type 0} (told : D → Option Store) (faults : D → ℕ) (call : C
     shut_out = λ shut. absurd (true≢false (sym shut ∙ running));
     locks = sym noting.locks_done;
     counts = later;
-    rest = record { start = ap (λ s. s.value) start; opened = left; limits = refl };
+    rest = record { start = ap (λ s. s.value) start; opened = left; limits = limits };
   }
 
   pub step-noted : AreNoted told events before now → trail_of now.trail ≡ trail_of before.trail ++ map Noted events → now.trail.closed ≡ before.trail.closed
@@ -168,7 +168,7 @@ module _ {D : Type 0} (told : D → Option Store) (faults : D → ℕ) (call : C
     shut_out = λ shut. absurd (true≢false (sym shut ∙ running));
     locks = sym noting.locks_closed;
     counts = later;
-    rest = record { start = ap (λ s. s.value) start; opened = left; limits = refl };
+    rest = record { start = ap (λ s. s.value) start; opened = left; limits = limits };
   }
   step-halted fault.NoMemory trail closed leaves = record {
     may = noting.may_refuse;
@@ -179,7 +179,7 @@ module _ {D : Type 0} (told : D → Option Store) (faults : D → ℕ) (call : C
     shut_out = λ shut. absurd (true≢false (sym shut ∙ running));
     locks = sym noting.locks_refused;
     counts = later;
-    rest = record { start = ap (λ s. s.value) start; opened = left; limits = refl };
+    rest = record { start = ap (λ s. s.value) start; opened = left; limits = limits };
   }
   step-halted (fault.Failed count) trail closed leaves = absurd leaves
 
@@ -203,6 +203,7 @@ keeps-both a b c first second = record {
   start = second.start ∙ first.start;
   marks = second.marks ∙ first.marks;
   left = second.left ∙ first.left;
+  limits = second.limits ∙ first.limits;
 }
 
 -- nothing was noted for want of memory
@@ -210,4 +211,4 @@ pub step-refused : {D T : Type 0} (told : D → Option Store) (faults : D → �
     (before : House D) → result ≡ Err fault.NoMemory → IsKept told before → Step told faults call (outcome_of result) (seen_of before) (seen_of before)
 step-refused {T = T} told faults call events noting result before is kept =
     subst (λ (r : Result T HouseFault). Step told faults call (outcome_of r) (seen_of before) (seen_of before)) (sym is)
-    (step-halted told faults call events noting before before kept.running refl refl (keeps_same (told before.shelf)) (omega arith) fault.NoMemory refl refl kept.reads)
+    (step-halted told faults call events noting before before kept.running refl refl refl (keeps_same (told before.shelf)) (omega arith) fault.NoMemory refl refl kept.reads)

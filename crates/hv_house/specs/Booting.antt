@@ -1,5 +1,6 @@
 -- How a store is opened.
 use Rattle.std.specs.Prelude.{◌≡◌, ◌⊎◌, ℕ, Bool, true, false, ◌+◌, ◌<◌, Option, List, [], ◌∷◌, ◌++◌, length, map}
+use Rattle.hv_base.specs.declared.ids.Limits.{Limits}
 use Rattle.hv_base.specs.Told.{Tells, Moves}
 use Rattle.hv_shelf.specs.Disk.{Store}
 use Rattle.hv_history.specs.declared.entry.Entry.{Entry}
@@ -7,7 +8,7 @@ use Rattle.hv_history.specs.declared.entry.Entry.TheVariants.{Boot, Abort}
 use Rattle.hv_history.specs.declared.entry.Cause.TheVariants.{Lost}
 use Rattle.hv_history.specs.State.{State, nothing_yet, state_of}
 use Rattle.hv_history.specs.Journal.{IsJournal}
-use Rattle.hv_history.specs.Legal.{is_open, load, HasRoom, profile, AllFit}
+use Rattle.hv_history.specs.Legal.{is_open, load, HasRoom, AllFit}
 use Rattle.hv_recovery.specs.Recovery.{IsJournalOf, IsBadJournalAt}
 use Rattle.hv_recovery.specs.declared.fault.OpenFault.{OpenFault}
 use Rattle.hv_recovery.specs.declared.fault.OpenFault.TheVariants as opening
@@ -67,32 +68,34 @@ IsBootStore fault.Store = Unit {0}
 IsBootStore _ = ⊥
 
 -- the journal has no room for its opening
-pub record IsFullAt (entries : ℕ) (bytes : List ℕ) : Type 0 where
+pub record IsFullAt (limits : Limits) (entries : ℕ) (bytes : List ℕ) : Type 0 where
   pub book : List Entry
-  pub reads : IsJournalOf profile book bytes
+  pub reads : IsJournalOf limits book bytes
   pub count : entries ≡ length book
-  pub full : profile.entries < load (state_of book) + 1
+  pub full : limits.entries < load (state_of book) + 1
 
 -- the journal reads to this book, whose entries fit, and has room for its opening
-pub record CanOpenAs (book : List Entry) (store : Store) : Type 0 where
-  pub reads : IsJournalOf profile book store.journal
-  pub room : HasRoom profile (state_of book) 1
+pub record CanOpenAs (limits : Limits) (book : List Entry) (store : Store) : Type 0 where
+  pub reads : IsJournalOf limits book store.journal
+  pub room : HasRoom limits (state_of book) 1
 
-abbrev pub CanOpen : Store → Type 0
-CanOpen store = (book : List Entry) × CanOpenAs book store
+abbrev pub CanOpen : Limits → Store → Type 0
+CanOpen limits store = (book : List Entry) × CanOpenAs limits book store
 
 -- the journal reads to no book whose entries fit; the book that it reads to has no room for its opening
-abbrev pub HasNoBook : Store → Type 0
-HasNoBook store = (book : List Entry) → IsJournalOf profile book store.journal → ⊥
+abbrev pub HasNoBook : Limits → Store → Type 0
+HasNoBook limits store = (book : List Entry) → IsJournalOf limits book store.journal → ⊥
 
-abbrev pub HasFullBook : Store → Type 0
-HasFullBook store = (book : List Entry) → IsJournalOf profile book store.journal → profile.entries < load (state_of book) + 1
+abbrev pub HasFullBook : Limits → Store → Type 0
+HasFullBook limits store = (book : List Entry) → IsJournalOf limits book store.journal → limits.entries < load (state_of book) + 1
 
 -- a journal that is bad, and one that is full, are left as they are, and no other is called so
-abbrev pub IsBootFault : Option Store → Option Store → BootFault → Type 0
-IsBootFault before now (fault.BadJournal at) = (now ≡ before) × Tells before (λ s. IsBadJournalAt profile s.journal at) × Tells before HasNoBook
-IsBootFault before now (fault.Full entries) = (now ≡ before) × Tells before (λ s. IsFullAt entries s.journal) × Tells before HasFullBook
-IsBootFault before now _ = Unit {0}
+abbrev pub IsBootFault : Limits → Option Store → Option Store → BootFault → Type 0
+IsBootFault limits before now (fault.BadJournal at) =
+    (now ≡ before) × Tells before (λ s. IsBadJournalAt limits s.journal at) × Tells before (HasNoBook limits)
+IsBootFault limits before now (fault.Full entries) =
+    (now ≡ before) × Tells before (λ s. IsFullAt limits entries s.journal) × Tells before (HasFullBook limits)
+IsBootFault limits before now _ = Unit {0}
 
 -- the journal reads to this book, or, where the store failed, to it and the next of these entries
 abbrev pub LeavesFront : BootFault → List Entry → List Entry → List ℕ → Type 0
@@ -115,8 +118,8 @@ abbrev pub CutsOpening : HouseFault → List Entry → List Entry → Option Sto
 CutsOpening why book opening told = Tells told (λ s. IsCutShort (boot_fault why) book opening s.journal)
 
 -- the journal read to a book whose entries fit, and a front of its opening was noted
-abbrev pub StopsOpening : Option Store → Option Store → BootFault → Type 0
-StopsOpening before now why = Moves (λ s t. (book : List Entry) → IsJournalOf profile book s.journal → IsCutOpening why book t.journal) before now
+abbrev pub StopsOpening : Limits → Option Store → Option Store → BootFault → Type 0
+StopsOpening limits before now why = Moves (λ s t. (book : List Entry) → IsJournalOf limits book s.journal → IsCutOpening why book t.journal) before now
 
 -- some of these transactions were aborted as lost, and the next one wasn't
 pub record LosesSome {D : Type 0} (told : D → Option Store) (why : HouseFault) (open_ : List ℕ) (before now : House D) : Type 0 where
@@ -128,10 +131,10 @@ pub record LosesSome {D : Type 0} (told : D → Option Store) (why : HouseFault)
   pub leaves : Leaves why (lost_entry next ∷ []) (told now.shelf) (entries_of now)
 
 -- a book that was read has no room for its opening
-abbrev pub IsRaiseFault : List Entry → Option Store → Option Store → BootFault → Type 0
-IsRaiseFault book before now (fault.BadJournal at) = ⊥
-IsRaiseFault book before now (fault.Full entries) = (now ≡ before) × (entries ≡ length book) × (profile.entries < load (state_of book) + 1)
-IsRaiseFault book before now _ = Unit {0}
+abbrev pub IsRaiseFault : Limits → List Entry → Option Store → Option Store → BootFault → Type 0
+IsRaiseFault limits book before now (fault.BadJournal at) = ⊥
+IsRaiseFault limits book before now (fault.Full entries) = (now ≡ before) × (entries ≡ length book) × (limits.entries < load (state_of book) + 1)
+IsRaiseFault limits book before now _ = Unit {0}
 
 -- what is learned of a book
 pub record IsLearned (book : List Entry) (found : Left) : Type 0 where
@@ -139,11 +142,11 @@ pub record IsLearned (book : List Entry) (found : Left) : Type 0 where
   pub open_are : found.unended.items ≡ open_numbers (state_of book)
 
 -- the book of an opened store is one that its journal read to, with its opening
-pub record IsOpening (told : Option Store) (book now : List Entry) : Type 0 where
-  pub fit : AllFit profile nothing_yet book
-  pub room : HasRoom profile (state_of book) 1
-  pub reads : Tells told (λ s. IsJournalOf profile book s.journal)
+pub record IsOpening (limits : Limits) (told : Option Store) (book now : List Entry) : Type 0 where
+  pub fit : AllFit limits nothing_yet book
+  pub room : HasRoom limits (state_of book) 1
+  pub reads : Tells told (λ s. IsJournalOf limits book s.journal)
   pub now_is : now ≡ opening_of book
 
-abbrev pub Opens : Option Store → List Entry → Type 0
-Opens told now = (book : List Entry) × IsOpening told book now
+abbrev pub Opens : Limits → Option Store → List Entry → Type 0
+Opens limits told now = (book : List Entry) × IsOpening limits told book now

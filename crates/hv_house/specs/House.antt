@@ -1,16 +1,16 @@
 -- What a house holds of a store's history: its book, its journal and its files, whatever transactions are open.
 use Rattle.std.specs.Prelude.{◌≡◌, ℕ, false, ◌+◌, ◌*◌, ◌^◌, ◌≤◌, Option, List, [], ◌∷◌, ◌++◌, length}
 use Rattle.hv_base.specs.Told.{Tells, Moves}
+use Rattle.hv_base.specs.declared.ids.Limits.{Limits}
 use Rattle.hv_shelf.specs.Disk.{Store}
 use Rattle.hv_history.specs.declared.entry.Entry.{Entry}
-use Rattle.hv_history.specs.State.{state_of}
+use Rattle.hv_history.specs.State.{state_of, nothing_yet}
 use Rattle.hv_history.specs.Spelling.{entry_spelling}
 use Rattle.hv_history.specs.Journal.{place_of}
-use Rattle.hv_history.specs.Legal.{IsLegal, Fits, profile}
+use Rattle.hv_history.specs.Legal.{IsLegal, Fits, AllFit, profile}
 use Rattle.hv_journal.specs.Appending.{Holds, HoldsMore, KeepsTree}
 use Rattle.hv_stands.specs.Files.{Stands}
 use Rattle.hv_stands.specs.Running.{Asking, opening, starting, next_number}
-use Rattle.hv_stands.specs.Statements.{AllFitting}
 use Rattle.hv_house.specs.declared.fault.HouseFault.{HouseFault}
 use Rattle.hv_house.specs.declared.fault.HouseFault.TheVariants as fault
 use Rattle.hv_house.specs.declared.fault.RowFault.{RowFault}
@@ -27,9 +27,9 @@ record_limit = 65541
 abbrev pub IsSmall : Entry → Type 0
 IsSmall event = length (entry_spelling event) ≤ entry_limit
 
--- the most entries of a journal
+-- the most entries that a house's limits allow
 abbrev pub book_limit : ℕ
-book_limit = 131072
+book_limit = 9999999
 
 abbrev pub entries_of : {D : Type 0} → House D → List Entry
 entries_of house = house.trail.entries
@@ -42,10 +42,15 @@ pub record IsKept {D : Type 0} (told : D → Option Store) (house : House D) : T
   pub reads : Holds (told house.shelf) (entries_of house)
   pub running : house.trail.closed ≡ false
 
--- between two calls: each entry of its book fits, whatever transactions are open
-pub record IsReady {D : Type 0} (told : D → Option Store) (house : House D) : Type 0 where
+-- between two calls of a house with these limits: each entry of its book fits, whatever transactions are open
+pub record IsReadyWithin {D : Type 0} (limits : Limits) (told : D → Option Store) (house : House D) : Type 0 where
   pub kept : IsKept told house
-  pub fit : AllFitting (entries_of house)
+  pub limits_are : house.limits ≡ limits
+  pub within : limits.entries ≤ book_limit
+  pub fit : AllFit limits nothing_yet (entries_of house)
+
+abbrev pub IsReady : {D : Type 0} → (D → Option Store) → House D → Type 0
+IsReady told house = IsReadyWithin profile told house
 
 -- a legal book whose files stand in the store
 pub record IsFaithful (book : List Entry) (store : Store) : Type 0 where
@@ -71,9 +76,12 @@ abbrev pub beginning_of : List Entry → Asking → List Entry
 beginning_of book asking = opening book asking ∷ starting (next_number book) ∷ []
 
 -- both fit, one behind the other
+abbrev pub BeginFitsWithin : Limits → List Entry → Asking → Type 0
+BeginFitsWithin limits book asking = Fits limits (state_of book) (opening book asking)
+    × Fits limits (state_of (book ++ opening book asking ∷ [])) (starting (next_number book))
+
 abbrev pub BeginFits : List Entry → Asking → Type 0
-BeginFits book asking = Fits profile (state_of book) (opening book asking)
-    × Fits profile (state_of (book ++ opening book asking ∷ [])) (starting (next_number book))
+BeginFits book asking = BeginFitsWithin profile book asking
 
 -- the house was only asked: nothing was noted, and the store is as it was
 pub record IsAsked {D : Type 0} (told : D → Option Store) (before now : House D) : Type 0 where
@@ -103,18 +111,27 @@ abbrev pub IsHalted : {D : Type 0} → (D → Option Store) → Entry → HouseF
 IsHalted told event why before now = AreHalted told (event ∷ []) why before now
 
 -- the house stays ready where memory lacked
-pub record StaysReady {D : Type 0} (told : D → Option Store) (why : HouseFault) (now : House D) : Type 0 where
-  pub ready : why ≡ fault.NoMemory → IsReady told now
+pub record StaysReadyWithin {D : Type 0} (limits : Limits) (told : D → Option Store) (why : HouseFault) (now : House D) : Type 0 where
+  pub ready : why ≡ fault.NoMemory → IsReadyWithin limits told now
+
+abbrev pub StaysReady : {D : Type 0} → (D → Option Store) → HouseFault → House D → Type 0
+StaysReady told why now = StaysReadyWithin profile told why now
 
 -- Behind a fault of a call on files the house is ready, but where the store failed: there it is closed, and its journal reads to the book still.
+abbrev pub StaysPutWithin : {D : Type 0} → Limits → (D → Option Store) → HouseFault → House D → Type 0
+StaysPutWithin limits told fault.Store now = Holds (told now.shelf) (entries_of now)
+StaysPutWithin limits told fault.NoMemory now = IsReadyWithin limits told now
+StaysPutWithin limits told (fault.Failed count) now = IsReadyWithin limits told now
+
 abbrev pub StaysPut : {D : Type 0} → (D → Option Store) → HouseFault → House D → Type 0
-StaysPut told fault.Store now = Holds (told now.shelf) (entries_of now)
-StaysPut told fault.NoMemory now = IsReady told now
-StaysPut told (fault.Failed count) now = IsReady told now
+StaysPut told why now = StaysPutWithin profile told why now
+
+abbrev pub StaysReadWithin : {D : Type 0} → Limits → (D → Option Store) → RowFault → House D → Type 0
+StaysReadWithin limits told (row_fault.House why) now = StaysPutWithin limits told why now
+StaysReadWithin limits told (row_fault.Damaged place) now = IsReadyWithin limits told now
 
 abbrev pub StaysRead : {D : Type 0} → (D → Option Store) → RowFault → House D → Type 0
-StaysRead told (row_fault.House why) now = StaysPut told why now
-StaysRead told (row_fault.Damaged place) now = IsReady told now
+StaysRead told why now = StaysReadWithin profile told why now
 
 -- the journal is as it was
 abbrev pub KeepsJournal : Store → Store → Type 0

@@ -1,7 +1,9 @@
 pub mod Asking
 pub mod Booting
+pub mod Calls
 pub mod Faults
 pub mod House
 pub mod Listing
+pub mod Housed
 pub mod Seeing
 pub mod Steps

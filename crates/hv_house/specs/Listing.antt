@@ -1,6 +1,7 @@
 -- The files of a table that a reader takes, and the bytes of one of them; how a call that reads ends.
-use Rattle.std.specs.Prelude.{◌≡◌, ℕ, ◌≤◌, Bool, true, false, Option, Some, List, Result, Ok, Err, IfErr}
+use Rattle.std.specs.Prelude.{◌≡◌, ℕ, ◌≤◌, true, false, Option, Some, List, Result, Ok, Err, IfErr}
 use Rattle.hv_base.specs.Told.{Tells}
+use Rattle.hv_base.specs.declared.ids.Limits.{Limits}
 use Rattle.hv_base.specs.declared.ids.TableId.{TableId}
 use Rattle.hv_base.specs.declared.ids.TxnId.{TxnId}
 use Rattle.hv_shelf.specs.declared.place.Place.{Place}
@@ -9,6 +10,7 @@ use Rattle.hv_logic.specs.declared.catalog.TableInfo.{TableInfo}
 use Rattle.hv_wids.specs.WriteIds.{WriteIds}
 use Rattle.hv_history.specs.declared.state.Table.{Table}
 use Rattle.hv_history.specs.State.{state_of}
+use Rattle.hv_history.specs.Legal.{profile}
 use Rattle.hv_stands.specs.Files.{Stands, made_at}
 use Rattle.hv_choosing.specs.declared.listing.DirFile.{DirFile}
 use Rattle.hv_choosing.specs.Listing.{AreListed}
@@ -21,7 +23,7 @@ use Rattle.hv_house.specs.declared.listing.GetFault.{GetFault}
 use Rattle.hv_house.specs.declared.listing.GetFault.TheVariants as get_fault
 use Rattle.hv_house.specs.declared.house.House.{House}
 use Rattle.hv_house.specs.Faults.{HasRisen, FileCause}
-use Rattle.hv_house.specs.House.{entries_of, IsReady, StaysPut}
+use Rattle.hv_house.specs.House.{entries_of, IsReadyWithin, StaysPutWithin}
 use Rattle.hv_house.specs.Steps.{fault_outcome, outcome_of, GainsBy, IsMarkedFor}
 
 -- ---- what is found
@@ -67,9 +69,12 @@ get_outcome (Ok x) = Done
 get_outcome (Err why) = getting_outcome why
 
 -- behind a file that isn't there the house is ready
+abbrev pub StaysGotWithin : {D : Type 0} → Limits → (D → Option Store) → GetFault → House D → Type 0
+StaysGotWithin limits told get_fault.NotFound now = IsReadyWithin limits told now
+StaysGotWithin limits told (get_fault.House why) now = StaysPutWithin limits told why now
+
 abbrev pub StaysGot : {D : Type 0} → (D → Option Store) → GetFault → House D → Type 0
-StaysGot told get_fault.NotFound now = IsReady told now
-StaysGot told (get_fault.House why) now = StaysPut told why now
+StaysGot told why now = StaysGotWithin profile told why now
 
 -- a fault that has a count has a mark
 abbrev pub IsMarkedGetting : {D : Type 0} → House D → TxnId → GetFault → Type 0

@@ -3,6 +3,7 @@ use Rattle.std.specs.Prelude.{◌≡◌, ◌⊎◌, ℕ, ◌||◌, Bool, true, f
 use Rattle.std.specs.List.{AllByRecursion}
 use Rattle.hv_base.specs.declared.ids.TxnId.{TxnId}
 use Rattle.hv_base.specs.declared.ids.Touch.{Touch}
+use Rattle.hv_base.specs.declared.ids.Limits.{Limits}
 use Rattle.hv_shelf.specs.declared.place.Place.{Place}
 use Rattle.hv_shelf.specs.Disk.{Store}
 use Rattle.hv_logic.specs.declared.catalog.TableInfo.{TableInfo}
@@ -31,7 +32,7 @@ use Rattle.hv_house.specs.declared.fault.RowFault.{RowFault}
 use Rattle.hv_house.specs.declared.fault.RowFault.TheVariants as row_fault
 use Rattle.hv_house.specs.declared.house.House.{House}
 use Rattle.hv_house.specs.Faults.{FileCause}
-use Rattle.hv_house.specs.House.{entries_of, IsReady, StaysPut}
+use Rattle.hv_house.specs.House.{entries_of, IsReadyWithin, StaysPutWithin}
 
 -- a house, which has no locks yet
 abbrev pub seen_of : {D : Type 0} → House D → HouseSeen D
@@ -42,7 +43,7 @@ seen_of house = record {
   shelf = house.shelf;
   closed = house.trail.closed;
   locks = [];
-  limits = profile;
+  limits = house.limits;
 }
 
 abbrev pub fault_outcome : HouseFault → Outcome
@@ -63,11 +64,12 @@ abbrev pub read_outcome : {T : Type 0} → Result T RowFault → Outcome
 read_outcome (Ok x) = Done
 read_outcome (Err why) = reading_outcome why
 
--- no mark was made, and what the house was opened over stands
+-- no mark was made, and what the house was opened over stands, with its limits
 pub record KeepsMarks {D : Type 0} (before now : House D) : Type 0 where
   pub start : now.start ≡ before.start
   pub marks : now.trail.marks ≡ before.trail.marks
   pub left : now.trail.opened ≡ before.trail.opened
+  pub limits : now.limits ≡ before.limits
 
 -- a house is closed where the store failed, and else stays as it is
 abbrev pub ClosesBy : HouseFault → Bool → Bool → Type 0
@@ -89,6 +91,7 @@ pub record KeepsFault {D : Type 0} (by : Option Reader) (put : Bool) (why : Hous
   pub entries : entries_of now ≡ entries_of before
   pub start : now.start ≡ before.start
   pub left : now.trail.opened ≡ before.trail.opened
+  pub limits : now.limits ≡ before.limits
   pub trail : trail_of now.trail ≡ trail_of before.trail ++ broken_by by put why
   pub closed : ClosesBy why before.trail.closed now.trail.closed
 
@@ -98,6 +101,7 @@ pub record GainsBy {D : Type 0} (call : Call) (outcome : Outcome) (before now : 
   pub entries : entries_of now ≡ entries_of before
   pub start : now.start ≡ before.start
   pub left : now.trail.opened ≡ before.trail.opened
+  pub limits : now.limits ≡ before.limits
   pub trail : trail_of now.trail ≡ trail_of before.trail ++ gains call outcome
   pub closed : now.trail.closed ≡ before.trail.closed || shuts outcome
 
@@ -121,13 +125,16 @@ IsPutMarkedFor house by fault.Store = Unit {0}
 IsPutMarkedFor house by fault.NoMemory = Unit {0}
 
 -- all that is promised of a put of this file by this transaction
-pub record PutStep {D : Type 0} (told : D → Option Store) (faults : D → ℕ) (by : TxnId) (place : Place) (bytes : List ℕ) (before now : House D) (result : Result (Unit {0}) HouseFault) : Type 0 where
+pub record PutStepWithin {D : Type 0} (limits : Limits) (told : D → Option Store) (faults : D → ℕ) (by : TxnId) (place : Place) (bytes : List ℕ) (before now : House D) (result : Result (Unit {0}) HouseFault) : Type 0 where
   pub book : entries_of now ≡ entries_of before
-  pub ready : IfOk result (λ _. IsReady told now)
-  pub stays : IfErr result (λ why. StaysPut told why now)
+  pub ready : IfOk result (λ _. IsReadyWithin limits told now)
+  pub stays : IfErr result (λ why. StaysPutWithin limits told why now)
   pub marked : IfErr result (IsPutMarkedFor now by)
   pub step : Step told faults (Put (Txn by) place bytes) (outcome_of result) (seen_of before) (seen_of now)
   pub cause : FileCause (faults before.shelf) (faults now.shelf) result
+
+abbrev pub PutStep : {D : Type 0} → (D → Option Store) → (D → ℕ) → TxnId → Place → List ℕ → House D → House D → Result (Unit {0}) HouseFault → Type 0
+PutStep told faults by place bytes before now result = PutStepWithin profile told faults by place bytes before now result
 
 -- ---- what is put, and what a commit rests on
 

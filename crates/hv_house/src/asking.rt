@@ -1,15 +1,16 @@
 ghost use Rattle.std.specs.Prelude.{◌≡◌, ◌↔◌, ◌+◌, ◌≤◌, true, IsTrue, length, option_map};
 ghost use Rattle.std.specs.Option.{option_copied};
+ghost use Rattle.hv_base.specs.declared.ids.Limits.{Limits};
 ghost use Rattle.hv_locks.specs.declared.table.LockState.TheVariants.{Granted};
 ghost use Rattle.hv_history.specs.State.{state_of, numbered};
-ghost use Rattle.hv_history.specs.Legal.{Fits, profile};
+ghost use Rattle.hv_history.specs.Legal.{Fits};
 ghost use Rattle.hv_built.specs.Running.{Runs};
 ghost use Rattle.hv_stands.specs.Running.{Asking, next_number};
 ghost use Rattle.hv_fits.specs.Texts.{IsHanded};
-ghost use Rattle.hv_house.specs.House.{entries_of, IsReady, BeginFits};
+ghost use Rattle.hv_house.specs.House.{entries_of, IsReadyWithin, BeginFitsWithin};
 ghost use Rattle.hv_house.specs.Asking.{holder_against, lock_state, CanBegin};
 
-use crate::house::{House, LIMITS};
+use crate::house::House;
 use hv_ast::Stmt;
 use hv_base::{TableId, TxnId, WriteId};
 use hv_book::Book;
@@ -39,6 +40,13 @@ fn is_granted(state: LockState) -> bool
 }
 
 impl<D: Shelf> House<D> {
+    /// Its store, to be looked at.
+    pub fn shelf(&self) -> &D
+        ensures shelf { result.now ≡ self.now.shelf }
+    {
+        &self.shelf
+    }
+
     /// The book of its journal.
     pub fn book(&self) -> &Book
         ensures entries { result.now.entries ≡ entries_of self.now }
@@ -48,22 +56,24 @@ impl<D: Shelf> House<D> {
 
     /// Whether an entry fits its book. `tree` is that of the entry's text.
     pub fn fits(&self, entry: &Entry, tree: Option<&Stmt>) -> bool
-        requires ready { IsReady D.told self.now }
+        ghost limits: { Limits }
+        requires ready { IsReadyWithin limits D.told self.now }
         requires tree { IsHanded entry.now (option_copied tree) }
-        ensures fits { IsTrue result ↔ Fits profile (state_of (entries_of self.now)) entry.now }
+        ensures fits { IsTrue result ↔ Fits limits (state_of (entries_of self.now)) entry.now }
     {
-        hv_fits::fits(self.trail.book(), &LIMITS, entry, tree)
+        hv_fits::fits(self.trail.book(), &self.limits, entry, tree)
     }
 
     /// Whether a statement of this tree could be opened and started at once: there is room for both and for its
     /// end, and no lock is held against it.
     pub fn can_begin(&self, tree: &Stmt) -> bool
-        requires ready { IsReady D.told self.now }
-        ensures can { IsTrue result ↔ CanBegin (entries_of self.now) tree.now }
+        ghost limits: { Limits }
+        requires ready { IsReadyWithin limits D.told self.now }
+        ensures can { IsTrue result ↔ CanBegin limits (entries_of self.now) tree.now }
         ensures fits { result ≡ true
-            → (asking : Asking) → Runs asking.text tree.now → BeginFits (entries_of self.now) asking }
+            → (asking : Asking) → Runs asking.text tree.now → BeginFitsWithin limits (entries_of self.now) asking }
     {
-        let room = has_room(self.trail.book(), &LIMITS, 3);
+        let room = has_room(self.trail.book(), &self.limits, 3);
         let free = is_granted(self.check(tree));
         room && free
     }
@@ -71,7 +81,8 @@ impl<D: Shelf> House<D> {
     /// Whether a statement of this tree has the locks that its Start asks for, or has to wait: for the lowest
     /// open started transaction that holds one against it. The book says who holds which locks.
     pub fn check(&self, tree: &Stmt) -> LockState
-        requires ready { IsReady D.told self.now }
+        ghost limits: { Limits }
+        requires ready { IsReadyWithin limits D.told self.now }
         ensures state { result ≡ lock_state (holder_against (entries_of self.now) tree.now) }
     {
         match first_holder(self.trail.book(), tree) {

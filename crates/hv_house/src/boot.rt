@@ -4,17 +4,17 @@ ghost use Rattle.hv_history.specs.declared.entry.Entry.{Entry};
 ghost use Rattle.hv_history.specs.declared.entry.Entry.TheVariants.{Boot};
 ghost use Rattle.hv_history.specs.Journal.{place_of, IsJournal};
 ghost use Rattle.hv_history.specs.State.{state_of, nothing_yet};
-ghost use Rattle.hv_history.specs.Legal.{profile, AllFit, HasRoom};
+ghost use Rattle.hv_history.specs.Legal.{AllFit, HasRoom};
 ghost use Rattle.hv_journal.specs.Appending.{Holds, KeepsTree};
 ghost use Rattle.hv_recovery.specs.Recovery.{IsJournalOf};
 ghost use Rattle.hv_house.specs.Faults.{StoreCause, FileCause};
-ghost use Rattle.hv_house.specs.House.{entries_of, book_limit, IsKept, IsReady, IsBeside};
+ghost use Rattle.hv_house.specs.House.{entries_of, book_limit, IsKept, IsReadyWithin, IsBeside};
 ghost use Rattle.hv_house.specs.Steps.{KeepsMarks, IsOpenedOver};
 ghost use Rattle.hv_house.specs.Booting.{boot_fault, lost_entry, opening_of, IsLearned, LosesSome, CutsOpening, IsCutOpening, IsRaiseFault, Opens, IsBootFault, IsBootStore, StopsOpening};
 
 use crate::fault::HouseFault;
-use crate::house::{House, LIMITS};
-use hv_base::{NoMemory, TxnId};
+use crate::house::House;
+use hv_base::{Limits, NoMemory, TxnId};
 use hv_book::Book;
 use hv_history::{Cause, Entry};
 use hv_journal::open_empty;
@@ -167,17 +167,19 @@ impl<D: Shelf + Drop> House<D> {
         shelf: D,
         book: Book,
         place: u64,
+        limits: Limits,
     ) -> Result<House<D>, (BootFault, D)>
-        requires fit { AllFit profile nothing_yet book.entries }
+        requires most { limits.entries ≤ book_limit }
+        requires fit { AllFit limits nothing_yet book.entries }
         requires place { place ≡ place_of book.entries }
         requires journal { Tells (D.told shelf) (λ s. IsJournal book.entries s.journal) }
-        ensures ready { IfOk result (IsReady D.told) }
+        ensures ready { IfOk result (IsReadyWithin limits D.told) }
         ensures opened { IfOk result (λ house. (entries_of house ≡ opening_of book.entries)
-            × HasRoom profile (state_of book.entries) 1) }
+            × HasRoom limits (state_of book.entries) 1) }
         ensures tree { IfOk result (λ house. Moves KeepsTree (D.told shelf) (D.told house.shelf)) }
         ensures over { IfOk result (IsOpenedOver start.value) }
         ensures full { IfErr result (λ x.
-            IsRaiseFault book.entries (D.told shelf) (D.told x.1) x.0) }
+            IsRaiseFault limits book.entries (D.told shelf) (D.told x.1) x.0) }
         ensures stopped { IfErr result (λ x. Tells (D.told x.1)
             (λ s. IsCutOpening x.0 book.entries s.journal)) }
         ensures same_tree { IfErr result (λ x. Moves KeepsTree (D.told shelf) (D.told x.1)) }
@@ -191,7 +193,7 @@ impl<D: Shelf + Drop> House<D> {
         }
         match learn(alloc, &book) {
             Ok(found) => {
-                if entries + found.unended.len() as u64 + 1 > LIMITS.entries {
+                if entries + found.unended.len() as u64 + 1 > limits.entries {
                     return Err((BootFault::Full { entries }, shelf));
                 }
                 let mut house = House {
@@ -200,6 +202,7 @@ impl<D: Shelf + Drop> House<D> {
                     place,
                     buffer: Vec::new(alloc),
                     trail: KeptTrail::over(alloc, book),
+                    limits,
                 };
                 match house.note_opening(found.runs, &found.unended) {
                     Ok(()) => {
@@ -214,18 +217,19 @@ impl<D: Shelf + Drop> House<D> {
     }
 
     /// Opens a store: the book that its journal reads to goes on by a `Boot`, and each transaction
-    /// that an earlier run left open is aborted as lost.
+    /// that an earlier run left open is aborted as lost. The house keeps to these limits.
     ///
     /// # Errors
     /// `BadJournal` where the journal is bad, and `Full` where it has no room for its opening; the
     /// store is then as it was. `Store` where the store failed. The store is given back.
-    pub fn boot(alloc: Global, shelf: D) -> Result<House<D>, (BootFault, D)>
-        ensures ready { IfOk result (IsReady D.told) }
-        ensures opened { IfOk result (λ house. Opens (D.told shelf) (entries_of house)) }
+    pub fn boot(alloc: Global, shelf: D, limits: Limits) -> Result<House<D>, (BootFault, D)>
+        requires most { limits.entries ≤ book_limit }
+        ensures ready { IfOk result (IsReadyWithin limits D.told) }
+        ensures opened { IfOk result (λ house. Opens limits (D.told shelf) (entries_of house)) }
         ensures over { IfOk result (IsOpenedOver shelf) }
         ensures tree { IfOk result (λ house. Moves KeepsTree (D.told shelf) (D.told house.shelf)) }
-        ensures bad { IfErr result (λ x. IsBootFault (D.told shelf) (D.told x.1) x.0) }
-        ensures stopped { IfErr result (λ x. StopsOpening (D.told shelf) (D.told x.1) x.0) }
+        ensures bad { IfErr result (λ x. IsBootFault limits (D.told shelf) (D.told x.1) x.0) }
+        ensures stopped { IfErr result (λ x. StopsOpening limits (D.told shelf) (D.told x.1) x.0) }
         ensures same_tree { IfErr result (λ x. Moves KeepsTree (D.told shelf) (D.told x.1)) }
         ensures tells { IfErr result (λ x. StaysTold (D.told shelf) (D.told x.1)) }
         ensures later { IfOk result (λ house. D.faults shelf ≤ D.faults house.shelf) }
@@ -234,8 +238,8 @@ impl<D: Shelf + Drop> House<D> {
     {
         let start = Snapshot::of(&shelf);
         let mut shelf = shelf;
-        match read_journal(alloc, &mut shelf, &LIMITS) {
-            Ok((book, place)) => House::raise(alloc, start, shelf, book, place),
+        match read_journal(alloc, &mut shelf, &limits) {
+            Ok((book, place)) => House::raise(alloc, start, shelf, book, place, limits),
             Err(fault) => Err((fault.into(), shelf)),
         }
     }

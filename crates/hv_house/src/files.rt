@@ -1,5 +1,6 @@
 ghost use Rattle.std.specs.Prelude.{◌≡◌, ℕ, ◌<◌, List, None, false, true, length, OnOk};
 ghost use Rattle.std.specs.List.{AllByRecursion};
+ghost use Rattle.hv_base.specs.declared.ids.Limits.{Limits};
 ghost use Rattle.hv_tables.specs.Putting.{CanPut, IsEncoded, bytes_of};
 ghost use Rattle.hv_trail.specs.declared.trail.Reader.TheVariants.{Txn};
 ghost use Rattle.hv_trail.specs.Trail.{broken, HasWritten};
@@ -7,8 +8,8 @@ ghost use Rattle.hv_trail.specs.Kept.{trail_of, are_written};
 ghost use Rattle.hv_trail.specs.Steps as calls;
 ghost use Rattle.hv_shelf.specs.declared.place.Place.{Place};
 ghost use Rattle.hv_house.specs.Faults.{house_fault, put_result};
-ghost use Rattle.hv_house.specs.House.{entries_of, IsReady};
-ghost use Rattle.hv_house.specs.Steps.{outcome_of, fault_outcome, GainsBy, IsOwnFile, PutStep};
+ghost use Rattle.hv_house.specs.House.{entries_of, IsReadyWithin};
+ghost use Rattle.hv_house.specs.Steps.{outcome_of, fault_outcome, GainsBy, IsOwnFile, PutStepWithin};
 
 use crate::fault::HouseFault;
 use crate::house::House;
@@ -72,10 +73,11 @@ impl<D: Shelf> House<D> {
         place: Place,
         file: &OutFile,
     ) -> Result<(), HouseFault>
-        requires ready { IsReady D.told self.old }
+        ghost limits: { Limits }
+        requires ready { IsReadyWithin limits D.told self.old }
         requires can { CanPut file.now }
         requires own { IsOwnFile (entries_of self.old) by place file.now }
-        ensures put { PutStep D.told D.faults by place (bytes_of file.now) self.old self.new result }
+        ensures put { PutStepWithin limits D.told D.faults by place (bytes_of file.now) self.old self.new result }
         ensures encoded { OnOk result (IsEncoded file.now) }
     {
         match self.trail.reserve_mark() {

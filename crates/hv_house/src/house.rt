@@ -28,18 +28,17 @@ use std::snapshot::Snapshot;
 #[derive(Drop)]
 pub struct House<D> {
     /// The store that it was opened over, for contracts alone.
-    pub start: Snapshot<D>,
-    pub shelf: D,
+    pub(crate) start: Snapshot<D>,
+    pub(crate) shelf: D,
     /// The place of the journal's closed gate.
-    pub place: u64,
+    pub(crate) place: u64,
     /// Where records are spelled.
-    pub buffer: Vec<u8>,
+    pub(crate) buffer: Vec<u8>,
     /// The journal's entries, and the marks between them.
-    pub trail: KeptTrail,
+    pub(crate) trail: KeptTrail,
+    /// How much it may hold.
+    pub(crate) limits: Limits,
 }
-
-/// The limits of this project's profile.
-pub const LIMITS: Limits = Limits { entries: 131_072 };
 
 fn discard<T: Drop>(_value: T) {}
 

@@ -3,15 +3,18 @@
 
 mod asking;
 mod boot;
+mod calls;
 mod failing;
 mod fault;
 mod files;
 mod house;
+mod housed;
 mod laws;
 mod listing;
 mod noting;
 
 pub use boot::BootFault;
+pub use calls::EntryFault;
 pub use fault::{HouseFault, RowFault};
 pub use house::House;
 pub use laws::seen_is_content;

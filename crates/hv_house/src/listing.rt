@@ -4,6 +4,7 @@ ghost use Rattle.std.specs.Prelude.{◌≡◌, ℕ, ◌<◌, List, Some, None, f
 ghost use Rattle.std.specs.FinMap as tree;
 ghost use Rattle.std.specs.Option.{option_copied};
 ghost use Rattle.hv_base.specs.Told.{Tells};
+ghost use Rattle.hv_base.specs.declared.ids.Limits.{Limits};
 ghost use Rattle.hv_shelf.specs.Disk.{places_of};
 ghost use Rattle.hv_history.specs.State.{state_of};
 ghost use Rattle.hv_stands.specs.Reading.{table_of_name};
@@ -12,10 +13,10 @@ ghost use Rattle.hv_trail.specs.Steps.{Step};
 ghost use Rattle.hv_trail.specs.Steps as calls;
 ghost use Rattle.hv_house.specs.declared.fault.RowFault.TheVariants as row_fault;
 ghost use Rattle.hv_house.specs.Faults.{FileCause, house_fault};
-ghost use Rattle.hv_house.specs.House.{entries_of, IsAsked, IsReady, StaysPut};
+ghost use Rattle.hv_house.specs.House.{entries_of, IsAsked, IsReadyWithin, StaysPutWithin};
 ghost use Rattle.hv_house.specs.Seeing.{ids_in, info_of_name};
 ghost use Rattle.hv_house.specs.Steps.{seen_of, fault_outcome, outcome_of, GainsBy, IsMarkedFor};
-ghost use Rattle.hv_house.specs.Listing.{AreTaken, AreTakenOf, IsMade, IsNotFound, ReadStep, GetCause, info_in, get_outcome, IsMarkedGetting, StaysGot};
+ghost use Rattle.hv_house.specs.Listing.{AreTaken, AreTakenOf, IsMade, IsNotFound, ReadStep, GetCause, info_in, get_outcome, IsMarkedGetting, StaysGotWithin};
 
 use crate::fault::HouseFault;
 use crate::house::House;
@@ -108,7 +109,8 @@ impl<D: Shelf> House<D> {
 
     /// The places of a table's files, rising.
     fn places(&mut self, alloc: Global, by: TxnId, table: TableId) -> Result<Vec<Place>, HouseFault>
-        requires ready { IsReady D.told self.old }
+        ghost limits: { Limits }
+        requires ready { IsReadyWithin limits D.told self.old }
         ensures places { IfOk result (λ places. Tells (D.told self.old.shelf)
             (λ s. places.items ≡ places_of table s.tree)) }
         ensures read { ReadStep D.told D.faults by self.old self.new result }
@@ -127,7 +129,8 @@ impl<D: Shelf> House<D> {
         by: TxnId,
         place: &Place,
     ) -> Result<Option<Vec<u8>>, HouseFault>
-        requires ready { IsReady D.told self.old }
+        ghost limits: { Limits }
+        requires ready { IsReadyWithin limits D.told self.old }
         ensures bytes { IfOk result (λ file. Tells (D.told self.old.shelf)
             (λ s. option_map (λ v. v.items) file ≡ tree.get s.tree place.now)) }
         ensures read { ReadStep D.told D.faults by self.old self.new result }
@@ -147,7 +150,8 @@ impl<D: Shelf> House<D> {
         place: u64,
         table: TableId,
     ) -> Result<Listing, HouseFault>
-        requires ready { IsReady D.told self.old }
+        ghost limits: { Limits }
+        requires ready { IsReadyWithin limits D.told self.old }
         ensures list { IfOk result (λ listing.
             listing.list ≡ ids_in (state_of (take place (entries_of self.old))) table.0) }
         ensures files { IfOk result (λ listing. Tells (D.told self.old.shelf)
@@ -170,7 +174,8 @@ impl<D: Shelf> House<D> {
         place: u64,
         name: &Text,
     ) -> Result<Option<TableInfo>, NoMemory>
-        requires ready { IsReady D.told self.now }
+        ghost limits: { Limits }
+        requires ready { IsReadyWithin limits D.told self.now }
         ensures found { IfOk result (λ found. found ≡ option_map info_in
             (table_of_name name.now (state_of (take place (entries_of self.now))).tables)) }
     {
@@ -191,14 +196,15 @@ impl<D: Shelf> House<D> {
         place: u64,
         table: TableId,
     ) -> Result<Listing, HouseFault>
-        requires ready { IsReady D.told self.old }
+        ghost limits: { Limits }
+        requires ready { IsReadyWithin limits D.told self.old }
         ensures asked { IsAsked D.told self.old self.new }
         ensures list { IfOk result (λ listing.
             listing.list ≡ ids_in (state_of (take place (entries_of self.old))) table.0) }
         ensures files { IfOk result (λ listing. Tells (D.told self.old.shelf)
             (λ s. AreTaken table listing.list s.tree listing.inserts.items listing.deletes.items)) }
-        ensures ready { IfOk result (λ _. IsReady D.told self.new) }
-        ensures stays { IfErr result (λ why. StaysPut D.told why self.new) }
+        ensures ready { IfOk result (λ _. IsReadyWithin limits D.told self.new) }
+        ensures stays { IfErr result (λ why. StaysPutWithin limits D.told why self.new) }
         ensures marked { IfErr result (λ why. IsMarkedFor self.new by (row_fault.House why)) }
         ensures step { Step D.told D.faults (calls.Read (Some (Txn by))) (outcome_of result)
             (seen_of self.old) (seen_of self.new) }
@@ -212,7 +218,8 @@ impl<D: Shelf> House<D> {
     /// # Errors
     /// `NotFound` where no file stands there. Else as `list`.
     pub fn get(&mut self, alloc: Global, by: TxnId, place: &Place) -> Result<Vec<u8>, GetFault>
-        requires ready { IsReady D.told self.old }
+        ghost limits: { Limits }
+        requires ready { IsReadyWithin limits D.told self.old }
         ensures asked { IsAsked D.told self.old self.new }
         ensures bytes { IfOk result (λ bytes. Tells (D.told self.old.shelf)
             (λ s. tree.get s.tree place.now ≡ Some bytes.items)) }
@@ -222,8 +229,8 @@ impl<D: Shelf> House<D> {
             → IfOk result (λ found. Tells (D.told self.old.shelf) (λ _. found.items ≡ bytes)) }
         ensures found { (bytes : List ℕ) → IsMade D.told self.old place.now bytes
             → IfErr result (λ why. Tells (D.told self.old.shelf) (λ _. IsNotFound why → ⊥)) }
-        ensures ready { IfOk result (λ _. IsReady D.told self.new) }
-        ensures stays { IfErr result (λ why. StaysGot D.told why self.new) }
+        ensures ready { IfOk result (λ _. IsReadyWithin limits D.told self.new) }
+        ensures stays { IfErr result (λ why. StaysGotWithin limits D.told why self.new) }
         ensures marked { IfErr result (IsMarkedGetting self.new by) }
         ensures step { Step D.told D.faults (calls.Read (Some (Txn by))) (get_outcome result)
             (seen_of self.old) (seen_of self.new) }

@@ -1,15 +1,16 @@
 ghost use Rattle.std.specs.Prelude.{◌≡◌, ◌≤◌, ◌+◌, length, IfOk, OnOk, IfErr};
+ghost use Rattle.hv_base.specs.declared.ids.Limits.{Limits};
 ghost use Rattle.hv_base.specs.Told.{Moves, StaysTold};
 ghost use Rattle.hv_built.specs.Running.{Runs};
 ghost use Rattle.hv_history.specs.Book.{tree_of_entry};
 ghost use Rattle.hv_history.specs.State.{state_of};
-ghost use Rattle.hv_history.specs.Legal.{Fits, profile};
+ghost use Rattle.hv_history.specs.Legal.{Fits};
 ghost use Rattle.hv_journal.specs.Appending.{KeepsTree};
 ghost use Rattle.hv_stands.specs.Running.{next_number};
 ghost use Rattle.hv_trail.specs.Steps.{Step};
 ghost use Rattle.hv_trail.specs.Steps as calls;
 ghost use Rattle.hv_house.specs.Faults.{FileCause, EndsRun};
-ghost use Rattle.hv_house.specs.House.{entries_of, IsSmall, BeginFits, beginning_of, IsReady, StaysReady, AreNoted, IsNoted, AreHalted, IsHalted};
+ghost use Rattle.hv_house.specs.House.{entries_of, IsSmall, BeginFitsWithin, beginning_of, IsReadyWithin, StaysReadyWithin, AreNoted, IsNoted, AreHalted, IsHalted};
 ghost use Rattle.hv_house.specs.Steps.{seen_of, outcome_of, IsMarked};
 
 use crate::fault::HouseFault;
@@ -23,14 +24,15 @@ use hv_shelf::Shelf;
 impl<D: Shelf> House<D> {
     /// Notes an entry that fits: in the journal, and behind the book. `tree` is that of the entry's text.
     pub fn note(&mut self, entry: Entry, tree: Option<Stmt>) -> Result<(), HouseFault>
-        requires ready { IsReady D.told self.old }
+        ghost limits: { Limits }
+        requires ready { IsReadyWithin limits D.told self.old }
         requires tree { tree ≡ tree_of_entry entry }
         requires small { IsSmall entry }
-        requires fits { Fits profile (state_of (entries_of self.old)) entry }
+        requires fits { Fits limits (state_of (entries_of self.old)) entry }
         requires marked { IsMarked self.old entry }
-        ensures ready { OnOk result (IsReady D.told self.new) }
+        ensures ready { OnOk result (IsReadyWithin limits D.told self.new) }
         ensures noted { OnOk result (IsNoted D.told entry self.old self.new) }
-        ensures stays { IfErr result (λ why. StaysReady D.told why self.new) }
+        ensures stays { IfErr result (λ why. StaysReadyWithin limits D.told why self.new) }
         ensures halted { IfErr result (λ why. IsHalted D.told entry why self.old self.new) }
         ensures tree_kept { Moves KeepsTree (D.told self.old.shelf) (D.told self.new.shelf) }
         ensures tells { StaysTold (D.told self.old.shelf) (D.told self.new.shelf) }
@@ -51,18 +53,19 @@ impl<D: Shelf> House<D> {
         text: Text,
         tree: Stmt,
     ) -> Result<(TxnId, u64), HouseFault>
-        requires ready { IsReady D.told self.old }
+        ghost limits: { Limits }
+        requires ready { IsReadyWithin limits D.told self.old }
         requires runs { Runs text tree }
         requires short { length text ≤ 32768 }
         requires named { length session ≤ 32 }
-        requires fits { BeginFits (entries_of self.old)
+        requires fits { BeginFitsWithin limits (entries_of self.old)
             (record { session = session; number = number; text = text }) }
         ensures txn { IfOk result (λ x. x.0.0 ≡ next_number (entries_of self.old)) }
         ensures place { IfOk result (λ x. x.1 ≡ length (entries_of self.old) + 1) }
-        ensures ready { OnOk result (IsReady D.told self.new) }
+        ensures ready { OnOk result (IsReadyWithin limits D.told self.new) }
         ensures noted { OnOk result (AreNoted D.told (beginning_of (entries_of self.old)
             (record { session = session; number = number; text = text })) self.old self.new) }
-        ensures stays { IfErr result (λ why. StaysReady D.told why self.new) }
+        ensures stays { IfErr result (λ why. StaysReadyWithin limits D.told why self.new) }
         ensures halted { IfErr result (λ why. AreHalted D.told (beginning_of (entries_of self.old)
             (record { session = session; number = number; text = text })) why self.old self.new) }
         ensures tree_kept { Moves KeepsTree (D.told self.old.shelf) (D.told self.new.shelf) }

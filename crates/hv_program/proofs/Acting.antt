@@ -26,7 +26,8 @@ use Rattle.hv_house.specs.declared.fault.HouseFault.{HouseFault}
 use Rattle.hv_house.specs.declared.fault.HouseFault.TheVariants as fault
 use Rattle.hv_house.specs.declared.house.House.{House}
 use Rattle.hv_house.specs.House.{entries_of, BeginFits, beginning_of, Leaves, IsFaithful, IsReady, Shows}
-use Rattle.hv_ending.specs.Ending.{AddsOf, HasStopped, KeepsCount, IsUndamaged, HasReplied}
+use Rattle.hv_ending.specs.Ending.{AddsOf, HasStopped, StillOpens, KeepsCount, IsUndamaged, HasReplied}
+use Rattle.hv_ending.proofs.Opens.{held-opens}
 use Rattle.hv_ending.specs.declared.ready.Reply.{Reply}
 use Rattle.hv_session.specs.declared.paused.Paused.{Paused}
 use Rattle.hv_session.specs.declared.paused.Taken.{Taken}
@@ -468,6 +469,17 @@ stops-first told house waiting act (Ok x) is holds = tt
 stops-first told house waiting act (Err why) is holds =
     subst (λ (e : HouseFault). Stops e (told house.shelf) (record { book = entries_of house; waiting = waiting }) act (entries_of house)) (sym is)
     (stops-before (told house.shelf) (record { book = entries_of house; waiting = waiting }) act holds)
+
+pub err-always : {T : Type 0} (result : Result T HouseFault) (P : Type 0) → P → IfErr result (λ _. P)
+err-always (Ok x) P p = tt
+err-always (Err why) P p = p
+
+-- the store opens as it stands
+pub opens-first : {D T : Type 0} (told : D → Option Store) (house : House D) (helds : List Held) (result : Result T HouseFault) → Holds (told house.shelf) (entries_of house)
+    → IsShown told house helds → IfErr result (λ _. StillOpens told house)
+opens-first told house helds result holds shown =
+    err-always result (StillOpens told house)
+    (held-opens (entries_of house) (told house.shelf) holds (faithful-of (told house.shelf) (entries_of house) helds shown))
 
 -- ---- what taking up a statement leaves
 

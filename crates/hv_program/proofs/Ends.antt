@@ -1,5 +1,5 @@
 -- What serving a script's actions leaves, by its status.
-use Rattle.std.proofs.Common.{◌≡◌, ℕ, length, Bool, true, false, Result, Ok, Err, IfOk, IfErr, Option, Some, None, List, [], ◌∷◌, ◌++◌, refl, sym, ap, ◌∙◌, subst, arith, ◌⊎◌, ◌+◌, ◌<◌, ◌≤◌, inl, inr}
+use Rattle.std.proofs.Common.{◌≡◌, ℕ, length, Bool, true, false, Result, Ok, Err, IfOk, IfErr, Option, Some, None, List, [], ◌∷◌, ◌++◌, refl, sym, ap, ◌∙◌, subst, arith, append_assoc, ◌⊎◌, ◌+◌, ◌<◌, ◌≤◌, inl, inr}
 use Rattle.hv_base.specs.Told.{Tells, Moves, StaysTold}
 use Rattle.hv_shelf.specs.Disk.{Store}
 use Rattle.hv_history.specs.declared.entry.Entry.{Entry}
@@ -15,10 +15,11 @@ use Rattle.hv_house.specs.declared.fault.HouseFault.{HouseFault}
 use Rattle.hv_house.specs.declared.fault.HouseFault.TheVariants as fault
 use Rattle.hv_house.specs.declared.boot.BootFault.{BootFault}
 use Rattle.hv_house.specs.declared.boot.BootFault.TheVariants as boot
-use Rattle.hv_house.specs.Booting.{opening_of, OpensTo, Opens, StopsOpening, IsCutOpening, HasNoBook, HasFullBook}
+use Rattle.hv_house.specs.Booting.{opening_of, opening_entries, OpensTo, Opens, StopsOpening, IsCutOpening, HasNoBook, HasFullBook}
 use Rattle.hv_house.proofs.Faithful.{Opening, opened-faithful, one-journal}
 use Rattle.hv_house.proofs.Boots.{reads-journal}
 use Rattle.hv_recovery.specs.Recovery.{IsJournalOf}
+use Rattle.hv_ending.specs.Ending.{OpensLater}
 use Rattle.hv_program.specs.declared.stop.Stop.{Stop}
 use Rattle.hv_program.specs.declared.stop.Stop.TheVariants as stop
 use Rattle.hv_program.specs.Lines.{full_line}
@@ -26,7 +27,8 @@ use Rattle.hv_program.specs.Doing.{Standing}
 use Rattle.hv_program.specs.Own.{Grows}
 use Rattle.hv_program.specs.Running.{PrintsAll, CutsOff, StopsIn, Halts, HasAll}
 use Rattle.hv_program.proofs.OwnEntries.{grows-wider}
-use Rattle.hv_program.specs.Results.{IsBookOf, HasBook, IsServed, IsCutOff, IsStopped, IsUnopened, OpensLater, ReadsFurther, StopsForMemory, StopsForStore}
+use Rattle.hv_program.proofs.CutOpenings.{cut-opens-later, later-behind}
+use Rattle.hv_program.specs.Results.{IsBookOf, HasBook, IsServed, IsCutOff, IsStopped, IsUnopened, ReadsFurther, StopsForMemory, StopsForStore}
 use Rattle.hv_program.specs.Serving.{ran_status, IsCutFull, ServedOf, Serves, IsSaid}
 
 pub tells-still : {A : Type 0} (a b : Option A) (x : A) → StaysTold a b → a ≡ Some x → (y : A) × (b ≡ Some y)
@@ -84,9 +86,9 @@ cut-off low high actions written now store start book has h = record {
 }
 
 stopped : (why : HouseFault) (told : Option Store) (low high : ℕ) (actions : List Action) (written now : List ℕ) (start book : List Entry) (Keeps : Standing → Action → List Entry → Type 0)
-    → (h : StopsIn why told low high start book actions (Some written) (Some now)) → Keeps h.before h.action book
-    → IsStopped low high start actions written now Keeps
-stopped why told low high actions written now start book Keeps h keeps = record {
+    → (h : StopsIn why told low high start book actions (Some written) (Some now)) → Keeps h.before h.action book → (after : Store) → OpensLater book after
+    → IsStopped low high start actions written now after Keeps
+stopped why told low high actions written now start book Keeps h keeps after opens = record {
   front = h.front;
   action = h.action;
   behind = h.behind;
@@ -100,6 +102,7 @@ stopped why told low high actions written now start book Keeps h keeps = record 
   are_done = h.are_done;
   wrote = h.written;
   keeps = keeps;
+  opens = opens;
 }
 
 -- ---- by the status
@@ -171,9 +174,11 @@ served-by low high opened actions (Err stop.Source) written now before after boo
 served-by low high opened actions (Err stop.Sink) written now before after book reads shows prints halts =
     served-four low high opened actions written now before after (cut-off low high actions written now after (opening_of opened) book halts.1 halts.0)
 served-by low high opened actions (Err stop.Store) written now before after book reads shows prints halts =
-    served-five low high opened actions written now before after (inl (stopped fault.Store (Some after) low high actions written now (opening_of opened) book (ReadsFurther after.journal) halts halts.stops.leaves))
+    served-five low high opened actions written now before after (inl (stopped fault.Store (Some after) low high actions written now (opening_of opened) book (ReadsFurther after.journal) halts.0
+    halts.0.stops.leaves after halts.1))
 served-by low high opened actions (Err stop.NoMemory) written now before after book reads shows prints halts =
-    served-seven low high opened actions written now before after (inl (stopped fault.NoMemory (Some after) low high actions written now (opening_of opened) book (λ standing act b. Reads b after.journal) halts halts.stops.leaves.2))
+    served-seven low high opened actions written now before after (inl (stopped fault.NoMemory (Some after) low high actions written now (opening_of opened) book (λ standing act b. Reads b after.journal) halts.0
+    halts.0.stops.leaves.2 after halts.1))
 
 -- ---- with what the outside tells
 
@@ -192,7 +197,7 @@ record IsDone (status low high : ℕ) (opened : List Entry) (actions : List Acti
   served : ServedOf status low high opened actions written now before store
 
 -- the book that was opened is the one to which the store opens
-same-opened : (told : Option Store) (store : Store) (opened start : List Entry) → told ≡ Some store → OpensTo opened store → Opens told start → Opening opened start
+same-opened : (told : Option Store) (store : Store) (opened start : List Entry) → told ≡ Some store → OpensTo opened store → Opens profile told start → Opening opened start
 same-opened told store opened start at opens is =
     let reads : IsJournalOf profile is.0 store.journal =
     subst (λ (o : Option Store). Tells o (λ s. IsJournalOf profile is.0 s.journal)) at is.1.reads in
@@ -253,7 +258,7 @@ are-told sink sink' told begun told' written store heard moves stays at_sink at_
 
 -- what a run was promised, by what is told
 record Promised (low high : ℕ) (ran : Result Bool Stop) (actions : List Action) (start book : List Entry) (sink sink' : Option (List ℕ)) (told begun told' : Option Store) : Type 0 where
-  is : Opens told start
+  is : Opens profile told start
   reads : IfOk ran (λ _. Holds told' book)
   shows : Tells begun (IsFaithful start) → IfOk ran (λ _. Tells told' (IsFaithful book))
   prints : Tells begun (IsFaithful start) → IfOk ran (λ refused. Tells begun (λ _. PrintsAll low high start book actions sink sink' refused))
@@ -277,7 +282,7 @@ promised-told low high opened actions ran sink sink' told begun told' start book
     are.tree opens
 
 ended : (low high : ℕ) (opened : List Entry) (actions : List Action) (ran : Result Bool Stop) (sink sink' : Option (List ℕ)) (told begun told' : Option Store) (start book : List Entry)
-    → Opens told start → Moves KeepsTree told begun
+    → Opens profile told start → Moves KeepsTree told begun
     → IfOk ran (λ _. Holds told' book)
     → (Tells begun (IsFaithful start) → IfOk ran (λ _. Tells told' (IsFaithful book)))
     → (Tells begun (IsFaithful start) → IfOk ran (λ refused. Tells begun (λ _. PrintsAll low high start book actions sink sink' refused)))
@@ -301,7 +306,7 @@ ok_then (Ok b) A B f a = f a
 ok_then (Err why) A B f a = tt
 
 Serves-ran : (low high : ℕ) (actions : List Action) (ran : Result Bool Stop) (sink sink' : Option (List ℕ)) (told begun told' : Option Store) (start book : List Entry) (IsReadyNow : Type 0)
-    → Opens told start → Moves KeepsTree told begun
+    → Opens profile told start → Moves KeepsTree told begun
     → (IsReadyNow → Holds told' book) → IfOk ran (λ _. IsReadyNow)
     → (Tells begun (IsFaithful start) → IfOk ran (λ _. Tells told' (IsFaithful book)))
     → (Tells begun (IsFaithful start) → IfOk ran (λ refused. Tells begun (λ _. PrintsAll low high start book actions sink sink' refused)))
@@ -366,8 +371,8 @@ halts-wider : (why : Stop) (told : Option Store) (first low high : ℕ) (start b
     → Halts why low high start book actions sink sink' told → Halts why first high start book actions sink sink' told
 halts-wider stop.Source told first low high start book actions sink sink' below h = h
 halts-wider stop.Sink told first low high start book actions sink sink' below h = (cuts-wider first low high start book actions sink sink' below h.0, h.1)
-halts-wider stop.Store told first low high start book actions sink sink' below h = stops-wider fault.Store told first low high start book actions sink sink' below h
-halts-wider stop.NoMemory told first low high start book actions sink sink' below h = stops-wider fault.NoMemory told first low high start book actions sink sink' below h
+halts-wider stop.Store told first low high start book actions sink sink' below h = (stops-wider fault.Store told first low high start book actions sink sink' below h.0, h.1)
+halts-wider stop.NoMemory told first low high start book actions sink sink' below h = (stops-wider fault.NoMemory told first low high start book actions sink sink' below h.0, h.1)
 
 prints-widened : (ran : Result Bool Stop) (begun : Option Store) (first low high : ℕ) (start book : List Entry) (actions : List Action) (sink sink' : Option (List ℕ)) → first ≤ low
     → IfOk ran (λ refused. Tells begun (λ _. PrintsAll low high start book actions sink sink' refused))
@@ -386,7 +391,7 @@ halts-widened (Err why) (Some s) told first low high start book actions sink sin
 pub Serves-run : (status first low high last : ℕ) (actions given : List Action) (ran : Result Bool Stop) (sink sink' : Option (List ℕ)) (told begun told' closed : Option Store)
     (start book : List Entry) (IsReadyNow : Type 0)
     → status ≡ ran_status ran → first ≤ low → last ≡ high → given ≡ actions → closed ≡ told'
-    → Opens told start → Moves KeepsTree told begun
+    → Opens profile told start → Moves KeepsTree told begun
     → (IsReadyNow → Holds told' book) → IfOk ran (λ _. IsReadyNow)
     → (Tells begun (IsFaithful start) → IfOk ran (λ _. Tells told' (IsFaithful book)))
     → (Tells begun (IsFaithful start) → IfOk ran (λ refused. Tells begun (λ _. PrintsAll low high start book given sink sink' refused)))
@@ -405,7 +410,7 @@ Serves-run status first low high last actions given ran sink sink' told begun to
 
 -- ---- an opening that stopped
 
-cut-opening : (why : BootFault) (told told' : Option Store) (store : Store) (opened : List Entry) → told ≡ Some store → OpensTo opened store → StopsOpening told told' why
+cut-opening : (why : BootFault) (told told' : Option Store) (store : Store) (opened : List Entry) → told ≡ Some store → OpensTo opened store → StopsOpening profile told told' why
     → Tells told' (λ s. IsCutOpening why opened s.journal)
 cut-opening why None told' store opened at opens stops = cc
 cut-opening why (Some s) None store opened at opens stops = tt
@@ -413,45 +418,47 @@ cut-opening why (Some s) (Some t) store opened at opens stops =
     let one : s ≡ store = same_some s store at in
     stops opened (record { journal = subst (λ (x : Store). IsJournal opened x.journal) (sym one) opens.journal; fit = opens.faithful.legal.fit })
 
-unopened : (written : List ℕ) (before : Store) (told told' : Option Store) (Keeps : List ℕ → Type 0) → told ≡ Some before → Moves KeepsTree told told'
-    → Tells told' (λ s. Keeps s.journal) → (after : Store) × (told' ≡ Some after) × IsUnopened written written before after Keeps
-unopened written before None told' Keeps e tree keeps = cc
-unopened written before (Some s) None Keeps e tree keeps = absurd tree
-unopened written before (Some s) (Some s') Keeps e tree keeps =
-    (s', refl, record { wrote = refl; files = tree ∙ ap (λ (x : Store). x.tree) (same_some s before e); keeps = keeps })
+unopened : (why : BootFault) (book : List Entry) (written : List ℕ) (before : Store) (told told' : Option Store) → told ≡ Some before → Moves KeepsTree told told'
+    → OpensTo book before → Tells told' (λ s. IsCutOpening why book s.journal)
+    → (after : Store) × (told' ≡ Some after) × IsUnopened book written written before after (IsCutOpening why book)
+unopened why book written before None told' e tree opens keeps = cc
+unopened why book written before (Some s) None e tree opens keeps = absurd tree
+unopened why book written before (Some s) (Some s') e tree opens keeps =
+    let same : s'.tree ≡ before.tree = tree ∙ ap (λ (x : Store). x.tree) (same_some s before e) in
+    (s', refl, record { wrote = refl; files = same; keeps = keeps; opens = λ room. cut-opens-later why book before s' room same opens.faithful keeps })
 
 Serves-five : (low high : ℕ) (actions : List Action) (sink : Option (List ℕ)) (told told' : Option Store) → Moves KeepsTree told told'
-    → StopsOpening told told' boot.Store → Serves 5 low high actions sink sink told told'
+    → StopsOpening profile told told' boot.Store → Serves 5 low high actions sink sink told told'
 Serves-five low high actions sink told told' tree stops = λ written store opened at_sink at_told opens.
-    let there = unopened written store told told' _ at_told tree (cut-opening boot.Store told told' store opened at_told opens stops) in
+    let there = unopened boot.Store opened written store told told' at_told tree opens (cut-opening boot.Store told told' store opened at_told opens stops) in
     record { now = written; store = there.0; sink_tells = at_sink; store_tells = there.1; served = served-five low high opened actions written written store there.0 (inr there.2) }
 
 Serves-seven : (low high : ℕ) (actions : List Action) (sink : Option (List ℕ)) (told told' : Option Store) → Moves KeepsTree told told'
-    → StopsOpening told told' boot.NoMemory → Serves 7 low high actions sink sink told told'
+    → StopsOpening profile told told' boot.NoMemory → Serves 7 low high actions sink sink told told'
 Serves-seven low high actions sink told told' tree stops = λ written store opened at_sink at_told opens.
-    let there = unopened written store told told' _ at_told tree (cut-opening boot.NoMemory told told' store opened at_told opens stops) in
+    let there = unopened boot.NoMemory opened written store told told' at_told tree opens (cut-opening boot.NoMemory told told' store opened at_told opens stops) in
     record { now = written; store = there.0; sink_tells = at_sink; store_tells = there.1; served = served-seven low high opened actions written written store there.0 (inr there.2) }
 
 pub Serves-store : (status low high : ℕ) (actions : List Action) (sink : Option (List ℕ)) (told told' : Option Store) (why : BootFault) → status ≡ 5 → why ≡ boot.Store → Moves KeepsTree told told'
-    → StopsOpening told told' why → Serves status low high actions sink sink told told'
+    → StopsOpening profile told told' why → Serves status low high actions sink sink told told'
 Serves-store status low high actions sink told told' why e is tree stops =
     subst (λ n. Serves n low high actions sink sink told told') (sym e)
-    (Serves-five low high actions sink told told' tree (subst (StopsOpening told told') is stops))
+    (Serves-five low high actions sink told told' tree (subst (StopsOpening profile told told') is stops))
 
 pub Serves-memory : (status low high : ℕ) (actions : List Action) (sink : Option (List ℕ)) (told told' : Option Store) (why : BootFault) → status ≡ 7 → why ≡ boot.NoMemory → Moves KeepsTree told told'
-    → StopsOpening told told' why → Serves status low high actions sink sink told told'
+    → StopsOpening profile told told' why → Serves status low high actions sink sink told told'
 Serves-memory status low high actions sink told told' why e is tree stops =
     subst (λ n. Serves n low high actions sink sink told told') (sym e)
-    (Serves-seven low high actions sink told told' tree (subst (StopsOpening told told') is stops))
+    (Serves-seven low high actions sink told told' tree (subst (StopsOpening profile told told') is stops))
 
 -- ---- a journal that isn't opened
 
-never-opens : (told : Option Store) (store : Store) (opened : List Entry) → told ≡ Some store → OpensTo opened store → Tells told HasNoBook → ⊥
+never-opens : (told : Option Store) (store : Store) (opened : List Entry) → told ≡ Some store → OpensTo opened store → Tells told (HasNoBook profile) → ⊥
 never-opens told store opened at opens shut =
-    let here : HasNoBook store = subst (λ (o : Option Store). Tells o HasNoBook) at shut in
+    let here : HasNoBook profile store = subst (λ (o : Option Store). Tells o (HasNoBook profile)) at shut in
     here opened (record { journal = opens.journal; fit = opens.faithful.legal.fit })
 
-pub Serves-bad : (status low high : ℕ) (actions : List Action) (sink sink' : Option (List ℕ)) (told told' : Option Store) → Tells told HasNoBook
+pub Serves-bad : (status low high : ℕ) (actions : List Action) (sink sink' : Option (List ℕ)) (told told' : Option Store) → Tells told (HasNoBook profile)
     → Serves status low high actions sink sink' told told'
 Serves-bad status low high actions sink sink' told told' shut = λ written store opened at_sink at_told opens. absurd (never-opens told store opened at_told opens shut)
 
@@ -465,10 +472,10 @@ served-nine low high opened actions written now before after = record {
   memory = λ e. absurd (omega (arith, e));
 }
 
-full-book : (told : Option Store) (store : Store) (opened : List Entry) → told ≡ Some store → OpensTo opened store → Tells told HasFullBook
+full-book : (told : Option Store) (store : Store) (opened : List Entry) → told ≡ Some store → OpensTo opened store → Tells told (HasFullBook profile)
     → profile.entries < load (state_of opened) + 1
 full-book told store opened at opens full =
-    let here : HasFullBook store = subst (λ (o : Option Store). Tells o HasFullBook) at full in
+    let here : HasFullBook profile store = subst (λ (o : Option Store). Tells o (HasFullBook profile)) at full in
     here opened (record { journal = opens.journal; fit = opens.faithful.legal.fit })
 
 -- a content that a move made, where it was told
@@ -477,7 +484,7 @@ moved P None b x e m = cc
 moved P (Some z) None x e m = absurd m
 moved P (Some z) (Some y) x e m = (y, refl, subst (λ w. P w y) (same_some z x e) m)
 
-pub Serves-full : (status low high : ℕ) (actions : List Action) (sink sink' : Option (List ℕ)) (told told' : Option Store) (faults faults' : ℕ) → told' ≡ told → Tells told HasFullBook
+pub Serves-full : (status low high : ℕ) (actions : List Action) (sink sink' : Option (List ℕ)) (told told' : Option Store) (faults faults' : ℕ) → told' ≡ told → Tells told (HasFullBook profile)
     → IsSaid 9 full_line sink sink' faults faults' status → Serves status low high actions sink sink' told told'
 Serves-full status low high actions sink sink' told told' faults faults' same full (inl said) = λ written store opened at_sink at_told opens.
     let there = moved (Gains full_line) sink sink' written at_sink said.1.wrote in
@@ -518,3 +525,23 @@ done-opens low high start actions written now store refused is = opens-later low
 
 pub cut-opens : (low high : ℕ) (start : List Entry) (actions : List Action) (written now : List ℕ) (store : Store) → IsCutOff low high start actions written now store → OpensLater start store
 cut-opens low high start actions written now store is = opens-later low high start is.last.book store is.is_book is.has_book
+
+pub stopped-opens : (low high : ℕ) (start : List Entry) (actions : List Action) (written now : List ℕ) (store : Store) (Keeps : Standing → Action → List Entry → Type 0)
+    → IsStopped low high start actions written now store Keeps → OpensLater start store
+stopped-opens low high start actions written now store Keeps is =
+    later-behind start (is.is_before.grows.more ++ is.halfway.added) is.book store
+    (is.halfway.book ∙ ap (λ (b : List Entry). b ++ is.halfway.added) is.is_before.grows.book_is ∙ append_assoc start is.is_before.grows.more is.halfway.added) is.opens
+
+pub failed-opens : (low high : ℕ) (book : List Entry) (actions : List Action) (written now : List ℕ) (before store : Store) → HasRoom profile (state_of book) 1
+    → StopsForStore low high book actions written now before store → OpensLater book store
+failed-opens low high book actions written now before store room (inl is) =
+    later-behind book (opening_entries (state_of book)) (opening_of book) store refl
+    (stopped-opens low high (opening_of book) actions written now store (ReadsFurther store.journal) is)
+failed-opens low high book actions written now before store room (inr is) = is.opens room
+
+pub lacked-opens : (low high : ℕ) (book : List Entry) (actions : List Action) (written now : List ℕ) (before store : Store) → HasRoom profile (state_of book) 1
+    → StopsForMemory low high book actions written now before store → OpensLater book store
+lacked-opens low high book actions written now before store room (inl is) =
+    later-behind book (opening_entries (state_of book)) (opening_of book) store refl
+    (stopped-opens low high (opening_of book) actions written now store (λ standing act b. Reads b store.journal) is)
+lacked-opens low high book actions written now before store room (inr is) = is.opens room

@@ -6,6 +6,7 @@ pub mod OwnEntries
 pub mod Acting
 pub mod Unasked
 pub mod Turns
+pub mod CutOpenings
 pub mod Ends
 pub mod Whole
 pub mod Refusing

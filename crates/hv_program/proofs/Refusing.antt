@@ -55,9 +55,9 @@ tells-then P Q None f p = tt
 tells-then P Q (Some x) f p = f x p
 
 -- the store of a run that was opened could be opened
-pub could-open : (told : Option Store) (now : List Entry) → boots.Opens told now → Tells told CanOpen
+pub could-open : (told : Option Store) (now : List Entry) → boots.Opens profile told now → Tells told (CanOpen profile)
 could-open told now is =
-    tells-then (λ s. IsJournalOf profile is.0 s.journal) CanOpen told (λ s reads. (is.0, record { reads = reads; room = is.1.room })) is.1.reads
+    tells-then (λ s. IsJournalOf profile is.0 s.journal) (CanOpen profile) told (λ s reads. (is.0, record { reads = reads; room = is.1.room })) is.1.reads
 
 none-of-two : (n : ℕ) → (n ≡ 0 → ⊥) → (n ≡ 1 → ⊥) → (Goal : Type 0) → IsTrue (is_one_of (0 ∷ 1 ∷ []) n) → Goal
 none-of-two n not_zero not_one Goal h = first (split (0 == n) ((1 == n) || false) h)
@@ -70,11 +70,11 @@ none-of-two n not_zero not_one Goal h = first (split (0 == n) ((1 == n) || false
     first (inl e) = absurd (not_zero (sym (eqb-true 0 n e)))
     first (inr e) = second (split (1 == n) false e)
 
-opens-well : (n : ℕ) (sink sink' : Option (List ℕ)) (told told' : Option Store) → (n ≡ 6 → ⊥) → (n ≡ 9 → ⊥) → Tells told CanOpen
+opens-well : (n : ℕ) (sink sink' : Option (List ℕ)) (told told' : Option Store) → (n ≡ 6 → ⊥) → (n ≡ 9 → ⊥) → Tells told (CanOpen profile)
     → IsTrue (is_one_of (0 ∷ 1 ∷ 4 ∷ 5 ∷ 6 ∷ 7 ∷ 9 ∷ []) n) → Opens sink sink' told told' n
 opens-well n sink sink' told told' six nine can only = record { bad = λ e. absurd (six e); full = λ e. absurd (nine e); opened = λ h. can; only = only }
 
-pub opens-ran : (ran : Result Bool Stop) (sink sink' : Option (List ℕ)) (told told' : Option Store) → Tells told CanOpen
+pub opens-ran : (ran : Result Bool Stop) (sink sink' : Option (List ℕ)) (told told' : Option Store) → Tells told (CanOpen profile)
     → IfErr ran (λ why. IsTrue (is_one_of (4 ∷ 5 ∷ 7 ∷ []) (status_of_stop why))) → Opens sink sink' told told' (ran_status ran)
 opens-ran (Ok false) sink sink' told told' can why = opens-well 0 sink sink' told told' (λ e. omega (arith, e)) (λ e. omega (arith, e)) can refl
 opens-ran (Ok true) sink sink' told told' can why = opens-well 1 sink sink' told told' (λ e. omega (arith, e)) (λ e. omega (arith, e)) can refl
@@ -84,7 +84,7 @@ opens-ran (Err stop.Store) sink sink' told told' can why = opens-well 5 sink sin
 opens-ran (Err stop.NoMemory) sink sink' told told' can why = opens-well 7 sink sink' told told' (λ e. omega (arith, e)) (λ e. omega (arith, e)) can refl
 
 pub opens-run : (ran : Result Bool Stop) (status : ℕ) (sink sink' : Option (List ℕ)) (told told' : Option Store) (now : List Entry) → status ≡ ran_status ran
-    → boots.Opens told now
+    → boots.Opens profile told now
     → IfErr ran (λ why. IsTrue (is_one_of (4 ∷ 5 ∷ 7 ∷ []) (status_of_stop why))) → Opens sink sink' told told' status
 opens-run ran status sink sink' told told' now is opened why =
     subst (Opens sink sink' told told') (sym is) (opens-ran ran sink sink' told told' (could-open told now opened) why)
@@ -128,7 +128,7 @@ opens-nine sink sink' told told' filled = record {
 }
 
 pub opens-bad : (status at : ℕ) (sink sink' : Option (List ℕ)) (faults faults' : ℕ) (told told' : Option Store)
-    → (told' ≡ told) × Tells told (λ s. IsBadJournalAt profile s.journal at) × Tells told HasNoBook
+    → (told' ≡ told) × Tells told (λ s. IsBadJournalAt profile s.journal at) × Tells told (HasNoBook profile)
     → IsSaidOrNot 6 (journal_line at) sink sink' faults faults' status → Opens sink sink' told told' status
 opens-bad status at sink sink' faults faults' told told' bad (inl (inl said)) =
     subst (Opens sink sink' told told') (sym said.0)
@@ -137,7 +137,7 @@ opens-bad status at sink sink' faults faults' told told' bad (inl (inr cut)) = s
 opens-bad status at sink sink' faults faults' told told' bad (inr unsaid) = opens-memory status sink sink' told told' unsaid.0
 
 pub opens-full : (status entries : ℕ) (sink sink' : Option (List ℕ)) (faults faults' : ℕ) (told told' : Option Store)
-    → (told' ≡ told) × Tells told (λ s. IsFullAt entries s.journal) × Tells told HasFullBook
+    → (told' ≡ told) × Tells told (λ s. IsFullAt profile entries s.journal) × Tells told (HasFullBook profile)
     → IsSaid 9 full_line sink sink' faults faults' status → Opens sink sink' told told' status
 opens-full status entries sink sink' faults faults' told told' full (inl said) =
     subst (Opens sink sink' told told') (sym said.0)
@@ -145,13 +145,13 @@ opens-full status entries sink sink' faults faults' told told' full (inl said) =
 opens-full status entries sink sink' faults faults' told told' full (inr cut) = subst (Opens sink sink' told told') (sym cut.0) (opens-four sink sink' told told')
 
 -- what boot says of a journal that it doesn't open
-pub bad-found : (told told' : Option Store) (why : BootFault) (at : ℕ) → why ≡ boot.BadJournal at → IsBootFault told told' why
-    → (told' ≡ told) × Tells told (λ s. IsBadJournalAt profile s.journal at) × Tells told HasNoBook
-bad-found told told' why at is h = subst (IsBootFault told told') is h
+pub bad-found : (told told' : Option Store) (why : BootFault) (at : ℕ) → why ≡ boot.BadJournal at → IsBootFault profile told told' why
+    → (told' ≡ told) × Tells told (λ s. IsBadJournalAt profile s.journal at) × Tells told (HasNoBook profile)
+bad-found told told' why at is h = subst (IsBootFault profile told told') is h
 
-pub full-found : (told told' : Option Store) (why : BootFault) (entries : ℕ) → why ≡ boot.Full entries → IsBootFault told told' why
-    → (told' ≡ told) × Tells told (λ s. IsFullAt entries s.journal) × Tells told HasFullBook
-full-found told told' why entries is h = subst (IsBootFault told told') is h
+pub full-found : (told told' : Option Store) (why : BootFault) (entries : ℕ) → why ≡ boot.Full entries → IsBootFault profile told told' why
+    → (told' ≡ told) × Tells told (λ s. IsFullAt profile entries s.journal) × Tells told (HasFullBook profile)
+full-found told told' why entries is h = subst (IsBootFault profile told told') is h
 
 -- ---- the whole
 

@@ -15,6 +15,7 @@ use Rattle.hv_house.specs.declared.fault.HouseFault.{HouseFault}
 use Rattle.hv_house.specs.declared.fault.HouseFault.TheVariants as fault
 use Rattle.hv_house.specs.House.{entries_of, IsFaithful}
 use Rattle.hv_house.specs.Faults.{EndsRun}
+use Rattle.hv_ending.specs.Ending.{OpensLater, StillOpens}
 use Rattle.hv_program.specs.declared.held.Held.{Held}
 use Rattle.hv_program.specs.declared.stop.Stop.{Stop}
 use Rattle.hv_program.specs.declared.stop.Stop.TheVariants as stop
@@ -179,24 +180,24 @@ Prints-stopped why told low middle high start before book actions front behind a
 }
 
 halts : (why : HouseFault) (told : Option Store) (low high : ℕ) (start book : List Entry) (actions : List Action) (a b : Option (List ℕ)) → EndsRun why
-    → StopsIn why told low high start book actions a b → Halts (stop_of why) low high start book actions a b told
-halts fault.Store told low high start book actions a b ends stopped = stopped
-halts (fault.Failed count) told low high start book actions a b ends stopped = absurd ends
-halts fault.NoMemory told low high start book actions a b ends stopped = stopped
+    → StopsIn why told low high start book actions a b → Tells told (OpensLater book) → Halts (stop_of why) low high start book actions a b told
+halts fault.Store told low high start book actions a b ends stopped opens = (stopped, opens)
+halts (fault.Failed count) told low high start book actions a b ends stopped opens = absurd ends
+halts fault.NoMemory told low high start book actions a b ends stopped opens = (stopped, opens)
 
 pub Halts-stopped : {D : Type 0} (told : D → Option Store) (why : HouseFault) (result : Result Bool Stop) (first : Option Store) (low middle high : ℕ) (start : List Entry) (before now : House D) (helds : List Held)
     (actions : List Action) (i : ℕ) (act : Action) (refused : Bool) (a b : Option (List ℕ)) → IsErrAnd result (λ e. e ≡ stop_of why) → low ≤ middle → middle ≤ high → EndsRun why
     → i < length actions → act ≡ get_or actions i act → StaysTold first (told before.shelf)
     → Tells first (λ _. Prints low middle start (standing_of before helds) (take i actions) a b refused) → Tells (told before.shelf) (HasAllOf (entries_of before) helds)
-    → Stops why (told now.shelf) (standing_of before helds) act (entries_of now)
+    → Stops why (told now.shelf) (standing_of before helds) act (entries_of now) → StillOpens told now
     → IfErr result (λ e. Tells first (λ _. Halts e low high start (entries_of now) actions a b (told now.shelf)))
-Halts-stopped told why result first low middle high start before now helds actions i act refused a b err below above ends inside is stays h shown stops =
+Halts-stopped told why result first low middle high start before now helds actions i act refused a b err below above ends inside is stays h shown stops opens =
     passed_up result (stop_of why) (λ e. Tells first (λ _. Halts e low high start (entries_of now) actions a b (told now.shelf))) err
     (Tells-both' first (told before.shelf) _ (HasAllOf (entries_of before) helds) _ stays
     (λ (p : Prints low middle start (standing_of before helds) (take i actions) a b refused) s (all : HasAllOf (entries_of before) helds s).
     halts why (told now.shelf) low high start (entries_of now) actions a b ends
     (Prints-stopped why (told now.shelf) low middle high start (standing_of before helds) (entries_of now) actions (take i actions) (drop (suc i) actions) a b refused act below above
-    (split_at actions i act inside is) all.faithful.legal p stops)) h shown)
+    (split_at actions i act inside is) all.faithful.legal p stops) opens) h shown)
 
 -- ---- all were done
 

@@ -4,6 +4,7 @@ use Rattle.hv_base.specs.Faults.{Rose}
 use Rattle.hv_base.specs.Told.{Tells}
 use Rattle.hv_script.specs.Words.{command_of}
 use Rattle.hv_directives.specs.Actions.{refused_at}
+use Rattle.hv_history.specs.Legal.{profile}
 use Rattle.hv_house.specs.Booting.{CanOpen}
 use Rattle.hv_program.specs.Headline.{Outside}
 use Rattle.hv_program.specs.Refused.{is_one_of}
@@ -32,4 +33,4 @@ abbrev pub Completes : List (List ℕ) → Outside → Counts → Counts → ℕ
 Completes words before counts counts' status =
     IsSome (command_of words) → IsFaultless counts counts'
     → Tells before.source (λ script. refused_at script ≡ None
-    → Tells before.store (λ s. CanOpen s → IsTrue (is_one_of (0 ∷ 1 ∷ 7 ∷ []) status)))
+    → Tells before.store (λ s. CanOpen profile s → IsTrue (is_one_of (0 ∷ 1 ∷ 7 ∷ []) status)))

@@ -95,7 +95,7 @@ pub record IsHeldNow (start book before now : List Entry) (asking : Asking) (hol
   pub goes : now ≡ before ++ opening before asking ∷ added
   pub tree : Stmt
   pub runs : Runs asking.text tree
-  pub can : CanBegin before tree
+  pub can : CanBegin profile before tree
   pub at_hold : HoldsAt hold (next_number before) added
   pub own : length (state_of start).transactions < next_number before
   pub was_opened : Contains book (opening before asking)

@@ -38,15 +38,15 @@ pub record IsBadJournal (words : List (List ℕ)) (before after : Outside) : Typ
   pub unrefused : Tells before.source (λ script. refused_at script ≡ None)
   pub at : ℕ
   pub journal : Tells before.store (λ s. IsBadJournalAt profile s.journal at)
-  pub shut : Tells before.store HasNoBook
+  pub shut : Tells before.store (HasNoBook profile)
   pub says : Says (journal_line at) before after
 
 pub record IsFullJournal (words : List (List ℕ)) (before after : Outside) : Type 0 where
   pub words_are : IsSome (command_of words)
   pub unrefused : Tells before.source (λ script. refused_at script ≡ None)
   pub entries : ℕ
-  pub journal : Tells before.store (λ s. IsFullAt entries s.journal)
-  pub shut : Tells before.store HasFullBook
+  pub journal : Tells before.store (λ s. IsFullAt profile entries s.journal)
+  pub shut : Tells before.store (HasFullBook profile)
   pub says : Says full_line before after
 
 -- ---- and when it comes: the first cause in this order, but for the statuses 3, 4, 5 and 7
@@ -60,6 +60,6 @@ pub record Refuses (words : List (List ℕ)) (before after : Outside) (status : 
   pub at_script : IsSome (command_of words) → Tells before.source (λ script. (line : ℕ) → refused_at script ≡ Some line
       → IsTrue (is_one_of (3 ∷ 4 ∷ 7 ∷ 8 ∷ []) status))
   -- statements are done only where the store could be opened
-  pub at_journal : IsTrue (is_one_of (0 ∷ 1 ∷ []) status) → Tells before.store CanOpen
+  pub at_journal : IsTrue (is_one_of (0 ∷ 1 ∷ []) status) → Tells before.store (CanOpen profile)
   -- no other status is there
   pub only : IsTrue (is_one_of (0 ∷ 1 ∷ 2 ∷ 3 ∷ 4 ∷ 5 ∷ 6 ∷ 7 ∷ 8 ∷ 9 ∷ []) status)

@@ -5,13 +5,14 @@ use Rattle.hv_base.specs.Sink.{GainsPart}
 use Rattle.hv_shelf.specs.Disk.{Store}
 use Rattle.hv_history.specs.declared.entry.Entry.{Entry}
 use Rattle.hv_history.specs.State.{state_of}
-use Rattle.hv_history.specs.Legal.{IsLegal, profile}
+use Rattle.hv_history.specs.Legal.{IsLegal, HasRoom, profile}
 use Rattle.hv_history.specs.Journal.{Reads}
 use Rattle.hv_journal.specs.Appending.{ReadsMore}
 use Rattle.hv_directives.specs.declared.actions.Action.{Action}
 use Rattle.hv_stands.specs.Files.{Stands}
 use Rattle.hv_house.specs.declared.boot.BootFault.TheVariants as fault
-use Rattle.hv_house.specs.Booting.{opening_of, OpensTo, IsCutOpening}
+use Rattle.hv_house.specs.Booting.{opening_of, IsCutOpening}
+use Rattle.hv_ending.specs.Ending.{OpensLater}
 use Rattle.hv_program.specs.Doing.{Standing, IsDone, AreDone}
 use Rattle.hv_program.specs.Own.{Grows}
 use Rattle.hv_program.specs.Running.{beginning, IsHalfway, AreFurther}
@@ -26,12 +27,6 @@ pub record IsBookOf (low high : ℕ) (start book : List Entry) : Type 0 where
 pub record HasBook (book : List Entry) (store : Store) : Type 0 where
   pub reads : Reads book store.journal
   pub stands : Stands (state_of book) store.tree
-
--- the store opens to a book that begins with this one
-pub record OpensLater (start : List Entry) (store : Store) : Type 0 where
-  pub book : List Entry
-  pub opens : OpensTo book store
-  pub begins : (more : List Entry) × (book ≡ start ++ more)
 
 -- All actions were done: the replies of all of them were written, by the book that the store has now, and one of
 -- them is a refusal or none is.
@@ -63,8 +58,9 @@ pub record IsCutOff (low high : ℕ) (start : List Entry) (actions : List Action
   pub wrote : GainsPart reply (written ++ output) now
 
 -- The replies of the actions in front of this one were written. Its transaction has no end in the book; those behind it were not
--- done. `Keeps` says how the book stands in the journal, by where the run stood before the action.
-pub record IsStopped (low high : ℕ) (start : List Entry) (actions : List Action) (written now : List ℕ) (Keeps : Standing → Action → List Entry → Type 0) : Type 0 where
+-- done. The store opens to the book, or to one that begins with it. `Keeps` says how the book stands in the journal, by where the run
+-- stood before the action.
+pub record IsStopped (low high : ℕ) (start : List Entry) (actions : List Action) (written now : List ℕ) (after : Store) (Keeps : Standing → Action → List Entry → Type 0) : Type 0 where
   pub front : List Action
   pub action : Action
   pub behind : List Action
@@ -78,18 +74,21 @@ pub record IsStopped (low high : ℕ) (start : List Entry) (actions : List Actio
   pub are_done : AreDone start book (beginning start) before front output refused
   pub wrote : now ≡ written ++ output
   pub keeps : Keeps before action book
+  pub opens : OpensLater book after
 
--- No action was done, nothing was written, and no file was touched.
-pub record IsUnopened (written now : List ℕ) (before after : Store) (Keeps : List ℕ → Type 0) : Type 0 where
+-- No action was done, nothing was written, and no file was touched. Where the book has room for its opening the store opens again, to
+-- the book with a front of that.
+pub record IsUnopened (book : List Entry) (written now : List ℕ) (before after : Store) (Keeps : List ℕ → Type 0) : Type 0 where
   pub wrote : now ≡ written
   pub files : after.tree ≡ before.tree
   pub keeps : Keeps after.journal
+  pub opens : HasRoom profile (state_of book) 1 → OpensLater book after
 
 -- for want of memory: the journal reads to the book
 abbrev pub StopsForMemory : ℕ → ℕ → List Entry → List Action → List ℕ → List ℕ → Store → Store → Type 0
 StopsForMemory low high before actions written now store store' =
-    IsStopped low high (opening_of before) actions written now (λ standing action book. Reads book store'.journal)
-    ⊎ IsUnopened written now store store' (IsCutOpening fault.NoMemory before)
+    IsStopped low high (opening_of before) actions written now store' (λ standing action book. Reads book store'.journal)
+    ⊎ IsUnopened before written now store store' (IsCutOpening fault.NoMemory before)
 
 -- the journal reads to the book, or to the book and what further entries of a stopped action it may have
 abbrev pub ReadsFurther : List ℕ → Standing → Action → List Entry → Type 0
@@ -100,5 +99,5 @@ ReadsFurther bytes before action book =
 -- two by which a statement begins
 abbrev pub StopsForStore : ℕ → ℕ → List Entry → List Action → List ℕ → List ℕ → Store → Store → Type 0
 StopsForStore low high before actions written now store store' =
-    IsStopped low high (opening_of before) actions written now (ReadsFurther store'.journal)
-    ⊎ IsUnopened written now store store' (IsCutOpening fault.Store before)
+    IsStopped low high (opening_of before) actions written now store' (ReadsFurther store'.journal)
+    ⊎ IsUnopened before written now store store' (IsCutOpening fault.Store before)

@@ -15,7 +15,7 @@ use Rattle.hv_stands.specs.Running.{next_number, AreOf}
 use Rattle.hv_house.specs.declared.fault.HouseFault.{HouseFault}
 use Rattle.hv_house.specs.declared.fault.HouseFault.TheVariants as fault
 use Rattle.hv_house.specs.House.{BeginFits, beginning_of, IsFaithful, Leaves}
-use Rattle.hv_ending.specs.Ending.{IsNoEnd}
+use Rattle.hv_ending.specs.Ending.{IsNoEnd, OpensLater}
 use Rattle.hv_session.specs.Taking.{IsHold}
 use Rattle.hv_program.specs.declared.stop.Stop.{Stop}
 use Rattle.hv_program.specs.declared.stop.Stop.TheVariants as stop
@@ -161,5 +161,5 @@ HasAll book store = Reads book store.journal × IsFaithful book store
 abbrev pub Halts : Stop → ℕ → ℕ → List Entry → List Entry → List Action → Option (List ℕ) → Option (List ℕ) → Option Store → Type 0
 Halts stop.Source low high start book actions sink sink' told = ⊥
 Halts stop.Sink low high start book actions sink sink' told = CutsOff low high start book actions sink sink' × Tells told (HasAll book)
-Halts stop.Store low high start book actions sink sink' told = StopsIn fault.Store told low high start book actions sink sink'
-Halts stop.NoMemory low high start book actions sink sink' told = StopsIn fault.NoMemory told low high start book actions sink sink'
+Halts stop.Store low high start book actions sink sink' told = StopsIn fault.Store told low high start book actions sink sink' × Tells told (OpensLater book)
+Halts stop.NoMemory low high start book actions sink sink' told = StopsIn fault.NoMemory told low high start book actions sink sink' × Tells told (OpensLater book)

@@ -76,19 +76,19 @@ IsSaidOrNot wanted line sink sink' faults faults' status =
 pub record IsClosed (sink sink' : Option (List ℕ)) (told told' : Option Store) : Type 0 where
   pub at : ℕ
   pub journal : Tells told (λ s. IsBadJournalAt profile s.journal at)
-  pub shut : Tells told HasNoBook
+  pub shut : Tells told (HasNoBook profile)
   pub same : told' ≡ told
   pub wrote : Moves (Gains (journal_line at)) sink sink'
 
 pub record IsFilled (sink sink' : Option (List ℕ)) (told told' : Option Store) : Type 0 where
   pub entries : ℕ
-  pub journal : Tells told (λ s. IsFullAt entries s.journal)
-  pub shut : Tells told HasFullBook
+  pub journal : Tells told (λ s. IsFullAt profile entries s.journal)
+  pub shut : Tells told (HasFullBook profile)
   pub same : told' ≡ told
   pub wrote : Moves (Gains full_line) sink sink'
 
 pub record Opens (sink sink' : Option (List ℕ)) (told told' : Option Store) (status : ℕ) : Type 0 where
   pub bad : status ≡ 6 → IsClosed sink sink' told told'
   pub full : status ≡ 9 → IsFilled sink sink' told told'
-  pub opened : IsTrue (is_one_of (0 ∷ 1 ∷ []) status) → Tells told CanOpen
+  pub opened : IsTrue (is_one_of (0 ∷ 1 ∷ []) status) → Tells told (CanOpen profile)
   pub only : IsTrue (is_one_of (0 ∷ 1 ∷ 4 ∷ 5 ∷ 6 ∷ 7 ∷ 9 ∷ []) status)

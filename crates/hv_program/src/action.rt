@@ -5,7 +5,7 @@ ghost use Rattle.hv_house.specs.Faults.{EndsRun, FileCause};
 ghost use Rattle.hv_house.specs.House.{entries_of, IsReady, Shows};
 ghost use Rattle.hv_history.specs.State.{state_of};
 ghost use Rattle.hv_stands.specs.Running.{next_number, KeepsGiven};
-ghost use Rattle.hv_ending.specs.Ending.{AddsOf};
+ghost use Rattle.hv_ending.specs.Ending.{AddsOf, StillOpens};
 ghost use Rattle.hv_session.specs.Taking.{asked_of, IsKeptIn, IsTakenAs};
 ghost use Rattle.hv_session.specs.Ways.{StopsTaken};
 ghost use Rattle.hv_program.specs.Doing.{asking_of, session_line};
@@ -89,6 +89,8 @@ fn take<D: Shelf>(
         (D.told house.old.shelf) (D.told house.new.shelf) }
     ensures tells { StaysTold (D.told house.old.shelf) (D.told house.new.shelf) }
     ensures stopped { IfErr result (λ why. StopsTaken D.told (asking_of statement.now) why house.old house.new) }
+    ensures opens { Shows D.told house.old (entries_of house.old)
+        → IfErr result (λ _. StillOpens D.told house.new) }
     ensures ends { IfErr result EndsRun }
     ensures cause { FileCause (D.faults house.old.shelf) (D.faults house.new.shelf) result }
 {
@@ -120,6 +122,8 @@ fn run_statement<D: Shelf>(
     ensures tells { StaysTold (D.told house.old.shelf) (D.told house.new.shelf) }
     ensures stopped { IfErr result (λ why. Stops why (D.told house.new.shelf)
         (standing_of house.old held.old.items) (action.Run statement.now) (entries_of house.new)) }
+    ensures opens { IsShown D.told house.old held.old.items
+        → IfErr result (λ _. StillOpens D.told house.new) }
     ensures ends { IfErr result EndsRun }
     ensures cause { FileCause (D.faults house.old.shelf) (D.faults house.new.shelf) result }
 {
@@ -155,6 +159,8 @@ fn release<D: Shelf>(
     ensures tells { StaysTold (D.told house.old.shelf) (D.told house.new.shelf) }
     ensures stopped { IfErr result (λ why. Stops why (D.told house.new.shelf)
         (standing_of house.old held.old.items) (action.Release session.now) (entries_of house.new)) }
+    ensures opens { IsShown D.told house.old held.old.items
+        → IfErr result (λ _. StillOpens D.told house.new) }
     ensures ends { IfErr result EndsRun }
     ensures cause { FileCause (D.faults house.old.shelf) (D.faults house.new.shelf) result }
 {
@@ -186,6 +192,8 @@ pub fn act<D: Shelf>(
     ensures tells { StaysTold (D.told house.old.shelf) (D.told house.new.shelf) }
     ensures stopped { IfErr result (λ why. Stops why (D.told house.new.shelf)
         (standing_of house.old held.old.items) action.now (entries_of house.new)) }
+    ensures opens { IsShown D.told house.old held.old.items
+        → IfErr result (λ _. StillOpens D.told house.new) }
     ensures ends { IfErr result EndsRun }
     ensures cause { FileCause (D.faults house.old.shelf) (D.faults house.new.shelf) result }
 {

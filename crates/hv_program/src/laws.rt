@@ -2,13 +2,26 @@ ghost use Rattle.std.specs.Prelude.{List, ℕ, Bool};
 ghost use Rattle.hv_shelf.specs.Disk.{Store};
 ghost use Rattle.hv_history.specs.declared.entry.Entry.{Entry};
 ghost use Rattle.hv_directives.specs.declared.actions.Action.{Action};
-ghost use Rattle.hv_program.specs.Results.{IsServed, IsCutOff, OpensLater};
+ghost use Rattle.hv_history.specs.State.{state_of};
+ghost use Rattle.hv_history.specs.Legal.{HasRoom, profile};
+ghost use Rattle.hv_ending.specs.Ending.{OpensLater};
+ghost use Rattle.hv_program.specs.Doing.{Standing};
+ghost use Rattle.hv_program.specs.Results.{IsServed, IsCutOff, IsStopped, StopsForMemory, StopsForStore};
 
-/// What a run leaves that did all its actions, or that stopped in a reply, opens again: to a legal
-/// book that begins with the book it was opened with.
+/// What a run leaves opens again, however it ended: to a legal book that begins with the book it was opened with, and with all that was
+/// noted by then. A run that stopped in its opening leaves a front of that behind the book, where there was room for it.
 pub fn opens_again()
     ensures done { (low high : ℕ) (start : List Entry) (actions : List Action) (written now : List ℕ) (store : Store)
         (refused : Bool) → IsServed low high start actions written now store refused → OpensLater start store }
     ensures cut { (low high : ℕ) (start : List Entry) (actions : List Action) (written now : List ℕ) (store : Store)
         → IsCutOff low high start actions written now store → OpensLater start store }
+    ensures stopped { (low high : ℕ) (start : List Entry) (actions : List Action) (written now : List ℕ) (store : Store)
+        (Keeps : Standing → Action → List Entry → Type 0)
+        → IsStopped low high start actions written now store Keeps → OpensLater start store }
+    ensures failed { (low high : ℕ) (book : List Entry) (actions : List Action) (written now : List ℕ) (before store : Store)
+        → HasRoom profile (state_of book) 1
+        → StopsForStore low high book actions written now before store → OpensLater book store }
+    ensures lacked { (low high : ℕ) (book : List Entry) (actions : List Action) (written now : List ℕ) (before store : Store)
+        → HasRoom profile (state_of book) 1
+        → StopsForMemory low high book actions written now before store → OpensLater book store }
 {}

@@ -12,7 +12,7 @@ ghost use Rattle.hv_program.specs.Serving.{ran_status, Serves, BlamesOf, IsSaid,
 use crate::reading::read_front;
 use crate::run::run;
 use crate::stop::Stop;
-use hv_base::{Gate, Sink, Source, write_all};
+use hv_base::{Gate, Limits, Sink, Source, write_all};
 use hv_directives::{Action, read_actions};
 use hv_house::{BootFault, House};
 use hv_script::{MAX_SCRIPT, ScriptFault, read_words};
@@ -20,6 +20,9 @@ use hv_shelf::Shelf;
 use std::alloc::Global;
 use std::sync::Wait;
 use std::thread::Threads;
+
+/// How much a warehouse holds: the limits of this project's profile.
+const LIMITS: Limits = Limits { entries: 131_072 };
 
 /// How a run ended: its status, and the store.
 #[derive(Drop)]
@@ -105,7 +108,7 @@ fn serve<O: Sink, D: Shelf + Drop>(
     ensures heard { StaysTold (O.written sink.old) (O.written sink.new) }
     ensures tells { StaysTold (D.told shelf) (D.told result.shelf) }
 {
-    match House::boot(alloc, shelf) {
+    match House::boot(alloc, shelf, LIMITS) {
         Ok(mut house) => {
             let ran = run(alloc, &mut house, sink, actions);
             Ended {

@@ -40,7 +40,9 @@ use Rattle.hv_house.proofs.Beginning.{load-behind-opened, holder-behind-opened}
 use Rattle.hv_house.specs.Steps.{IsMarked}
 use Rattle.hv_ending.specs.declared.ready.Way.{Way}
 use Rattle.hv_ending.specs.declared.ready.Reply.{Reply}
-use Rattle.hv_ending.specs.Ending.{KeepsCount, IsUndamaged, EndsUncommitted, IsAborted, HasStopped, aborting, HasReplied}
+use Rattle.hv_ending.specs.Ending.{KeepsCount, IsUndamaged, EndsUncommitted, IsAborted, HasStopped, StillOpens, aborting, HasReplied}
+use Rattle.hv_ending.specs.Steps.{StandsWith}
+use Rattle.hv_ending.proofs.Opens.{halted-opens, one-halted-opens, event-stands}
 use Rattle.hv_base.specs.declared.ids.TxnId.{TxnId}
 use Rattle.hv_session.proofs.Shorts.{short_blocked, short_full}
 use Rattle.hv_session.specs.declared.paused.Taken.{Taken}
@@ -162,6 +164,14 @@ module _ {D : Type 0} (told : D → Option Store) (before now : House D) where
 pub memory-away : (first now : List Entry) (asking : Asking) (reply : Reply) → now ≡ first → IsLine (cause_text None cause.Memory) reply → IsTurnedAway first now asking reply
 memory-away first now asking reply same line hold is = inr (inr (inr (record { book = same; unended = line.unended; is_refused = line.refusal; line = line.line_is })))
 
+-- the two entries that begin a statement leave the files standing
+beginning-faithful : (book : List Entry) (asking : Asking) (store : Store) → BeginFits book asking → IsFaithful book store → IsFaithful (book ++ beginning_of book asking) store
+beginning-faithful book asking store fits faithful =
+    let one : IsFaithful (book ++ opening book asking ∷ []) store = (event-stands book (opening book asking) store tt (λ fit. tt) faithful).with_it fits.0 in
+    let both : IsFaithful ((book ++ opening book asking ∷ []) ++ starting (next_number book) ∷ []) store =
+    (event-stands (book ++ opening book asking ∷ []) (starting (next_number book)) store tt (λ fit. tt) one).with_it fits.1 in
+    subst (λ (b : List Entry). IsFaithful b store) (append_assoc book (opening book asking ∷ []) (starting (next_number book) ∷ [])) both
+
 -- ---- where the note of an opening was refused
 
 module _ {D : Type 0} (told : D → Option Store) (faults : D → ℕ) (before now : House D) where
@@ -170,25 +180,30 @@ module _ {D : Type 0} (told : D → Option Store) (faults : D → ℕ) (before n
 
   -- memory lacked, and the reply says so
   unopened-ok : (events : List Entry) (why : HouseFault) (reply : Reply) → AreHalted told events why before now → StaysReady told why now
-      → faults before.shelf ≤ faults now.shelf → why ≡ fault.NoMemory → IsPart told faults its_number before now (Ok reply)
+      → faults before.shelf ≤ faults now.shelf → why ≡ fault.NoMemory
+      → IsPart told faults (IsFaithful (entries_of before)) its_number before now (Ok reply)
   unopened-ok events why reply halted stays later is =
       passed-part told faults its_number before now reply
       (lacks-passed told before now faults its_number events
       (subst (λ (w : HouseFault). AreHalted told events w before now) is halted) (subst (λ (w : HouseFault). StaysReady told w now) is stays) later)
 
   -- or the run ends
-  pub unopened-part : {T : Type 0} (event : Entry) (why : HouseFault) (result : Result Reply HouseFault) → IsOf its_number event → Fits profile (state_of (entries_of before)) event
+  pub unopened-part : {T : Type 0} (event : Entry) (why : HouseFault) (result : Result Reply HouseFault) → IsOf its_number event → IsBegun event → Fits profile (state_of (entries_of before)) event
       → AreHalted told (event ∷ []) why before now → StaysReady told why now
       → StaysTold (told before.shelf) (told now.shelf) → EndsRun why → FileCause {T = T} (faults before.shelf) (faults now.shelf) (Err why)
       → IfOk result (λ reply. (why ≡ fault.NoMemory) × IsLine (cause_text None cause.Memory) reply) → IfErr result (λ failed. failed ≡ why)
-      → IsPart told faults its_number before now result
-  unopened-part event why (Ok reply) of_it fits halted stays tells ends cause memory failed = unopened-ok (event ∷ []) why reply halted stays cause.later memory.0
-  unopened-part {T = T} event why (Err other) of_it fits halted stays tells ends cause memory failed =
-      subst (λ (w : HouseFault). IsPart {T = Reply} told faults its_number before now (Err w)) (sym failed) (record {
+      → IsPart told faults (IsFaithful (entries_of before)) its_number before now result
+  unopened-part event why (Ok reply) of_it begun fits halted stays tells ends cause memory failed = unopened-ok (event ∷ []) why reply halted stays cause.later memory.0
+  unopened-part {T = T} event why (Err other) of_it begun fits halted stays tells ends cause memory failed =
+      subst (λ (w : HouseFault). IsPart {T = Reply} told faults (IsFaithful (entries_of before)) its_number before now (Err w)) (sym failed) (record {
         done = tt;
         keeps = same-files (state_of (entries_of before)).tables (told before.shelf) (told now.shelf) halted.tree;
         tells = tells;
         stopped = halted-stopped told before now its_number event why halted of_it fits;
+        opens = λ shows. one-halted-opens told event why before now halted fits
+            (told-map (IsFaithful (entries_of before)) (StandsWith (entries_of before) event)
+            (λ s faithful. event-stands (entries_of before) event s (begun-quiet event begun) (λ fit. begun-true (state_of (entries_of before)) event begun) faithful)
+            (told before.shelf) shows);
         ends = ends;
         cause = record { later = cause.later; failed = cause.failed };
       })
@@ -206,6 +221,9 @@ module _ {D : Type 0} (told : D → Option Store) (faults : D → ℕ) (before n
         keeps = same-files (state_of (entries_of before)).tables (told before.shelf) (told now.shelf) halted.tree;
         tells = tells;
         stopped = inr (halted-beginning told before now asking why halted fits);
+        opens = λ shows. halted-opens told (beginning_of (entries_of before) asking) why before now halted shows
+            (told-map (IsFaithful (entries_of before)) (IsFaithful (entries_of before ++ beginning_of (entries_of before) asking))
+            (λ s faithful. beginning-faithful (entries_of before) asking s fits faithful) (told before.shelf) shows);
         ends = ends;
         cause = record { later = cause.later; failed = cause.failed };
       })
@@ -235,7 +253,7 @@ module _ (first before now : List Entry) (asking : Asking) (book : before ≡ fi
   same-added : (xs ys : List Entry) → now ≡ before ++ xs → now ≡ before ++ ys → xs ≡ ys
   same-added xs ys x y = append_cancel_left before xs ys (sym x ∙ y)
 
-  pub goes-taken : (hold : Option Stage) (files : Tree) (tree : Stmt) (way : Taken) → Runs asking.text tree → CanBegin first tree → StandsHeld now asking way
+  pub goes-taken : (hold : Option Stage) (files : Tree) (tree : Stmt) (way : Taken) → Runs asking.text tree → CanBegin profile first tree → StandsHeld now asking way
       → GoesInTime hold (next_number first) before now way
       → StandsTruly before now files (next_number first) way → IsTakenAs first now files asking hold way
   goes-taken hold files tree (taken.Replied reply) runs can stands goes truly = inl (record {
@@ -254,7 +272,7 @@ module _ (first before now : List Entry) (asking : Asking) (book : before ≡ fi
     book = begun-book goes.added goes.book;
     txn_is = goes.in_time.0;
     runs = stands.under_way.runs;
-    can = subst (CanBegin first) (one-tree asking.text tree paused.tree runs stands.under_way.runs) can;
+    can = subst (CanBegin profile first) (one-tree asking.text tree paused.tree runs stands.under_way.runs) can;
     at_hold = goes.in_time.1;
     truly = truly;
   }
@@ -266,7 +284,7 @@ module _ (first before now : List Entry) (asking : Asking) (book : before ≡ fi
 -- ---- it is turned away
 
 -- it can't start, though no lock is held against it: there is no room
-cannot-lacks : (book : List Entry) (tree : Stmt) → (CanBegin book tree → ⊥) → holder_against book tree ≡ None → profile.entries < load (state_of book) + 3
+cannot-lacks : (book : List Entry) (tree : Stmt) → (CanBegin profile book tree → ⊥) → holder_against book tree ≡ None → profile.entries < load (state_of book) + 3
 cannot-lacks book tree cannot free = by (nat_lt profile.entries (load (state_of book) + 3)) refl
   where
     by : (b : Bool) → nat_lt profile.entries (load (state_of book) + 3) ≡ b → profile.entries < load (state_of book) + 3
@@ -274,7 +292,7 @@ cannot-lacks book tree cannot free = by (nat_lt profile.entries (load (state_of 
     by false is = absurd (cannot (grind (arith, nat_tests, is), free))
 
 -- nor behind its Opened
-pub lacks-behind : (book now : List Entry) (asking : Asking) (tree : Stmt) → now ≡ book ++ opening book asking ∷ [] → (CanBegin book tree → ⊥) → LacksRoom now tree
+pub lacks-behind : (book now : List Entry) (asking : Asking) (tree : Stmt) → now ≡ book ++ opening book asking ∷ [] → (CanBegin profile book tree → ⊥) → LacksRoom now tree
 lacks-behind book now asking tree is cannot free =
     let before : holder_against book tree ≡ None =
     sym (ap (λ (b : List Entry). holder_against b tree) is ∙ holder-behind-opened book asking tree) ∙ free in
@@ -297,13 +315,13 @@ module _ (first before now : List Entry) (asking : Asking) (book : before ≡ fi
   hindrance-whole (Some holder) why (inl is) = subst (λ (w : Cause). IsUndamaged (aborting (next_number first) w)) (sym is) tt
 
   -- it is aborted for what stands in its way
-  why-not : (tree : Stmt) → (CanBegin first tree → ⊥) → (holder : Option ℕ) → holder_against first tree ≡ holder → (why : Cause)
+  why-not : (tree : Stmt) → (CanBegin profile first tree → ⊥) → (holder : Option ℕ) → holder_against first tree ≡ holder → (why : Cause)
       → (why ≡ hindrance_of holder) ⊎ (why ≡ cause.Memory) → IsWhyNot first tree why
   why-not tree cannot holder here why (inr memory) = subst (IsWhyNot first tree) (sym memory) cannot
   why-not tree cannot None here why (inl is) = subst (IsWhyNot first tree) (sym is) (here, cannot-lacks first tree cannot here)
   why-not tree cannot (Some holder) here why (inl is) = subst (IsWhyNot first tree) (sym is) here
 
-  pub aborted-away : (tree : Stmt) (reply : Reply) → Runs asking.text tree → (CanBegin first tree → ⊥)
+  pub aborted-away : (tree : Stmt) (reply : Reply) → Runs asking.text tree → (CanBegin profile first tree → ⊥)
       → IsAborted (next_number first) (hindrance_of (holder_against before tree)) before now
       → HasReplied now (next_number first) reply.text reply.refused reply.ended → IsTurnedAway first now asking reply
   aborted-away tree reply runs cannot aborted answered hold is =
@@ -388,9 +406,10 @@ module _ (holder : Option ℕ) {D : Type 0} (told : D → Option Store) (faults 
   pub aborted-part : (result : Result Reply HouseFault) → IfOk result (λ _. IsReady told now)
       → IfOk result (λ _. IsAborted txn (hindrance_of holder) (entries_of before) (entries_of now))
       → Moves KeepsTree (told before.shelf) (told now.shelf) → StaysTold (told before.shelf) (told now.shelf)
-      → IfErr result (λ failed. HasStopped told txn failed before now) → IfErr result EndsRun → FileCause (faults before.shelf) (faults now.shelf) result
-      → IsPart told faults txn before now result
-  aborted-part (Ok reply) ready aborted tree tells stopped ends cause = record {
+      → IfErr result (λ failed. HasStopped told txn failed before now) → (Shows told before (entries_of before) → IfErr result (λ _. StillOpens told now))
+      → IfErr result EndsRun → FileCause (faults before.shelf) (faults now.shelf) result
+      → IsPart told faults (IsFaithful (entries_of before)) txn before now result
+  aborted-part (Ok reply) ready aborted tree tells stopped opens ends cause = record {
     done = record {
       ready = ready;
       added = record {
@@ -403,14 +422,16 @@ module _ (holder : Option ℕ) {D : Type 0} (told : D → Option Store) (faults 
     keeps = same-files (state_of (entries_of before)).tables (told before.shelf) (told now.shelf) tree;
     tells = tells;
     stopped = tt;
+    opens = λ shows. tt;
     ends = tt;
     cause = cause;
   }
-  aborted-part (Err failed) ready aborted tree tells stopped ends cause = record {
+  aborted-part (Err failed) ready aborted tree tells stopped opens ends cause = record {
     done = tt;
     keeps = same-files (state_of (entries_of before)).tables (told before.shelf) (told now.shelf) tree;
     tells = tells;
     stopped = stopped;
+    opens = opens;
     ends = ends;
     cause = cause;
   }
@@ -419,7 +440,7 @@ module _ (holder : Option ℕ) {D : Type 0} (told : D → Option Store) (faults 
 
 pub turned-away : {D : Type 0} (told : D → Option Store) (faults : D → ℕ) (txn : ℕ) (before between now : House D) (asking : Asking) (said : Stmt) (result : Result Reply HouseFault)
     → entries_of between ≡ entries_of before ++ opening (entries_of before) asking ∷ [] → txn ≡ next_number (entries_of before)
-    → (CanBegin (entries_of before) said → ⊥)
+    → (CanBegin profile (entries_of before) said → ⊥)
     → IsWaiting (entries_of between) asking txn said → AbortsOpened told faults said txn between now result → Shows told between (entries_of between)
     → IfOk result (λ reply. ShowsAnd told now (λ _. IsTurnedAway (entries_of before) (entries_of now) asking reply))
 turned-away told faults txn before between now asking said (Err why) book is cannot waits aborts shows = tt
@@ -460,9 +481,9 @@ pub opened-runs : (book : List Entry) (first asking : Asking) (event : Entry) (t
 unfolding text_of
 opened-runs book first asking event tree one other runs = subst (λ (t : List ℕ). Runs t tree) (ap text_of (sym one ∙ other)) runs
 
-pub renumbered : {D T : Type 0} (told : D → Option Store) (faults : D → ℕ) (before now : House D) (txn number : ℕ) (result : Result T HouseFault) → txn ≡ number
-    → IsPart told faults txn before now result → IsPart told faults number before now result
-renumbered told faults before now txn number result is part = subst (λ (n : ℕ). IsPart told faults n before now result) is part
+pub renumbered : {D T : Type 0} {Known : Store → Type 0} (told : D → Option Store) (faults : D → ℕ) (before now : House D) (txn number : ℕ) (result : Result T HouseFault) → txn ≡ number
+    → IsPart told faults Known txn before now result → IsPart told faults Known number before now result
+renumbered {Known = Known} told faults before now txn number result is part = subst (λ (n : ℕ). IsPart told faults Known n before now result) is part
 
 pub opened-is : (book : List Entry) (asking : Asking) (txn : TxnId) → txn.0 ≡ next_number book → entry.Opened txn asking.session asking.number asking.text ≡ opening book asking
 opened-is book asking txn is = ap (λ (n : ℕ). entry.Opened (record { 0 = n }) asking.session asking.number asking.text) is
@@ -484,7 +505,7 @@ kept-on first before now asking book txn is hold (Ok way) goes stands =
 
 pub goes-on : {D : Type 0} (told : D → Option Store) (first before now : House D) (asking : Asking)
     → entries_of before ≡ entries_of first ++ opening (entries_of first) asking ∷ starting (next_number (entries_of first)) ∷ [] → (txn : ℕ) → txn ≡ next_number (entries_of first)
-    → (hold : Option Stage) (tree : Stmt) (result : Result Taken HouseFault) → Runs asking.text tree → CanBegin (entries_of first) tree
+    → (hold : Option Stage) (tree : Stmt) (result : Result Taken HouseFault) → Runs asking.text tree → CanBegin profile (entries_of first) tree
     → IfOk result (StandsHeld (entries_of now) asking) → IfOk result (GoesInTime hold txn (entries_of before) (entries_of now))
     → IfOk result (λ way. ShowsAnd told now (λ s. StandsTruly (entries_of before) (entries_of now) s.tree txn way))
     → IfOk result (λ way. ShowsAnd told now (λ s. IsTakenAs (entries_of first) (entries_of now) s.tree asking hold way))

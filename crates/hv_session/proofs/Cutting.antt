@@ -30,6 +30,7 @@ use Rattle.hv_house.specs.House.{entries_of, IsReady, IsAsked, IsFaithful, Leave
 use Rattle.hv_ending.specs.declared.ready.Way.{Way}
 use Rattle.hv_ending.specs.declared.ready.Reply.{Reply}
 use Rattle.hv_ending.specs.Ending.{KeepsCount, IsUndamaged, IsAborted, HasStopped, aborting, HasReplied}
+use Rattle.hv_ending.proofs.Opens.{held-opens}
 use Rattle.hv_session.proofs.Passing.{cause-from, same-files, asked-shows}
 use Rattle.hv_session.specs.Ways.{IsPart, IsTrueOf, ShowsAnd, CutsOff, IsCauseOfRows, IsAbortedFor, EndsFor, ComesTo, ComesTruly}
 use Rattle.hv_session.specs.declared.ends.Outcome.{Outcome}
@@ -121,6 +122,7 @@ module _ {D : Type 0} (told : D → Option Store) (faults : D → ℕ) (way : Wa
     tree = cuts.tree;
     tells = cuts.tells;
     stopped = cuts.stopped;
+    opens = cuts.opens (of-truth why before (told before.shelf) truly);
     ends = cuts.ends;
     later = cuts.cause.later;
     cause = λ low below risen. cause-from low (faults before.shelf) (faults now.shelf) below result cuts.cause;
@@ -138,6 +140,7 @@ module _ {D : Type 0} (told : D → Option Store) (faults : D → ℕ) (way : Wa
     tree = Moves-same KeepsTree (λ s. refl) (told house.shelf);
     tells = stays_same (told house.shelf);
     stopped = nothing-stopped told way.txn.0 halts.Store house house tt holds refl;
+    opens = λ shows. held-opens (entries_of house) (told house.shelf) holds shows;
     ends = tt;
     later = omega arith;
     cause = λ low below risen. record { later = below; failed = rises low risen };
@@ -214,7 +217,8 @@ module _ {D : Type 0} (told : D → Option Store) (faults : D → ℕ) (way : Wa
     ended-book : (of : Cause) → entries_of now ≡ entries_of before ++ aborting way.txn.0 of ∷ [] → entries_of now ≡ entries_of first ++ aborting way.txn.0 of ∷ []
     ended-book of book = book ∙ ap (λ (b : List Entry). b ++ aborting way.txn.0 of ∷ []) same
 
-    pub ended-part : (reply : Reply) → EndsFor told faults way fault before now (Ok reply) → (outcome : Outcome) → IsPart told faults way.txn.0 first now (Ok outcome)
+    pub ended-part : (reply : Reply) → EndsFor told faults way fault before now (Ok reply) → (outcome : Outcome)
+        → IsPart told faults (IsFaithful (entries_of first)) way.txn.0 first now (Ok outcome)
     ended-part reply ends outcome =
         let aborted = ends.aborted.aborted in
         record {
@@ -230,11 +234,13 @@ module _ {D : Type 0} (told : D → Option Store) (faults : D → ℕ) (way : Wa
           keeps = files-kept ends.tree;
           tells = tells-kept ends.tells;
           stopped = tt;
+          opens = λ shows. tt;
           ends = tt;
           cause = record { later = (ends.cause (faults first.shelf) later risen).later; failed = tt };
         }
 
-    pub halted-part : (why : HouseFault) → EndsFor told faults way fault before now (Err why) → IsPart {T = Outcome} told faults way.txn.0 first now (Err why)
+    pub halted-part : (why : HouseFault) → EndsFor told faults way fault before now (Err why)
+        → IsPart {T = Outcome} told faults (IsFaithful (entries_of first)) way.txn.0 first now (Err why)
     halted-part why ends =
         let why_ended = ends.cause (faults first.shelf) later risen in
         record {
@@ -242,6 +248,7 @@ module _ {D : Type 0} (told : D → Option Store) (faults : D → ℕ) (way : Wa
           keeps = files-kept ends.tree;
           tells = tells-kept ends.tells;
           stopped = stopped-kept why ends.stopped;
+          opens = λ shows. ends.opens (asked-shows told first before asked shows);
           ends = ends.ends;
           cause = record { later = why_ended.later; failed = why_ended.failed };
         }

@@ -1,5 +1,5 @@
 -- How a started statement goes on: what its parts come to, one behind another.
-use Rattle.std.proofs.Common.{◌≡◌, ℕ, ◌≤◌, Option, Some, List, [], ◌∷◌, ◌++◌, Result, Ok, Err, ◌⊎◌, inl, inr, take, refl, sym, ap, ◌∙◌, subst, arith, append_assoc, append-nil}
+use Rattle.std.proofs.Common.{◌≡◌, ℕ, ◌≤◌, Option, Some, None, List, [], ◌∷◌, ◌++◌, Result, Ok, Err, ◌⊎◌, inl, inr, take, refl, sym, ap, ◌∙◌, subst, arith, append_assoc, append-nil}
 use Rattle.std.specs.Prelude.{IfOk, IfErr}
 use Rattle.std.specs.List.{AllByRecursion}
 use Rattle.hv_base.specs.Refusals as refusals
@@ -27,7 +27,7 @@ use Rattle.hv_ending.specs.declared.ready.Ready.{Ready}
 use Rattle.hv_ending.specs.declared.ready.Reply.{Reply}
 use Rattle.hv_ending.specs.declared.ready.Prepared.{Prepared}
 use Rattle.hv_ending.specs.declared.ready.Prepared.TheVariants as prepared
-use Rattle.hv_ending.specs.Ending.{CanEnd, KeepsCount, IsUndamaged, EndsUncommitted, AddsNoneOrId, Prepares, Concludes, IsReadyToEnd, IsPreparedIn, IsTrulyReady, IsTrulyPrepared, HasStopped, aborting, giving, HasReplied}
+use Rattle.hv_ending.specs.Ending.{CanEnd, KeepsCount, IsUndamaged, EndsUncommitted, AddsNoneOrId, Prepares, Concludes, IsReadyToEnd, IsPreparedIn, IsTrulyReady, IsTrulyPrepared, MeansThis, EndsTruly, HasStopped, StillOpens, aborting, giving, HasReplied}
 use Rattle.hv_session.specs.declared.ends.Outcome.{Outcome}
 use Rattle.hv_session.specs.declared.ends.Outcome.TheVariants as outcome
 use Rattle.hv_session.specs.Taking.{EndsEarly, IsFinished}
@@ -40,7 +40,8 @@ use Rattle.hv_session.proofs.Passing.{HasPassed, same-files, passed-part, part-o
 -- ---- it means something over what was seen
 
 module _ {D : Type 0} (told : D → Option Store) (faults : D → ℕ) (txn : ℕ) (before now : House D) (asked : IsAsked told before now) where
-  pub means-part : (meaning : Meaning) → IsReady told now → faults before.shelf ≤ faults now.shelf → IsPart told faults txn before now (Ok (outcome.Means meaning))
+  pub means-part : {Known : Store → Type 0} (meaning : Meaning) → IsReady told now → faults before.shelf ≤ faults now.shelf
+      → IsPart told faults Known txn before now (Ok (outcome.Means meaning))
   means-part meaning ready later =
       passed-part told faults txn before now (outcome.Means meaning) (nothing-passed told before now asked faults txn ready later)
 
@@ -62,15 +63,15 @@ module _ {D : Type 0} (told : D → Option Store) (faults : D → ℕ) (txn : �
 -- ---- what hv_ending's calls say, as parts
 
 module _ {D : Type 0} (told : D → Option Store) (faults : D → ℕ) (txn : ℕ) (before now : House D) where
-  pub prepared-part : (result : Result Prepared HouseFault)
+  pub prepared-part : {Known : Store → Type 0} (result : Result Prepared HouseFault)
       → IfOk result (λ _. IsReady told now)
       → IfOk result (Prepares txn (faults before.shelf) (faults now.shelf) (entries_of before) (entries_of now))
       → Moves (KeepsGiven (state_of (entries_of before)).tables) (told before.shelf) (told now.shelf)
       → StaysTold (told before.shelf) (told now.shelf)
-      → IfErr result (λ why. HasStopped told txn why before now) → IfErr result EndsRun
-      → FileCause (faults before.shelf) (faults now.shelf) result
-      → IsPart told faults txn before now result
-  prepared-part (Ok found) ready prepares keeps tells stopped ends cause = record {
+      → IfErr result (λ why. HasStopped told txn why before now) → (Tells (told before.shelf) Known → IfErr result (λ _. StillOpens told now))
+      → IfErr result EndsRun → FileCause (faults before.shelf) (faults now.shelf) result
+      → IsPart told faults Known txn before now result
+  prepared-part (Ok found) ready prepares keeps tells stopped opens ends cause = record {
     done = record {
       ready = ready;
       added = record { added = prepares.added; book = prepares.book; of_it = prepares.of_it; counts = prepares.counts };
@@ -78,21 +79,22 @@ module _ {D : Type 0} (told : D → Option Store) (faults : D → ℕ) (txn : �
     keeps = keeps;
     tells = tells;
     stopped = tt;
+    opens = λ known. tt;
     ends = tt;
     cause = cause;
   }
-  prepared-part (Err why) ready prepares keeps tells stopped ends cause =
-      record { done = tt; keeps = keeps; tells = tells; stopped = stopped; ends = ends; cause = cause }
+  prepared-part (Err why) ready prepares keeps tells stopped opens ends cause =
+      record { done = tt; keeps = keeps; tells = tells; stopped = stopped; opens = opens; ends = ends; cause = cause }
 
-  pub concluded-part : (result : Result Reply HouseFault)
+  pub concluded-part : {Known : Store → Type 0} (result : Result Reply HouseFault)
       → IfOk result (λ _. IsReady told now)
       → IfOk result (λ _. Concludes txn (faults before.shelf) (faults now.shelf) (entries_of before) (entries_of now))
       → Moves KeepsTree (told before.shelf) (told now.shelf)
       → StaysTold (told before.shelf) (told now.shelf)
-      → IfErr result (λ why. HasStopped told txn why before now) → IfErr result EndsRun
-      → FileCause (faults before.shelf) (faults now.shelf) result
-      → IsPart told faults txn before now result
-  concluded-part (Ok reply) ready concludes tree tells stopped ends cause = record {
+      → IfErr result (λ why. HasStopped told txn why before now) → (Tells (told before.shelf) Known → IfErr result (λ _. StillOpens told now))
+      → IfErr result EndsRun → FileCause (faults before.shelf) (faults now.shelf) result
+      → IsPart told faults Known txn before now result
+  concluded-part (Ok reply) ready concludes tree tells stopped opens ends cause = record {
     done = record {
       ready = ready;
       added = record { added = concludes.added; book = concludes.book; of_it = concludes.of_it; counts = concludes.counts };
@@ -100,14 +102,16 @@ module _ {D : Type 0} (told : D → Option Store) (faults : D → ℕ) (txn : �
     keeps = same-files (state_of (entries_of before)).tables (told before.shelf) (told now.shelf) tree;
     tells = tells;
     stopped = tt;
+    opens = λ known. tt;
     ends = tt;
     cause = cause;
   }
-  concluded-part (Err why) ready concludes tree tells stopped ends cause = record {
+  concluded-part (Err why) ready concludes tree tells stopped opens ends cause = record {
     done = tt;
     keeps = same-files (state_of (entries_of before)).tables (told before.shelf) (told now.shelf) tree;
     tells = tells;
     stopped = stopped;
+    opens = opens;
     ends = ends;
     cause = cause;
   }
@@ -132,7 +136,7 @@ module _ {D : Type 0} (told : D → Option Store) (faults : D → ℕ) (txn : �
   }
 
   -- and one that means something too
-  pub means-passed : (meaning : Meaning) → IsPart told faults txn before now (Ok (outcome.Means meaning))
+  pub means-passed : {Known : Store → Type 0} (meaning : Meaning) → IsPart told faults Known txn before now (Ok (outcome.Means meaning))
       → ComesTo txn (entries_of before) (entries_of now) (outcome.Means meaning) → HasPassed told faults txn before now
   means-passed meaning part comes = record {
     ready = part.done.ready;
@@ -158,6 +162,35 @@ module _ {D : Type 0} (told : D → Option Store) (house : House D) (asking : As
       → Tells (told house.shelf) (λ _. HasReplied (entries_of house) way.txn.0 reply.text reply.refused reply.ended)
   told-prepared-ended reply is truly =
       subst (λ (f : Prepared). Tells (told house.shelf) (λ s. IsTrulyPrepared (entries_of house) s.tree asking way.txn.0 way.place said f)) is truly
+
+-- what was known of the store is known while it was prepared
+module _ {D : Type 0} (told : D → Option Store) (before between : House D) (way : Way) (meaning : Meaning) (ready : Ready) where
+  known-on : (a b : Option Store) → StaysTold a b
+      → ((asking : Asking) (said : Stmt) → IsUnderWay (entries_of before) asking way.txn.0 way.place said []
+      → Tells a (λ _. meant (take way.place (entries_of before)) said ≡ Some meaning) → Tells a (IsFaithful (entries_of before))
+      → Tells b (EndsTruly (entries_of between) way ready))
+      → Tells a (MeansThis (entries_of before) way meaning) → Tells b (EndsTruly (entries_of between) way ready)
+  known-on None None tells on known = tt
+  known-on None (Some y) tells on known = absurd tells
+  known-on (Some x) None tells on known = absurd tells
+  known-on (Some x) (Some y) tells on known = on known.asking known.said known.under_way known.means known.faithful
+
+  pub prepared-known : (found : Prepared) → found ≡ prepared.Ready ready → StaysTold (told before.shelf) (told between.shelf)
+      → ((asking : Asking) (said : Stmt) → IsUnderWay (entries_of before) asking way.txn.0 way.place said []
+      → Tells (told before.shelf) (λ _. meant (take way.place (entries_of before)) said ≡ Some meaning) → Shows told before (entries_of before)
+      → Shows told between (entries_of between))
+      → ((asking : Asking) (said : Stmt) → IsUnderWay (entries_of before) asking way.txn.0 way.place said []
+      → Tells (told before.shelf) (λ _. meant (take way.place (entries_of before)) said ≡ Some meaning) → Shows told before (entries_of before)
+      → Tells (told between.shelf) (λ s. IsTrulyPrepared (entries_of between) s.tree asking way.txn.0 way.place said found))
+      → Tells (told before.shelf) (MeansThis (entries_of before) way meaning) → Tells (told between.shelf) (EndsTruly (entries_of between) way ready)
+  prepared-known found is tells shows truly known =
+      known-on (told before.shelf) (told between.shelf) tells
+      (λ asking said under means faithful.
+      told-both (IsFaithful (entries_of between)) (λ s. IsTrulyReady (entries_of between) s.tree asking way.txn.0 way.place said ready) (EndsTruly (entries_of between) way ready)
+      (λ s stands ends. record { asking = asking; said = said; truly = ends; faithful = stands })
+      (told between.shelf) (shows asking said under means faithful)
+      (told-prepared told between asking way said found ready is (truly asking said under means faithful)))
+      known
 
 -- ---- it has ended where all is told
 
@@ -229,7 +262,8 @@ module _ {D : Type 0} (told : D → Option Store) (faults : D → ℕ) (way : Wa
   refused-early of (inl is) = subst EndsEarly (sym is) tt
   refused-early of (inr is) = subst EndsEarly (sym is) tt
 
-  pub refused-part : (reply : Reply) (answer : Outcome) → CutsOff told faults way (cause.Refused number) before now (Ok reply) → IsPart told faults way.txn.0 before now (Ok answer)
+  pub refused-part : {Known : Store → Type 0} (reply : Reply) (answer : Outcome) → CutsOff told faults way (cause.Refused number) before now (Ok reply)
+      → IsPart told faults Known way.txn.0 before now (Ok answer)
   refused-part reply answer cuts = record {
     done = record {
       ready = cuts.ready;
@@ -243,16 +277,25 @@ module _ {D : Type 0} (told : D → Option Store) (faults : D → ℕ) (way : Wa
     keeps = same-files (state_of (entries_of before)).tables (told before.shelf) (told now.shelf) cuts.tree;
     tells = cuts.tells;
     stopped = tt;
+    opens = λ known. tt;
     ends = tt;
     cause = record { later = cuts.cause.later; failed = tt };
   }
 
-  pub refused-halts : (why : HouseFault) → CutsOff told faults way (cause.Refused number) before now (Err why) → IsPart {T = Outcome} told faults way.txn.0 before now (Err why)
-  refused-halts why cuts = record {
+  pub refused-halts : (refusal : Refusal) → number ≡ refusals.number refusal → (meaning : Meaning) → meaning ≡ meanings.Refused refusal → (why : HouseFault)
+      → CutsOff told faults way (cause.Refused number) before now (Err why)
+      → IsPart {T = Outcome} told faults (MeansThis (entries_of before) way meaning) way.txn.0 before now (Err why)
+  refused-halts refusal named meaning is why cuts = record {
     done = tt;
     keeps = same-files (state_of (entries_of before)).tables (told before.shelf) (told now.shelf) cuts.tree;
     tells = cuts.tells;
     stopped = cuts.stopped;
+    opens = λ known. cuts.opens
+        (told-map (MeansThis (entries_of before) way meaning) (λ _. IsTruthful (state_of (entries_of before)) (aborting way.txn.0 (cause.Refused number)))
+        (λ s means. subst (λ (n : ℕ). IsTruthful (state_of (entries_of before)) (aborting way.txn.0 (cause.Refused n))) (sym named)
+        (refusal-true (entries_of before) means.asking way.txn.0 way.place means.said [] means.under_way refusal (means.means ∙ ap Some is)))
+        (told before.shelf) known)
+        (told-map (MeansThis (entries_of before) way meaning) (IsFaithful (entries_of before)) (λ s means. means.faithful) (told before.shelf) known);
     ends = cuts.ends;
     cause = record { later = cuts.cause.later; failed = cuts.cause.failed };
   }
@@ -301,12 +344,20 @@ module _ {D : Type 0} (told : D → Option Store) (faults : D → ℕ) (way : Wa
     pub comes-under : (asking : Asking) → IsUnderWay (entries_of before) asking way.txn.0 way.place tree [] → IsUnderWay (entries_of between) asking way.txn.0 way.place tree []
     comes-under asking under = subst (λ (b : List Entry). IsUnderWay b asking way.txn.0 way.place tree []) (sym comes-same) under
 
-    pub comes-passed : IsPart told faults way.txn.0 before between (Ok found) → HasPassed told faults way.txn.0 before between
+    pub comes-passed : {Known : Store → Type 0} → IsPart told faults Known way.txn.0 before between (Ok found) → HasPassed told faults way.txn.0 before between
     comes-passed part =
         means-passed told faults way.txn.0 before between meaning (part-ok told faults way.txn.0 before between found (outcome.Means meaning) part) comes-so
 
     comes-means : Truly → ShowsAnd told between (λ _. meant (take way.place (entries_of between)) tree ≡ Some meaning)
     comes-means truly = subst (λ (f : Outcome). ShowsAnd told between (λ _. ComesTruly (entries_of before) (entries_of between) way tree f)) is truly
+
+    -- what is known of the store there
+    pub comes-known : (asking : Asking) → IsUnderWay (entries_of before) asking way.txn.0 way.place tree [] → Truly
+        → Tells (told between.shelf) (MeansThis (entries_of between) way meaning)
+    comes-known asking under truly =
+        told-map (IsTrueOf (entries_of between) (λ _. meant (take way.place (entries_of between)) tree ≡ Some meaning)) (MeansThis (entries_of between) way meaning)
+        (λ s both. record { asking = asking; said = tree; under_way = comes-under asking under; means = both.true_of; faithful = both.faithful })
+        (told between.shelf) (comes-means truly)
 
     pub comes-then : {T : Type 0} (Q : List Entry → T → Type 0) (result : Result T HouseFault) (asking : Asking)
         → (IsUnderWay (entries_of between) asking way.txn.0 way.place tree []

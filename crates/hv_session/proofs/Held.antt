@@ -13,7 +13,8 @@ use Rattle.hv_house.specs.declared.house.House.{House}
 use Rattle.hv_house.specs.House.{entries_of, IsReady, IsFaithful, Shows}
 use Rattle.hv_ending.specs.declared.ready.Ready.{Ready}
 use Rattle.hv_ending.specs.declared.ready.Reply.{Reply}
-use Rattle.hv_ending.specs.Ending.{AddsOf, CanEnd, EndIsTrue, Concludes, IsReadyToEnd, IsTrulyReady, HasReplied}
+use Rattle.hv_ending.specs.declared.ready.Way.{Way}
+use Rattle.hv_ending.specs.Ending.{AddsOf, CanEnd, EndIsTrue, Concludes, IsReadyToEnd, IsTrulyReady, MeansThis, EndsTruly, HasReplied}
 use Rattle.hv_session.specs.declared.paused.Point.{Point}
 use Rattle.hv_session.specs.declared.paused.Point.TheVariants as point
 use Rattle.hv_session.specs.declared.paused.Paused.{Paused}
@@ -23,12 +24,12 @@ use Rattle.hv_session.proofs.Telling.{told-map, told-both}
 
 -- ---- what a whole says by its parts
 
-module _ {D T : Type 0} (told : D → Option Store) (faults : D → ℕ) (txn : ℕ) (before now : House D) where
-  pub part-ready : (result : Result T HouseFault) → IsPart told faults txn before now result → IfOk result (λ _. IsReady told now)
+module _ {D T : Type 0} {Known : Store → Type 0} (told : D → Option Store) (faults : D → ℕ) (txn : ℕ) (before now : House D) where
+  pub part-ready : (result : Result T HouseFault) → IsPart told faults Known txn before now result → IfOk result (λ _. IsReady told now)
   part-ready (Ok x) part = part.done.ready
   part-ready (Err why) part = tt
 
-  pub part-added : (result : Result T HouseFault) → IsPart told faults txn before now result
+  pub part-added : (result : Result T HouseFault) → IsPart told faults Known txn before now result
       → IfOk result (λ _. AddsOf txn (faults before.shelf) (faults now.shelf) (entries_of before) (entries_of now))
   part-added (Ok x) part = part.done.added
   part-added (Err why) part = tt
@@ -95,6 +96,34 @@ module _ (book : List Entry) (asking : Asking) (paused : Paused) (held : IsHeld 
             (subst (PointIsTrue s.tree (meant (take paused.place book) paused.tree) truly.held.given) is truly.truly);
       })
       o told
+
+  -- all that is known of the store there
+  pub meant-known : (way : Way) → way.txn.0 ≡ paused.txn.0 → way.place ≡ paused.place → (meaning : Meaning) → paused.point ≡ point.Meant meaning
+      → (o : Option Store) → Tells o (IsFaithful book) → Tells o (λ s. IsTrulyHeld book s.tree paused) → Tells o (MeansThis book way meaning)
+  meant-known way txn_is place_is meaning is o shows truly =
+      told-both (IsFaithful book) (λ _. meant (take paused.place book) paused.tree ≡ Some meaning) (MeansThis book way meaning)
+      (λ s faithful means. record {
+        asking = asking;
+        said = paused.tree;
+        under_way = subst (λ (n : ℕ). IsUnderWay book asking n way.place paused.tree []) (sym txn_is)
+            (subst (λ (p : ℕ). IsUnderWay book asking paused.txn.0 p paused.tree []) (sym place_is) (meant-under meaning is));
+        means = ap (λ (p : ℕ). meant (take p book) paused.tree) place_is ∙ means;
+        faithful = faithful;
+      })
+      o shows (meant-told meaning is o truly)
+
+  pub ready-known : (way : Way) → way.txn.0 ≡ paused.txn.0 → way.place ≡ paused.place → (ready : Ready) → paused.point ≡ point.Ready ready
+      → (o : Option Store) → Tells o (IsFaithful book) → Tells o (λ s. IsTrulyHeld book s.tree paused) → Tells o (EndsTruly book way ready)
+  ready-known way txn_is place_is ready is o shows truly =
+      told-both (IsFaithful book) (λ s. IsTrulyReady book s.tree asking paused.txn.0 paused.place paused.tree ready) (EndsTruly book way ready)
+      (λ s faithful ends. record {
+        asking = asking;
+        said = paused.tree;
+        truly = subst (λ (n : ℕ). IsTrulyReady book s.tree asking n way.place paused.tree ready) (sym txn_is)
+            (subst (λ (p : ℕ). IsTrulyReady book s.tree asking paused.txn.0 p paused.tree ready) (sym place_is) ends);
+        faithful = faithful;
+      })
+      o shows (ready-told ready is o truly)
 
 -- ---- its conclusion
 

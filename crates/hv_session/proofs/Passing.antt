@@ -24,6 +24,7 @@ use Rattle.hv_house.specs.declared.house.House.{House}
 use Rattle.hv_house.specs.Faults.{FileCause, ReadCause, HasRisen, HasRisenReading, EndsRun}
 use Rattle.hv_house.specs.House.{entries_of, IsReady, IsAsked, IsFaithful, Shows}
 use Rattle.hv_ending.specs.Ending.{AddsOf, KeepsCount, IsNoEnd, HasStopped}
+use Rattle.hv_ending.proofs.Opens.{held-opens}
 use Rattle.hv_session.specs.Ways.{IsDone, IsPart, IsTaking, IsTrueOf, ShowsAnd}
 use Rattle.hv_session.proofs.Telling.{told-map}
 use Rattle.hv_session.proofs.Books.{all-append, all-map, IsBegun, begun-counts, begun-unended, begun-legal, counts-from, legal-from, state-behind}
@@ -125,57 +126,63 @@ module _ {D : Type 0} (told : D → Option Store) (faults : D → ℕ) (txn : �
       (λ x y. earlier-ids-kept (entries_of before) passed.added x y fits-behind))
       (told before.shelf) (told between.shelf) (told now.shelf) passed.keeps keeps
 
-  pub part-behind : {T : Type 0} (result : Result T HouseFault) → IsPart told faults txn between now result → IsPart told faults txn before now result
-  part-behind (Ok x) part = record {
+  pub part-behind : {T : Type 0} {Known Then : Store → Type 0} → (Tells (told before.shelf) Known → Tells (told between.shelf) Then) → (result : Result T HouseFault)
+      → IsPart told faults Then txn between now result → IsPart told faults Known txn before now result
+  part-behind on (Ok x) part = record {
     done = done-behind part.done;
     keeps = keeps-behind part.keeps;
     tells = stays_stays (told before.shelf) (told between.shelf) (told now.shelf) passed.tells part.tells;
     stopped = tt;
+    opens = λ known. tt;
     ends = tt;
     cause = cause-from (faults before.shelf) (faults between.shelf) (faults now.shelf) passed.later (Ok x) part.cause;
   }
-  part-behind (Err why) part = record {
+  part-behind on (Err why) part = record {
     done = tt;
     keeps = keeps-behind part.keeps;
     tells = stays_stays (told before.shelf) (told between.shelf) (told now.shelf) passed.tells part.tells;
     stopped = stopped-behind why part.stopped;
+    opens = λ known. part.opens (on known);
     ends = part.ends;
     cause = cause-from (faults before.shelf) (faults between.shelf) (faults now.shelf) passed.later (Err why) part.cause;
   }
 
 -- ---- the same part, with another answer
 
-module _ {D T U : Type 0} (told : D → Option Store) (faults : D → ℕ) (txn : ℕ) (before now : House D) where
-  pub part-ok : (x : T) (y : U) → IsPart told faults txn before now (Ok x) → IsPart told faults txn before now (Ok y)
+module _ {D T U : Type 0} {Known : Store → Type 0} (told : D → Option Store) (faults : D → ℕ) (txn : ℕ) (before now : House D) where
+  pub part-ok : (x : T) (y : U) → IsPart told faults Known txn before now (Ok x) → IsPart told faults Known txn before now (Ok y)
   part-ok x y part = record {
     done = part.done;
     keeps = part.keeps;
     tells = part.tells;
     stopped = tt;
+    opens = λ known. tt;
     ends = tt;
     cause = record { later = part.cause.later; failed = tt };
   }
 
-  pub part-err : (why : HouseFault) → IsPart {T = T} told faults txn before now (Err why) → IsPart {T = U} told faults txn before now (Err why)
+  pub part-err : (why : HouseFault) → IsPart {T = T} told faults Known txn before now (Err why) → IsPart {T = U} told faults Known txn before now (Err why)
   part-err why part = record {
     done = tt;
     keeps = part.keeps;
     tells = part.tells;
     stopped = part.stopped;
+    opens = part.opens;
     ends = part.ends;
     cause = record { later = part.cause.later; failed = part.cause.failed };
   }
 
 -- what a call that failed leaves is what is handed on
-pub part-residual : {D T U : Type 0} (told : D → Option Store) (faults : D → ℕ) (txn : ℕ) (before now : House D) (why : HouseFault) (r : Result U HouseFault)
-    → IsErrAnd r (λ y. y ≡ why) → IsPart {T = T} told faults txn before now (Err why) → IsPart told faults txn before now r
+pub part-residual : {D T U : Type 0} {Known : Store → Type 0} (told : D → Option Store) (faults : D → ℕ) (txn : ℕ) (before now : House D) (why : HouseFault) (r : Result U HouseFault)
+    → IsErrAnd r (λ y. y ≡ why) → IsPart {T = T} told faults Known txn before now (Err why) → IsPart told faults Known txn before now r
 part-residual told faults txn before now why (Ok x) left part = absurd left
-part-residual {T = T} {U = U} told faults txn before now why (Err y) left part =
-    subst (λ (w : HouseFault). IsPart {T = U} told faults txn before now (Err w)) (sym left) (part-err {T = T} {U = U} told faults txn before now why part)
+part-residual {T = T} {U = U} {Known = Known} told faults txn before now why (Err y) left part =
+    subst (λ (w : HouseFault). IsPart {T = U} told faults Known txn before now (Err w)) (sym left)
+    (part-err {T = T} {U = U} {Known = Known} told faults txn before now why part)
 
 -- a part that was passed is done
-pub passed-part : {D T : Type 0} (told : D → Option Store) (faults : D → ℕ) (txn : ℕ) (before now : House D) (x : T)
-    → HasPassed told faults txn before now → IsPart told faults txn before now (Ok x)
+pub passed-part : {D T : Type 0} {Known : Store → Type 0} (told : D → Option Store) (faults : D → ℕ) (txn : ℕ) (before now : House D) (x : T)
+    → HasPassed told faults txn before now → IsPart told faults Known txn before now (Ok x)
 passed-part told faults txn before now x passed = record {
   done = record {
     ready = passed.ready;
@@ -189,6 +196,7 @@ passed-part told faults txn before now x passed = record {
   keeps = passed.keeps;
   tells = passed.tells;
   stopped = tt;
+  opens = λ known. tt;
   ends = tt;
   cause = record { later = passed.later; failed = tt };
 }
@@ -196,10 +204,12 @@ passed-part told faults txn before now x passed = record {
 -- ---- a part of taking up a statement
 
 module _ {D T : Type 0} (told : D → Option Store) (faults : D → ℕ) (asking : Asking) (before now : House D) where
-  pub part-taking : (result : Result T HouseFault) → IsPart told faults (next_number (entries_of before)) before now result → IsTaking told faults asking before now result
-  part-taking (Ok x) part = record { done = part.done; keeps = part.keeps; tells = part.tells; stopped = tt; ends = tt; cause = part.cause }
+  pub part-taking : (result : Result T HouseFault) → IsPart told faults (IsFaithful (entries_of before)) (next_number (entries_of before)) before now result
+      → IsTaking told faults asking before now result
+  part-taking (Ok x) part =
+      record { done = part.done; keeps = part.keeps; tells = part.tells; stopped = tt; opens = λ shows. tt; ends = tt; cause = part.cause }
   part-taking (Err why) part =
-      record { done = tt; keeps = part.keeps; tells = part.tells; stopped = inl part.stopped; ends = part.ends; cause = part.cause }
+      record { done = tt; keeps = part.keeps; tells = part.tells; stopped = inl part.stopped; opens = part.opens; ends = part.ends; cause = part.cause }
 
   pub taking-ok : {U : Type 0} (x : U) (y : T) → IsTaking told faults asking before now (Ok x) → IsTaking told faults asking before now (Ok y)
   taking-ok x y taking = record {
@@ -207,6 +217,7 @@ module _ {D T : Type 0} (told : D → Option Store) (faults : D → ℕ) (asking
     keeps = taking.keeps;
     tells = taking.tells;
     stopped = tt;
+    opens = λ shows. tt;
     ends = tt;
     cause = record { later = taking.cause.later; failed = tt };
   }
@@ -217,6 +228,7 @@ module _ {D T : Type 0} (told : D → Option Store) (faults : D → ℕ) (asking
     keeps = taking.keeps;
     tells = taking.tells;
     stopped = taking.stopped;
+    opens = taking.opens;
     ends = taking.ends;
     cause = record { later = taking.cause.later; failed = taking.cause.failed };
   }
@@ -259,7 +271,7 @@ module _ {D : Type 0} (told : D → Option Store) (house : House D) where
   still-asked : IsAsked told house house
   still-asked = record { store = refl; place = refl; book = refl }
 
-  pub still-part : {T : Type 0} (faults : D → ℕ) (txn : ℕ) (x : T) → IsReady told house → IsPart told faults txn house house (Ok x)
+  pub still-part : {T : Type 0} {Known : Store → Type 0} (faults : D → ℕ) (txn : ℕ) (x : T) → IsReady told house → IsPart told faults Known txn house house (Ok x)
   still-part faults txn x ready = passed-part told faults txn house house x (nothing-passed told house house still-asked faults txn ready (omega arith))
 
   pub still-shows : (P : Store → Type 0) → Shows told house (entries_of house) → ((s : Store) → P s) → ShowsAnd told house P
@@ -267,9 +279,10 @@ module _ {D : Type 0} (told : D → Option Store) (house : House D) where
       told-map (IsFaithful (entries_of house)) (IsTrueOf (entries_of house) P) (λ s faithful. record { faithful = faithful; true_of = p s }) (told house.shelf) shows
 
   -- and memory lacked
-  pub still-halts : {T : Type 0} (faults : D → ℕ) (txn : ℕ) → IsReady told house → IsPart {T = T} told faults txn house house (Err fault.NoMemory)
+  pub still-halts : {T : Type 0} (faults : D → ℕ) (txn : ℕ) → IsReady told house
+      → IsPart {T = T} told faults (IsFaithful (entries_of house)) txn house house (Err fault.NoMemory)
   still-halts faults txn ready =
-      let still = still-part faults txn txn ready in
+      let still = still-part {Known = IsFaithful (entries_of house)} faults txn txn ready in
       record {
         done = tt;
         keeps = still.keeps;
@@ -286,6 +299,7 @@ module _ {D : Type 0} (told : D → Option Store) (house : House D) where
           fit = tt;
           leaves = ready.kept.reads;
         };
+        opens = λ shows. held-opens (entries_of house) (told house.shelf) ready.kept.reads shows;
         ends = tt;
         cause = record { later = omega arith; failed = tt };
       }

@@ -43,13 +43,13 @@ asked_of handed = record { session = handed.session; number = handed.number; tex
 abbrev pub IsWhyNot : List Entry → Stmt → Cause → Type 0
 IsWhyNot book tree (cause.Blocked holder) = holder_against book tree ≡ Some holder.0
 IsWhyNot book tree cause.Full = (holder_against book tree ≡ None) × (profile.entries < load (state_of book) + 3)
-IsWhyNot book tree cause.Memory = CanBegin book tree → ⊥
+IsWhyNot book tree cause.Memory = CanBegin profile book tree → ⊥
 IsWhyNot book tree why = ⊥
 
 -- behind its Opened stands its Start where it can start, and else just its abort, for what stands in its way
 abbrev pub StartsIfItCan : List Entry → Stmt → ℕ → List Entry → Type 0
 StartsIfItCan book tree txn added =
-    (CanBegin book tree × ((rest : List Entry) × (added ≡ starting txn ∷ rest)))
+    (CanBegin profile book tree × ((rest : List Entry) × (added ≡ starting txn ∷ rest)))
     ⊎ ((why : Cause) × IsWhyNot book tree why × (added ≡ aborting txn why ∷ []))
 
 -- ---- where it may be held, and which ends come before that
@@ -196,7 +196,7 @@ pub record IsKept (before now : List Entry) (files : Tree) (asking : Asking) (ho
   pub book : now ≡ before ++ opening before asking ∷ added
   pub txn_is : paused.txn.0 ≡ next_number before
   pub runs : Runs asking.text paused.tree
-  pub can : CanBegin before paused.tree
+  pub can : CanBegin profile before paused.tree
   pub at_hold : HoldsAt hold (next_number before) added
   pub truly : IsTrulyHeld now files paused
 

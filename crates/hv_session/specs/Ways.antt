@@ -25,7 +25,7 @@ use Rattle.hv_ending.specs.declared.ready.Ready.{Ready}
 use Rattle.hv_ending.specs.declared.ready.Reply.{Reply}
 use Rattle.hv_ending.specs.declared.ready.Prepared.{Prepared}
 use Rattle.hv_ending.specs.declared.ready.Prepared.TheVariants as prepared
-use Rattle.hv_ending.specs.Ending.{AddsOf, CanEnd, HasStopped, IsAborted, PreparesBy, IsPreparedIn, IsTrulyPrepared, aborting, HasReplied}
+use Rattle.hv_ending.specs.Ending.{AddsOf, CanEnd, HasStopped, StillOpens, IsAborted, PreparesBy, IsPreparedIn, IsTrulyPrepared, aborting, HasReplied}
 use Rattle.hv_session.specs.declared.ends.Outcome.{Outcome}
 use Rattle.hv_session.specs.declared.ends.Outcome.TheVariants as outcome
 use Rattle.hv_session.specs.declared.paused.Point.{Point}
@@ -42,12 +42,13 @@ pub record IsDone {D : Type 0} (told : D → Option Store) (faults : D → ℕ) 
   pub ready : IsReady told now
   pub added : AddsOf txn (faults before.shelf) (faults now.shelf) (entries_of before) (entries_of now)
 
--- and one that was done or not
-pub record IsPart {D T : Type 0} (told : D → Option Store) (faults : D → ℕ) (txn : ℕ) (before now : House D) (result : Result T HouseFault) : Type 0 where
+-- and one that was done or not: where it wasn't the store opens again, if this was known of it before
+pub record IsPart {D T : Type 0} (told : D → Option Store) (faults : D → ℕ) (Known : Store → Type 0) (txn : ℕ) (before now : House D) (result : Result T HouseFault) : Type 0 where
   pub done : IfOk result (λ _. IsDone told faults txn before now)
   pub keeps : Moves (KeepsGiven (state_of (entries_of before)).tables) (told before.shelf) (told now.shelf)
   pub tells : StaysTold (told before.shelf) (told now.shelf)
   pub stopped : IfErr result (λ why. HasStopped told txn why before now)
+  pub opens : Tells (told before.shelf) Known → IfErr result (λ _. StillOpens told now)
   pub ends : IfErr result EndsRun
   pub cause : FileCause (faults before.shelf) (faults now.shelf) result
 
@@ -77,6 +78,8 @@ pub record CutsOff {D : Type 0} (told : D → Option Store) (faults : D → ℕ)
   pub tree : Moves KeepsTree (told before.shelf) (told now.shelf)
   pub tells : StaysTold (told before.shelf) (told now.shelf)
   pub stopped : IfErr result (λ failed. HasStopped told way.txn.0 failed before now)
+  pub opens : Tells (told before.shelf) (λ _. IsTruthful (state_of (entries_of before)) (aborting way.txn.0 why))
+      → Shows told before (entries_of before) → IfErr result (λ _. StillOpens told now)
   pub ends : IfErr result EndsRun
   pub cause : FileCause (faults before.shelf) (faults now.shelf) result
 
@@ -105,6 +108,7 @@ pub record EndsFor {D : Type 0} (told : D → Option Store) (faults : D → ℕ)
   pub tree : Moves KeepsTree (told before.shelf) (told now.shelf)
   pub tells : StaysTold (told before.shelf) (told now.shelf)
   pub stopped : IfErr result (λ failed. HasStopped told way.txn.0 failed before now)
+  pub opens : Shows told before (entries_of before) → IfErr result (λ _. StillOpens told now)
   pub ends : IfErr result EndsRun
   pub later : faults before.shelf ≤ faults now.shelf
   pub cause : (low : ℕ) → low ≤ faults before.shelf → HasRisenReading low (faults before.shelf) fault → FileCause low (faults now.shelf) result
@@ -185,6 +189,7 @@ pub record IsTaking {D T : Type 0} (told : D → Option Store) (faults : D → �
   pub keeps : Moves (KeepsGiven (state_of (entries_of before)).tables) (told before.shelf) (told now.shelf)
   pub tells : StaysTold (told before.shelf) (told now.shelf)
   pub stopped : IfErr result (λ why. StopsTaken told asking why before now)
+  pub opens : Shows told before (entries_of before) → IfErr result (λ _. StillOpens told now)
   pub ends : IfErr result EndsRun
   pub cause : FileCause (faults before.shelf) (faults now.shelf) result
 
@@ -204,7 +209,7 @@ LacksRoom book tree = holder_against book tree ≡ None → profile.entries < lo
 
 -- an opened statement is aborted for what stands in its way
 pub record AbortsOpened {D : Type 0} (told : D → Option Store) (faults : D → ℕ) (tree : Stmt) (txn : ℕ) (before now : House D) (result : Result Reply HouseFault) : Type 0 where
-  pub part : IsPart told faults txn before now result
+  pub part : IsPart told faults (IsFaithful (entries_of before)) txn before now result
   pub aborted : IfOk result (λ _. IsAborted txn (hindrance_of (holder_against (entries_of before) tree)) (entries_of before) (entries_of now))
   pub answered : (asking : Asking) (said : Stmt) → IsWaiting (entries_of before) asking txn said
       → IfOk result (λ reply. HasReplied (entries_of now) txn reply.text reply.refused reply.ended)

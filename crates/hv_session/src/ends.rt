@@ -7,11 +7,11 @@ ghost use Rattle.hv_history.specs.Legal.{Fits, profile};
 ghost use Rattle.hv_history.specs.State.{state_of};
 ghost use Rattle.hv_stands.specs.Running.{Asking, meant, IsUnderWay};
 ghost use Rattle.hv_house.specs.Faults.{IsShortDamage};
-ghost use Rattle.hv_house.specs.House.{entries_of, IsSmall, IsReady, StaysRead, Shows};
+ghost use Rattle.hv_house.specs.House.{entries_of, IsSmall, IsReady, StaysRead, IsFaithful, Shows};
 ghost use Rattle.hv_house.specs.Steps.{IsMarked, IsMarkedFor};
 ghost use Rattle.hv_house.specs.declared.fault.HouseFault.TheVariants as fault;
 ghost use Rattle.hv_house.specs.declared.fault.RowFault.TheVariants as row_fault;
-ghost use Rattle.hv_ending.specs.Ending.{aborting, CanEnd, EndsUncommitted, IsPreparedIn};
+ghost use Rattle.hv_ending.specs.Ending.{aborting, CanEnd, EndsUncommitted, IsPreparedIn, MeansThis};
 ghost use Rattle.hv_history.specs.declared.entry.Cause.TheVariants.{ReadFault};
 ghost use Rattle.hv_session.specs.Taking.{IsFinished};
 ghost use Rattle.hv_session.specs.Ways.{IsPart, ShowsAnd, IsOnWay, CutsOff, EndsFor, ComesTo, ComesTruly, ComesUnrefused, GoesToCommit, GoesTruly};
@@ -127,7 +127,8 @@ fn come_to<D: Shelf>(
 ) -> Result<Outcome, HouseFault>
     requires ready { IsReady D.told house.old }
     requires way { IsOnWay (entries_of house.old) way tree.now }
-    ensures part { IsPart D.told D.faults way.txn.0 house.old house.new result }
+    ensures part { IsPart D.told D.faults (IsFaithful (entries_of house.old)) way.txn.0
+        house.old house.new result }
     ensures comes { IfOk result (ComesTo way.txn.0 (entries_of house.old) (entries_of house.new)) }
     ensures truly { (asking : Asking)
         → IsUnderWay (entries_of house.old) asking way.txn.0 way.place tree.now []
@@ -151,7 +152,8 @@ pub fn end_as<D: Shelf>(
     requires ready { IsReady D.told house.old }
     requires way { (said : Tree) × IsOnWay (entries_of house.old) way said }
     requires can { CanEnd (entries_of house.old) meaning }
-    ensures part { IsPart D.told D.faults way.txn.0 house.old house.new result }
+    ensures part { IsPart D.told D.faults (MeansThis (entries_of house.old) way meaning) way.txn.0
+        house.old house.new result }
     ensures truly { (asking : Asking) (said : Tree)
         → IsUnderWay (entries_of house.old) asking way.txn.0 way.place said []
         → Tells (D.told house.old.shelf)
@@ -175,7 +177,8 @@ pub fn go_to_end<D: Shelf>(
 ) -> Result<Reply, HouseFault>
     requires ready { IsReady D.told house.old }
     requires way { IsOnWay (entries_of house.old) way tree.now }
-    ensures part { IsPart D.told D.faults way.txn.0 house.old house.new result }
+    ensures part { IsPart D.told D.faults (IsFaithful (entries_of house.old)) way.txn.0
+        house.old house.new result }
     ensures truly { (asking : Asking)
         → IsUnderWay (entries_of house.old) asking way.txn.0 way.place tree.now []
         → Shows D.told house.old (entries_of house.old)
@@ -198,7 +201,8 @@ fn end_refused<D: Shelf>(
     requires ready { IsReady D.told house.old }
     requires way { (said : Tree) × IsOnWay (entries_of house.old) way said }
     requires can { CanEnd (entries_of house.old) meaning }
-    ensures part { IsPart D.told D.faults way.txn.0 house.old house.new result }
+    ensures part { IsPart D.told D.faults (MeansThis (entries_of house.old) way meaning) way.txn.0
+        house.old house.new result }
     ensures comes { IfOk result (ComesTo way.txn.0 (entries_of house.old) (entries_of house.new)) }
     ensures unrefused { IfOk result ComesUnrefused }
     ensures truly { (asking : Asking) (said : Tree)
@@ -228,7 +232,8 @@ pub fn come_unrefused<D: Shelf>(
 ) -> Result<Outcome, HouseFault>
     requires ready { IsReady D.told house.old }
     requires way { IsOnWay (entries_of house.old) way tree.now }
-    ensures part { IsPart D.told D.faults way.txn.0 house.old house.new result }
+    ensures part { IsPart D.told D.faults (IsFaithful (entries_of house.old)) way.txn.0
+        house.old house.new result }
     ensures comes { IfOk result (ComesTo way.txn.0 (entries_of house.old) (entries_of house.new)) }
     ensures unrefused { IfOk result ComesUnrefused }
     ensures truly { (asking : Asking)
@@ -252,7 +257,8 @@ pub fn go_to_commit<D: Shelf>(
 ) -> Result<Prepared, HouseFault>
     requires ready { IsReady D.told house.old }
     requires way { IsOnWay (entries_of house.old) way tree.now }
-    ensures part { IsPart D.told D.faults way.txn.0 house.old house.new result }
+    ensures part { IsPart D.told D.faults (IsFaithful (entries_of house.old)) way.txn.0
+        house.old house.new result }
     ensures goes { IfOk result (GoesToCommit way.txn.0 (entries_of house.old) (entries_of house.new)) }
     ensures stands { (asking : Asking)
         → IsUnderWay (entries_of house.old) asking way.txn.0 way.place tree.now []

@@ -3,7 +3,7 @@
 ghost use Rattle.std.specs.Prelude.{◌≡◌, [], Some, IfOk};
 ghost use Rattle.hv_base.specs.declared.gate.Stage.TheVariants as stages;
 ghost use Rattle.hv_stands.specs.Running.{Asking, IsUnderWay};
-ghost use Rattle.hv_house.specs.House.{entries_of, IsReady, Shows};
+ghost use Rattle.hv_house.specs.House.{entries_of, IsReady, IsFaithful, Shows};
 ghost use Rattle.hv_session.specs.declared.paused.Taken.TheVariants.{Replied};
 ghost use Rattle.hv_session.specs.Taking.{IsHold, IsFinished};
 ghost use Rattle.hv_session.specs.Ways.{IsPart, ShowsAnd, IsOnWay, keep, held_meant, held_ready, GoesInTime, StandsHeld, StandsTruly};
@@ -64,7 +64,8 @@ fn hold_read<D: Shelf>(
 ) -> Result<Taken, HouseFault>
     requires ready { IsReady D.told house.old }
     requires way { IsOnWay (entries_of house.old) way tree }
-    ensures part { IsPart D.told D.faults way.txn.0 house.old house.new result }
+    ensures part { IsPart D.told D.faults (IsFaithful (entries_of house.old)) way.txn.0
+        house.old house.new result }
     ensures goes { IfOk result (GoesInTime (Some stages.Read) way.txn.0 (entries_of house.old) (entries_of house.new)) }
     ensures stands { (asking : Asking)
         → IsUnderWay (entries_of house.old) asking way.txn.0 way.place tree []
@@ -93,7 +94,8 @@ fn hold_commit<D: Shelf>(
 ) -> Result<Taken, HouseFault>
     requires ready { IsReady D.told house.old }
     requires way { IsOnWay (entries_of house.old) way tree }
-    ensures part { IsPart D.told D.faults way.txn.0 house.old house.new result }
+    ensures part { IsPart D.told D.faults (IsFaithful (entries_of house.old)) way.txn.0
+        house.old house.new result }
     ensures goes { IfOk result (GoesInTime (Some stages.Commit) way.txn.0 (entries_of house.old) (entries_of house.new)) }
     ensures stands { (asking : Asking)
         → IsUnderWay (entries_of house.old) asking way.txn.0 way.place tree []
@@ -122,7 +124,8 @@ pub fn end_started<D: Shelf>(
 ) -> Result<Reply, HouseFault>
     requires ready { IsReady D.told house.old }
     requires way { IsOnWay (entries_of house.old) way tree }
-    ensures part { IsPart D.told D.faults way.txn.0 house.old house.new result }
+    ensures part { IsPart D.told D.faults (IsFaithful (entries_of house.old)) way.txn.0
+        house.old house.new result }
     ensures truly { (asking : Asking)
         → IsUnderWay (entries_of house.old) asking way.txn.0 way.place tree []
         → Shows D.told house.old (entries_of house.old)
@@ -145,7 +148,8 @@ fn go_to<D: Shelf>(
     requires hold { IsHold (Some stage) }
     requires ready { IsReady D.told house.old }
     requires way { IsOnWay (entries_of house.old) way tree }
-    ensures part { IsPart D.told D.faults way.txn.0 house.old house.new result }
+    ensures part { IsPart D.told D.faults (IsFaithful (entries_of house.old)) way.txn.0
+        house.old house.new result }
     ensures goes { IfOk result (GoesInTime (Some stage) way.txn.0 (entries_of house.old) (entries_of house.new)) }
     ensures stands { (asking : Asking)
         → IsUnderWay (entries_of house.old) asking way.txn.0 way.place tree []
@@ -175,7 +179,8 @@ pub fn go<D: Shelf>(
     requires hold { IsHold hold }
     requires ready { IsReady D.told house.old }
     requires way { IsOnWay (entries_of house.old) way tree }
-    ensures part { IsPart D.told D.faults way.txn.0 house.old house.new result }
+    ensures part { IsPart D.told D.faults (IsFaithful (entries_of house.old)) way.txn.0
+        house.old house.new result }
     ensures goes { IfOk result (GoesInTime hold way.txn.0 (entries_of house.old) (entries_of house.new)) }
     ensures stands { (asking : Asking)
         → IsUnderWay (entries_of house.old) asking way.txn.0 way.place tree []

@@ -8,7 +8,7 @@ ghost use Rattle.hv_history.specs.Legal.{Fits, profile};
 ghost use Rattle.hv_history.specs.State.{state_of};
 ghost use Rattle.hv_stands.specs.Running.{Asking as Asked, next_number, opening, IsWaiting};
 ghost use Rattle.hv_house.specs.Faults.{EndsRun};
-ghost use Rattle.hv_house.specs.House.{entries_of, BeginFits, IsReady, Shows};
+ghost use Rattle.hv_house.specs.House.{entries_of, BeginFits, IsReady, IsFaithful, Shows};
 ghost use Rattle.hv_house.specs.Asking.{CanBegin, holder_against};
 ghost use Rattle.hv_house.specs.declared.fault.HouseFault.TheVariants.{NoMemory as OutOfMemory};
 ghost use Rattle.hv_session.specs.Lines.{IsLine};
@@ -79,9 +79,10 @@ fn note_and_abort<D: Shelf>(
     requires ready { IsReady D.told house.old }
     requires opened { (asking : Asked) × (opened ≡ opening (entries_of house.old) asking)
         × Runs asking.text kept × Runs asking.text tree.now × (length asking.text ≤ 32768) × (length asking.session ≤ 32) }
-    requires cannot { CanBegin (entries_of house.old) tree.now → ⊥ }
+    requires cannot { CanBegin profile (entries_of house.old) tree.now → ⊥ }
     requires fits { Fits profile (state_of (entries_of house.old)) opened }
-    ensures part { IsPart D.told D.faults (next_number (entries_of house.old)) house.old house.new result }
+    ensures part { IsPart D.told D.faults (IsFaithful (entries_of house.old))
+        (next_number (entries_of house.old)) house.old house.new result }
     ensures truly { (asking : Asked) → opened ≡ opening (entries_of house.old) asking → Shows D.told house.old (entries_of house.old)
         → IfOk result (λ reply. ShowsAnd D.told house.new (λ _. IsTurnedAway
         (entries_of house.old) (entries_of house.new) asking reply)) }
@@ -107,8 +108,9 @@ fn turn_away<D: Shelf>(
     requires tree { Runs asking.text tree.now }
     requires short { length asking.text ≤ 32768 }
     requires named { length asking.session ≤ 32 }
-    requires cannot { CanBegin (entries_of house.old) tree.now → ⊥ }
-    ensures part { IsPart D.told D.faults (next_number (entries_of house.old)) house.old house.new result }
+    requires cannot { CanBegin profile (entries_of house.old) tree.now → ⊥ }
+    ensures part { IsPart D.told D.faults (IsFaithful (entries_of house.old))
+        (next_number (entries_of house.old)) house.old house.new result }
     ensures truly { Shows D.told house.old (entries_of house.old)
         → IfOk result (λ reply. ShowsAnd D.told house.new (λ _. IsTurnedAway
         (entries_of house.old) (entries_of house.new) (asked_of asking) reply)) }
@@ -147,7 +149,7 @@ fn begin<D: Shelf>(
     requires short { length asking.text ≤ 32768 }
     requires named { length asking.session ≤ 32 }
     requires hold { IsHold asking.hold }
-    requires can { CanBegin (entries_of house.old) tree }
+    requires can { CanBegin profile (entries_of house.old) tree }
     requires fits { BeginFits (entries_of house.old) (asked_of asking) }
     ensures taking { IsTaking D.told D.faults (asked_of asking) house.old house.new result }
     ensures held { IfOk result (IsKeptIn (entries_of house.old) (entries_of house.new) (asked_of asking)) }

@@ -4,7 +4,7 @@ ghost use Rattle.hv_history.specs.State.{state_of};
 ghost use Rattle.hv_stands.specs.Running.{next_number, KeepsGiven};
 ghost use Rattle.hv_house.specs.Faults.{FileCause, EndsRun};
 ghost use Rattle.hv_house.specs.House.{entries_of, IsReady, Shows};
-ghost use Rattle.hv_ending.specs.Ending.{AddsOf, HasStopped};
+ghost use Rattle.hv_ending.specs.Ending.{AddsOf, HasStopped, StillOpens};
 ghost use Rattle.hv_session.specs.Taking.{asked_of, IsHold, IsHeldBySome, IsTrulyHeld, IsKeptIn, IsTakenAs, IsFinished};
 ghost use Rattle.hv_session.specs.Ways.{StopsTaken};
 
@@ -51,6 +51,8 @@ pub fn take_up<D: Shelf>(
         (D.told house.old.shelf) (D.told house.new.shelf) }
     ensures tells { StaysTold (D.told house.old.shelf) (D.told house.new.shelf) }
     ensures stopped { IfErr result (λ why. StopsTaken D.told (asked_of asking) why house.old house.new) }
+    ensures opens { Shows D.told house.old (entries_of house.old)
+        → IfErr result (λ _. StillOpens D.told house.new) }
     ensures ends { IfErr result EndsRun }
     ensures cause { FileCause (D.faults house.old.shelf) (D.faults house.new.shelf) result }
 {
@@ -88,6 +90,9 @@ pub fn finish<D: Shelf>(
         (D.told house.old.shelf) (D.told house.new.shelf) }
     ensures tells { StaysTold (D.told house.old.shelf) (D.told house.new.shelf) }
     ensures stopped { IfErr result (λ why. HasStopped D.told paused.txn.0 why house.old house.new) }
+    ensures opens { Shows D.told house.old (entries_of house.old)
+        → Tells (D.told house.old.shelf) (λ s. IsTrulyHeld (entries_of house.old) s.tree paused)
+        → IfErr result (λ _. StillOpens D.told house.new) }
     ensures ends { IfErr result EndsRun }
     ensures cause { FileCause (D.faults house.old.shelf) (D.faults house.new.shelf) result }
 {

@@ -214,7 +214,7 @@ module _ (book : List Entry) (place : ℕ) (files : Tree) (table : Table) (list 
                 (from.0, stood, refl, from.1.dir_is);
           }
 
-  shows : Shows table.info list files table.writes
+  pub shows : Shows table.info list files table.writes
   shows = record {
     filed = filed;
     apart = writes-sound.apart;

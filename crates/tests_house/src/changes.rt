@@ -1,10 +1,11 @@
 //! The change of a transaction: which rows, and their files.
 ghost use Rattle.std.specs.Prelude.{◌<◌, ◌≤◌, IfOk};
+ghost use Rattle.hv_base.specs.declared.ids.Limits.{Limits};
 ghost use Rattle.hv_dirs.specs.Names.{write_end};
-ghost use Rattle.hv_house.specs.House.{IsReady};
+ghost use Rattle.hv_house.specs.House.{IsReady, IsReadyWithin};
 
 use crate::asking::{can_put, holds_id, table_of, write_of};
-use crate::opening::{answer, said};
+use crate::opening::said;
 use hv_base::{List, NoMemory, RowId, TableId, Text, TxnId, WriteId};
 use hv_house::{House, HouseFault};
 use hv_logic::{Effect, Found};
@@ -95,10 +96,11 @@ fn put_one<D: Shelf>(
     write: WriteId,
     file: &OutFile,
 ) -> Result<bool, HouseFault>
-    requires ready { IsReady D.told house.old }
+    ghost limits: { Limits }
+    requires ready { IsReadyWithin limits D.told house.old }
     requires first { 1 ≤ write.0 }
     requires last { write.0 < write_end }
-    ensures ready { IfOk result (λ _. IsReady D.told house.new) }
+    ensures ready { IfOk result (λ _. IsReadyWithin limits D.told house.new) }
 {
     let can = can_put(file);
     let own = holds_id(house.book(), txn, table, write);
@@ -119,10 +121,11 @@ fn put_each<D: Shelf>(
     write: WriteId,
     files: &[OutFile],
 ) -> Result<bool, HouseFault>
-    requires ready { IsReady D.told house.old }
+    ghost limits: { Limits }
+    requires ready { IsReadyWithin limits D.told house.old }
     requires first { 1 ≤ write.0 }
     requires last { write.0 < write_end }
-    ensures ready { IfOk result (λ _. IsReady D.told house.new) }
+    ensures ready { IfOk result (λ _. IsReadyWithin limits D.told house.new) }
 {
     for file in files {
         if !put_one(alloc, house, txn, table, write, file)? {
@@ -130,6 +133,41 @@ fn put_each<D: Shelf>(
         }
     }
     Ok(true)
+}
+
+/// Puts the files of a change of these rows under the transaction's write id in a table, and keeps it in mind; or says that it can't.
+pub(crate) fn put_rows<D: Shelf>(
+    alloc: Global,
+    house: &mut House<D>,
+    kept: &mut Vec<Kept>,
+    txn: TxnId,
+    table: TableId,
+    rows: String,
+) -> Result<bool, HouseFault>
+    ghost limits: { Limits }
+    requires ready { IsReadyWithin limits D.told house.old }
+    ensures ready { IfOk result (λ _. IsReadyWithin limits D.told house.new) }
+{
+    let Some(info) = table_of(alloc, house.book(), table)? else {
+        return Ok(false);
+    };
+    let id = write_of(house.book().held(), txn.0, table.0).unwrap_or(0);
+    if id == 0 || id >= WRITE_END {
+        return Ok(false);
+    }
+    let write = WriteId(id);
+    let since = house.marks();
+    let effect = effect_of(alloc, rows.as_str())?;
+    let files = route(alloc, &info.shape, write, 0, effect)?;
+    let done = put_each(alloc, house, txn, table, write, &files)?;
+    kept.push(Kept {
+        txn,
+        table,
+        write,
+        since,
+        rows,
+    })?;
+    Ok(done)
 }
 
 /// Puts the files of a change under the transaction's write id in a table.
@@ -144,23 +182,7 @@ pub(crate) fn put<D: Shelf>(
     requires ready { IsReady D.told house.old }
     ensures ready { IfOk result (λ _. IsReady D.told house.new) }
 {
-    let Some(info) = table_of(alloc, house.book(), table)? else {
-        return Ok(answer(alloc, "refused")?);
-    };
-    let id = write_of(house.book().held(), txn.0, table.0).unwrap_or(0);
-    if id == 0 || id >= WRITE_END {
-        return Ok(answer(alloc, "refused")?);
-    }
-    let write = WriteId(id);
-    let since = house.marks();
-    let files = route(alloc, &info.shape, write, 0, effect_of(alloc, rows)?)?;
-    let done = put_each(alloc, house, txn, table, write, &files)?;
-    kept.push(Kept {
-        txn,
-        table,
-        write,
-        since,
-        rows: String::from_str(alloc, rows)?,
-    })?;
+    let rows = String::from_str(alloc, rows)?;
+    let done = put_rows(alloc, house, kept, txn, table, rows)?;
     Ok(said(alloc, done)?)
 }

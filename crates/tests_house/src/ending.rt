@@ -1,9 +1,10 @@
 //! How a transaction commits.
 ghost use Rattle.std.specs.Prelude.{◌<◌, ◌≤◌, IfOk, IfSome};
+ghost use Rattle.hv_base.specs.declared.ids.Limits.{Limits};
 ghost use Rattle.hv_dirs.specs.Names.{write_end};
 ghost use Rattle.hv_history.specs.declared.entry.Entry.TheVariants as entry;
 ghost use Rattle.hv_trail.specs.Kept.{trail_of};
-ghost use Rattle.hv_house.specs.House.{entries_of, IsReady, IsSmall};
+ghost use Rattle.hv_house.specs.House.{entries_of, IsReady, IsReadyWithin, IsSmall};
 ghost use Rattle.hv_house.specs.Steps.{CanCommit};
 ghost use Rattle.tests_house.specs.Asking.{AreTouches};
 
@@ -46,10 +47,11 @@ fn note_commit<D: Shelf>(
     txn: TxnId,
     wrote: List<Touch>,
 ) -> Result<String, HouseFault>
-    requires ready { IsReady D.told house.old }
+    ghost limits: { Limits }
+    requires ready { IsReadyWithin limits D.told house.old }
     requires small { IsSmall (entry.Commit txn wrote) }
     requires can { CanCommit (entries_of house.old) (trail_of house.old.trail) txn wrote }
-    ensures ready { IfOk result (λ _. IsReady D.told house.new) }
+    ensures ready { IfOk result (λ _. IsReadyWithin limits D.told house.new) }
 {
     if !is_running(house.book(), txn) {
         return Ok(answer(alloc, "refused")?);
@@ -67,10 +69,11 @@ fn commit_change<D: Shelf>(
     house: &mut House<D>,
     kept: &Kept,
 ) -> Result<String, HouseFault>
-    requires ready { IsReady D.told house.old }
+    ghost limits: { Limits }
+    requires ready { IsReadyWithin limits D.told house.old }
     requires first { 1 ≤ kept.now.write.0 }
     requires last { kept.now.write.0 < write_end }
-    ensures ready { IfOk result (λ _. IsReady D.told house.new) }
+    ensures ready { IfOk result (λ _. IsReadyWithin limits D.told house.new) }
 {
     let (txn, table, write) = (kept.txn, kept.table, kept.write);
     let Some(info) = table_of(alloc, house.book(), table)? else {
@@ -103,6 +106,22 @@ fn commit_idle<D: Shelf>(
     note_commit(alloc, house, txn, List::empty(alloc))
 }
 
+/// Commits a change whose files were put under this write id, where it names directories.
+pub(crate) fn commit_put<D: Shelf>(
+    alloc: Global,
+    house: &mut House<D>,
+    kept: &Kept,
+) -> Result<String, HouseFault>
+    ghost limits: { Limits }
+    requires ready { IsReadyWithin limits D.told house.old }
+    ensures ready { IfOk result (λ _. IsReadyWithin limits D.told house.new) }
+{
+    if kept.write.0 == 0 || kept.write.0 >= 10_000_000 {
+        return Ok(answer(alloc, "refused")?);
+    }
+    commit_change(alloc, house, kept)
+}
+
 /// The change that a transaction put.
 fn kept_of(kept: &[Kept], txn: TxnId) -> Option<&Kept> {
     for one in kept {
@@ -124,12 +143,7 @@ pub(crate) fn commit<D: Shelf>(
     ensures ready { IfOk result (λ _. IsReady D.told house.new) }
 {
     match kept_of(kept, txn) {
-        Some(one) => {
-            if one.write.0 == 0 || one.write.0 >= 10_000_000 {
-                return Ok(answer(alloc, "refused")?);
-            }
-            commit_change(alloc, house, one)
-        }
+        Some(one) => commit_put(alloc, house, one),
         None => commit_idle(alloc, house, txn),
     }
 }

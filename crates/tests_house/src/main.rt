@@ -8,6 +8,7 @@ mod ending;
 mod laying;
 mod opening;
 mod playing;
+mod room;
 mod showing;
 
 use crate::playing::play;

@@ -1,5 +1,6 @@
 //! Statements begin, read, and are given their write ids.
 ghost use Rattle.std.specs.Prelude.{◌≡◌, ◌≤◌, None, IfOk, length};
+ghost use Rattle.hv_base.specs.declared.ids.Limits.{Limits};
 ghost use Rattle.hv_built.specs.Running.{Runs};
 ghost use Rattle.hv_history.specs.Book.{tree_of_entry};
 ghost use Rattle.hv_fits.specs.Texts.{IsHanded};
@@ -18,7 +19,7 @@ use hv_viewing::see as see_table;
 use std::alloc::Global;
 
 /// The longest text of a statement.
-const MOST_TEXT: usize = 32_768;
+pub(crate) const MOST_TEXT: usize = 32_768;
 
 /// A short answer.
 pub(crate) fn answer(alloc: Global, words: &str) -> Result<String, NoMemory> {
@@ -60,7 +61,7 @@ fn begin_read<D: Shelf>(
 }
 
 /// The session of all statements.
-fn session(alloc: Global) -> Result<Text, NoMemory>
+pub(crate) fn session(alloc: Global) -> Result<Text, NoMemory>
     ensures { IfOk result (λ session. length session ≤ 32) }
 {
     Text::of(alloc, "s")
@@ -132,12 +133,13 @@ pub(crate) fn see<D: Shelf>(
 
 /// Notes an entry where it fits, and says whether it does.
 pub(crate) fn note<D: Shelf>(house: &mut House<D>, entry: Entry) -> Result<bool, HouseFault>
-    requires ready { IsReady D.told house.old }
+    ghost limits: { Limits }
+    requires ready { IsReadyWithin limits D.told house.old }
     requires tree { tree_of_entry entry ≡ None }
     requires handed { IsHanded entry None }
     requires small { IsSmall entry }
     requires marked { IsMarked house.old entry }
-    ensures ready { IfOk result (λ _. IsReady D.told house.new) }
+    ensures ready { IfOk result (λ _. IsReadyWithin limits D.told house.new) }
 {
     if !house.fits(&entry, None) {
         return Ok(false);

@@ -7,19 +7,23 @@ use crate::changes::{Kept, number, piece, put};
 use crate::ending::commit;
 use crate::laying::lay;
 use crate::opening::{abort, answer, begin, create, give, see};
+use crate::room::room;
 use crate::showing::{book_text, files_text};
-use hv_base::{TableId, TxnId};
+use hv_base::{Limits, TableId, TxnId};
 use hv_house::{House, HouseFault};
 use hv_shelf::{MemoryShelf, Shelf};
 use std::alloc::Global;
 use std::io;
 use std::io::{BufRead, BufReader, ErrorKind};
 
+/// The limits of this project's profile.
+const LIMITS: Limits = Limits { entries: 131_072 };
+
 /// A house over this store.
 fn opened(alloc: Global, store: MemoryShelf) -> io::Result<House<MemoryShelf>>
     ensures ready { IfOk result IsOpen }
 {
-    match House::boot(alloc, store) {
+    match House::boot(alloc, store, LIMITS) {
         Ok(house) => Ok(house),
         Err(_) => Err(ErrorKind::Other.into()),
     }
@@ -74,7 +78,7 @@ fn answered(
 {
     match line {
         "book" => Ok(book_text(alloc, house.book())?),
-        "files" => Ok(files_text(alloc, &house.shelf)?),
+        "files" => Ok(files_text(alloc, house.shelf())?),
         _ => act(alloc, house, kept, line),
     }
 }
@@ -91,6 +95,13 @@ pub(crate) fn play(rt: &HostRuntime, alloc: Global) -> io::Result<()> {
             house = fresh(alloc)?;
             kept.clear();
             println!(rt; "{line}")?;
+            continue;
+        }
+        if let Some(entries) = line.strip_prefix("room ") {
+            let Ok(text) = room(alloc, number(entries)) else {
+                return println!(rt; "stopped");
+            };
+            println!(rt; "{line}: {text}")?;
             continue;
         }
         if line == "again" {

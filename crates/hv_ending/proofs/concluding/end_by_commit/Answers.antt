@@ -15,7 +15,9 @@ returns-in-Some g c =
     (subst (λ (b : List Entry). IsClash (state_of b) c.args.way.txn.0 c.as_slice.result.now c.in-Some.found) c.book.ensures.entries c.in-Some.ensures.found) in
     record {
       whole = conflict-conclusion g.D.Shelf.told g.D.Shelf.faults c.args.way c.args.text c.args.house.now c.end_by_conflict.new.house c.requires.ready
-          c.args.wrote c.args.name c.args.put c.in-Some.found met.touch c.end_by_conflict.result met met.found c.end_by_conflict.ensures.goes
+          c.args.wrote c.args.name c.args.put c.in-Some.found met.touch c.end_by_conflict.result met met.found
+          (c.end_by_conflict.ensures.goes met.touch
+          (subst (λ (ts : List Touch). slice_get ts c.in-Some.found.at ≡ Some met.touch) (sym c.as_slice-in-Some.ensures) met.found))
           (c.end_by_conflict.ensures.conflicts met.touch
           (subst (λ (ts : List Touch). slice_get ts c.in-Some.found.at ≡ Some met.touch) (sym c.as_slice-in-Some.ensures) met.found));
     }

@@ -5,13 +5,16 @@ use Rattle.hv_history.specs.declared.entry.Entry.{Entry}
 use Rattle.hv_history.specs.declared.entry.Cause.TheVariants.{Memory}
 use Rattle.hv_history.specs.State.{state_of, numbered}
 use Rattle.hv_history.specs.Legal.{Fits, profile}
+use Rattle.hv_journal.specs.Appending.{KeepsTree}
 use Rattle.hv_stands.proofs.Begun.{ids-given}
 use Rattle.hv_house.specs.declared.fault.HouseFault.{HouseFault}
-use Rattle.hv_house.specs.House.{entries_of}
+use Rattle.hv_house.specs.House.{entries_of, IsFaithful}
 use Rattle.hv_house.specs.Steps.{HoldsId}
 use Rattle.hv_ending.specs.declared.ready.Prepared.{Prepared}
 use Rattle.hv_ending.specs.Ending.{giving, aborting}
-use Rattle.hv_ending.specs.Steps.{LacksMemory, Preparation}
+use Rattle.hv_ending.specs.Steps.{StandsWith, LacksMemory, Preparation}
+use Rattle.hv_ending.proofs.Opens.{event-stands}
+use Rattle.hv_ending.proofs.Runs.{goes-known}
 use Rattle.hv_ending.proofs.Books.{memory-fits}
 use Rattle.hv_ending.proofs.Shorts.{short_given}
 use Rattle.hv_ending.proofs.Readying.{lacking-preparation}
@@ -65,7 +68,11 @@ returns-in-Err g c = record {
       c.args.house.now c.end_without.new.house r) (sym c.ended.ensures)
       (lacking-preparation g.D.Shelf.told g.D.Shelf.faults c.args.way (Change c.args.change.info c.args.change.effect) c.args.house.now c.end_without.new.house
       c.end_without.result
-      (c.end_without.ensures.goes c.args.house.now (giving c.args.way.txn.0 c.args.change.info.table c.args.write) refl c.in-Err.ensures.left)
+      (goes-known g.D.Shelf.told g.D.Shelf.faults KeepsTree
+      (StandsWith (entries_of c.args.house.now) (giving c.args.way.txn.0 c.args.change.info.table c.args.write)) (IsFaithful (entries_of c.args.house.now))
+      c.args.way.txn.0 c.args.house.now c.end_without.new.house c.end_without.result
+      (λ s. event-stands (entries_of c.args.house.now) (giving c.args.way.txn.0 c.args.change.info.table c.args.write) s tt (λ fits. tt))
+      (c.end_without.ensures.goes c.args.house.now (giving c.args.way.txn.0 c.args.change.info.table c.args.write) refl c.in-Err.ensures.left))
       (subst (λ (b : List Entry). IfOk c.end_without.result (LacksMemory c.args.way.txn.0 b (entries_of c.end_without.new.house)))
       c.in-Err.ensures.left.halted.entries c.end_without.ensures.aborted));
 }

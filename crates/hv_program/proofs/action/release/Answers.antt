@@ -1,5 +1,5 @@
 use Rattle.std.proofs.Common.{sym, ◌∙◌}
-use Rattle.hv_program.proofs.Acting.{let-go-one, released-held, released-shown, released-acts, released-stops, none-held, none-shown, none-acts}
+use Rattle.hv_program.proofs.Acting.{faithful-of, let-go-truly, let-go-one, released-held, released-shown, released-acts, released-stops, none-held, none-shown, none-acts}
 use Rattle.hv_program.proofs.action.release.Goals as goal
 
 pub finish-requires-clause-held : goal.finish-requires-clause-held
@@ -24,6 +24,11 @@ pub returns-in-Some-clause-stopped : goal.returns-in-Some-clause-stopped
 returns-in-Some-clause-stopped g c =
     released-stops g.D.Shelf.told c.finish.result c.args.house.now c.finish.new.house _ c.args.session.now c.in-Some.paused (sym c.let_go.ensures.found ∙ c.in-Some.is)
     c.finish.ensures.stopped
+
+pub returns-in-Some-clause-opens : goal.returns-in-Some-clause-opens
+returns-in-Some-clause-opens g c = λ shown.
+    c.finish.ensures.opens (faithful-of _ _ _ shown)
+    (let-go-truly (g.D.Shelf.told c.args.house.now.shelf) _ c.args.session.now.name _ c.in-Some.paused (sym c.let_go.ensures.found ∙ c.in-Some.is) shown)
 
 pub returns-in-None-clause-held : goal.returns-in-None-clause-held
 returns-in-None-clause-held g c = none-held _ _ _ c.args.session.now.name (sym c.let_go.ensures.found ∙ c.in-None.is) c.let_go.ensures.left c.requires.held

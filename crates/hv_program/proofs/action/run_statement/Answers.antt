@@ -1,4 +1,4 @@
-use Rattle.hv_program.proofs.Acting.{stops-first, stops-residual, replied-held, replied-shown, replied-acts, kept-held, kept-shown, kept-acts, faithful-of}
+use Rattle.hv_program.proofs.Acting.{stops-first, opens-first, err-always, stops-residual, replied-held, replied-shown, replied-acts, kept-held, kept-shown, kept-acts, faithful-of}
 use Rattle.hv_program.proofs.action.run_statement.Goals as goal
 
 pub returns-in_err-session-clause-stopped : goal.returns-in_err-session-clause-stopped
@@ -42,3 +42,15 @@ pub returns-in-Kept-clause-acted : goal.returns-in-Kept-clause-acted
 returns-in-Kept-clause-acted g c = λ shown.
     kept-acts _ _ _ _ _ _ _ _ _ c.args.statement.now c.in_ok-reply.field-0 c.nothing.result c.reserve.ensures.items c.keep.ensures.kept c.in-Kept.is
     c.in_ok-session.ensures.same c.nothing.ensures c.in_ok-reply.ensures.ready.fit c.in_ok-reply.ensures.added (c.in_ok-reply.ensures.taken (faithful-of _ _ _ shown))
+
+pub returns-in_err-session-clause-opens : goal.returns-in_err-session-clause-opens
+returns-in_err-session-clause-opens g c = λ shown.
+    opens-first g.D.Shelf.told c.args.house.now c.args.held.now.items c.from_residual.result c.requires.ready.kept.reads shown
+
+pub returns-in_err-reserve-clause-opens : goal.returns-in_err-reserve-clause-opens
+returns-in_err-reserve-clause-opens g c = λ shown.
+    opens-first g.D.Shelf.told c.args.house.now c.args.held.now.items c.from_residual-in_err-reserve.result c.requires.ready.kept.reads shown
+
+pub returns-in_err-reply-clause-opens : goal.returns-in_err-reply-clause-opens
+returns-in_err-reply-clause-opens g c = λ shown.
+    err-always c.from_residual-in_err-reply.result _ (c.in_err-reply.ensures.opens (faithful-of _ _ _ shown))

@@ -6,6 +6,8 @@ use Rattle.hv_house.specs.House.{entries_of}
 use Rattle.hv_session.specs.Taking.{asked_of, IsHold, IsKeptIn, IsTakenAs}
 use Rattle.hv_session.specs.Ways.{StopsTaken}
 use Rattle.hv_program.specs.Doing.{asking_of}
+use Rattle.hv_ending.proofs.Opens.{held-opens}
+use Rattle.hv_program.proofs.Acting.{err-always}
 use Rattle.hv_program.proofs.Unasked.{still-adds, lacking-taken, still-keeps, still-stops}
 use Rattle.hv_program.proofs.action.take.Goals as goal
 
@@ -51,3 +53,7 @@ returns-in_err-memory_reply-in-Err-clause-keeps g c = still-keeps (g.D.Shelf.tol
 pub returns-in_err-memory_reply-in-Err-clause-stopped : goal.returns-in_err-memory_reply-in-Err-clause-stopped
 returns-in_err-memory_reply-in-Err-clause-stopped g c =
     still-stops g.D.Shelf.told c.args.house.now (asking_of c.args.statement.now) c.from_residual.result c.from_residual.ensures.1 c.requires.ready.kept.reads
+
+pub returns-in_err-memory_reply-in-Err-clause-opens : goal.returns-in_err-memory_reply-in-Err-clause-opens
+returns-in_err-memory_reply-in-Err-clause-opens g c = λ shows.
+    err-always c.from_residual.result _ (held-opens (entries_of c.args.house.now) (g.D.Shelf.told c.args.house.now.shelf) c.requires.ready.kept.reads shows)

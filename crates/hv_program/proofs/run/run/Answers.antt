@@ -25,7 +25,7 @@ returns-in_err-reply-clause-halts g c = λ shows.
     Halts-stopped g.D.Shelf.told c.in_err-reply.field-0.0 c.from_residual.result _ _ _ _ _ c.loop-action.house c.act.new.house c.loop-action.held.items c.args.actions.now
     c.loop-action.action-index _ _ _ _ c.from_residual.ensures.1 c.loop-action.invariant.later_store c.in_err-reply.ensures.cause.later c.in_err-reply.ensures.ends
     c.loop-action-test.true c.action-item.is c.loop-action.invariant.tells (c.loop-action.invariant.prints shows) (c.loop-action.invariant.shows shows)
-    c.in_err-reply.ensures.stopped
+    c.in_err-reply.ensures.stopped (c.in_err-reply.ensures.opens (c.loop-action.invariant.shows shows))
 
 pub returns-in_err-write_all-clause-halts : goal.returns-in_err-write_all-clause-halts
 returns-in_err-write_all-clause-halts g c = λ shows.

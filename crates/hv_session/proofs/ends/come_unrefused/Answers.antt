@@ -3,7 +3,7 @@ use Rattle.std.specs.Prelude.{IfOk}
 use Rattle.hv_house.specs.House.{entries_of}
 use Rattle.hv_session.specs.Ways.{ShowsAnd, ComesTo, ComesTruly}
 use Rattle.hv_session.proofs.Passing.{part-behind, part-ok, part-residual}
-use Rattle.hv_session.proofs.Going.{comes-same, comes-can, comes-under, comes-passed, comes-then, comes-ended, truly-ended}
+use Rattle.hv_session.proofs.Going.{comes-same, comes-can, comes-under, comes-passed, comes-known, comes-then, comes-ended, truly-ended}
 use Rattle.hv_session.proofs.ends.come_unrefused.Goals as goal
 
 pub end_refused-requires-clause-ready : goal.end_refused-requires-clause-ready
@@ -28,6 +28,8 @@ returns-in-Means-clause-part g c =
     part-behind g.D.Shelf.told g.D.Shelf.faults c.args.way.txn.0 c.args.house.now c.come_to.new.house c.end_refused.new.house
     (comes-passed g.D.Shelf.told g.D.Shelf.faults c.args.way c.args.house.now c.come_to.new.house c.args.tree.now c.in_ok-meaning.field-0 c.in-Means.meaning c.in-Means.is c.in_ok-meaning.ensures.comes
     c.in_ok-meaning.ensures.part)
+    (λ shows. comes-known g.D.Shelf.told g.D.Shelf.faults c.args.way c.args.house.now c.come_to.new.house c.args.tree.now c.in_ok-meaning.field-0 c.in-Means.meaning c.in-Means.is
+    c.in_ok-meaning.ensures.comes c.requires.way.0 c.requires.way.1 (c.in_ok-meaning.ensures.truly c.requires.way.0 c.requires.way.1 shows))
     c.end_refused.result c.end_refused.ensures.part
 
 pub returns-in-Means-clause-comes : goal.returns-in-Means-clause-comes

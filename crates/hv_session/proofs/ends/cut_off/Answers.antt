@@ -10,6 +10,7 @@ returns g c = record {
     tree = c.refuse.ensures.tree;
     tells = c.refuse.ensures.tells;
     stopped = c.refuse.ensures.stopped;
+    opens = c.refuse.ensures.opens;
     ends = c.refuse.ensures.ends;
     cause = c.refuse.ensures.cause;
   };

@@ -32,4 +32,5 @@ returns-in_ok-reply-in-Refused-clause-truly g c = λ asking said under means sho
 pub returns-in_err-reply-in-Refused-clause-part : goal.returns-in_err-reply-in-Refused-clause-part
 returns-in_err-reply-in-Refused-clause-part g c =
     part-residual g.D.Shelf.told g.D.Shelf.faults c.args.way.txn.0 c.args.house.now c.cut_off.new.house c.in_err-reply-in-Refused.field-0.0 c.from_residual.result c.from_residual.ensures.1
-    (refused-halts g.D.Shelf.told g.D.Shelf.faults c.args.way c.args.house.now c.cut_off.new.house c.number-number.result c.in_err-reply-in-Refused.field-0.0 c.in_err-reply-in-Refused.ensures.cuts)
+    (refused-halts g.D.Shelf.told g.D.Shelf.faults c.args.way c.args.house.now c.cut_off.new.house c.number-number.result c.in-Refused.refusal c.number-number.ensures c.args.meaning c.in-Refused.is
+    c.in_err-reply-in-Refused.field-0.0 c.in_err-reply-in-Refused.ensures.cuts)

@@ -3,7 +3,7 @@ use Rattle.std.specs.Prelude.{IfOk}
 use Rattle.hv_house.specs.House.{entries_of}
 use Rattle.hv_session.specs.Ways.{ShowsAnd, GoesToCommit, GoesTruly}
 use Rattle.hv_session.proofs.Passing.{part-behind, part-ok, part-residual}
-use Rattle.hv_session.proofs.Going.{prepared-part, comes-same, comes-can, comes-under, comes-passed, comes-then, comes-ended, truly-ended, ended-to-commit, prepared-goes, prepared-goes-truly}
+use Rattle.hv_session.proofs.Going.{prepared-part, comes-same, comes-can, comes-under, comes-passed, comes-known, comes-then, comes-ended, truly-ended, ended-to-commit, prepared-goes, prepared-goes-truly}
 use Rattle.hv_session.proofs.ends.go_to_commit.Goals as goal
 
 pub prepare-requires-clause-ready : goal.prepare-requires-clause-ready
@@ -26,9 +26,11 @@ returns-in-Means-clause-part g c =
     part-behind g.D.Shelf.told g.D.Shelf.faults c.args.way.txn.0 c.args.house.now c.come_to.new.house c.prepare.new.house
     (comes-passed g.D.Shelf.told g.D.Shelf.faults c.args.way c.args.house.now c.come_to.new.house c.args.tree.now c.in_ok-meaning.field-0 c.in-Means.meaning c.in-Means.is c.in_ok-meaning.ensures.comes
     c.in_ok-meaning.ensures.part)
+    (λ shows. comes-known g.D.Shelf.told g.D.Shelf.faults c.args.way c.args.house.now c.come_to.new.house c.args.tree.now c.in_ok-meaning.field-0 c.in-Means.meaning c.in-Means.is
+    c.in_ok-meaning.ensures.comes c.requires.way.0 c.requires.way.1 (c.in_ok-meaning.ensures.truly c.requires.way.0 c.requires.way.1 shows))
     c.prepare.result
     (prepared-part g.D.Shelf.told g.D.Shelf.faults c.args.way.txn.0 c.come_to.new.house c.prepare.new.house c.prepare.result c.prepare.ensures.ready c.prepare.ensures.prepares
-    c.prepare.ensures.keeps c.prepare.ensures.tells c.prepare.ensures.stopped c.prepare.ensures.ends c.prepare.ensures.cause)
+    c.prepare.ensures.keeps c.prepare.ensures.tells c.prepare.ensures.stopped c.prepare.ensures.opens c.prepare.ensures.ends c.prepare.ensures.cause)
 
 pub returns-in-Means-clause-goes : goal.returns-in-Means-clause-goes
 returns-in-Means-clause-goes g c =

@@ -38,14 +38,15 @@ returns g c =
     let waits = c.requires.waiting in
     let aborted = subst (λ (why : Cause). IfOk c.refuse.result (λ _. IsAborted c.args.txn.0 why book (entries_of c.refuse.new.house))) c.hindrance-cause.ensures.cause
     c.refuse.ensures.aborted in
+    let told_true =
+    subst (λ (why : Cause). Tells (g.D.Shelf.told c.args.house.now.shelf) (λ _. IsTruthful (state_of book) (aborting c.args.txn.0 why))) (sym c.hindrance-cause.ensures.cause)
+    (hindrance-told book waits.0 c.args.txn.0 c.args.tree.now waits.1 holder (g.D.Shelf.told c.args.house.now.shelf)) in
     record {
       aborts = record {
         part = aborted-part holder g.D.Shelf.told g.D.Shelf.faults c.args.txn.0 c.args.house.now c.refuse.new.house c.refuse.result c.refuse.ensures.ready aborted
-            c.refuse.ensures.tree c.refuse.ensures.tells c.refuse.ensures.stopped c.refuse.ensures.ends c.refuse.ensures.cause;
+            c.refuse.ensures.tree c.refuse.ensures.tells c.refuse.ensures.stopped (c.refuse.ensures.opens told_true) c.refuse.ensures.ends c.refuse.ensures.cause;
         aborted = aborted;
         answered = λ asking said waiting. c.refuse.ensures.waiting asking said waiting;
-        shows = c.refuse.ensures.shows
-            (subst (λ (why : Cause). Tells (g.D.Shelf.told c.args.house.now.shelf) (λ _. IsTruthful (state_of book) (aborting c.args.txn.0 why))) (sym c.hindrance-cause.ensures.cause)
-            (hindrance-told book waits.0 c.args.txn.0 c.args.tree.now waits.1 holder (g.D.Shelf.told c.args.house.now.shelf)));
+        shows = c.refuse.ensures.shows told_true;
       };
     }

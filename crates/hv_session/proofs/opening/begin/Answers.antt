@@ -19,6 +19,8 @@ returns-in-Ok-clause-taking g c =
     (part-behind g.D.Shelf.told g.D.Shelf.faults (next_number (entries_of c.args.house.now)) c.args.house.now c.begin.new.self c.go.new.house
     (noted-passed g.D.Shelf.told c.args.house.now c.begin.new.self g.D.Shelf.faults (next_number (entries_of c.args.house.now)) (beginning_of (entries_of c.args.house.now) (asked_of c.args.asking))
     c.in-Ok.ensures.ready c.in-Ok.ensures.noted (refl, (refl, tt)) (tt, (tt, tt)) c.in-Ok.ensures.cause.later)
+    (noted-shows g.D.Shelf.told c.args.house.now c.begin.new.self (beginning_of (entries_of c.args.house.now) (asked_of c.args.asking))
+    c.in-Ok.ensures.ready c.in-Ok.ensures.noted (tt, (tt, tt)))
     c.go.result
     (renumbered g.D.Shelf.told g.D.Shelf.faults c.begin.new.self c.go.new.house c.in-Ok.txn.0 (next_number (entries_of c.args.house.now)) c.go.result c.in-Ok.ensures.txn c.go.ensures.part))
 

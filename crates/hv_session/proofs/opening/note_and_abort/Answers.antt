@@ -36,6 +36,7 @@ returns-in-Ok-clause-part g c =
     part-behind g.D.Shelf.told g.D.Shelf.faults _ c.args.house.now c.note.new.self c.abort_opened.new.house
     (noted-passed g.D.Shelf.told c.args.house.now c.note.new.self g.D.Shelf.faults _ _ c.in-Ok.ensures.ready c.in-Ok.ensures.noted
     (opened-of (entries_of c.args.house.now) opened.0 c.args.opened opened.1) (opened-begun (entries_of c.args.house.now) opened.0 c.args.opened opened.1) c.in-Ok.ensures.cause.later)
+    (noted-shows g.D.Shelf.told c.args.house.now c.note.new.self _ c.in-Ok.ensures.ready c.in-Ok.ensures.noted (opened-begun (entries_of c.args.house.now) opened.0 c.args.opened opened.1))
     c.abort_opened.result
     (renumbered g.D.Shelf.told g.D.Shelf.faults c.note.new.self c.abort_opened.new.house _ _ c.abort_opened.result c.next_txn-txn.ensures.next c.abort_opened.ensures.aborts.part)
 
@@ -54,7 +55,7 @@ pub returns-in-Err-clause-part : goal.returns-in-Err-clause-part
 returns-in-Err-clause-part g c =
     let opened = c.requires.opened in
     unopened-part g.D.Shelf.told g.D.Shelf.faults c.args.house.now c.note.new.self c.args.opened
-    c.in-Err.fault c.unopened.result (opened-of (entries_of c.args.house.now) opened.0 c.args.opened opened.1).0 c.requires.fits c.in-Err.ensures.halted c.in-Err.ensures.stays c.in-Err.ensures.tells c.in-Err.ensures.ends c.in-Err.ensures.cause c.unopened.ensures.memory c.unopened.ensures.failed
+    c.in-Err.fault c.unopened.result (opened-of (entries_of c.args.house.now) opened.0 c.args.opened opened.1).0 (opened-begun (entries_of c.args.house.now) opened.0 c.args.opened opened.1).0 c.requires.fits c.in-Err.ensures.halted c.in-Err.ensures.stays c.in-Err.ensures.tells c.in-Err.ensures.ends c.in-Err.ensures.cause c.unopened.ensures.memory c.unopened.ensures.failed
 
 pub returns-in-Err-clause-truly : goal.returns-in-Err-clause-truly
 returns-in-Err-clause-truly g c = λ asking is shows.

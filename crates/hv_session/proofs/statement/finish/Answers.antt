@@ -1,7 +1,8 @@
+use Rattle.std.proofs.Common.{refl}
 use Rattle.hv_house.specs.House.{entries_of}
 use Rattle.hv_session.specs.Taking.{IsFinished}
 use Rattle.hv_session.proofs.Going.{concluded-part}
-use Rattle.hv_session.proofs.Held.{part-ready, part-added, shown-ok, truth-ok, started-under, meant-under, meant-can, ready-to-end, meant-told, ready-told, concluded-shows}
+use Rattle.hv_session.proofs.Held.{part-ready, part-added, shown-ok, truth-ok, started-under, meant-under, meant-can, ready-to-end, meant-told, ready-told, meant-known, ready-known, concluded-shows}
 use Rattle.hv_session.proofs.statement.finish.Goals as goal
 
 -- ---- it has just started
@@ -36,6 +37,9 @@ returns-in-Started-clause-tells g c = c.end_started.ensures.part.tells
 
 pub returns-in-Started-clause-stopped : goal.returns-in-Started-clause-stopped
 returns-in-Started-clause-stopped g c = c.end_started.ensures.part.stopped
+
+pub returns-in-Started-clause-opens : goal.returns-in-Started-clause-opens
+returns-in-Started-clause-opens g c = λ shows truly. c.end_started.ensures.part.opens shows
 
 pub returns-in-Started-clause-ends : goal.returns-in-Started-clause-ends
 returns-in-Started-clause-ends g c = c.end_started.ensures.part.ends
@@ -82,6 +86,12 @@ returns-in-Meant-clause-tells g c = c.end_as.ensures.part.tells
 pub returns-in-Meant-clause-stopped : goal.returns-in-Meant-clause-stopped
 returns-in-Meant-clause-stopped g c = c.end_as.ensures.part.stopped
 
+pub returns-in-Meant-clause-opens : goal.returns-in-Meant-clause-opens
+returns-in-Meant-clause-opens g c = λ shows truly.
+    let held = c.requires.held in
+    c.end_as.ensures.part.opens
+    (meant-known (entries_of c.args.house.now) held.0 c.args.paused held.1 _ refl refl c.in-Meant.meaning c.in-Meant.is (g.D.Shelf.told c.args.house.now.shelf) shows truly)
+
 pub returns-in-Meant-clause-ends : goal.returns-in-Meant-clause-ends
 returns-in-Meant-clause-ends g c = c.end_as.ensures.part.ends
 
@@ -98,7 +108,7 @@ pub returns-in-Ready-clause-added : goal.returns-in-Ready-clause-added
 returns-in-Ready-clause-added g c =
     part-added g.D.Shelf.told g.D.Shelf.faults _ c.args.house.now c.conclude.new.house c.conclude.result
     (concluded-part g.D.Shelf.told g.D.Shelf.faults _ c.args.house.now c.conclude.new.house c.conclude.result c.conclude.ensures.ready c.conclude.ensures.added
-    c.conclude.ensures.tree c.conclude.ensures.tells c.conclude.ensures.stopped c.conclude.ensures.ends c.conclude.ensures.cause)
+    c.conclude.ensures.tree c.conclude.ensures.tells c.conclude.ensures.stopped c.conclude.ensures.opens c.conclude.ensures.ends c.conclude.ensures.cause)
 
 pub returns-in-Ready-clause-shows : goal.returns-in-Ready-clause-shows
 returns-in-Ready-clause-shows g c = λ shows truly.
@@ -117,4 +127,10 @@ returns-in-Ready-clause-finished g c = λ shows truly.
 pub returns-in-Ready-clause-keeps : goal.returns-in-Ready-clause-keeps
 returns-in-Ready-clause-keeps g c =
     (concluded-part g.D.Shelf.told g.D.Shelf.faults _ c.args.house.now c.conclude.new.house c.conclude.result c.conclude.ensures.ready c.conclude.ensures.added
-    c.conclude.ensures.tree c.conclude.ensures.tells c.conclude.ensures.stopped c.conclude.ensures.ends c.conclude.ensures.cause).keeps
+    c.conclude.ensures.tree c.conclude.ensures.tells c.conclude.ensures.stopped c.conclude.ensures.opens c.conclude.ensures.ends c.conclude.ensures.cause).keeps
+
+pub returns-in-Ready-clause-opens : goal.returns-in-Ready-clause-opens
+returns-in-Ready-clause-opens g c = λ shows truly.
+    let held = c.requires.held in
+    c.conclude.ensures.opens
+    (ready-known (entries_of c.args.house.now) held.0 c.args.paused held.1 _ refl refl c.in-Ready.ready c.in-Ready.is (g.D.Shelf.told c.args.house.now.shelf) shows truly)

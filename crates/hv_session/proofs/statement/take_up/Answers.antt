@@ -1,5 +1,5 @@
 use Rattle.std.proofs.Common.{List, ℕ}
-use Rattle.hv_house.specs.House.{entries_of}
+use Rattle.hv_house.specs.House.{entries_of, IsFaithful}
 use Rattle.hv_house.specs.declared.fault.HouseFault.TheVariants as fault
 use Rattle.hv_stands.specs.Running.{next_number}
 use Rattle.hv_session.specs.Taking.{asked_of, IsTakenAs}
@@ -34,6 +34,9 @@ returns-in-Ok-clause-tells g c = c.take_statement.ensures.taking.tells
 pub returns-in-Ok-clause-stopped : goal.returns-in-Ok-clause-stopped
 returns-in-Ok-clause-stopped g c = c.take_statement.ensures.taking.stopped
 
+pub returns-in-Ok-clause-opens : goal.returns-in-Ok-clause-opens
+returns-in-Ok-clause-opens g c = c.take_statement.ensures.taking.opens
+
 pub returns-in-Ok-clause-ends : goal.returns-in-Ok-clause-ends
 returns-in-Ok-clause-ends g c = c.take_statement.ensures.taking.ends
 
@@ -44,7 +47,7 @@ returns-in-Ok-clause-cause g c = c.take_statement.ensures.taking.cause
 
 pub returns-in_ok-text_reply-in-Err-clause-added : goal.returns-in_ok-text_reply-in-Err-clause-added
 returns-in_ok-text_reply-in-Err-clause-added g c =
-    (still-part g.D.Shelf.told c.args.house.now g.D.Shelf.faults (next_number (entries_of c.args.house.now)) c.in_ok-text_reply-in-Err.field-0 c.requires.ready).done.added
+    (still-part g.D.Shelf.told c.args.house.now {Known = IsFaithful (entries_of c.args.house.now)} g.D.Shelf.faults (next_number (entries_of c.args.house.now)) c.in_ok-text_reply-in-Err.field-0 c.requires.ready).done.added
 
 pub returns-in_ok-text_reply-in-Err-clause-taken : goal.returns-in_ok-text_reply-in-Err-clause-taken
 returns-in_ok-text_reply-in-Err-clause-taken g c = λ shows.
@@ -54,14 +57,20 @@ returns-in_ok-text_reply-in-Err-clause-taken g c = λ shows.
 
 pub returns-in_ok-text_reply-in-Err-clause-keeps : goal.returns-in_ok-text_reply-in-Err-clause-keeps
 returns-in_ok-text_reply-in-Err-clause-keeps g c =
-    (still-part g.D.Shelf.told c.args.house.now g.D.Shelf.faults (next_number (entries_of c.args.house.now)) c.in_ok-text_reply-in-Err.field-0 c.requires.ready).keeps
+    (still-part g.D.Shelf.told c.args.house.now {Known = IsFaithful (entries_of c.args.house.now)} g.D.Shelf.faults (next_number (entries_of c.args.house.now)) c.in_ok-text_reply-in-Err.field-0 c.requires.ready).keeps
 
 pub returns-in_err-text_reply-in-Err-clause-keeps : goal.returns-in_err-text_reply-in-Err-clause-keeps
 returns-in_err-text_reply-in-Err-clause-keeps g c =
-    (still-part g.D.Shelf.told c.args.house.now g.D.Shelf.faults (next_number (entries_of c.args.house.now)) c.args.asking.number c.requires.ready).keeps
+    (still-part g.D.Shelf.told c.args.house.now {Known = IsFaithful (entries_of c.args.house.now)} g.D.Shelf.faults (next_number (entries_of c.args.house.now)) c.args.asking.number c.requires.ready).keeps
 
 pub returns-in_err-text_reply-in-Err-clause-stopped : goal.returns-in_err-text_reply-in-Err-clause-stopped
 returns-in_err-text_reply-in-Err-clause-stopped g c =
     (taking-residual g.D.Shelf.told g.D.Shelf.faults (asked_of c.args.asking) c.args.house.now c.args.house.now fault.NoMemory c.from_residual.result c.from_residual.ensures.1
     (part-taking g.D.Shelf.told g.D.Shelf.faults (asked_of c.args.asking) c.args.house.now c.args.house.now _
     (still-halts g.D.Shelf.told c.args.house.now {T = List ℕ} g.D.Shelf.faults (next_number (entries_of c.args.house.now)) c.requires.ready))).stopped
+
+pub returns-in_err-text_reply-in-Err-clause-opens : goal.returns-in_err-text_reply-in-Err-clause-opens
+returns-in_err-text_reply-in-Err-clause-opens g c =
+    (taking-residual g.D.Shelf.told g.D.Shelf.faults (asked_of c.args.asking) c.args.house.now c.args.house.now fault.NoMemory c.from_residual.result c.from_residual.ensures.1
+    (part-taking g.D.Shelf.told g.D.Shelf.faults (asked_of c.args.asking) c.args.house.now c.args.house.now _
+    (still-halts g.D.Shelf.told c.args.house.now {T = List ℕ} g.D.Shelf.faults (next_number (entries_of c.args.house.now)) c.requires.ready))).opens

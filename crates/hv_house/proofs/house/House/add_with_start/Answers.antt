@@ -18,6 +18,7 @@ returns-in_ok-push-in-Ok-2-clause-noted g c =
       place = c.write_with_start.new.self.place;
       buffer = c.write_with_start.new.self.buffer;
       trail = c.push-in-Ok.new.self;
+      limits = c.write_with_start.new.self.limits;
     })
     c.requires.kept (c.requires.short, (short_start c.args.txn 0, tt)) (omega (arith, c.requires.room))
     (c.in_ok-push-in-Ok-2.ensures.ok

@@ -13,21 +13,22 @@ use Rattle.hv_house.proofs.house.House.begin.Goals as goal
 
 pub add_with_start-requires-clause-short : goal.add_with_start-requires-clause-short
 add_with_start-requires-clause-short g c =
-    short_opened c.next_txn-txn.result c.args.session c.args.number c.args.text c.requires.named c.requires.short
+    short_opened c.next_txn-txn.result c.args.session c.args.number c.args.text c.requires.1.1.1.1.0 c.requires.1.1.1.0
 
 pub add_with_start-requires-clause-room : goal.add_with_start-requires-clause-room
 add_with_start-requires-clause-room g c =
-    room-begin (entries_of c.args.self.now) (record { session = c.args.session; number = c.args.number; text = c.args.text }) c.requires.ready.fit c.requires.fits
+    room-begin g.limits (entries_of c.args.self.now) (record { session = c.args.session; number = c.args.number; text = c.args.text }) c.requires.1.0.within
+    c.requires.1.0.fit c.requires.1.1.1.1.1
 
 pub returns-clause-ready : goal.returns-clause-ready
 returns-clause-ready g c =
     let asking : Asking = record { session = c.args.session; number = c.args.number; text = c.args.text } in
     let same : c.next_txn-txn.result ≡ record { 0 = next_number (entries_of c.args.self.now) } =
     λ i. record { 0 = (c.next_txn-txn.ensures.next ∙ ap (λ b. length (state_of b).transactions + 1) c.book-book.ensures.entries) i } in
-    begun-ready g.D.Shelf.told c.args.self.now c.add_with_start.new.self asking
+    begun-ready g.limits g.D.Shelf.told c.args.self.now c.add_with_start.new.self asking
     (subst (λ (t : TxnId). AreNoted g.D.Shelf.told (begun t c.args.session c.args.number c.args.text) c.args.self.now c.add_with_start.new.self) same
     c.in_ok-add_with_start.ensures.noted)
-    c.requires.fits c.requires.ready
+    c.in_ok-add_with_start.ensures.marks.limits c.requires.1.1.1.1.1 c.requires.1.0
 
 pub returns-clause-step : goal.returns-clause-step
 returns-clause-step g c =
@@ -36,8 +37,8 @@ returns-clause-step g c =
     λ i. record { 0 = (c.next_txn-txn.ensures.next ∙ ap (λ b. length (state_of b).transactions + 1) c.book-book.ensures.entries) i } in
     subst (λ (t : TxnId). Step g.D.Shelf.told g.D.Shelf.faults (Begin t c.args.session c.args.number c.args.text) Done (seen_of c.args.self.now) (seen_of c.add_with_start.new.self)) same
     (step-noted g.D.Shelf.told g.D.Shelf.faults (Begin txn c.args.session c.args.number c.args.text) (begun txn c.args.session c.args.number c.args.text)
-    (noting-begun txn c.args.session c.args.number c.args.text) c.args.self.now c.add_with_start.new.self c.requires.ready.kept.running
-    c.in_ok-add_with_start.ensures.marks.start c.in_ok-add_with_start.ensures.marks.left c.in_ok-add_with_start.ensures.noted.tree
+    (noting-begun txn c.args.session c.args.number c.args.text) c.args.self.now c.add_with_start.new.self c.requires.1.0.kept.running
+    c.in_ok-add_with_start.ensures.marks.start c.in_ok-add_with_start.ensures.marks.left c.in_ok-add_with_start.ensures.marks.limits c.in_ok-add_with_start.ensures.noted.tree
     c.in_ok-add_with_start.ensures.cause.later c.in_ok-add_with_start.ensures.noted c.in_ok-add_with_start.ensures.trail
     c.in_ok-add_with_start.ensures.running)
 
@@ -52,8 +53,8 @@ returns-in_err-add_with_start-clause-step g c =
     (step-passed g.D.Shelf.told g.D.Shelf.faults (Begin txn c.args.session c.args.number c.args.text) c.from_residual.result c.in_err-add_with_start.field-0.0
     left.0 c.args.self.now c.add_with_start.new.self left.1 fault
     (step-halted g.D.Shelf.told g.D.Shelf.faults (Begin txn c.args.session c.args.number c.args.text) (begun txn c.args.session c.args.number c.args.text)
-    (noting-begun txn c.args.session c.args.number c.args.text) c.args.self.now c.add_with_start.new.self c.requires.ready.kept.running
-    c.in_err-add_with_start.ensures.marks.start c.in_err-add_with_start.ensures.marks.left c.in_err-add_with_start.ensures.halted.tree
+    (noting-begun txn c.args.session c.args.number c.args.text) c.args.self.now c.add_with_start.new.self c.requires.1.0.kept.running
+    c.in_err-add_with_start.ensures.marks.start c.in_err-add_with_start.ensures.marks.left c.in_err-add_with_start.ensures.marks.limits c.in_err-add_with_start.ensures.halted.tree
     c.in_err-add_with_start.ensures.cause.later c.in_err-add_with_start.field-0.0
     (same-trail c.args.self.now c.add_with_start.new.self c.in_err-add_with_start.ensures.halted.entries c.in_err-add_with_start.ensures.marks.marks)
     c.in_err-add_with_start.ensures.closed c.in_err-add_with_start.ensures.halted.leaves))

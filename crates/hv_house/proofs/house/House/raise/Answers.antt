@@ -8,9 +8,9 @@ use Rattle.hv_house.proofs.house.House.raise.Goals as goal
 pub returns-then-entries-len-clause-full : goal.returns-then-entries-len-clause-full
 returns-then-entries-len-clause-full g c =
     let book = c.args.book.entries in
-    let full : 131072 < length book + length c.in-Ok.found.unended.items + 1 =
+    let full : c.args.limits.entries < length book + length c.in-Ok.found.unended.items + 1 =
     omega (arith, c.if-entries-len.true, c.len.ensures, ap length c.entries.ensures.entries) in
-    (refl, ap length c.entries.ensures.entries, load-full book c.requires.fit c.in-Ok.found.unended.items c.in-Ok.ensures.learned.open_are full)
+    (refl, ap length c.entries.ensures.entries, load-full c.args.limits book c.requires.fit c.in-Ok.found.unended.items c.in-Ok.ensures.learned.open_are full)
 
 pub returns-then-entries-len-clause-stopped : goal.returns-then-entries-len-clause-stopped
 returns-then-entries-len-clause-stopped g c = stopped-full _ (g.D.Shelf.told c.args.shelf) c.args.book.entries c.requires.journal
@@ -20,24 +20,24 @@ returns-then-place-gt-MOST_BYTES-clause-stopped g c = stopped-early (g.D.Shelf.t
 
 pub returns-in-Ok-note_opening-clause-ready : goal.returns-in-Ok-note_opening-clause-ready
 returns-in-Ok-note_opening-clause-ready g c =
-    let room : length c.args.book.entries + length c.in-Ok.found.unended.items + 1 ≤ 131072 =
+    let room : length c.args.book.entries + length c.in-Ok.found.unended.items + 1 ≤ c.args.limits.entries =
     omega (arith, c.if-entries-len.false, c.len.ensures, ap length c.entries.ensures.entries) in
-    settled-ready g.D.Shelf.told c.note_opening.new.self _ refl refl c.settle.ensures.entries c.settle.ensures.closed
-    (raised-ready g.D.Shelf.told c.args.book.entries c.in-Ok.found c.note_opening.new.self c.requires.fit c.in-Ok.ensures.learned room c.in-Ok-note_opening.ensures.kept
+    settled-ready c.args.limits g.D.Shelf.told c.note_opening.new.self _ refl refl c.settle.ensures.entries refl c.settle.ensures.closed
+    (raised-ready c.args.limits g.D.Shelf.told c.args.book.entries c.in-Ok.found c.note_opening.new.self c.in-Ok-note_opening.ensures.marks.limits c.requires.most c.requires.fit c.in-Ok.ensures.learned room c.in-Ok-note_opening.ensures.kept
     (c.in-Ok-note_opening.ensures.entries
     ∙ ap (λ (es : List Entry). es ++ Boot c.in-Ok.found.runs ∷ map lost_entry c.deref.result.now) c.over.ensures.entries
     ∙ ap (λ xs. c.args.book.entries ++ Boot c.in-Ok.found.runs ∷ map lost_entry xs) c.deref.ensures.value)).1
 
 pub returns-in-Ok-note_opening-clause-opened : goal.returns-in-Ok-note_opening-clause-opened
 returns-in-Ok-note_opening-clause-opened g c =
-    let room : length c.args.book.entries + length c.in-Ok.found.unended.items + 1 ≤ 131072 =
+    let room : length c.args.book.entries + length c.in-Ok.found.unended.items + 1 ≤ c.args.limits.entries =
     omega (arith, c.if-entries-len.false, c.len.ensures, ap length c.entries.ensures.entries) in (
       c.settle.ensures.entries
-          ∙ (raised-ready g.D.Shelf.told c.args.book.entries c.in-Ok.found c.note_opening.new.self c.requires.fit c.in-Ok.ensures.learned room c.in-Ok-note_opening.ensures.kept
+          ∙ (raised-ready c.args.limits g.D.Shelf.told c.args.book.entries c.in-Ok.found c.note_opening.new.self c.in-Ok-note_opening.ensures.marks.limits c.requires.most c.requires.fit c.in-Ok.ensures.learned room c.in-Ok-note_opening.ensures.kept
           (c.in-Ok-note_opening.ensures.entries
           ∙ ap (λ (es : List Entry). es ++ Boot c.in-Ok.found.runs ∷ map lost_entry c.deref.result.now) c.over.ensures.entries
           ∙ ap (λ xs. c.args.book.entries ++ Boot c.in-Ok.found.runs ∷ map lost_entry xs) c.deref.ensures.value)).0,
-      load-small c.args.book.entries c.requires.fit c.in-Ok.found.unended.items c.in-Ok.ensures.learned.open_are room,
+      load-small c.args.limits c.args.book.entries c.requires.fit c.in-Ok.found.unended.items c.in-Ok.ensures.learned.open_are room,
     )
 
 pub returns-in-Ok-note_opening-clause-over : goal.returns-in-Ok-note_opening-clause-over

@@ -1,0 +1,79 @@
+-- A statement that is begun by an act.
+use Rattle.std.proofs.Common.{◌≡◌, ℕ, ◌+◌, false, Option, Some, None, Ok, Err, List, length, refl, sym, ap, ◌∙◌, subst}
+use Rattle.hv_base.specs.declared.ids.TxnId.{TxnId}
+use Rattle.hv_ast.specs.declared.statement.Stmt.{Stmt}
+use Rattle.hv_shelf.specs.Disk.{Store}
+use Rattle.hv_history.specs.declared.entry.Entry.{Entry}
+use Rattle.hv_history.specs.Legal.{profile}
+use Rattle.hv_stands.specs.Running.{next_number}
+use Rattle.hv_trail.specs.Trail.{book_of}
+use Rattle.hv_trail.specs.Kept.{trail_of}
+use Rattle.hv_trail.specs.Steps.{Begin, Done, begun, Step}
+use Rattle.hv_house.specs.declared.fault.HouseFault.{HouseFault}
+use Rattle.hv_house.specs.declared.fault.HouseFault.TheVariants as fault
+use Rattle.hv_house.specs.declared.house.House.{House}
+use Rattle.hv_house.specs.House.{entries_of, IsReady, StaysReady}
+use Rattle.hv_house.specs.Faults.{EndsRun}
+use Rattle.hv_locks.specs.declared.table.LockState.{LockState}
+use Rattle.hv_locks.specs.declared.table.LockState.TheVariants.{Granted, Waiting}
+use Rattle.hv_house.specs.Asking.{holder_against, lock_state, CanBegin}
+use Rattle.hv_house.specs.Steps.{seen_of, fault_outcome}
+use Rattle.hv_acts.specs.declared.opening.Begun.{Begun}
+use Rattle.hv_acts.specs.declared.fault.BeginFault.{BeginFault}
+use Rattle.hv_acts.specs.declared.fault.BeginFault.TheVariants as hindered
+use Rattle.hv_acts.specs.Beginning.{IsHindered, HasBegun, BeginStep}
+use Rattle.hv_acts.proofs.Steps.{book-is, asked, keeps-noted}
+
+-- ---- what stands in its way
+
+held-of : (o : Option ℕ) (state : LockState) (by : TxnId) → state ≡ lock_state o → state ≡ Waiting by → o ≡ Some by.0
+held-of None state by is waits = cc
+held-of (Some n) state by is waits =
+    let same : record { 0 = n } ≡ by = cc in
+    ap (λ (txn : TxnId). Some txn.0) same
+
+free-of : (o : Option ℕ) (state : LockState) → state ≡ lock_state o → state ≡ Granted → o ≡ None
+free-of None state is free = refl
+free-of (Some n) state is free = cc
+
+pub held-by : {D : Type 0} (house : House D) (tree : Stmt) (state : LockState) (by : TxnId) → state ≡ lock_state (holder_against (entries_of house) tree) → state ≡ Waiting by
+    → holder_against (book_of (trail_of house.trail)) tree ≡ Some by.0
+held-by house tree state by is waits =
+    ap (λ (book : List Entry). holder_against book tree) (book-is house) ∙ held-of (holder_against (entries_of house) tree) state by is waits
+
+pub held-free : {D : Type 0} (house : House D) (tree : Stmt) (state : LockState) → state ≡ lock_state (holder_against (entries_of house) tree) → state ≡ Granted
+    → holder_against (book_of (trail_of house.trail)) tree ≡ None
+held-free house tree state is free =
+    ap (λ (book : List Entry). holder_against book tree) (book-is house) ∙ free-of (holder_against (entries_of house) tree) state is free
+
+module _ {D : Type 0} (told : D → Option Store) (faults : D → ℕ) (session : List ℕ) (number : ℕ) (text : List ℕ) (tree : Stmt) where
+  pub begin-done : (start : Begun) (before now : House D) → IsReady told before → IsReady told now → CanBegin profile (entries_of before) tree
+      → start.txn.0 ≡ next_number (entries_of before) → start.place ≡ length (entries_of before) + 1
+      → Step told faults (Begin (record { 0 = next_number (entries_of before) }) session number text) Done (seen_of before) (seen_of now)
+      → BeginStep told faults session number text tree before now (Ok start)
+  begin-done start before now was ready can txn place step = record {
+    keeps = λ still. ready;
+    step = subst (λ (book : List Entry). Step told faults (Begin (record { 0 = next_number book }) session number text) Done (seen_of before) (seen_of now))
+        (sym (book-is before)) step;
+    answers = subst (λ (book : List Entry). HasBegun book tree start) (sym (book-is before)) (record { fit = was.fit; can = can; txn_is = txn; place_is = place });
+  }
+
+  pub begin-failed : (why : HouseFault) (before now : House D) → before.trail.closed ≡ false → StaysReady told why now → EndsRun why
+      → Step told faults (Begin (record { 0 = next_number (entries_of before) }) session number text) (fault_outcome why) (seen_of before) (seen_of now)
+      → BeginStep told faults session number text tree before now (Err (hindered.House why))
+  begin-failed why before now running stays ends step = record {
+    keeps = keeps-noted told before now running why stays ends step.closed;
+    step = subst (λ (book : List Entry). Step told faults (Begin (record { 0 = next_number book }) session number text) (fault_outcome why) (seen_of before) (seen_of now))
+        (sym (book-is before)) step;
+    answers = tt;
+  }
+
+  pub begin-hindered : (why : BeginFault) (house : House D) → IsReady told house → IsHindered (trail_of house.trail) tree why → (CanBegin profile (entries_of house) tree → ⊥)
+      → BeginStep told faults session number text tree house house (Err why)
+  begin-hindered (hindered.Held by) house ready is not = record { keeps = λ still. ready; step = asked told faults (seen_of house); answers = is }
+  begin-hindered (hindered.Full entries) house ready is not = record {
+    keeps = λ still. ready;
+    step = asked told faults (seen_of house);
+    answers = (is.0, is.1, λ room. not (subst (λ (book : List Entry). CanBegin profile book tree) (book-is house) (room, is.1)));
+  }
+  begin-hindered (hindered.House why) house ready is not = absurd is

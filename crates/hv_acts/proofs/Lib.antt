@@ -1,0 +1,6 @@
+pub mod Shorts
+pub mod Steps
+pub mod Notes
+pub mod Puts
+pub mod Begins
+pub mod Commits

@@ -1,0 +1,5 @@
+use Rattle.hv_history.specs.Legal.{profile}
+use Rattle.hv_acts.proofs.noting.is_full.Given as goal
+
+abbrev pub ghost-fits : goal.ghost-fits
+ghost-fits g a = profile

@@ -1,0 +1,71 @@
+ghost use Rattle.std.specs.Prelude.{◌≡◌, IfOk};
+ghost use Rattle.hv_history.specs.declared.entry.Entry.TheVariants as entry;
+ghost use Rattle.hv_trail.specs.Kept.{trail_of};
+ghost use Rattle.hv_house.specs.House.{IsReady};
+ghost use Rattle.hv_acts.specs.Answers.{next_table, EntryStep};
+
+use crate::fault::ActFault;
+use crate::noting::note_fitting;
+use hv_actor::Act;
+use hv_base::{TableId, TxnId};
+use hv_history::Entry;
+use hv_house::{House, HouseFault};
+use hv_shelf::Shelf;
+use std::alloc::Global;
+
+/// Ends a transaction by the table that its text makes, and answers its number.
+#[derive(Drop)]
+pub struct MakeTable {
+    pub txn: TxnId,
+}
+
+/// The number of the table that is made next.
+fn next_table<D: Shelf>(house: &House<D>) -> TableId
+    ensures next { result ≡ next_table (trail_of house.now.trail) }
+{
+    TableId(house.book().tables().len() as u64 + 1)
+}
+
+#[tactic(auto, using(crate::proofs::Shorts::short_create))]
+fn make_table<D: Shelf>(house: &mut House<D>, txn: TxnId) -> Result<TableId, ActFault>
+    requires ready { IsReady D.told house.old }
+    ensures noted { EntryStep D.told D.faults txn
+        (entry.Create txn (next_table (trail_of house.old.trail))) house.old house.new result }
+    ensures next { IfOk result (λ table. table ≡ next_table (trail_of house.old.trail)) }
+{
+    let table = next_table(house);
+    match note_fitting(house, txn, Entry::Create { txn, table }) {
+        Ok(()) => Ok(table),
+        Err(fault) => Err(fault),
+    }
+}
+
+impl<D: Shelf + Drop> Act<D, House<D>> for MakeTable {
+    ghost use Rattle.std.specs.Prelude.{◌≡◌};
+    ghost use Rattle.hv_base.specs.declared.ids.TableId.{TableId};
+    ghost use Rattle.hv_history.specs.declared.entry.Entry.TheVariants as entry;
+    ghost use Rattle.hv_trail.specs.Steps.{Note};
+    ghost use Rattle.hv_acts.specs.Answers.{next_table, answer_call, answer_outcome, adds_entry, EntryFits, Answers};
+
+    type Answer = Result<TableId, ActFault>;
+
+    ghost can = { λ act house. Unit {0} };
+
+    ghost call = { λ act house answer. answer_call (Note (entry.Create act.txn (next_table house.trail))) answer };
+
+    ghost outcome = { λ act answer. answer_outcome answer };
+
+    ghost adds = { λ act answer. adds_entry (entry.Create act.txn) answer };
+
+    ghost does = { λ act house answer. Answers house.trail act.txn
+        (EntryFits house.trail (entry.Create act.txn (next_table house.trail)))
+        (λ (table : TableId). table ≡ next_table house.trail) answer };
+
+    fn act(self, _alloc: Global, house: &mut House<D>) -> Result<TableId, ActFault> {
+        if house.is_closed() {
+            Err(ActFault::House(HouseFault::Store))
+        } else {
+            make_table(house, self.txn)
+        }
+    }
+}

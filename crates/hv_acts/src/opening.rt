@@ -1,0 +1,95 @@
+ghost use Rattle.std.specs.Prelude.{◌≡◌, ◌≤◌, length};
+ghost use Rattle.hv_built.specs.Running.{Runs};
+ghost use Rattle.hv_trail.specs.Kept.{trail_of};
+ghost use Rattle.hv_house.specs.House.{IsReady};
+ghost use Rattle.hv_acts.specs.Beginning.{IsHindered, BeginStep};
+
+use crate::fault::BeginFault;
+use crate::noting::next_place;
+use hv_actor::Act;
+use hv_ast::{Stmt, discard};
+use hv_base::{Text, TxnId};
+use hv_house::{House, HouseFault};
+use hv_locks::LockState;
+use hv_shelf::Shelf;
+use std::alloc::Global;
+
+/// Opens a statement and starts it, where no lock is held against it and there is room. `tree` is that of its text.
+#[derive(Drop)]
+pub struct Begin {
+    pub session: Text,
+    pub number: u64,
+    pub text: Text,
+    pub tree: Stmt,
+}
+
+/// A statement that was begun: its transaction, and the place of its `Start`.
+#[derive(Clone, Copy)]
+pub struct Begun {
+    pub txn: TxnId,
+    pub place: u64,
+}
+
+/// What stands in the way of a statement that cannot begin.
+fn hindrance<D: Shelf>(house: &House<D>, tree: &Stmt) -> BeginFault
+    requires ready { IsReady D.told house.now }
+    ensures hindered { IsHindered (trail_of house.now.trail) tree.now result }
+{
+    match house.check(tree) {
+        LockState::Waiting { blocker } => BeginFault::Held { by: blocker },
+        LockState::Granted => BeginFault::Full {
+            entries: next_place(house),
+        },
+    }
+}
+
+fn begin_free<D: Shelf>(
+    house: &mut House<D>,
+    session: Text,
+    number: u64,
+    text: Text,
+    tree: Stmt,
+) -> Result<Begun, BeginFault>
+    requires ready { IsReady D.told house.old }
+    requires runs { Runs text tree }
+    requires short { length text ≤ 32768 }
+    requires named { length session ≤ 32 }
+    ensures begun { BeginStep D.told D.faults session number text tree house.old house.new result }
+{
+    if !house.can_begin(&tree) {
+        let why = hindrance(house, &tree);
+        discard(tree);
+        return Err(why);
+    }
+    match house.begin(session, number, text, tree) {
+        Ok((txn, place)) => Ok(Begun { txn, place }),
+        Err(fault) => Err(BeginFault::House(fault)),
+    }
+}
+
+impl<D: Shelf + Drop> Act<D, House<D>> for Begin {
+    ghost use Rattle.std.specs.Prelude.{◌≤◌, length};
+    ghost use Rattle.hv_built.specs.Running.{Runs};
+    ghost use Rattle.hv_acts.specs.Beginning.{begin_call, begin_outcome, adds_beginning, BeginAnswers};
+
+    type Answer = Result<Begun, BeginFault>;
+
+    ghost can = { λ act house. Runs act.text act.tree × (length act.text ≤ 32768) × (length act.session ≤ 32) };
+
+    ghost call = { λ act house answer. begin_call house.trail act.session act.number act.text answer };
+
+    ghost outcome = { λ act answer. begin_outcome answer };
+
+    ghost adds = { λ act answer. adds_beginning act.session act.number act.text answer };
+
+    ghost does = { λ act house answer. BeginAnswers house.trail act.tree answer };
+
+    fn act(self, _alloc: Global, house: &mut House<D>) -> Result<Begun, BeginFault> {
+        if house.is_closed() {
+            discard(self.tree);
+            Err(BeginFault::House(HouseFault::Store))
+        } else {
+            begin_free(house, self.session, self.number, self.text, self.tree)
+        }
+    }
+}

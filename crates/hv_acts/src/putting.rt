@@ -1,0 +1,72 @@
+ghost use Rattle.hv_tables.specs.Putting.{CanPut};
+ghost use Rattle.hv_trail.specs.Kept.{trail_of};
+ghost use Rattle.hv_house.specs.House.{IsReady};
+ghost use Rattle.hv_acts.specs.Putting.{HasIdFor, FileStep};
+
+use crate::fault::ActFault;
+use crate::noting::late;
+use hv_actor::Act;
+use hv_base::TxnId;
+use hv_house::{House, HouseFault};
+use hv_meta::is_running;
+use hv_route::OutFile;
+use hv_shelf::{Place, Shelf};
+use std::alloc::Global;
+
+/// Puts a file of a change at its place, under a write id that its transaction was given.
+#[derive(Drop)]
+pub struct PutFile<'a> {
+    pub by: TxnId,
+    pub place: Place,
+    pub file: &'a OutFile,
+}
+
+fn put_running<D: Shelf>(
+    alloc: Global,
+    house: &mut House<D>,
+    by: TxnId,
+    place: Place,
+    file: &OutFile,
+) -> Result<(), ActFault>
+    requires ready { IsReady D.told house.old }
+    requires can { CanPut file.now }
+    requires given { HasIdFor (trail_of house.old.trail) by place file.now }
+    ensures put { FileStep D.told D.faults by place file.now house.old house.new result }
+{
+    if !is_running(house.book(), by) {
+        return Err(late(house, by));
+    }
+    match house.put(alloc, by, place, file) {
+        Ok(()) => Ok(()),
+        Err(fault) => Err(ActFault::House(fault)),
+    }
+}
+
+impl<'a, D: Shelf + Drop> Act<D, House<D>> for PutFile<'a> {
+    ghost use Rattle.hv_tables.specs.Putting.{CanPut, IsEncoded, bytes_of};
+    ghost use Rattle.hv_trail.specs.declared.trail.Reader.TheVariants.{Txn};
+    ghost use Rattle.hv_trail.specs.Steps.{Put};
+    ghost use Rattle.hv_acts.specs.Answers.{answer_call, answer_outcome, Answers};
+    ghost use Rattle.hv_acts.specs.Putting.{HasIdFor, adds_file, Runs};
+
+    type Answer = Result<(), ActFault>;
+
+    ghost can = { λ act house. CanPut act.file.now × HasIdFor house.trail act.by act.place act.file.now };
+
+    ghost call = { λ act house answer. answer_call (Put (Txn act.by) act.place (bytes_of act.file.now)) answer };
+
+    ghost outcome = { λ act answer. answer_outcome answer };
+
+    ghost adds = { λ act answer. adds_file act.by act.place answer };
+
+    ghost does = { λ act house answer. Answers house.trail act.by (Runs house.trail act.by)
+        (λ done. IsEncoded act.file.now) answer };
+
+    fn act(self, alloc: Global, house: &mut House<D>) -> Result<(), ActFault> {
+        if house.is_closed() {
+            Err(ActFault::House(HouseFault::Store))
+        } else {
+            put_running(alloc, house, self.by, self.place, self.file)
+        }
+    }
+}

@@ -1,0 +1,6 @@
+//! What commits say of their rows is what they wrote, and what their files have.
+#![tactic(auto)]
+
+mod laws;
+
+pub use laws::{counted_by_hand, dues_count_writes, files_are_counted, touches_count_rows};

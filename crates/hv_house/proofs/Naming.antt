@@ -1,0 +1,273 @@
+-- What a call that notes one entry by its name leaves, and when it is refused.
+use Rattle.std.proofs.Common.{◌≡◌, ℕ, ◌+◌, ◌<◌, ◌≤◌, Bool, true, false, is_none, Option, Some, None, Ok, Err, List, [], ◌∷◌, length, map, refl, sym, ap, ◌∙◌, subst, arith, IsErrOf}
+use Rattle.std.specs.Prelude.{◌↔◌, IsTrue, IsSome, IsSomeAnd}
+use Rattle.std.specs.Prelude.{nat_lt}
+use Rattle.std.specs.Option.{option_map}
+use Rattle.std.proofs.lemmas.Bool.Decides.{nat_tests}
+use Rattle.hv_base.specs.declared.ids.TxnId.{TxnId}
+use Rattle.hv_base.specs.declared.ids.TableId.{TableId}
+use Rattle.hv_base.specs.declared.ids.Limits.{Limits}
+use Rattle.hv_base.specs.Told.{Moves, StaysTold}
+use Rattle.hv_shelf.specs.Disk.{Store}
+use Rattle.hv_history.specs.declared.entry.Entry.{Entry}
+use Rattle.hv_history.specs.declared.entry.Entry.TheVariants as entry
+use Rattle.hv_history.specs.declared.state.Ending.{Ending}
+use Rattle.hv_history.specs.declared.state.Table.{Table}
+use Rattle.hv_history.specs.declared.state.Transaction.{Transaction}
+use Rattle.hv_history.specs.State.{State, numbered, state_of}
+use Rattle.hv_history.specs.Legal.{is_open, is_started, load, HasRoom, GivenFits, CreateFits, Fits, Of}
+use Rattle.std.proofs.lemmas.List.{length-map}
+use Rattle.hv_book.specs.declared.notes.TableNote.{TableNote}
+use Rattle.hv_book.specs.Briefs.{brief_table}
+use Rattle.hv_book.specs.Past.{owners_in}
+use Rattle.hv_meta.specs.States.{state_by, transaction_state}
+use Rattle.hv_journal.specs.Appending.{KeepsTree}
+use Rattle.hv_trail.specs.Steps.{Note, Done, Step}
+use Rattle.hv_house.specs.declared.house.House.{House}
+use Rattle.hv_house.specs.declared.fault.HouseFault.{HouseFault}
+use Rattle.hv_house.specs.declared.fault.HouseFault.TheVariants as house_fault
+use Rattle.hv_house.specs.declared.calls.EntryFault.{EntryFault}
+use Rattle.hv_house.specs.declared.calls.EntryFault.TheVariants as fault
+use Rattle.hv_house.specs.Faults.{HasRisen, EndsRun}
+use Rattle.hv_house.specs.House.{IsReadyWithin, StaysReadyWithin, IsNoted, IsHalted}
+use Rattle.hv_house.specs.Steps.{seen_of, fault_outcome}
+use Rattle.hv_house.specs.Calls.{entry_outcome, place_ended, HasEndedAt, HasNotEnded, HasNoRoom, IfOpen, CanBeGiven, next_given, next_table, IsHouseFault, EntryStepWithin}
+use Rattle.hv_house.proofs.Stays.{stays_of}
+use Rattle.hv_house.proofs.Steps.{noting-one, step-halted}
+
+-- ---- what it leaves
+
+keeps_tree : (o : Option Store) → Moves KeepsTree o o
+keeps_tree None = tt
+keeps_tree (Some s) = refl
+
+module _ {D : Type 0} (limits : Limits) (told : D → Option Store) (faults : D → ℕ) (event : Entry) (before now : House D) where
+  pub entry-done : {T : Type 0} (x : T) → IsReadyWithin limits told now → IsNoted told event before now → Moves KeepsTree (told before.shelf) (told now.shelf)
+      → StaysTold (told before.shelf) (told now.shelf) → Step told faults (Note event) Done (seen_of before) (seen_of now) → faults before.shelf ≤ faults now.shelf
+      → EntryStepWithin limits told faults event before now (Ok x)
+  entry-done x ready noted tree tells step later = record {
+    ready = ready;
+    noted = noted;
+    stays = tt;
+    halted = tt;
+    ends = tt;
+    tree_kept = tree;
+    tells = tells;
+    step = step;
+    later = later;
+    failed = tt;
+  }
+
+  pub entry-failed : {T : Type 0} (why : HouseFault) → StaysReadyWithin limits told why now → IsHalted told event why before now → EndsRun why
+      → Moves KeepsTree (told before.shelf) (told now.shelf) → StaysTold (told before.shelf) (told now.shelf)
+      → Step told faults (Note event) (fault_outcome why) (seen_of before) (seen_of now) → faults before.shelf ≤ faults now.shelf
+      → HasRisen (faults before.shelf) (faults now.shelf) why → EntryStepWithin {T = T} limits told faults event before now (Err (fault.House why))
+  entry-failed why stays halted ends tree tells step later risen = record {
+    ready = tt;
+    noted = tt;
+    stays = stays;
+    halted = halted;
+    ends = ends;
+    tree_kept = tree;
+    tells = tells;
+    step = step;
+    later = later;
+    failed = risen;
+  }
+
+  -- with another answer
+  pub entry-other : {T U : Type 0} (x : T) (y : U) → EntryStepWithin limits told faults event before now (Ok x) → EntryStepWithin limits told faults event before now (Ok y)
+  entry-other x y step = entry-done y step.ready step.noted step.tree_kept step.tells step.step step.later
+
+  pub entry-err : {T U : Type 0} (why : EntryFault) → EntryStepWithin {T = T} limits told faults event before now (Err why)
+      → EntryStepWithin {T = U} limits told faults event before now (Err why)
+  entry-err {T = T} {U = U} why step = record {
+    ready = tt;
+    noted = tt;
+    stays = step.stays;
+    halted = step.halted;
+    ends = step.ends;
+    tree_kept = step.tree_kept;
+    tells = step.tells;
+    step = by why step.step;
+    later = step.later;
+    failed = step.failed;
+  }
+    where
+      by : (why : EntryFault) → Step told faults (Note event) (entry_outcome {T = T} (Err why)) (seen_of before) (seen_of now)
+          → Step told faults (Note event) (entry_outcome {T = U} (Err why)) (seen_of before) (seen_of now)
+      by (fault.NotOpen at) step = step
+      by (fault.Full entries) step = step
+      by (fault.House why) step = step
+
+-- the house was asked alone
+module _ {D : Type 0} (limits : Limits) (told : D → Option Store) (faults : D → ℕ) (event : Entry) (house : House D) (ready : IsReadyWithin limits told house) where
+  refused-step : Step told faults (Note event) (fault_outcome house_fault.NoMemory) (seen_of house) (seen_of house)
+  refused-step =
+      step-halted told faults (Note event) (event ∷ []) (noting-one event) house house ready.kept.running refl refl refl (keeps_tree (told house.shelf)) (omega arith)
+      house_fault.NoMemory refl refl ready.kept.reads
+
+  pub entry-not-open : {T : Type 0} (at : ℕ) → EntryStepWithin {T = T} limits told faults event house house (Err (fault.NotOpen at))
+  entry-not-open at = record {
+    ready = tt;
+    noted = tt;
+    stays = ready;
+    halted = refl;
+    ends = tt;
+    tree_kept = keeps_tree (told house.shelf);
+    tells = stays_of (told house.shelf) (told house.shelf) (keeps_tree (told house.shelf));
+    step = refused-step;
+    later = omega arith;
+    failed = tt;
+  }
+
+  pub entry-full : {T : Type 0} (entries : ℕ) → EntryStepWithin {T = T} limits told faults event house house (Err (fault.Full entries))
+  entry-full entries = record {
+    ready = tt;
+    noted = tt;
+    stays = ready;
+    halted = refl;
+    ends = tt;
+    tree_kept = keeps_tree (told house.shelf);
+    tells = stays_of (told house.shelf) (told house.shelf) (keeps_tree (told house.shelf));
+    step = refused-step;
+    later = omega arith;
+    failed = tt;
+  }
+
+-- ---- what is said of an open transaction
+
+unended : (e : Option Ending) (started : Bool) → place_ended (state_by e started) ≡ None → is_none e ≡ true
+unended None started none = refl
+unended (Some ending) started none = cc
+
+pub when-open : (o : Option Transaction) (P : Transaction → Type 0) → IsSomeAnd o (λ t. IsTrue (is_open t) → P t) → place_ended (transaction_state o) ≡ None → IsSomeAnd o P
+when-open None P can none = absurd can
+when-open (Some t) P can none = can (unended t.ending (is_started t) none)
+
+-- ---- the next write id
+
+live-next : (o : Option Table) → IsSomeAnd o (λ t. IsTrue t.is_live) → IsSomeAnd o (λ t. IsTrue t.is_live × (length (owners_in o) + 1 ≡ length t.owners + 1))
+live-next None live = absurd live
+live-next (Some t) live = (live, refl)
+
+given-fits : (limits : Limits) (s : State) (table : ℕ) (o : Option Transaction) → IsSomeAnd o (CanBeGiven s table) → HasRoom limits s 1
+    → IsSomeAnd o (GivenFits limits s table (length (owners_in (numbered s.tables table)) + 1))
+given-fits limits s table None can room = absurd can
+given-fits limits s table (Some t) can room = record {
+  running = can.running;
+  live = live-next (numbered s.tables table) can.live;
+  first = can.first;
+  room = room;
+}
+
+pub give-fits : (limits : Limits) (book : List Entry) (txn : TxnId) (table : TableId) → IfOpen (state_of book) txn.0 (CanBeGiven (state_of book) table.0)
+    → HasNotEnded book txn.0 → HasRoom limits (state_of book) 1 → Fits limits (state_of book) (next_given book txn table)
+give-fits limits book txn table can none room =
+    let o : Option Transaction = numbered (state_of book).transactions txn.0 in
+    given-fits limits (state_of book) table.0 o (when-open o (CanBeGiven (state_of book) table.0) can none) room
+
+pub next-of : (o : Option Table) (write : ℕ) → Some write ≡ option_map (λ (t : Table). length t.owners + 1) o → write ≡ length (owners_in o) + 1
+next-of None write e = cc
+next-of (Some t) write e = cc
+
+-- the id that a call found is this one
+pub given-next : (limits : Limits) (book : List Entry) (txn : TxnId) (table : TableId) (write : ℕ)
+    → Some write ≡ option_map (λ (t : Table). length t.owners + 1) (numbered (state_of book).tables table.0)
+    → Fits limits (state_of book) (next_given book txn table) → Fits limits (state_of book) (entry.Given txn table (record { 0 = write }))
+given-next limits book txn table write found fits =
+    subst (λ n. Fits limits (state_of book) (entry.Given txn table (record { 0 = n }))) (sym (next-of (numbered (state_of book).tables table.0) write found)) fits
+
+live-here : (o : Option Table) → IsSomeAnd o (λ t. IsTrue t.is_live) → IsSome o
+live-here None live = absurd live
+live-here (Some t) live = refl
+
+given-here : (s : State) (table : ℕ) (o : Option Transaction) → IsSomeAnd o (CanBeGiven s table) → IsSome (numbered s.tables table)
+given-here s table None can = absurd can
+given-here s table (Some t) can = live-here (numbered s.tables table) can.live
+
+pub give-here : (book : List Entry) (txn : TxnId) (table : TableId) → IfOpen (state_of book) txn.0 (CanBeGiven (state_of book) table.0)
+    → HasNotEnded book txn.0 → IsSome (numbered (state_of book).tables table.0)
+give-here book txn table can none =
+    let o : Option Transaction = numbered (state_of book).transactions txn.0 in
+    given-here (state_of book) table.0 o (when-open o (CanBeGiven (state_of book) table.0) can none)
+
+pub none-of : (o : Option Table) → IsSome o → None ≡ option_map (λ (t : Table). length t.owners + 1) o → ⊥
+none-of None some e = cc
+none-of (Some t) some e = cc
+
+-- ---- the next table
+
+pub number-of : (notes : List TableNote) (entries book : List Entry) → notes ≡ map brief_table (state_of entries).tables → entries ≡ book
+    → length notes ≡ length (state_of book).tables
+number-of notes entries book are same =
+    ap length are ∙ length-map (state_of entries).tables brief_table ∙ ap (λ (b : List Entry). length (state_of b).tables) same
+
+pub create-fits : (book : List Entry) (txn : TxnId) (number : ℕ) → number ≡ length (state_of book).tables
+    → IfOpen (state_of book) txn.0 (CreateFits (state_of book) (next_table book)) → HasNotEnded book txn.0
+    → Of (state_of book) txn.0 (CreateFits (state_of book) (number + 1))
+create-fits book txn number is can none =
+    subst (λ n. Of (state_of book) txn.0 (CreateFits (state_of book) (n + 1))) (sym is)
+    (when-open (numbered (state_of book).transactions txn.0) (CreateFits (state_of book) (next_table book)) can none)
+
+-- ---- when it is refused
+
+-- with another answer
+pub ok-as : {T U : Type 0} (x : U) (y : T) (why : EntryFault) (P : Type 0) → IsErrOf (Ok x) why ↔ P → IsErrOf (Ok y) why ↔ P
+ok-as x y why P iff = (λ e. cc, λ p. let never : Ok x ≡ Err why = iff.1 p in cc)
+
+pub err-as : {T U : Type 0} (found why : EntryFault) (P : Type 0) → IsErrOf {T = U} (Err found) why ↔ P → IsErrOf {T = T} (Err found) why ↔ P
+err-as {T = T} {U = U} found why P iff = (
+  λ (e : IsErrOf {T = T} (Err found) why). let same : found ≡ why = cc in iff.0 (ap (λ w. Err w) same),
+  λ p. let e : IsErrOf {T = U} (Err found) why = iff.1 p in let same : found ≡ why = cc in ap (λ w. Err w) same,
+)
+
+pub not-open-there : {T : Type 0} (o : Option ℕ) (at : ℕ) → o ≡ Some at → (k : ℕ) → IsErrOf {T = T} (Err (fault.NotOpen at)) (fault.NotOpen k) ↔ (o ≡ Some k)
+not-open-there {T = T} o at is k = (
+  λ (e : IsErrOf {T = T} (Err (fault.NotOpen at)) (fault.NotOpen k)). let same : at ≡ k = cc in is ∙ ap Some same,
+  λ (e : o ≡ Some k). let same : at ≡ k = cc in ap (λ n. Err (fault.NotOpen n)) same,
+)
+
+pub ok-not-open : {T : Type 0} (x : T) (o : Option ℕ) → o ≡ None → (k : ℕ) → IsErrOf (Ok x) (fault.NotOpen k) ↔ (o ≡ Some k)
+ok-not-open x o none k = (λ e. cc, λ e. cc)
+
+pub err-not-open : {T : Type 0} (why : EntryFault) → IsHouseFault why → (o : Option ℕ) → o ≡ None → (k : ℕ) → IsErrOf {T = T} (Err why) (fault.NotOpen k) ↔ (o ≡ Some k)
+err-not-open (fault.House why) is o none k = (λ e. cc, λ e. cc)
+err-not-open (fault.NotOpen at) is o none k = absurd is
+err-not-open (fault.Full entries) is o none k = absurd is
+
+pub err-not-full : {T : Type 0} (why : EntryFault) → IsHouseFault why → (k : ℕ) → IsErrOf {T = T} (Err why) (fault.Full k) → ⊥
+err-not-full (fault.House why) is k e = cc
+err-not-full (fault.NotOpen at) is k e = absurd is
+err-not-full (fault.Full entries) is k e = absurd is
+
+lacks-room : (limits : Limits) (s : State) → (HasRoom limits s 1 → ⊥) → limits.entries < load s + 1
+lacks-room limits s none = by (nat_lt limits.entries (load s + 1)) refl
+  where
+    by : (b : Bool) → nat_lt limits.entries (load s + 1) ≡ b → limits.entries < load s + 1
+    by true is = grind (arith, nat_tests, is)
+    by false is = absurd (none (grind (arith, nat_tests, is)))
+
+pub full-there : {T : Type 0} (limits : Limits) (book : List Entry) (txn n : ℕ) → HasNotEnded book txn → n ≡ length book → (HasRoom limits (state_of book) 1 → ⊥)
+    → (k : ℕ) → IsErrOf {T = T} (Err (fault.Full n)) (fault.Full k) ↔ HasNoRoom limits book txn k
+full-there {T = T} limits book txn n unended_ count none k = (
+  λ (e : IsErrOf {T = T} (Err (fault.Full n)) (fault.Full k)). let same : n ≡ k = cc in
+      record { unended = unended_; count = sym same ∙ count; full = lacks-room limits (state_of book) none },
+  λ (lacks : HasNoRoom limits book txn k). ap (λ m. Err (fault.Full m)) (count ∙ sym lacks.count),
+)
+
+-- an open transaction has its room, or none is open
+has-room-not : (limits : Limits) (book : List Entry) (txn k : ℕ) → HasRoom limits (state_of book) 1 → HasNoRoom limits book txn k → ⊥
+has-room-not limits book txn k room lacks = omega (arith, room, lacks.full)
+
+pub ok-not-full : {T : Type 0} (x : T) (limits : Limits) (book : List Entry) (txn : ℕ) → HasRoom limits (state_of book) 1
+    → (k : ℕ) → IsErrOf (Ok x) (fault.Full k) ↔ HasNoRoom limits book txn k
+ok-not-full x limits book txn room k = (λ e. cc, λ lacks. absurd (has-room-not limits book txn k room lacks))
+
+pub failed-not-full : {T : Type 0} (why : EntryFault) → IsHouseFault why → (limits : Limits) (book : List Entry) (txn : ℕ) → HasRoom limits (state_of book) 1
+    → (k : ℕ) → IsErrOf {T = T} (Err why) (fault.Full k) ↔ HasNoRoom limits book txn k
+failed-not-full {T = T} why is limits book txn room k = (λ e. absurd (err-not-full {T = T} why is k e), λ lacks. absurd (has-room-not limits book txn k room lacks))
+
+pub ended-not-full : {T : Type 0} (limits : Limits) (book : List Entry) (txn at : ℕ) → HasEndedAt book txn at
+    → (k : ℕ) → IsErrOf {T = T} (Err (fault.NotOpen at)) (fault.Full k) ↔ HasNoRoom limits book txn k
+ended-not-full limits book txn at ended k = (λ e. cc, λ lacks. let both : None ≡ Some at = sym lacks.unended ∙ ended in cc)

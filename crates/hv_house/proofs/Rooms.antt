@@ -1,0 +1,147 @@
+-- Books whose entries fit within any limits: their fronts fit, so does an entry more that fits, and there is room for it.
+use Rattle.std.proofs.Common.{◌≡◌, ℕ, zero, suc, ◌+◌, ◌<◌, ◌≤◌, false, is_none, Option, Some, None, List, [], ◌∷◌, ◌++◌, length, take, fold, refl, ap, ◌∙◌, arith}
+use Rattle.std.specs.Prelude.{IsTrue, sum_by}
+use Rattle.std.specs.List.{slice_get}
+use Rattle.std.proofs.lemmas.List.Sums.{sum_by-append, sum_by-cons}
+use Rattle.hv_base.specs.declared.ids.Limits.{Limits}
+use Rattle.hv_history.specs.declared.entry.Entry.{Entry}
+use Rattle.hv_history.specs.declared.entry.Entry.TheVariants as entry
+use Rattle.hv_history.specs.declared.entry.Cause.{Cause}
+use Rattle.hv_history.specs.declared.entry.Cause.TheVariants as cause
+use Rattle.hv_history.specs.declared.state.Ending.{Ending}
+use Rattle.hv_history.specs.declared.state.Ending.TheVariants.{Aborted, Made}
+use Rattle.hv_history.specs.declared.state.Transaction.{Transaction}
+use Rattle.hv_history.specs.State.{State, nothing_yet, numbered, changed, changed_at, unless_ended, while_open, opened, started, given_id, committed, ended, acted, after, state_of}
+use Rattle.hv_history.specs.Legal.{is_open, one_if, open_one, working_one, load, HasRoom, StartFits, GivenFits, CommitFits, CreateFits, CauseFits, Fits, AllFit}
+use Rattle.hv_stands.proofs.Numbers.{one_value, found}
+use Rattle.hv_stands.proofs.Keeping.{still-open, open-by}
+use Rattle.hv_stands.proofs.Behind.{entries-are}
+
+-- ---- its fronts, and one entry more
+
+pub front-fits : (limits : Limits) (book : List Entry) (s : State) (place : ℕ) → AllFit limits s book → AllFit limits s (take place book)
+front-fits limits book s zero fit = tt
+front-fits limits [] s (suc place) fit = tt
+front-fits limits (event ∷ book) s (suc place) fit = (fit.0, front-fits limits book (after s event) place fit.1)
+
+pub more-fits : (limits : Limits) (book : List Entry) (s : State) (event : Entry) → AllFit limits s book → Fits limits (fold after s book) event
+    → AllFit limits s (book ++ event ∷ [])
+more-fits limits [] s event fit fits = (fits, tt)
+more-fits limits (first ∷ book) s event fit fits = (fit.0, more-fits limits book (after s first) event fit.1 fits)
+
+-- ---- how many are open
+
+-- a change that leaves each as open as it was
+module _ (f : Transaction → Transaction) (same : (t : Transaction) → (f t).ending ≡ t.ending) where
+  as-open : (t : Transaction) → open_one (while_open f t) ≡ open_one t
+  as-open t = ap (λ (o : Option Ending). one_if (is_none o)) (open-by (λ (x : Transaction). x.ending ≡ t.ending) t (f t) t.ending refl (same t))
+
+  open-same_at : (xs : List Transaction) (n : ℕ) → sum_by open_one (changed_at (while_open f) xs n) ≡ sum_by open_one xs
+  open-same_at [] n = refl
+  open-same_at (x ∷ xs) zero =
+      omega (arith, sum_by-cons open_one (while_open f x) xs, sum_by-cons open_one x xs, as-open x)
+  open-same_at (x ∷ xs) (suc n) =
+      omega (arith, sum_by-cons open_one x (changed_at (while_open f) xs n), sum_by-cons open_one x xs, open-same_at xs n)
+
+  open-same : (xs : List Transaction) (n : ℕ) → sum_by open_one (changed (while_open f) xs n) ≡ sum_by open_one xs
+  open-same xs zero = refl
+  open-same xs (suc n) = open-same_at xs n
+
+-- one that ends what is open
+module _ (f : Transaction → Transaction) (ends : (t : Transaction) → is_open (f t) ≡ false) (t : Transaction) (unended : t.ending ≡ None) where
+  one-ends : (x : Transaction) → x ≡ t → (open_one (while_open f x) ≡ 0) × (open_one x ≡ 1)
+  one-ends x is =
+      let none : x.ending ≡ None = ap (λ (y : Transaction). y.ending) is ∙ unended in (
+        ap (λ (o : Option Ending). open_one (unless_ended o x (f x))) none ∙ ap one_if (ends x),
+        ap (λ (o : Option Ending). one_if (is_none o)) none,
+      )
+
+  open-fewer_at : (xs : List Transaction) (n : ℕ) → slice_get xs n ≡ Some t → sum_by open_one (changed_at (while_open f) xs n) + 1 ≡ sum_by open_one xs
+  open-fewer_at [] n at = cc
+  open-fewer_at (x ∷ xs) zero at =
+      let one = one-ends x (one_value x t at) in
+      omega (arith, sum_by-cons open_one (while_open f x) xs, sum_by-cons open_one x xs, one.0, one.1)
+  open-fewer_at (x ∷ xs) (suc n) at =
+      omega (arith, sum_by-cons open_one x (changed_at (while_open f) xs n), sum_by-cons open_one x xs, open-fewer_at xs n at)
+
+  open-fewer : (xs : List Transaction) (n : ℕ) → numbered xs n ≡ Some t → sum_by open_one (changed (while_open f) xs n) + 1 ≡ sum_by open_one xs
+  open-fewer xs zero at = cc
+  open-fewer xs (suc n) at = open-fewer_at xs n at
+
+-- ---- the load
+
+-- there was room for the entry, and behind it the load is within the limit
+record IsRoomy (limits : Limits) (s now : State) : Type 0 where
+  room : s.entries < limits.entries
+  within : load now ≤ limits.entries
+
+-- where as many more are open as it asks room for, but for the one entry
+roomy : (limits : Limits) (s now : State) (more : ℕ) → now.entries ≡ s.entries + 1 → now.jobs ≡ s.jobs
+    → sum_by open_one now.transactions + 1 ≡ sum_by open_one s.transactions + more → HasRoom limits s more → IsRoomy limits s now
+roomy limits s now more entries jobs counts room =
+    let same : sum_by working_one now.jobs ≡ sum_by working_one s.jobs = ap (sum_by working_one) jobs in
+    record { room = omega (arith, counts, room); within = omega (arith, entries, same, counts, room) }
+
+-- every cause of an abort is one of an open transaction
+cause-open : (limits : Limits) (s : State) (txn : ℕ) (why : Cause) (t : Transaction) → CauseFits limits s txn why t → IsTrue (is_open t)
+cause-open limits s txn (cause.Refused number) t fits = fits.unended
+cause-open limits s txn (cause.Conflict by_ table partition) t fits = fits.running.unended
+cause-open limits s txn (cause.Request by_) t fits = fits.unended
+cause-open limits s txn cause.Full t fits = fits.unended
+cause-open limits s txn (cause.Twice partition row) t fits = fits.unended
+cause-open limits s txn (cause.Blocked holder) t fits = fits.waiting.unended
+cause-open limits s txn (cause.ReadFault count) t fits = fits.running.unended
+cause-open limits s txn (cause.WriteFault count) t fits = fits.running.unended
+cause-open limits s txn (cause.Damaged place) t fits = fits.unended
+cause-open limits s txn cause.RowLimit t fits = fits.unended
+cause-open limits s txn cause.PartitionLimit t fits = fits.unended
+cause-open limits s txn cause.Memory t fits = fits
+cause-open limits s txn cause.Lost t fits = fits.unended
+
+-- what ends a transaction adds an entry, and takes one that is open
+ends-roomy : (limits : Limits) (s now : State) (txn : ℕ) (t : Transaction) (f : Transaction → Transaction) → ((x : Transaction) → is_open (f x) ≡ false)
+    → numbered s.transactions txn ≡ Some t → IsTrue (is_open t) → load s ≤ limits.entries → now.entries ≡ s.entries + 1 → now.jobs ≡ s.jobs
+    → now.transactions ≡ changed (while_open f) s.transactions txn → IsRoomy limits s now
+ends-roomy limits s now txn t f ends at unended within entries jobs are =
+    let fewer : sum_by open_one (changed (while_open f) s.transactions txn) + 1 ≡ sum_by open_one s.transactions =
+    open-fewer f ends t (still-open t unended) s.transactions txn at in
+    let counts : sum_by open_one now.transactions ≡ sum_by open_one (changed (while_open f) s.transactions txn) = ap (sum_by open_one) are in
+    roomy limits s now 0 entries jobs (omega (arith, fewer, counts)) (omega (arith, within))
+
+fits-roomy : (limits : Limits) (s : State) (event : Entry) → Fits limits s event → load s ≤ limits.entries → IsRoomy limits s (after s event)
+unfolding acted
+fits-roomy limits s (entry.Boot run) fits within = roomy limits s (after s (entry.Boot run)) 1 refl refl refl fits.room
+fits-roomy limits s (entry.Opened txn session number text) fits within =
+    let t : Transaction = opened session number text in
+    let all : sum_by open_one (s.transactions ++ t ∷ []) ≡ sum_by open_one s.transactions + sum_by open_one (t ∷ []) = sum_by-append open_one s.transactions (t ∷ []) in
+    let last : sum_by open_one (t ∷ []) ≡ 1 + 0 = sum_by-cons open_one t [] in
+    roomy limits s (after s (entry.Opened txn session number text)) 2 refl refl (omega (arith, all, last)) fits.room
+fits-roomy limits s (entry.Start txn statement) fits within =
+    let here = found (StartFits limits s statement) (numbered s.transactions txn.0) fits in
+    roomy limits s (after s (entry.Start txn statement)) 1 refl refl
+    (ap (λ (n : ℕ). n + 1) (open-same (started s statement) (λ t. refl) s.transactions txn.0)) here.2.room
+fits-roomy limits s (entry.Given txn table write) fits within =
+    let here = found (GivenFits limits s table.0 write.0) (numbered s.transactions txn.0) fits in
+    roomy limits s (after s (entry.Given txn table write)) 1 refl refl
+    (ap (λ (n : ℕ). n + 1) (open-same (given_id table.0 write.0) (λ t. refl) s.transactions txn.0)) here.2.room
+fits-roomy limits s (entry.Commit txn wrote) fits within =
+    let here = found (CommitFits s wrote) (numbered s.transactions txn.0) fits in
+    ends-roomy limits s (after s (entry.Commit txn wrote)) txn.0 here.0 (committed s.entries wrote) (λ t. refl) here.1 here.2.running.unended within refl refl refl
+fits-roomy limits s (entry.Abort txn why) fits within =
+    let here = found (CauseFits limits s txn.0 why) (numbered s.transactions txn.0) fits in
+    ends-roomy limits s (after s (entry.Abort txn why)) txn.0 here.0 (ended (Aborted s.entries why)) (λ t. refl) here.1 (cause-open limits s txn.0 why here.0 here.2) within refl refl refl
+fits-roomy limits s (entry.Create txn table) fits within =
+    let here = found (CreateFits s table.0) (numbered s.transactions txn.0) fits in
+    ends-roomy limits s (after s (entry.Create txn table)) txn.0 here.0 (ended (Made s.entries table.0)) (λ t. refl) here.1 here.2.running.unended within refl refl refl
+fits-roomy limits s event fits within = absurd fits
+
+load-within : (limits : Limits) (book : List Entry) (s : State) → AllFit limits s book → load s ≤ limits.entries → load (fold after s book) ≤ limits.entries
+load-within limits [] s fit within = within
+load-within limits (event ∷ book) s fit within = load-within limits book (after s event) fit.1 (fits-roomy limits s event fit.0 within).within
+
+pub room-within : (limits : Limits) (book : List Entry) (event : Entry) → AllFit limits nothing_yet book → Fits limits (state_of book) event
+    → length book < limits.entries
+room-within limits book event fit fits =
+    let none : load nothing_yet ≤ limits.entries = omega arith in
+    let here = fits-roomy limits (state_of book) event fits (load-within limits book nothing_yet fit none) in
+    omega (arith, here.room, entries-are book)

@@ -1,0 +1,31 @@
+ghost use Rattle.std.specs.Prelude.{◌≡◌};
+
+use crate::house::House;
+use hv_actor::Housed;
+use hv_shelf::Shelf;
+
+impl<D: Shelf + Drop> Housed<D> for House<D> {
+    ghost use Rattle.hv_house.specs.Steps.{seen_of};
+    ghost use Rattle.hv_house.specs.Housed.{IsReadyOrClosed};
+
+    ghost seen = { seen_of };
+
+    ghost keeps = { IsReadyOrClosed D.told };
+
+    fn items(&self) -> u64 {
+        self.trail.items()
+    }
+
+    fn opened(&self) -> u64 {
+        self.trail.opened()
+    }
+}
+
+impl<D: Shelf> House<D> {
+    /// Whether the journal failed. A closed house answers so to every call, and nothing of it changes.
+    pub fn is_closed(&self) -> bool
+        ensures closed { result ≡ self.now.trail.closed }
+    {
+        self.trail.is_closed()
+    }
+}
