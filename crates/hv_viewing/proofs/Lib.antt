@@ -2,3 +2,4 @@ pub mod Sheets
 pub mod Looking
 pub mod Seen
 pub mod Counts
+pub mod Stood

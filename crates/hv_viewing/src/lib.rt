@@ -3,8 +3,10 @@
 
 mod counting;
 mod damage;
+mod laws;
 mod reading;
 mod seeing;
 
+pub use laws::none_amiss;
 pub use reading::read_rows;
 pub use seeing::see;
