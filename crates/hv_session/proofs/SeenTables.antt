@@ -21,6 +21,7 @@ use Rattle.hv_meaning.specs.Laws.{MeansSomething, reads_rows}
 use Rattle.hv_history.specs.declared.entry.Entry.{Entry}
 use Rattle.hv_history.specs.declared.state.Table.{Table}
 use Rattle.hv_history.specs.State.{State, state_of, numbered, content_of, seen_tables}
+use Rattle.hv_history.specs.Legal.{profile, IsLegal}
 use Rattle.hv_dirs.specs.Names.{write_end}
 use Rattle.hv_stands.specs.Files.{Stands}
 use Rattle.hv_stands.specs.Sound.{IsSound}
@@ -36,9 +37,10 @@ use Rattle.hv_house.specs.declared.house.House.{House}
 use Rattle.hv_house.specs.declared.fault.RowFault.{RowFault}
 use Rattle.hv_house.specs.Faults.{IsDamage}
 use Rattle.hv_house.specs.House.{entries_of, IsAsked, IsReady, IsFaithful, Shows}
-use Rattle.hv_house.specs.Seeing.{ids_in, AreRead, SeesRows, IsSeenOf, IsSpoiled}
-use Rattle.hv_house.proofs.Seen.{rows-content, none-spoiled}
-use Rattle.hv_tables.specs.Reading.{IsSpoiled as IsSpoiledOf}
+use Rattle.hv_house.specs.Seeing.{ids_in, AreRead, SeesRows, IsSeenOf}
+use Rattle.hv_house.proofs.Seen.{rows-content}
+use Rattle.hv_viewing.specs.Counting.{IsAmiss}
+use Rattle.hv_viewing.proofs.Stood.{none-amiss}
 use Rattle.hv_ending.specs.Ending.{CanEnd, CanChange}
 use Rattle.hv_session.specs.Seeing.{AddsSeen, AreSeen, IsSeen, SeesUpTo, IsNarrow, state_at}
 
@@ -88,11 +90,11 @@ sees-next told faults first before now place reads locks i lock seen next sees w
     }
 
 -- the answer of a later look is one of the first
-pub spoiled-first : {D : Type 0} (told : D → Option Store) (first before : House D) (place : ℕ) → IsAsked told first before
-    → IsSpoiled (told before.shelf) (state_at (entries_of before) place) → IsSpoiled (told first.shelf) (state_at (entries_of first) place)
-spoiled-first told first before place asked spoiled =
-    subst (λ (s : State). IsSpoiled (told first.shelf) s) (ap (λ b. state_at b place) asked.book)
-    (subst (λ (o : Option Store). IsSpoiled o (state_at (entries_of before) place)) asked.store spoiled)
+pub amiss-first : {D : Type 0} (told : D → Option Store) (first before : House D) (place : ℕ) → IsAsked told first before
+    → IsAmiss (told before.shelf) (state_at (entries_of before) place) → IsAmiss (told first.shelf) (state_at (entries_of first) place)
+amiss-first told first before place asked amiss =
+    subst (λ (s : State). IsAmiss (told first.shelf) s) (ap (λ b. state_at b place) asked.book)
+    (subst (λ (o : Option Store). IsAmiss o (state_at (entries_of before) place)) asked.store amiss)
 
 -- ---- what is seen of a table
 
@@ -216,11 +218,8 @@ module _ (told : Option Store) (book : List Entry) (place : ℕ) (tree : Stmt) (
     meant-told seen is = ap (meaning_in tree) (all-seen (names_in tree) seen is) ∙ seeing-enough front tree front-fits
 
     -- no file of them is damaged
-    pub unspoiled : IsSpoiled told (state_at book place) → ⊥
-    unspoiled spoiled =
-        let table = spoiled.table in
-        none-spoiled book place s.tree spoiled.name table fit small stands spoiled.named
-        (subst (λ (o : Option Store). Tells o (λ s. IsSpoiledOf table.info (ids_in (state_of front) table.info.table.0) s.tree)) tells spoiled.lacks)
+    pub unspoiled : IsLegal profile book → IsAmiss told (state_at book place) → ⊥
+    unspoiled legal amiss = none-amiss book place s legal small stands (subst (λ (o : Option Store). IsAmiss o (state_at book place)) tells amiss)
 
 -- what a look that failed leaves is what is handed on
 pub whole-residual : {T : Type 0} (o : Option Store) (why : RowFault) (r : Result T RowFault) → IsErrAnd r (λ y. y ≡ why) → Tells o (λ _. IsDamage why → ⊥)
@@ -247,9 +246,9 @@ module _ {D : Type 0} (told : D → Option Store) (house : House D) (place : ℕ
       by (Some s) tells faithful sees = sym (meant-told (told house.shelf) its_book place tree ready.fit s tells faithful.stands few seen sees) ∙ means
 
   -- no damage is told of its files
-  pub damage-none : (why : RowFault) → (IsDamage why → IsSpoiled (told house.shelf) (state_at its_book place)) → Tells (told house.shelf) (λ _. IsDamage why → ⊥)
+  pub damage-none : (why : RowFault) → (IsDamage why → IsAmiss (told house.shelf) (state_at its_book place)) → Tells (told house.shelf) (λ _. IsDamage why → ⊥)
   damage-none why damage = by (told house.shelf) refl shows
     where
       by : (o : Option Store) → told house.shelf ≡ o → Tells o (IsFaithful its_book) → Tells o (λ _. IsDamage why → ⊥)
       by None tells faithful = tt
-      by (Some s) tells faithful = λ is. unspoiled (told house.shelf) its_book place tree ready.fit s tells faithful.stands few (damage is)
+      by (Some s) tells faithful = λ is. unspoiled (told house.shelf) its_book place tree ready.fit s tells faithful.stands few faithful.legal (damage is)

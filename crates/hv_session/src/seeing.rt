@@ -10,7 +10,8 @@ ghost use Rattle.hv_stands.specs.Running.{meant};
 ghost use Rattle.hv_house.specs.Faults.{ReadCause, IsShortDamage, IsDamage};
 ghost use Rattle.hv_house.specs.House.{entries_of, IsAsked, IsReady, StaysRead, Shows};
 ghost use Rattle.hv_house.specs.Steps.{IsMarkedFor};
-ghost use Rattle.hv_house.specs.Seeing.{IsSeenOf, IsSpoiled};
+ghost use Rattle.hv_house.specs.Seeing.{IsSeenOf};
+ghost use Rattle.hv_viewing.specs.Counting.{IsAmiss};
 ghost use Rattle.hv_logic.specs.Tables.{named};
 ghost use Rattle.hv_stands.specs.Reading.{table_of_name};
 ghost use Rattle.hv_ending.specs.Ending.{CanEnd};
@@ -85,7 +86,7 @@ fn look<D: Shelf>(
         (table_of_name name.now (state_at (entries_of house.old) place).tables) found) }
     ensures once { IsSome (named name.now seen.now) → house.new ≡ house.old }
     ensures damage { IfErr result (λ fault. IsDamage fault
-        → IsSpoiled (D.told house.old.shelf) (state_at (entries_of house.old) place)) }
+        → IsAmiss (D.told house.old.shelf) (state_at (entries_of house.old) place)) }
     ensures ready { IfOk result (λ _. IsReady D.told house.new) }
     ensures stays { IfErr result (λ why. StaysRead D.told why house.new) }
     ensures marked { IfErr result (IsMarkedFor house.new by) }
@@ -114,7 +115,7 @@ fn see_next<D: Shelf>(
     ensures seen { OnOk result (AddsSeen (D.told house.old.shelf) (state_at (entries_of house.old) place) reads
         name.now seen.old.items seen.new.items) }
     ensures damage { IfErr result (λ fault. IsDamage fault
-        → IsSpoiled (D.told house.old.shelf) (state_at (entries_of house.old) place)) }
+        → IsAmiss (D.told house.old.shelf) (state_at (entries_of house.old) place)) }
     ensures ready { OnOk result (IsReady D.told house.new) }
     ensures stays { IfErr result (λ why. StaysRead D.told why house.new) }
     ensures marked { IfErr result (IsMarkedFor house.new by) }
@@ -141,7 +142,7 @@ fn seen<D: Shelf>(
     ensures seen { IfOk result (λ seen. IsSeen (D.told house.old.shelf)
         (state_at (entries_of house.old) place) tree.now seen.items) }
     ensures damage { IfErr result (λ fault. IsDamage fault
-        → IsSpoiled (D.told house.old.shelf) (state_at (entries_of house.old) place)) }
+        → IsAmiss (D.told house.old.shelf) (state_at (entries_of house.old) place)) }
     ensures ready { IfOk result (λ _. IsReady D.told house.new) }
     ensures stays { IfErr result (λ why. StaysRead D.told why house.new) }
     ensures marked { IfErr result (IsMarkedFor house.new by) }

@@ -1,3 +1,5 @@
 pub mod Sheets
 pub mod Looking
 pub mod Seen
+pub mod Counts
+pub mod Stood

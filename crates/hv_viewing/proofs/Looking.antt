@@ -1,5 +1,5 @@
 -- Calls of a house that read, one after another, are one step of a read.
-use Rattle.std.proofs.Common.{◌≡◌, ℕ, ◌≤◌, Bool, true, false, Option, Some, None, Result, Ok, Err, List, [], ◌++◌, refl, sym, ap, ◌∙◌, subst, arith, append-nil}
+use Rattle.std.proofs.Common.{◌≡◌, ℕ, ◌≤◌, Bool, true, false, Option, Some, None, Result, Ok, Err, ◌++◌, refl, sym, ap, ◌∙◌, subst, arith, append-nil}
 use Rattle.std.specs.Prelude.{◌||◌, IfOk, IfErr, IsErrAnd}
 use Rattle.hv_base.specs.declared.ids.TxnId.{TxnId}
 use Rattle.hv_base.specs.Told.{Moves}
@@ -15,7 +15,7 @@ use Rattle.hv_house.specs.declared.listing.GetFault.{GetFault}
 use Rattle.hv_house.specs.declared.listing.GetFault.TheVariants as get_fault
 use Rattle.hv_house.specs.declared.house.House.{House}
 use Rattle.hv_house.specs.Faults.{HasRisenReading, FileCause, ReadCause}
-use Rattle.hv_house.specs.House.{entries_of, IsAsked, IsReady, StaysPut, StaysRead}
+use Rattle.hv_house.specs.House.{IsAsked, IsReady, StaysPut}
 use Rattle.hv_house.specs.Listing.{get_outcome, GetCause, IsMarkedGetting, StaysGot}
 use Rattle.hv_house.specs.Steps.{seen_of, outcome_of, read_outcome, IsMarkedFor}
 use Rattle.hv_house.proofs.Passing.{risen-later}

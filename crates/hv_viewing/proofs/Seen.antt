@@ -1,19 +1,21 @@
 -- What is seen of a table that was found by its name.
 use Rattle.std.proofs.Common.{◌≡◌, ℕ, Bool, true, false, Option, Some, None, Result, Ok, Err, List, [], option_map, refl, sym, ap, ◌∙◌, subst}
-use Rattle.std.specs.Prelude.{IfOk, IfErr, IsErrAnd}
+use Rattle.std.specs.Prelude.{IfErr, IsErrAnd}
 use Rattle.hv_base.specs.Told.{Tells}
-use Rattle.hv_shelf.specs.Disk.{Store, places_of}
+use Rattle.hv_shelf.specs.Disk.{Store}
 use Rattle.hv_wids.specs.WriteIds.{WriteIds}
 use Rattle.hv_logic.specs.declared.catalog.TableInfo.{TableInfo}
 use Rattle.hv_logic.specs.declared.effect.Found.{Found}
 use Rattle.hv_history.specs.declared.state.Table.{Table}
 use Rattle.hv_history.specs.State.{State}
 use Rattle.hv_stands.specs.Reading.{table_of_name}
-use Rattle.hv_tables.specs.Reading.{AreRows, IsSpoiled as IsSpoiledOf}
+use Rattle.hv_tables.specs.Reading.{AreRows}
+use Rattle.hv_counts.specs.Counts.{dues_in}
 use Rattle.hv_house.specs.declared.fault.RowFault.{RowFault}
 use Rattle.hv_house.specs.Faults.{IsDamage}
 use Rattle.hv_house.specs.Listing.{info_in}
-use Rattle.hv_house.specs.Seeing.{ids_in, AreRead, SeesRows, IsSeenOf, IsSpoiled}
+use Rattle.hv_house.specs.Seeing.{ids_in, AreRead, IsSeenOf}
+use Rattle.hv_viewing.specs.Counting.{IsAmissOf, IsAmiss}
 
 -- ---- rows
 
@@ -63,16 +65,16 @@ pub seen-none : (told : Option Store) (reads : Bool) (name : List ℕ) (state : 
 seen-none told reads name state found is none =
     subst (λ (o : Option Table). IsSeenOf told reads state o None) (sym (none-of (table_of_name name state.tables) (sym none ∙ is))) refl
 
-pub spoiled : (told : Option Store) (name : List ℕ) (state : State) (found : Option TableInfo) (info : TableInfo)
+pub amiss : (told : Option Store) (name : List ℕ) (state : State) (found : Option TableInfo) (info : TableInfo)
     → found ≡ option_map info_in (table_of_name name state.tables) → found ≡ Some info
-    → Tells told (λ s. IsSpoiledOf info (ids_in state info.table.0) s.tree) → IsSpoiled told state
-spoiled told name state found info is some lacks =
+    → Tells told (λ s. IsAmissOf info (ids_in state info.table.0) s.tree (dues_in state info.table.0)) → IsAmiss told state
+amiss told name state found info is some lacks =
     let by = named name state found info is some in
     record {
       name = name;
       table = by.table;
       named = by.named;
-      lacks = subst (λ (i : TableInfo). Tells told (λ s. IsSpoiledOf i (ids_in state i.table.0) s.tree)) (sym by.info_is) lacks;
+      amiss = subst (λ (i : TableInfo). Tells told (λ s. IsAmissOf i (ids_in state i.table.0) s.tree (dues_in state i.table.0))) (sym by.info_is) lacks;
     }
 
 -- ---- what is passed up of a fault

@@ -1,5 +1,5 @@
 -- Files that were read, one after another.
-use Rattle.std.proofs.Common.{◌≡◌, ℕ, ◌+◌, ◌<◌, ◌≤◌, inl, inr, Bool, true, false, cond, not, Option, Some, None, List, [], ◌∷◌, ◌++◌, filter, map, length, get_or, take, option_map, refl, sym, ap, ◌∙◌, subst, arith, append-nil, IsPermutation, IfOk, IfErr, Result, Ok, Err}
+use Rattle.std.proofs.Common.{◌≡◌, ℕ, ◌+◌, ◌<◌, inl, inr, Bool, true, false, cond, not, Option, Some, None, List, [], ◌∷◌, ◌++◌, filter, map, length, get_or, take, refl, sym, ap, ◌∙◌, subst, append-nil, IsPermutation, IfErr, Result, Err}
 use Rattle.std.specs.FinMap as tree
 use Rattle.std.specs.Ordering.{is_eq}
 use Rattle.std.specs.List.{flat_map, Contains}
@@ -49,6 +49,11 @@ holds (Some s) place deletes span kind other bytes recs got file spelled none =
       own = meant.2;
       bytes = sym got ∙ ap Some (spelled ∙ (λ i. file_spelling (sym meant.0 i) (meant.1 i) recs));
     }
+
+pub spelled-so : (deletes : Bool) (bucket : ℕ) (span : Span) (kind : Bool) (other : ℕ) (bytes : List ℕ) (recs : List Rec) → bytes ≡ file_spelling kind other recs
+    → None ≡ first_amiss deletes bucket span kind other recs → bytes ≡ file_spelling deletes bucket recs
+spelled-so deletes bucket span kind other bytes recs spelled none =
+    let meant = none-amiss deletes bucket span kind other recs (sym none) in spelled ∙ (λ i. file_spelling (sym meant.0 i) (meant.1 i) recs)
 
 pub turned : (o : Option Store) (place : Place) (file : Option (List ℕ)) → Tells o (λ s. tree.get s.tree place ≡ file) → Tells o (λ s. file ≡ tree.get s.tree place)
 turned None place file got = tt

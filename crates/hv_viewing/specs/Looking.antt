@@ -1,5 +1,5 @@
 -- What calls of a house that read files, one after another, leave of it: one step of a read, of which only the last call can fail.
-use Rattle.std.specs.Prelude.{◌≡◌, ℕ, Bool, Option, Some, List, Result, Ok, IfOk, IfErr}
+use Rattle.std.specs.Prelude.{ℕ, Bool, Option, Some, List, Result, Ok, IfOk, IfErr}
 use Rattle.hv_base.specs.Told.{Tells}
 use Rattle.hv_base.specs.declared.ids.TxnId.{TxnId}
 use Rattle.hv_shelf.specs.Disk.{Store}

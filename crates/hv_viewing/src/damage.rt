@@ -4,6 +4,7 @@ ghost use Rattle.std.specs.Prelude.{◌≡◌, true, Option, Some, IfOk, IfErr};
 ghost use Rattle.std.specs.FinMap as tree;
 ghost use Rattle.hv_base.specs.Told.{Tells};
 ghost use Rattle.hv_shelf.specs.Disk.{Store};
+ghost use Rattle.hv_rowfile.specs.Layout.{file_spelling};
 ghost use Rattle.hv_tables.specs.Faults.{IsShort};
 ghost use Rattle.hv_tables.specs.Damage.{told_place};
 ghost use Rattle.hv_tables.specs.Reading.{HoldsAt};
@@ -71,6 +72,7 @@ pub fn records_of(
         → IfOk result (λ recs. Tells o (λ s. HoldsAt s.tree place.now deletes span recs.items)) }
     ensures damage { (o : Option Store) → Tells o (λ s. tree.get s.tree place.now ≡ Some bytes.now)
         → IfErr result (λ fault. Tells o (λ s. TellsFile s.tree place.now deletes span fault)) }
+    ensures spelled { IfOk result (λ recs. bytes.now ≡ file_spelling deletes place.now.bucket recs.items) }
     ensures soft { IfErr result IsSoft }
     ensures short { IfErr result IsShortDamage }
 {

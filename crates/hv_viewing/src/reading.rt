@@ -1,21 +1,26 @@
 //! The rows of a table, read from its files one by one.
 
-ghost use Rattle.std.specs.Prelude.{◌≡◌, false, true, take, IfOk, IfErr, IsSorted};
+ghost use Rattle.std.specs.Prelude.{◌≡◌, ◌++◌, ◌∷◌, [], false, true, take, IfOk, IfErr, IsSorted};
 ghost use Rattle.hv_base.specs.Told.{Tells};
 ghost use Rattle.hv_choosing.specs.Dirs.{span_of};
 ghost use Rattle.hv_history.specs.State.{state_of};
 ghost use Rattle.hv_tables.specs.Orders.{row_at_cmp};
-ghost use Rattle.hv_tables.specs.Reading.{HoldsAt, Reads, deleted_in, left_in, AreRows, IsSpoiled};
+ghost use Rattle.hv_tables.specs.Reading.{HoldsAt, Reads, deleted_in, left_in, AreRows};
 ghost use Rattle.hv_house.specs.Faults.{IsShortDamage, IsDamage};
 ghost use Rattle.hv_house.specs.House.{entries_of, IsReady};
 ghost use Rattle.hv_house.specs.Listing.{AreTaken};
 ghost use Rattle.hv_house.specs.Seeing.{ids_in};
-ghost use Rattle.hv_viewing.specs.Damage.{TellsFile, TellsOne, TellsDamage};
+ghost use Rattle.hv_counts.specs.Counts.{dues_in};
+ghost use Rattle.hv_counts.specs.Files.{AreCountedBoth};
+ghost use Rattle.hv_viewing.specs.Counting.{counted_at, CountsUpTo, HasKindCounts, TellsKind, IsAmissOf, TellsAmiss};
+ghost use Rattle.hv_viewing.specs.Damage.{TellsFile, TellsOne};
 ghost use Rattle.hv_viewing.specs.Looking.{Looks};
 
-use crate::damage::{damaged, records_of};
+use crate::counting::{check_counts, counted_records};
+use crate::damage::damaged;
 use hv_base::{TableId, Text, TxnId};
 use hv_choosing::{DirFile, Span};
+use hv_counts::{Counted, Due, dues_at};
 use hv_house::{GetFault, House, Listing, RowFault};
 use hv_logic::{Found, TableInfo};
 use hv_rowfile::Rec;
@@ -32,8 +37,11 @@ fn read_at<D: Shelf>(
     deletes: bool,
     span: Span,
     place: &Place,
+    counts: &mut Vec<Counted>,
 ) -> Result<Vec<Rec>, RowFault>
     requires ready { IsReady D.told house.old }
+    ensures counted { IfOk result (λ recs. counts.new.items
+        ≡ counts.old.items ++ counted_at deletes place.now recs.items ∷ []) }
     ensures looks { Looks D.told D.faults by house.old house.new result }
     ensures recs { IfOk result (λ recs. Tells (D.told house.old.shelf) (λ s.
         HoldsAt s.tree place.now deletes span recs.items)) }
@@ -42,7 +50,7 @@ fn read_at<D: Shelf>(
     ensures short { IfErr result IsShortDamage }
 {
     match house.get(alloc, by, place) {
-        Ok(bytes) => records_of(alloc, deletes, span, place, &bytes),
+        Ok(bytes) => counted_records(alloc, deletes, span, place, &bytes, counts),
         Err(GetFault::NotFound) => Err(damaged(alloc, place, u64::MAX)),
         Err(GetFault::House(why)) => Err(RowFault::House(why)),
     }
@@ -55,8 +63,11 @@ fn read_file<D: Shelf>(
     by: TxnId,
     deletes: bool,
     file: &DirFile,
+    counts: &mut Vec<Counted>,
 ) -> Result<Vec<Rec>, RowFault>
     requires ready { IsReady D.told house.old }
+    ensures counted { IfOk result (λ recs. counts.new.items
+        ≡ counts.old.items ++ counted_at deletes file.now.place recs.items ∷ []) }
     ensures looks { Looks D.told D.faults by house.old house.new result }
     ensures recs { IfOk result (λ recs. Tells (D.told house.old.shelf) (λ s.
         HoldsAt s.tree file.now.place deletes (span_of file.now.dir) recs.items)) }
@@ -64,7 +75,15 @@ fn read_file<D: Shelf>(
         TellsFile s.tree file.now.place deletes (span_of file.now.dir) fault)) }
     ensures short { IfErr result IsShortDamage }
 {
-    read_at(alloc, house, by, deletes, file.dir.span(), &file.place)
+    read_at(
+        alloc,
+        house,
+        by,
+        deletes,
+        file.dir.span(),
+        &file.place,
+        counts,
+    )
 }
 
 /// Where the rows stand that these files delete, by valid deleters.
@@ -74,8 +93,11 @@ fn read_deleted<D: Shelf>(
     by: TxnId,
     list: &WriteIdList,
     taken: &[DirFile],
+    counts: &mut Vec<Counted>,
 ) -> Result<Vec<RowAt>, RowFault>
     requires ready { IsReady D.told house.old }
+    requires none { counts.old.items ≡ [] }
+    ensures counts { IfOk result (λ _. CountsUpTo (D.told house.old.shelf) true taken.now counts.new.items) }
     ensures looks { Looks D.told D.faults by house.old house.new result }
     ensures rows { IfOk result (λ rows. Tells (D.told house.old.shelf) (λ s.
         Reads true s.tree taken.now (deleted_in list.now) rows.items)) }
@@ -85,7 +107,7 @@ fn read_deleted<D: Shelf>(
 {
     let mut rows = Vec::new(alloc);
     for file in taken {
-        let recs = read_file(alloc, house, by, true, file)?;
+        let recs = read_file(alloc, house, by, true, file, counts)?;
         push_all_deleted(alloc, list, &file.place.partition, &recs, &mut rows)?;
     }
     Ok(rows)
@@ -100,9 +122,12 @@ fn read_left<D: Shelf>(
     list: &WriteIdList,
     taken: &[DirFile],
     gone: &[RowAt],
+    counts: &mut Vec<Counted>,
 ) -> Result<Vec<Found>, RowFault>
     requires ready { IsReady D.told house.old }
+    requires none { counts.old.items ≡ [] }
     requires rising { IsSorted row_at_cmp gone.now }
+    ensures counts { IfOk result (λ _. CountsUpTo (D.told house.old.shelf) false taken.now counts.new.items) }
     ensures looks { Looks D.told D.faults by house.old house.new result }
     ensures rows { IfOk result (λ rows. Tells (D.told house.old.shelf) (λ s.
         Reads false s.tree taken.now (left_in list.now gone.now info.now.shape) rows.items)) }
@@ -114,10 +139,65 @@ fn read_left<D: Shelf>(
     let mut rows = Vec::new(alloc);
     let mut partition = Partition::of(alloc, parts, &Text::of(alloc, "")?)?;
     for file in taken {
-        let recs = read_file(alloc, house, by, false, file)?;
+        let recs = read_file(alloc, house, by, false, file, counts)?;
         partition.turn(alloc, parts, &file.place.partition)?;
         push_rows(alloc, list, &partition, gone, recs, &mut rows)?;
     }
+    Ok(rows)
+}
+
+/// Where the rows stand that these files delete, by valid deleters, where the files have as many records as the commits say.
+fn deleted_counted<D: Shelf>(
+    alloc: Global,
+    house: &mut House<D>,
+    by: TxnId,
+    table: TableId,
+    list: &WriteIdList,
+    taken: &[DirFile],
+    dues: &[Due],
+) -> Result<Vec<RowAt>, RowFault>
+    requires ready { IsReady D.told house.old }
+    ensures looks { Looks D.told D.faults by house.old house.new result }
+    ensures rows { IfOk result (λ rows. Tells (D.told house.old.shelf) (λ s.
+        Reads true s.tree taken.now (deleted_in list.now) rows.items)) }
+    ensures counted { IfOk result (λ _. Tells (D.told house.old.shelf) (λ s.
+        HasKindCounts true s.tree taken.now dues.now)) }
+    ensures damage { IfErr result (λ fault. Tells (D.told house.old.shelf) (λ s.
+        TellsKind true table.0 s.tree taken.now dues.now fault)) }
+    ensures short { IfErr result IsShortDamage }
+{
+    let mut counts = Vec::new(alloc);
+    let rows = read_deleted(alloc, house, by, list, taken, &mut counts)?;
+    check_counts(alloc, true, table, taken, &counts, dues)?;
+    Ok(rows)
+}
+
+/// The rows that these files insert under valid write ids but for those that are gone, where the files have as many records as the commits
+/// say.
+fn left_counted<D: Shelf>(
+    alloc: Global,
+    house: &mut House<D>,
+    by: TxnId,
+    info: &TableInfo,
+    list: &WriteIdList,
+    taken: &[DirFile],
+    gone: &[RowAt],
+    dues: &[Due],
+) -> Result<Vec<Found>, RowFault>
+    requires ready { IsReady D.told house.old }
+    requires rising { IsSorted row_at_cmp gone.now }
+    ensures looks { Looks D.told D.faults by house.old house.new result }
+    ensures rows { IfOk result (λ rows. Tells (D.told house.old.shelf) (λ s.
+        Reads false s.tree taken.now (left_in list.now gone.now info.now.shape) rows.items)) }
+    ensures counted { IfOk result (λ _. Tells (D.told house.old.shelf) (λ s.
+        HasKindCounts false s.tree taken.now dues.now)) }
+    ensures damage { IfErr result (λ fault. Tells (D.told house.old.shelf) (λ s.
+        TellsKind false info.now.table.0 s.tree taken.now dues.now fault)) }
+    ensures short { IfErr result IsShortDamage }
+{
+    let mut counts = Vec::new(alloc);
+    let rows = read_left(alloc, house, by, info, list, taken, gone, &mut counts)?;
+    check_counts(alloc, false, info.table, taken, &counts, dues)?;
     Ok(rows)
 }
 
@@ -149,7 +229,8 @@ fn list_files<D: Shelf>(
 /// and identifier. The files are listed once, and got each by one call of the house, for a transaction.
 ///
 /// # Errors
-/// `Damaged` where a file that is to be read doesn't stand, or isn't one of its kind, bucket and write ids. Else as `House::list`.
+/// `Damaged` where a file that is to be read doesn't stand, or isn't one of its kind, bucket and write ids, or where the files don't have as
+/// many records as the commits say. Else as `House::list`.
 pub fn read_rows<D: Shelf>(
     alloc: Global,
     house: &mut House<D>,
@@ -161,22 +242,22 @@ pub fn read_rows<D: Shelf>(
     ensures looks { Looks D.told D.faults by house.old house.new result }
     ensures rows { IfOk result (λ rows. Tells (D.told house.old.shelf) (λ s. AreRows info.now
         (ids_in (state_of (take place (entries_of house.old))) info.now.table.0) s.tree rows.items)) }
-    ensures damage { IfErr result (λ fault. IsDamage fault → Tells (D.told house.old.shelf) (λ s. IsSpoiled info.now
-        (ids_in (state_of (take place (entries_of house.old))) info.now.table.0) s.tree)) }
-    ensures place { IfErr result (λ fault. Tells (D.told house.old.shelf) (λ s. TellsDamage info.now
-        (ids_in (state_of (take place (entries_of house.old))) info.now.table.0) s.tree fault)) }
+    ensures counted { IfOk result (λ _. Tells (D.told house.old.shelf) (λ s. AreCountedBoth info.now
+        (ids_in (state_of (take place (entries_of house.old))) info.now.table.0) s.tree
+        (dues_in (state_of (take place (entries_of house.old))) info.now.table.0))) }
+    ensures damage { IfErr result (λ fault. IsDamage fault → Tells (D.told house.old.shelf) (λ s. IsAmissOf info.now
+        (ids_in (state_of (take place (entries_of house.old))) info.now.table.0) s.tree
+        (dues_in (state_of (take place (entries_of house.old))) info.now.table.0))) }
+    ensures place { IfErr result (λ fault. Tells (D.told house.old.shelf) (λ s. TellsAmiss info.now
+        (ids_in (state_of (take place (entries_of house.old))) info.now.table.0) s.tree
+        (dues_in (state_of (take place (entries_of house.old))) info.now.table.0) fault)) }
     ensures short { IfErr result IsShortDamage }
 {
     let listing = list_files(alloc, house, by, place, info.table)?;
-    let gone = rows_rising(read_deleted(alloc, house, by, &listing.list, &listing.deletes)?)?;
-    let rows = read_left(
-        alloc,
-        house,
-        by,
-        info,
-        &listing.list,
-        &listing.inserts,
-        &gone,
-    )?;
+    let dues = dues_at(alloc, house.book(), place as usize, info.table)?;
+    let list = &listing.list;
+    let gone = deleted_counted(alloc, house, by, info.table, list, &listing.deletes, &dues)?;
+    let gone = rows_rising(gone)?;
+    let rows = left_counted(alloc, house, by, info, list, &listing.inserts, &gone, &dues)?;
     Ok(once(alloc, rows)?)
 }

@@ -4,14 +4,15 @@ ghost use Rattle.std.specs.Prelude.{◌≡◌, false, [], take, IfOk, IfErr};
 ghost use Rattle.hv_base.specs.Told.{Tells};
 ghost use Rattle.hv_history.specs.State.{state_of};
 ghost use Rattle.hv_stands.specs.Reading.{table_of_name};
-ghost use Rattle.hv_tables.specs.Reading.{IsSpoiled as IsSpoiledOf};
+ghost use Rattle.hv_counts.specs.Counts.{dues_in};
 ghost use Rattle.hv_trail.specs.declared.trail.Reader.TheVariants.{Txn};
 ghost use Rattle.hv_trail.specs.Steps.{Step};
 ghost use Rattle.hv_trail.specs.Steps as calls;
 ghost use Rattle.hv_house.specs.Faults.{ReadCause, IsShortDamage, IsDamage};
 ghost use Rattle.hv_house.specs.House.{entries_of, IsReady, StaysRead, IsAsked};
 ghost use Rattle.hv_house.specs.Steps.{seen_of, read_outcome, IsMarkedFor};
-ghost use Rattle.hv_house.specs.Seeing.{ids_in, AreRead, IsSeenOf, IsSpoiled};
+ghost use Rattle.hv_house.specs.Seeing.{ids_in, AreRead, IsSeenOf};
+ghost use Rattle.hv_viewing.specs.Counting.{IsAmissOf, IsAmiss};
 ghost use Rattle.hv_viewing.specs.Looking.{Looks};
 
 use crate::reading::read_rows;
@@ -36,8 +37,9 @@ fn rows_for<D: Shelf>(
     ensures rows { IfOk result (λ rows. Tells (D.told house.old.shelf) (AreRead reads info.now
         (ids_in (state_of (take place (entries_of house.old))) info.now.table.0) rows)) }
     ensures none { IfOk result (λ rows. reads ≡ false → rows ≡ []) }
-    ensures damage { IfErr result (λ fault. IsDamage fault → Tells (D.told house.old.shelf) (λ s. IsSpoiledOf info.now
-        (ids_in (state_of (take place (entries_of house.old))) info.now.table.0) s.tree)) }
+    ensures damage { IfErr result (λ fault. IsDamage fault → Tells (D.told house.old.shelf) (λ s. IsAmissOf info.now
+        (ids_in (state_of (take place (entries_of house.old))) info.now.table.0) s.tree
+        (dues_in (state_of (take place (entries_of house.old))) info.now.table.0))) }
 {
     if !reads {
         return Ok(List::empty(alloc));
@@ -62,7 +64,7 @@ fn look<D: Shelf>(
         (state_of (take place (entries_of house.old)))
         (table_of_name name.now (state_of (take place (entries_of house.old))).tables) seen) }
     ensures damage { IfErr result (λ fault. IsDamage fault
-        → IsSpoiled (D.told house.old.shelf) (state_of (take place (entries_of house.old)))) }
+        → IsAmiss (D.told house.old.shelf) (state_of (take place (entries_of house.old)))) }
 {
     match house.find(alloc, place, name)? {
         Some(info) => {
@@ -94,7 +96,7 @@ pub fn see<D: Shelf>(
         (state_of (take place (entries_of house.old)))
         (table_of_name name.now (state_of (take place (entries_of house.old))).tables) seen) }
     ensures damage { IfErr result (λ fault. IsDamage fault
-        → IsSpoiled (D.told house.old.shelf) (state_of (take place (entries_of house.old)))) }
+        → IsAmiss (D.told house.old.shelf) (state_of (take place (entries_of house.old)))) }
     ensures ready { IfOk result (λ _. IsReady D.told house.new) }
     ensures stays { IfErr result (λ why. StaysRead D.told why house.new) }
     ensures marked { IfErr result (IsMarkedFor house.new by) }

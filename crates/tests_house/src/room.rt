@@ -24,6 +24,7 @@ use std::alloc::Global;
 const UNBOUNDED: Limits = Limits { entries: u64::MAX };
 
 /// What a call was answered that notes an entry by its name.
+#[derive(Drop)]
 enum Answer {
     /// This number: of a write id, a table or a place.
     Done(u64),
@@ -239,7 +240,11 @@ fn open_again(
         Ok(_) => Ok(answer(alloc, "opened")?),
         Err((BootFault::Full { entries }, store)) => {
             let now = image(alloc, &store)?;
-            let kept = if now.as_slice() == before { "as before" } else { "changed" };
+            let kept = if now.as_slice() == before {
+                "as before"
+            } else {
+                "changed"
+            };
             Ok(format!(in alloc; "full with {entries}, {kept}")?)
         }
         Err(_) => Err(HouseFault::Store),

@@ -3,8 +3,9 @@ use Rattle.std.specs.List.{flat_map}
 use Rattle.std.proofs.lemmas.Result.{err_from_is_err_and}
 use Rattle.hv_route.specs.Partitions.{partition_values}
 use Rattle.hv_tables.specs.Reading.{found_with, left_of, left_in}
+use Rattle.hv_viewing.proofs.Counts.{counts-next}
 use Rattle.hv_viewing.proofs.Sheets.{reads-next, err-told}
-use Rattle.hv_viewing.proofs.Looking.{looked, looks-then, looks-up, looks-lacks}
+use Rattle.hv_viewing.proofs.Looking.{looked, looks-then}
 use Rattle.hv_viewing.proofs.reading.read_left.Goals as goal
 
 pub loop-file-preserved : goal.loop-file-preserved
@@ -31,6 +32,9 @@ loop-file-preserved g c =
             ∙ ap (λ t. left_of gone (flat_map (found_with list t (partition_values parts t)) recs)) text)
             c.in_ok-push_rows.ensures;
       },
+      counts-next (g.D.Shelf.told c.args.house.now.shelf) (g.D.Shelf.told c.loop-file.house.shelf) false c.args.taken.now c.loop-file.file-index file c.loop-file.counts.items
+          c.read_file.new.counts.items recs c.loop-file-test.true c.file-item.is c.loop-file.invariant.1.looked.asked.store c.loop-file.invariant.2 c.in_ok-recs.ensures.recs
+          c.in_ok-recs.ensures.counted,
     )
 
 pub returns-in_err-recs-clause-damage : goal.returns-in_err-recs-clause-damage

@@ -1,0 +1,22 @@
+-- What the calls ask for that note an entry by its name.
+use Rattle.std.proofs.Common.{◌≡◌, ℕ, ◌+◌, Option, Some, None, List, length}
+use Rattle.std.specs.Prelude.{IsTrue, IsSomeAnd}
+use Rattle.hv_base.specs.declared.ids.Limits.{Limits}
+use Rattle.hv_history.specs.declared.state.Table.{Table}
+use Rattle.hv_history.specs.declared.state.Transaction.{Transaction}
+use Rattle.hv_history.specs.State.{State, numbered}
+use Rattle.hv_history.specs.Legal.{is_open, GivenFits}
+use Rattle.hv_house.specs.Calls.{CanBeGiven}
+
+pub of_open : (P : Transaction → Type 0) (o : Option Transaction) → IsSomeAnd o P → IsSomeAnd o (λ t. IsTrue (is_open t) → P t)
+of_open P None holds = holds
+of_open P (Some t) holds = λ unended. holds
+
+live_of : (write : ℕ) (o : Option Table) → IsSomeAnd o (λ t. IsTrue t.is_live × (write ≡ length t.owners + 1)) → IsSomeAnd o (λ t. IsTrue t.is_live)
+live_of write None here = here
+live_of write (Some t) here = here.0
+
+pub can_be_given : (limits : Limits) (s : State) (table write : ℕ) (o : Option Transaction) → IsSomeAnd o (GivenFits limits s table write)
+    → IsSomeAnd o (λ t. IsTrue (is_open t) → CanBeGiven s table t)
+can_be_given limits s table write None fits = fits
+can_be_given limits s table write (Some t) fits = λ unended. record { running = fits.running; live = live_of write (numbered s.tables table) fits.live; first = fits.first }
