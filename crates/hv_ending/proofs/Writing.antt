@@ -31,7 +31,7 @@ use Rattle.hv_stands.specs.Laws.{HasFile, changes_in}
 use Rattle.hv_stands.specs.Running.{Asking, meant, IsUnderWay, IsOfId, HasPut, KeepsGiven}
 use Rattle.hv_stands.specs.Statements.{AllFitting}
 use Rattle.hv_stands.proofs.Begun.{ids-given}
-use Rattle.hv_stands.proofs.Fitting.{fitting-sound, one-more-fits}
+use Rattle.hv_stands.proofs.Fitting.{fitting-sound, fitting-room, one-more-fits}
 use Rattle.hv_stands.proofs.Behind.{entries-are}
 use Rattle.hv_stands.proofs.Soundness.{all-numbered}
 use Rattle.hv_stands.specs.Sound.{HasFewOwners}
@@ -218,13 +218,13 @@ module _ {D : Type 0} (told : D → Option Store) (faults : D → ℕ) where
 pub next-is : (o : Option Table) (table : Table) (write : ℕ) → o ≡ Some table → IsNextOf o write → write ≡ length table.owners + 1
 next-is o table write here next = subst (λ (x : Option Table). IsNextOf x write) here next
 
-pub id-named : {D : Type 0} (told : D → Option Store) (house : House D) (number : ℕ) (table : Table) → IsReady told house
-    → numbered (state_of (entries_of house)).tables number ≡ Some table → length table.owners + 1 < write_end
-id-named told house number table ready here =
+pub id-named : {D : Type 0} (told : D → Option Store) (house : House D) (event : Entry) (number : ℕ) (table : Table) → IsReady told house
+    → Fits profile (state_of (entries_of house)) event → numbered (state_of (entries_of house)).tables number ≡ Some table → length table.owners + 1 < write_end
+id-named told house event number table ready fits here =
     let few : length table.owners ≤ (state_of (entries_of house)).entries =
     all-numbered (HasFewOwners (state_of (entries_of house)).entries) (state_of (entries_of house)).tables number table here
     (fitting-sound (entries_of house) ready.fit).tables.few in
-    omega (arith, few, entries-are (entries_of house), ready.kept.few)
+    omega (arith, few, entries-are (entries_of house), fitting-room (entries_of house) event ready.fit fits)
 
 module _ {D : Type 0} (told : D → Option Store) (faults : D → ℕ) (way : Way) (info : TableInfo) (effect : Effect) (table : Table) (write : WriteId)
     (wrote : List Touch) (text : List ℕ) (before mid now : House D)
@@ -246,7 +246,7 @@ module _ {D : Type 0} (told : D → Option Store) (faults : D → ℕ) (way : Wa
   ids = (info.table.0, write.0) ∷ []
 
   near : length old_book + 1 < write_end
-  near = omega (arith, ready.kept.few)
+  near = omega (arith, fitting-room old_book noted ready.fit fits)
 
   near_with : length with_id < write_end
   near_with = omega (arith, near, length-append old_book (noted ∷ []))

@@ -98,7 +98,7 @@ module _ {D : Type 0} (told : D → Option Store) (faults : D → ℕ) (by : Txn
     stays = tt;
     marked = tt;
     step = step-read told faults (Some (Txn by)) house house ready.kept.running refl (omega arith)
-        (gains-nothing call Done house house refl refl ready.kept.running refl refl refl refl refl refl);
+        (gains-nothing call Done house house refl refl ready.kept.running refl refl refl refl refl refl refl);
     cause = record { later = omega arith; failed = tt };
   }
 

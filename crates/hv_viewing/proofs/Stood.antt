@@ -1,5 +1,5 @@
 -- Where the files of a legal book stand, no table of an earlier place is amiss.
-use Rattle.std.proofs.Common.{◌≡◌, ℕ, ◌<◌, ◌⊎◌, inl, inr, Some, List, length, take}
+use Rattle.std.proofs.Common.{◌≡◌, ℕ, ◌<◌, inl, inr, Some, List, length, take}
 use Rattle.hv_shelf.specs.Disk.{Store, Tree}
 use Rattle.hv_dirs.specs.Names.{write_end}
 use Rattle.hv_history.specs.declared.entry.Entry.{Entry}

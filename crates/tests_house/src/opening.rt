@@ -4,7 +4,7 @@ ghost use Rattle.hv_base.specs.declared.ids.Limits.{Limits};
 ghost use Rattle.hv_built.specs.Running.{Runs};
 ghost use Rattle.hv_history.specs.Book.{tree_of_entry};
 ghost use Rattle.hv_fits.specs.Texts.{IsHanded};
-ghost use Rattle.hv_house.specs.House.{IsReady, IsSmall};
+ghost use Rattle.hv_house.specs.House.{IsReady, IsReadyWithin, IsSmall};
 ghost use Rattle.hv_house.specs.Steps.{IsMarked};
 
 use crate::showing::{rows_text, started};

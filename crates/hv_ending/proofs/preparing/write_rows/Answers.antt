@@ -39,7 +39,7 @@ pub put_rows-requires-clause-last : goal.put_rows-requires-clause-last
 put_rows-requires-clause-last g c =
     let table = c.requires.can.table in
     let is = next-is (numbered (state_of (entries_of c.args.house.now)).tables c.args.change.info.table.0) table c.args.write.0 c.requires.can.here c.requires.next in
-    subst (λ (n : ℕ). n < write_end) (sym is) (id-named g.D.Shelf.told c.args.house.now c.args.change.info.table.0 table c.requires.ready c.requires.can.here)
+    subst (λ (n : ℕ). n < write_end) (sym is) (id-named g.D.Shelf.told c.args.house.now (giving c.args.way.txn.0 c.args.change.info.table c.args.write) c.args.change.info.table.0 table c.requires.ready c.requires.fits c.requires.can.here)
 
 pub put_rows-requires-clause-holds : goal.put_rows-requires-clause-holds
 put_rows-requires-clause-holds g c =
