@@ -1,11 +1,14 @@
 -- What the calls ask for that note an entry by its name.
-use Rattle.std.proofs.Common.{◌≡◌, ℕ, ◌+◌, Option, Some, None, List, length}
+use Rattle.std.proofs.Common.{◌≡◌, ℕ, ◌+◌, Option, Some, None, length, sym, subst}
 use Rattle.std.specs.Prelude.{IsTrue, IsSomeAnd}
 use Rattle.hv_base.specs.declared.ids.Limits.{Limits}
 use Rattle.hv_history.specs.declared.state.Table.{Table}
 use Rattle.hv_history.specs.declared.state.Transaction.{Transaction}
 use Rattle.hv_history.specs.State.{State, numbered}
 use Rattle.hv_history.specs.Legal.{is_open, GivenFits}
+use Rattle.hv_shelf.specs.Disk.{Store}
+use Rattle.hv_house.specs.declared.house.House.{House}
+use Rattle.hv_house.specs.House.{IsReadyWithin}
 use Rattle.hv_house.specs.Calls.{CanBeGiven}
 
 pub of_open : (P : Transaction → Type 0) (o : Option Transaction) → IsSomeAnd o P → IsSomeAnd o (λ t. IsTrue (is_open t) → P t)
@@ -20,3 +23,6 @@ pub can_be_given : (limits : Limits) (s : State) (table write : ℕ) (o : Option
     → IsSomeAnd o (λ t. IsTrue (is_open t) → CanBeGiven s table t)
 can_be_given limits s table write None fits = fits
 can_be_given limits s table write (Some t) fits = λ unended. record { running = fits.running; live = live_of write (numbered s.tables table) fits.live; first = fits.first }
+
+pub own_limits : {D : Type 0} (told : D → Option Store) (limits : Limits) (house : House D) → IsReadyWithin limits told house → IsReadyWithin house.limits told house
+own_limits told limits house ready = subst (λ l. IsReadyWithin l told house) (sym ready.limits_are) ready

@@ -252,6 +252,7 @@ fn open_again(
 }
 
 /// Fills a house with room for so many entries, and opens its store once more.
+#[tactic(auto, using(crate::proofs::Rooms::own_limits))]
 pub(crate) fn room(alloc: Global, entries: u64) -> Result<String, HouseFault> {
     if entries > 9_999_999 {
         return Ok(answer(alloc, "refused")?);
