@@ -4,4 +4,4 @@ pub mod Notes
 pub mod Puts
 pub mod Begins
 pub mod Commits
-pub mod Laws
+pub mod Lasting

@@ -1,4 +1,4 @@
-use Rattle.hv_acts.proofs.Laws.{mark-lasts, id-lasts, put-lasts}
+use Rattle.hv_acts.proofs.Lasting.{mark-lasts, id-lasts, put-lasts}
 use Rattle.hv_acts.proofs.laws.what_is_asked_lasts.Goals as goal
 
 pub returns : goal.returns
