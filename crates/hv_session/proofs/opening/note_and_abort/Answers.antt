@@ -1,4 +1,4 @@
-use Rattle.std.proofs.Common.{◌++◌, ◌∷◌, [], sym, ap, ◌∙◌, subst}
+use Rattle.std.proofs.Common.{rules, ◌++◌, ◌∷◌, [], sym, ap, ◌∙◌, subst}
 use Rattle.hv_house.specs.House.{entries_of}
 use Rattle.hv_house.specs.Steps.{IsMarked}
 use Rattle.hv_session.proofs.Shorts.{small-opened}
@@ -6,16 +6,13 @@ use Rattle.hv_session.proofs.Beginning.{opened-tree, opened-waits, opened-runs, 
 use Rattle.hv_session.proofs.Passing.{part-behind}
 use Rattle.hv_session.proofs.opening.note_and_abort.Goals as goal
 
-pub note-requires-clause-tree : goal.note-requires-clause-tree
-note-requires-clause-tree g c =
-    let opened = c.requires.opened in opened-tree (entries_of c.args.house.now) opened.0 c.args.opened c.args.kept opened.1 opened.2
-
-pub note-requires-clause-small : goal.note-requires-clause-small
-note-requires-clause-small g c =
-    let opened = c.requires.opened in small-opened (entries_of c.args.house.now) opened.0 c.args.opened opened.1 opened.5 opened.4
-
-pub note-requires-clause-marked : goal.note-requires-clause-marked
-note-requires-clause-marked g c = subst (λ e. IsMarked c.args.house.now e) (sym c.requires.opened.1) tt
+pub note-requires : goal.note-requires
+note-requires g c κs within =
+    let opened = c.requires.opened in
+    let tree = opened-tree (entries_of c.args.house.now) opened.0 c.args.opened c.args.kept opened.1 opened.2 in
+    let small = small-opened (entries_of c.args.house.now) opened.0 c.args.opened opened.1 opened.5 opened.4 in
+    let marked = subst (λ e. IsMarked c.args.house.now e) (sym opened.1) tt in
+    (search rules, (c.requires.ready, (tree, (small, (c.requires.fits, marked)))))
 
 pub abort_opened-requires-clause-waiting : goal.abort_opened-requires-clause-waiting
 abort_opened-requires-clause-waiting g c =
