@@ -1,12 +1,14 @@
+use Rattle.std.proofs.Common.{rules, refl}
 use Rattle.hv_history.specs.declared.entry.Entry.TheVariants as entry
 use Rattle.hv_history.specs.declared.entry.Cause.TheVariants as cause
 use Rattle.hv_acts.proofs.Notes.{fits-book}
 use Rattle.hv_acts.proofs.Commits.{conflict-failed}
 use Rattle.hv_acts.proofs.committing.note_conflict.Goals as goal
 
-pub note-requires-clause-fits : goal.note-requires-clause-fits
-note-requires-clause-fits g c =
-    fits-book c.args.house.now (entry.Abort c.args.txn (cause.Conflict c.args.by c.args.shared.table c.args.shared.partition)) c.requires.fits
+pub note-requires : goal.note-requires
+note-requires g c κs within =
+    let fits = fits-book c.args.house.now (entry.Abort c.args.txn (cause.Conflict c.args.by c.args.shared.table c.args.shared.partition)) c.requires.fits in
+    (search rules, (c.requires.ready, (refl, (c.requires.small, (fits, tt)))))
 
 pub returns-in-Err : goal.returns-in-Err
 returns-in-Err g c = record {

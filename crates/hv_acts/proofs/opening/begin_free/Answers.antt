@@ -1,3 +1,4 @@
+use Rattle.std.proofs.Common.{rules}
 use Rattle.hv_acts.proofs.Notes.{no-true}
 use Rattle.hv_acts.proofs.Begins.{begin-done, begin-failed, begin-hindered}
 use Rattle.hv_acts.proofs.opening.begin_free.Goals as goal
@@ -9,9 +10,10 @@ returns-then-not-can_begin g c = record {
       c.hindrance-why.ensures.hindered (λ can. no-true c.can_begin.result c.if-not-can_begin.true (c.can_begin.ensures.can.1 can));
 }
 
-pub begin-requires-clause-fits : goal.begin-requires-clause-fits
-begin-requires-clause-fits g c =
-    c.can_begin.ensures.fits c.if-not-can_begin.false (record { session = c.args.session; number = c.args.number; text = c.args.text }) c.requires.runs
+pub begin-requires : goal.begin-requires
+begin-requires g c κs within =
+    let fits = c.can_begin.ensures.fits c.if-not-can_begin.false (record { session = c.args.session; number = c.args.number; text = c.args.text }) c.requires.runs in
+    (search rules, (c.requires.ready, (c.requires.runs, (c.requires.short, (c.requires.named, fits)))))
 
 pub returns-in-Ok : goal.returns-in-Ok
 returns-in-Ok g c = record {
