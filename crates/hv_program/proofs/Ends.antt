@@ -418,14 +418,24 @@ cut-opening why (Some s) (Some t) store opened at opens stops =
     let one : s ≡ store = same_some s store at in
     stops opened (record { journal = subst (λ (x : Store). IsJournal opened x.journal) (sym one) opens.journal; fit = opens.faithful.legal.fit })
 
+no-store : (before : Store) (told : Option Store) → told ≡ None → told ≡ Some before → ⊥
+no-store before told none some = cc
+
+unopened-any : (book : List Entry) (written : List ℕ) (before : Store) (told told' : Option Store) (Keeps : List ℕ → Type 0) → told ≡ Some before → Moves KeepsTree told told'
+    → ((after : Store) → after.tree ≡ before.tree → Keeps after.journal → HasRoom profile (state_of book) 1 → OpensLater book after)
+    → Tells told' (λ s. Keeps s.journal) → (after : Store) × (told' ≡ Some after) × IsUnopened book written written before after Keeps
+unopened-any book written before None told' Keeps e tree later keeps = absurd (no-store before None refl e)
+unopened-any book written before (Some s) None Keeps e tree later keeps = absurd tree
+unopened-any book written before (Some s) (Some s') Keeps e tree later keeps =
+    let same : s'.tree ≡ before.tree = tree ∙ ap (λ (x : Store). x.tree) (same_some s before e) in
+    (s', refl, record { wrote = refl; files = same; keeps = keeps; opens = later s' same keeps })
+
 unopened : (why : BootFault) (book : List Entry) (written : List ℕ) (before : Store) (told told' : Option Store) → told ≡ Some before → Moves KeepsTree told told'
     → OpensTo book before → Tells told' (λ s. IsCutOpening why book s.journal)
     → (after : Store) × (told' ≡ Some after) × IsUnopened book written written before after (IsCutOpening why book)
-unopened why book written before None told' e tree opens keeps = cc
-unopened why book written before (Some s) None e tree opens keeps = absurd tree
-unopened why book written before (Some s) (Some s') e tree opens keeps =
-    let same : s'.tree ≡ before.tree = tree ∙ ap (λ (x : Store). x.tree) (same_some s before e) in
-    (s', refl, record { wrote = refl; files = same; keeps = keeps; opens = λ room. cut-opens-later why book before s' room same opens.faithful keeps })
+unopened why book written before told told' e tree opens keeps =
+    unopened-any book written before told told' (IsCutOpening why book) e tree
+    (λ after same cut room. cut-opens-later why book before after room same opens.faithful cut) keeps
 
 Serves-five : (low high : ℕ) (actions : List Action) (sink : Option (List ℕ)) (told told' : Option Store) → Moves KeepsTree told told'
     → StopsOpening profile told told' boot.Store → Serves 5 low high actions sink sink told told'
