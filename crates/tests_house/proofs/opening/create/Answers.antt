@@ -4,4 +4,4 @@ use Rattle.tests_house.proofs.opening.create.Goals as goal
 
 pub note-requires : goal.note-requires
 note-requires g c κs within =
-    (search rules, (c.requires.ready, (refl, (search rules, (short_create c.args.txn (record { 0 = length c.tables.result.now + 1 }), tt)))))
+    (search rules, (c.requires.ready, (refl, (tt, (short_create c.args.txn (record { 0 = length c.tables.result.now + 1 }), tt)))))
