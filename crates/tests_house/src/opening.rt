@@ -154,7 +154,6 @@ pub(crate) fn said(alloc: Global, noted: bool) -> Result<String, NoMemory> {
 }
 
 /// Gives a transaction the next write id of a table.
-#[tactic(auto, using(crate::proofs::Facts::short_given))]
 pub(crate) fn give<D: Shelf>(
     alloc: Global,
     house: &mut House<D>,
@@ -178,7 +177,6 @@ fn write_line(alloc: Global, write: u64) -> Result<String, NoMemory> {
 }
 
 /// Aborts a transaction.
-#[tactic(auto, using(crate::proofs::Facts::short_memory))]
 pub(crate) fn abort<D: Shelf>(
     alloc: Global,
     house: &mut House<D>,
