@@ -1,5 +1,5 @@
 -- Whose an own directory is, and the files of a change by their places.
-use Rattle.std.proofs.Common.{◌≡◌, ℕ, ◌<◌, Some, List, [], ◌∷◌, ◌++◌, length, map, refl, sym, ap, ◌∙◌, subst, arith, Bool, true, false, cond}
+use Rattle.std.proofs.Common.{◌≡◌, ℕ, ◌<◌, Some, List, [], ◌∷◌, ◌++◌, length, map, option_map, refl, sym, ap, ◌∙◌, subst, arith, Bool, true, false, cond}
 use Rattle.hv_base.specs.declared.ids.Limits.{Limits}
 use Rattle.hv_shelf.specs.declared.place.Place.{Place}
 use Rattle.hv_logic.specs.declared.catalog.TableInfo.{TableInfo}
@@ -9,23 +9,23 @@ use Rattle.hv_history.specs.declared.state.Table.{Table}
 use Rattle.hv_history.specs.declared.state.Transaction.{Transaction}
 use Rattle.hv_history.specs.declared.state.Statement.{Statement}
 use Rattle.hv_logic.specs.declared.meaning.Meaning.TheVariants.{Change}
-use Rattle.hv_history.specs.State.{State, nothing_yet, numbered, statement_meaning, after, state_of, written_by}
+use Rattle.hv_history.specs.State.{State, nothing_yet, numbered, given_in, statement_meaning, after, state_of, written_by}
 use Rattle.hv_history.specs.Legal.{AllFit}
 use Rattle.hv_history.specs.Lasting.{TableLater}
 use Rattle.hv_history.proofs.LastingLaws.{goes-on, kept-more}
 use Rattle.hv_dirs.specs.Names.{write_end}
 use Rattle.hv_stands.specs.Files.{own_dir, commit_file, file_of, place_of_file}
-use Rattle.hv_stands.specs.Sound.{HasFewOwners, info_in, IsRoutedChange, ChangesAmong, IsSingle, IsSound}
+use Rattle.hv_stands.specs.Sound.{HasFewOwners, info_in, given_of, owners_of, given_among, IsRoutedChange, ChangesAmong, IsSingle, IsSound}
 use Rattle.hv_stands.specs.Running.{IsOfId}
-use Rattle.hv_stands.proofs.Numbers.{same_one, found, numbered-within}
+use Rattle.hv_stands.proofs.Numbers.{same_one, found, numbered-within, numbered-map}
 use Rattle.hv_stands.proofs.Soundness.{all-numbered}
 use Rattle.hv_stands.proofs.MadeFiles.{own_dir-same, made-by, made-own}
-use Rattle.hv_stands.proofs.Keeping.{sound-all, nothing-sound}
+use Rattle.hv_stands.proofs.Keeping.{owner-table, sound-all, nothing-sound}
 use Rattle.hv_stands.proofs.Behind.{entries-are}
-use Rattle.hv_stands.proofs.OwnFiles.{IsIdOf, is-id-of}
+use Rattle.hv_stands.proofs.OwnFiles.{found-given}
 use Rattle.hv_trail.specs.declared.trail.TrailItem.{TrailItem}
 use Rattle.hv_trail.specs.Trail.{book_of, state_at}
-use Rattle.hv_marked.specs.Marked.{ChangesBy, IsChanging, IsOfOwner, file_wanted, IsFileOf}
+use Rattle.hv_marked.specs.Marked.{ChangesBy, IsChanging, IsOwnPlace, file_wanted, IsFileOf}
 use Rattle.hv_marked.specs.Laws.{IsFitting}
 use Rattle.std.specs.List.{slice_get, AllByRecursion, Contains}
 use Rattle.std.specs.List.Sorted.{IsStrictlySortedBy}
@@ -161,6 +161,24 @@ near-of limits trail fitting = omega (arith, fitting.few, entries-are (book_of t
 
 -- ---- over a sound state
 
+id-owner : (s : State) → IsSound s → (txn k w : ℕ) (t : Transaction) → numbered s.transactions txn ≡ Some t → given_in k t.given ≡ Some w
+    → (table : Table) × (numbered s.tables k ≡ Some table) × (numbered table.owners w ≡ Some txn)
+id-owner s sound txn k w t at given =
+    owner-table (map owners_of s.tables) s.tables k w txn refl
+    (sound.given.has_owner txn k w (ap (λ o. given_among o k) (numbered-map given_of s.transactions txn ∙ ap (option_map given_of) at) ∙ given))
+
+pub given-place : (s : State) → IsSound s → (txn k w : ℕ) (t : Transaction) → numbered s.transactions txn ≡ Some t → given_in k t.given ≡ Some w
+    → (place : Place) → IsOfId k w place → IsOwnPlace s.tables txn place
+given-place s sound txn k w t at given place of =
+    let id = id-owner s sound txn k w t at given in
+    record {
+      table = id.0;
+      named = ap (numbered s.tables) of.table_is ∙ id.1;
+      write = w;
+      owner = id.2;
+      own = record { table_is = refl; deletes = of.deletes; statement = of.statement; dir = of.dir };
+    }
+
 module _ (s : State) (sound : IsSound s) (room : s.entries < write_end) where
   few-ids : (k w txn : ℕ) (table : Table) → numbered s.tables k ≡ Some table → numbered table.owners w ≡ Some txn → w < write_end
   few-ids k w txn table at owner =
@@ -169,7 +187,7 @@ module _ (s : State) (sound : IsSound s) (room : s.entries < write_end) where
       omega (arith, few, within.1, room)
 
   -- a place has one owner
-  pub one-owner : (place : Place) (txn other : ℕ) → IsOfOwner s.tables txn place → IsOfOwner s.tables other place → txn ≡ other
+  pub one-owner : (place : Place) (txn other : ℕ) → IsOwnPlace s.tables txn place → IsOwnPlace s.tables other place → txn ≡ other
   one-owner place txn other a b =
       let same : a.table ≡ b.table = same_one (numbered s.tables place.table.0) a.table b.table a.named b.named in
       let names = own_dir-same a.own.deletes b.own.deletes a.write a.own.statement b.write b.own.statement
@@ -182,22 +200,18 @@ module _ (s : State) (sound : IsSound s) (room : s.entries < write_end) where
     pub the-one : (t : Transaction) × (numbered s.transactions txn ≡ Some t) × ChangesBy info effect write t
     the-one = found (ChangesBy info effect write) (numbered s.transactions txn) changing
 
-    its-id : IsIdOf s txn info.table.0 write
-    its-id = is-id-of s txn info.table.0 write the-one.0 sound the-one.1 the-one.2.given_is
+    given : given_in info.table.0 the-one.0.given ≡ Some write
+    given = ap (given_in info.table.0) the-one.2.given_is ∙ found-given info.table.0 write
 
     small : write < write_end
-    small = few-ids info.table.0 write txn its-id.table its-id.here its-id.owner
+    small =
+        let id = id-owner s sound txn info.table.0 write the-one.0 the-one.1 given in
+        few-ids info.table.0 write txn id.0 id.1 id.2
 
-    pub of-changing : (place : Place) → IsOfId info.table.0 write place → IsOfOwner s.tables txn place
-    of-changing place of = record {
-      table = its-id.table;
-      named = ap (numbered s.tables) of.table_is ∙ its-id.here;
-      write = write;
-      owner = its-id.owner;
-      own = record { table_is = refl; deletes = of.deletes; statement = of.statement; dir = of.dir };
-    }
+    pub of-changing : (place : Place) → IsOfId info.table.0 write place → IsOwnPlace s.tables txn place
+    of-changing place of = given-place s sound txn info.table.0 write the-one.0 the-one.1 given place of
 
-    pub own-place : (place : Place) (bytes : List ℕ) → IsFileOf info effect write place bytes → IsOfOwner s.tables txn place
+    pub own-place : (place : Place) (bytes : List ℕ) → IsFileOf info effect write place bytes → IsOwnPlace s.tables txn place
     own-place place bytes file = of-changing place (of-its-id info effect write place bytes file)
 
     -- its deletes rise
@@ -224,7 +238,7 @@ numbered-front {A = A} xs ys n x at =
     let there = found (λ (y : A). y ≡ x) (numbered (xs ++ ys) n) (kept-more (λ (a b : A). b ≡ a) (λ (a : A). refl) xs ys n x at) in
     there.1 ∙ ap (λ (y : A). Some y) there.2
 
-pub owner-stays : (s : State) (event : Entry) (txn : ℕ) (place : Place) → IsOfOwner s.tables txn place → IsOfOwner (after s event).tables txn place
+pub owner-stays : (s : State) (event : Entry) (txn : ℕ) (place : Place) → IsOwnPlace s.tables txn place → IsOwnPlace (after s event).tables txn place
 owner-stays s event txn place of =
     let later = found (TableLater of.table) (numbered (after s event).tables place.table.0) ((goes-on s event).tables place.table.0 of.table of.named) in
     record {

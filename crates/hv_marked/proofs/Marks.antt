@@ -14,7 +14,7 @@ use Rattle.hv_trail.specs.declared.trail.TrailItem.{TrailItem}
 use Rattle.hv_trail.specs.declared.trail.TrailItem.TheVariants.{Noted, Marked}
 use Rattle.hv_trail.specs.Trail.{is_reader, HasWritten, broken}
 use Rattle.hv_marked.specs.Marked.{by_txn}
-use Rattle.hv_marked.specs.Laws.{WrittenStays, IsNoFaultOf, UnbrokenStays, UnbrokenWas}
+use Rattle.hv_marked.specs.Laws.{WrittenStays, IsNoFaultOf, UnbrokenStays}
 
 -- ---- marks
 
@@ -89,7 +89,7 @@ both-none (Some why) p e = cc
 unbroken-both : (trail more : List TrailItem) (reader : Reader) → broken reader (trail ++ more) ≡ None → (broken reader trail ≡ None) × (broken reader more ≡ None)
 unbroken-both trail more reader none = both-none (broken reader trail) (broken reader more) (sym (broken-append trail more reader) ∙ none)
 
-pub unbroken-was : UnbrokenWas
+pub unbroken-was : (trail more : List TrailItem) (reader : Reader) → broken reader (trail ++ more) ≡ None → broken reader trail ≡ None
 unbroken-was trail more reader none = let both = unbroken-both trail more reader none in both.0
 
 no-faults : (more : List TrailItem) (reader : Reader) → AllByRecursion (IsNoFaultOf reader) more → broken reader more ≡ None

@@ -3,7 +3,7 @@ use Rattle.std.proofs.Common.{◌≡◌, ◌⊎◌, inl, inr, ℕ, ◌+◌, ◌<
 use Rattle.std.specs.FinMap as tree
 use Rattle.hv_base.specs.declared.ids.Limits.{Limits}
 use Rattle.hv_shelf.specs.declared.place.Place.{Place}
-use Rattle.hv_shelf.specs.Disk.{Tree, Store, TornFile}
+use Rattle.hv_shelf.specs.Disk.{Tree}
 use Rattle.hv_logic.specs.declared.catalog.TableInfo.{TableInfo}
 use Rattle.hv_logic.specs.declared.effect.Effect.{Effect}
 use Rattle.hv_history.specs.declared.entry.Entry.{Entry}
@@ -14,7 +14,7 @@ use Rattle.hv_stands.specs.Files.{own_dir, Stands, place_of_file}
 use Rattle.hv_stands.specs.Sound.{KeepsAll, IsSound}
 use Rattle.hv_stands.specs.Running.{IsOfId}
 use Rattle.hv_stands.proofs.Numbers.{found, same_one, either}
-use Rattle.hv_stands.proofs.Soundness.{all-numbered}
+use Rattle.hv_stands.proofs.Soundness.{all-mapped, all-numbered}
 use Rattle.hv_stands.proofs.StandingFiles.{kept-none, new-ids-bare, same-place, place-tied, other-place}
 use Rattle.hv_stands.proofs.Behind.{entries-are}
 use Rattle.hv_stands.proofs.OwnFiles.{unowned}
@@ -23,8 +23,10 @@ use Rattle.hv_trail.specs.declared.trail.TrailItem.TheVariants.{Noted, Marked}
 use Rattle.hv_trail.specs.Trail.{book_of, state_at, HasWritten, broken}
 use Rattle.hv_trail.proofs.LastingLaws.{state-append}
 use Rattle.hv_trail.proofs.MarkLaws.{whole-book}
-use Rattle.hv_marked.specs.Marked.{by_txn, ChangesBy, IsChanging, IsOfOwner, file_wanted, IsMarkedAt, MarksStand, IsFileOf, KeepsElsewhere, IsPutAt, HasAllMarks, MarksStandIn}
-use Rattle.hv_marked.specs.Laws.{OpenedMarksStand, NotedMarksStand, IsFitting, PutMarksStand, BrokenMarksStand, UnreadMarksStand, StoresArePut, StoresAreTorn, ChangesOwnPlaces, ChangesAreOpen, MarksGiveFiles}
+use Rattle.hv_trail.proofs.OwnLaws.{others-leave}
+use Rattle.hv_trail.specs.Lasting.{IsGiven}
+use Rattle.hv_marked.specs.Marked.{by_txn, ChangesBy, IsChanging, IsOwnPlace, file_wanted, IsMarkedAt, MarksStandIn, MarksStand, IsFileOf, HasAllMarks}
+use Rattle.hv_marked.specs.Laws.{IsFitting, PutStays, OpenedMarksStand, NotedMarksStand, PutMarksStand, BrokenMarksStand, UnreadMarksStand, ChangesAreOpen, GivenPlacesAreOwn, MarksGiveFiles}
 use Rattle.std.specs.Ordering.{eq_by_cmp}
 use Rattle.hv_shelf.specs.Places.{place_cmp, place_total}
 use Rattle.hv_logic.specs.declared.meaning.Meaning.TheVariants.{Change}
@@ -32,9 +34,10 @@ use Rattle.hv_history.specs.declared.state.Transaction.{Transaction}
 use Rattle.hv_trail.specs.declared.trail.Mark.{Mark}
 use Rattle.hv_trail.specs.declared.trail.Mark.TheVariants.{Wrote, Broke}
 use Rattle.hv_route.specs.declared.files.OutFile.{OutFile}
-use Rattle.hv_marked.proofs.Marks.{written-cases, written-before, entry-unwritten, fault-unwritten, same-written, same-txn, entries-unwritten, unbroken-was, broke-it}
+use Rattle.hv_route.specs.Routes.{files_of}
+use Rattle.hv_marked.proofs.Marks.{written-stays, unbroken-stays, written-cases, written-before, entry-unwritten, fault-unwritten, same-written, same-txn, entries-unwritten, unbroken-was, broke-it}
 use Rattle.hv_marked.proofs.Books.{IsSettled, all-settled, is-there, IsJustGiven, was-changing}
-use Rattle.hv_marked.proofs.ItsFiles.{sound-of, near-of, one-owner, the-one, of-changing, own-place, wanted-here, one-wanted, owner-stays}
+use Rattle.hv_marked.proofs.ItsFiles.{given-place, sound-of, near-of, one-owner, the-one, of-changing, own-place, wanted-here, one-wanted, owner-stays}
 
 -- ---- a house just opened
 
@@ -132,28 +135,18 @@ same-or-other place other = by (either (eq_by_cmp place_cmp other place))
     by (inl same) = inl (same-place other place same)
     by (inr apart) = inr (other-place other place apart)
 
-put-others : (old : Tree) (place : Place) (bytes : List ℕ) (other : Place) → (other ≡ place → ⊥) → tree.get (tree.insert old place bytes) other ≡ tree.get old other
-put-others old place bytes other apart =
-    tree.get-insert place_total old place bytes other ∙ by (either (eq_by_cmp place_cmp other place))
+put-here : (files : Tree) (place : Place) (bytes : List ℕ) → tree.get (tree.insert files place bytes) place ≡ Some bytes
+put-here files place bytes =
+    tree.get-insert place_total files place bytes place ∙ ap (λ b. cond b (Some bytes) (tree.get files place)) (place-tied place)
+
+put-others : (files : Tree) (place : Place) (bytes : List ℕ) (other : Place) → (other ≡ place → ⊥) → tree.get (tree.insert files place bytes) other ≡ tree.get files other
+put-others files place bytes other apart =
+    tree.get-insert place_total files place bytes other ∙ by (either (eq_by_cmp place_cmp other place))
   where
     by : (eq_by_cmp place_cmp other place ≡ true) ⊎ (eq_by_cmp place_cmp other place ≡ false)
-        → cond (eq_by_cmp place_cmp other place) (Some bytes) (tree.get old other) ≡ tree.get old other
+        → cond (eq_by_cmp place_cmp other place) (Some bytes) (tree.get files other) ≡ tree.get files other
     by (inl same) = absurd (apart (same-place other place same))
-    by (inr differ) = ap (λ b. cond b (Some bytes) (tree.get old other)) differ
-
-pub stores-are-put : StoresArePut
-stores-are-put place bytes before now has = record {
-  here = ap (λ (files : Tree). tree.get files place) has.tree_is ∙ tree.get-insert place_total before.tree place bytes place
-      ∙ ap (λ b. cond b (Some bytes) (tree.get before.tree place)) (place-tied place);
-  others = λ other apart. ap (λ (files : Tree). tree.get files other) has.tree_is ∙ put-others before.tree place bytes other apart;
-}
-
-pub stores-are-torn : StoresAreTorn
-stores-are-torn place before now torn other apart = by torn
-  where
-    by : TornFile place before now → tree.get now.tree other ≡ tree.get before.tree other
-    by (inl same) = ap (λ (s : Store). tree.get s.tree other) same
-    by (inr breaks) = breaks.others other apart
+    by (inr differ) = ap (λ b. cond b (Some bytes) (tree.get files other)) differ
 
 -- ---- calls on files
 
@@ -185,7 +178,7 @@ one-change info other effect last write id t a b =
     let second : effect ≡ last = cc in
     (first, second, ap (λ (given : ℕ × ℕ). given.1) (same-head (info.table.0, write) (other.table.0, id) [] [] (sym a.given_is ∙ b.given_is)))
 
-module _ (limits : Limits) (trail : List TrailItem) (fitting : IsFitting limits trail) (before now : Tree) (marks : MarksStand trail before)
+module _ (limits : Limits) (trail : List TrailItem) (fitting : IsFitting limits trail) (before : Tree) (marks : MarksStand trail before)
     (txn : ℕ) (place : Place) where
   abbrev state : State
   state = state_at trail
@@ -197,15 +190,16 @@ module _ (limits : Limits) (trail : List TrailItem) (fitting : IsFitting limits 
   near = near-of limits trail fitting
 
   -- who is changing at an own place of a transaction is that one
-  same-owner : IsOfOwner state.tables txn place → (other : ℕ) (info : TableInfo) (effect : Effect) (write : ℕ) → IsChanging state other info effect write
+  same-owner : IsOwnPlace state.tables txn place → (other : ℕ) (info : TableInfo) (effect : Effect) (write : ℕ) → IsChanging state other info effect write
       → (there : Place) → IsOfId info.table.0 write there → there ≡ place → other ≡ txn
   same-owner own other info effect write changing there of same =
       one-owner state firm near place other txn (of-changing state firm near other info effect write changing place (subst (IsOfId info.table.0 write) same of)) own
 
   -- a put that failed
-  broken-marks : (is_put : Bool) (count : ℕ) → IsOfOwner state.tables txn place → KeepsElsewhere place before now
+  broken-marks : (now : Tree) (is_put : Bool) (count : ℕ) → IsOwnPlace state.tables txn place
+      → ((other : Place) → (other ≡ place → ⊥) → tree.get now other ≡ tree.get before other)
       → MarksStand (trail ++ Marked (Broke (Some (by_txn txn)) is_put count) ∷ []) now
-  broken-marks is_put count own others =
+  broken-marks now is_put count own others =
       on-marks trail mark now (record {
         each = λ other info effect write changing unbroken there of. by other info effect write changing unbroken there of (same-or-other place there);
         own = λ other there has. marks.own other there (written-before trail (Marked mark) (by_txn other) there (unwritten other there) has);
@@ -229,11 +223,14 @@ module _ (limits : Limits) (trail : List TrailItem) (fitting : IsFitting limits 
 
   -- a put of a file of its change
   module _ (info : TableInfo) (effect : Effect) (write : ℕ) (bytes : List ℕ) (changing : IsChanging state txn info effect write)
-      (file : IsFileOf info effect write place bytes) (put : IsPutAt place bytes before now) where
+      (file : IsFileOf info effect write place bytes) where
+    abbrev now : Tree
+    now = tree.insert before place bytes
+
     abbrev marked : List TrailItem
     marked = trail ++ Marked (Wrote (by_txn txn) place) ∷ []
 
-    its-own : IsOfOwner state.tables txn place
+    its-own : IsOwnPlace state.tables txn place
     its-own = own-place state firm near txn info effect write changing place bytes file
 
     -- it is what is wanted there, whoever asks
@@ -251,18 +248,18 @@ module _ (limits : Limits) (trail : List TrailItem) (fitting : IsFitting limits 
         → (there : Place) → IsOfId of.table.0 id there → (there ≡ place) ⊎ (there ≡ place → ⊥)
         → IsMarkedAt marked other there (file_wanted of last id there) (tree.get now there)
     put-each other of last id changes unbroken there is (inl same) =
-        inl (ap (tree.get now) same ∙ put.here
+        inl (ap (tree.get now) same ∙ put-here before place bytes
         ∙ sym (ap (file_wanted of last id) same ∙ wanted-anyway other of last id changes (same-owner its-own other of last id changes there is same)))
     put-each other of last id changes unbroken there is (inr apart) =
         still trail (Marked (Wrote (by_txn txn) place)) before now marks other of last id changes unbroken there is
-        (λ e. apart (sym (same-written (by_txn txn) (by_txn other) place there e).1)) (put.others there apart)
+        (λ e. apart (sym (same-written (by_txn txn) (by_txn other) place there e).1)) (put-others before place bytes there apart)
 
     put-own : (other : ℕ) (there : Place) → HasWritten trail (by_txn other) there ⊎ (Marked (Wrote (by_txn txn) place) ≡ Marked (Wrote (by_txn other) there))
-        → IsOfOwner state.tables other there
+        → IsOwnPlace state.tables other there
     put-own other there (inl has) = marks.own other there has
     put-own other there (inr e) =
         let same = same-written (by_txn txn) (by_txn other) place there e in
-        subst (IsOfOwner state.tables other) same.1 (subst (λ (n : ℕ). IsOfOwner state.tables n place) (same-txn txn other same.0) its-own)
+        subst (IsOwnPlace state.tables other) same.1 (subst (λ (n : ℕ). IsOwnPlace state.tables n place) (same-txn txn other same.0) its-own)
 
     put-marks : MarksStand marked now
     put-marks = on-marks trail (Wrote (by_txn txn) place) now (record {
@@ -271,12 +268,12 @@ module _ (limits : Limits) (trail : List TrailItem) (fitting : IsFitting limits 
     })
 
 pub put-marks-stand : PutMarksStand
-put-marks-stand limits trail before now txn info effect write place bytes fitting changing file put marks =
-    put-marks limits trail fitting before now marks txn place info effect write bytes changing file put
+put-marks-stand limits trail files txn info effect write place bytes fitting changing file marks =
+    put-marks limits trail fitting files marks txn place info effect write bytes changing file
 
 pub broken-marks-stand : BrokenMarksStand
 broken-marks-stand limits trail before now txn place is_put count fitting own others marks =
-    broken-marks limits trail fitting before now marks txn place is_put count own others
+    broken-marks limits trail fitting before marks txn place now is_put count own others
 
 -- ---- what they are for
 
@@ -284,9 +281,22 @@ pub changes-are-open : ChangesAreOpen
 changes-are-open book asking txn place said info effect write way means =
     is-there (ChangesBy info effect write) (numbered (state_of book).transactions txn) _ way.here (record { unended = refl; means_it = means; given_is = refl })
 
-pub changes-own-places : ChangesOwnPlaces
-changes-own-places limits trail txn info effect write place bytes fitting changing file =
-    own-place (state_at trail) (sound-of limits (book_of trail) fitting.fit) (near-of limits trail fitting) txn info effect write changing place bytes file
+pub given-places-own : GivenPlacesAreOwn
+given-places-own limits trail txn table write place fit given of =
+    let there = found (IsGiven table write) (numbered (state_at trail).transactions txn) given in
+    given-place (state_at trail) (sound-of limits (book_of trail) fit) txn table write there.0 there.1 there.2 place of
+
+pub put-stays : PutStays
+put-stays trail more txn info effect write spare apart put =
+    let there = found (ChangesBy info effect write) (numbered (state_at trail).transactions txn) put.changing in
+    record {
+      changing = is-there (ChangesBy info effect write) (numbered (state_at (trail ++ more)).transactions txn) there.0
+          (others-leave trail more txn there.0 spare there.1) there.2;
+      unbroken = unbroken-stays trail more (by_txn txn) apart put.unbroken;
+      marks = all-mapped (λ (file : OutFile). HasWritten trail (by_txn txn) (place_of_file info.table.0 write file))
+          (λ (file : OutFile). HasWritten (trail ++ more) (by_txn txn) (place_of_file info.table.0 write file))
+          (λ file has. written-stays trail more (by_txn txn) (place_of_file info.table.0 write file) has) (files_of info.shape write 0 effect) put.marks;
+    }
 
 module _ (limits : Limits) (trail : List TrailItem) (fitting : IsFitting limits trail) (txn : ℕ) (info : TableInfo) (effect : Effect) (write : ℕ)
     (changing : IsChanging (state_at trail) txn info effect write) (all : HasAllMarks trail txn info effect write) where
@@ -305,12 +315,12 @@ module _ (limits : Limits) (trail : List TrailItem) (fitting : IsFitting limits 
   whole-there place of found (inr none) = none.1 ∙ sym (nothing-wanted place of none.0 (file_wanted info effect write place) refl)
 
 pub marks-give-files : MarksGiveFiles
-marks-give-files limits trail files txn info effect write fitting marks changing unbroken all readable held =
-    let there = found (ChangesBy info effect write) (numbered (state_at trail).transactions txn) changing in
+marks-give-files limits trail files txn info effect write fitting marks put readable held =
+    let there = found (ChangesBy info effect write) (numbered (state_at trail).transactions txn) put.changing in
     let settled = all-numbered IsSettled (state_at trail).transactions txn there.0 there.1 (all-settled limits (book_of trail) fitting.fit) in
     record {
       own = λ place of.
-          whole-there limits trail fitting txn info effect write changing all place of (tree.get files place)
-          (marks.each txn info effect write changing unbroken place of);
+          whole-there limits trail fitting txn info effect write put.changing put.marks place of (tree.get files place)
+          (marks.each txn info effect write put.changing put.unbroken place of);
       encoded = (settled.readable info effect there.2.means_it).encoded write readable held;
     }

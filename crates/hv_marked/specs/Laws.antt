@@ -3,7 +3,8 @@ use Rattle.std.specs.Prelude.{◌≡◌, ℕ, ◌+◌, ◌<◌, Bool, false, Opt
 use Rattle.std.specs.List.{AllByRecursion}
 use Rattle.hv_base.specs.declared.ids.Limits.{Limits}
 use Rattle.hv_shelf.specs.declared.place.Place.{Place}
-use Rattle.hv_shelf.specs.Disk.{Store, Tree, HasFile, TornFile}
+use Rattle.std.specs.FinMap as tree
+use Rattle.hv_shelf.specs.Disk.{Tree}
 use Rattle.hv_ast.specs.declared.statement.Stmt.{Stmt}
 use Rattle.hv_logic.specs.declared.catalog.TableInfo.{TableInfo}
 use Rattle.hv_logic.specs.declared.effect.Effect.{Effect}
@@ -16,14 +17,16 @@ use Rattle.hv_history.specs.State.{State, state_of, nothing_yet, numbered}
 use Rattle.hv_history.specs.Legal.{Fits, AllFit}
 use Rattle.hv_dirs.specs.Names.{write_end}
 use Rattle.hv_stands.specs.Files.{Stands}
-use Rattle.hv_stands.specs.Laws.{HasFile as CanBeRead}
-use Rattle.hv_stands.specs.Running.{Asking, meant, IsUnderWay, HasPut}
+use Rattle.hv_stands.specs.Laws.{HasFile}
+use Rattle.hv_stands.specs.Running.{Asking, meant, IsUnderWay, IsOfId, HasPut}
 use Rattle.hv_trail.specs.declared.trail.Reader.{Reader}
 use Rattle.hv_trail.specs.declared.trail.Mark.TheVariants.{Wrote, Broke}
 use Rattle.hv_trail.specs.declared.trail.TrailItem.{TrailItem}
 use Rattle.hv_trail.specs.declared.trail.TrailItem.TheVariants.{Noted, Marked}
 use Rattle.hv_trail.specs.Trail.{book_of, state_at, is_reader, HasWritten, broken}
-use Rattle.hv_marked.specs.Marked.{by_txn, IsChanging, IsOfOwner, MarksStand, HasAllMarks, IsFileOf, KeepsElsewhere, IsPutAt}
+use Rattle.hv_trail.specs.Lasting.{Has, IsGiven}
+use Rattle.hv_trail.specs.Own.{AllSpare}
+use Rattle.hv_marked.specs.Marked.{by_txn, IsChanging, IsOwnPlace, MarksStand, IsWhollyPut, IsFileOf}
 
 -- the book of the trail fits, and its write ids have names
 pub record IsFitting (limits : Limits) (trail : List TrailItem) : Type 0 where
@@ -47,9 +50,12 @@ UnbrokenStays =
     (trail more : List TrailItem) (reader : Reader) → AllByRecursion (IsNoFaultOf reader) more
     → broken reader trail ≡ None → broken reader (trail ++ more) ≡ None
 
--- and was so before
-abbrev pub UnbrokenWas : Type 0
-UnbrokenWas = (trail more : List TrailItem) (reader : Reader) → broken reader (trail ++ more) ≡ None → broken reader trail ≡ None
+-- and all that a transaction put stays so, where its own entries don't follow
+abbrev pub PutStays : Type 0
+PutStays =
+    (trail more : List TrailItem) (txn : ℕ) (info : TableInfo) (effect : Effect) (write : ℕ)
+    → AllSpare txn more → AllByRecursion (IsNoFaultOf (by_txn txn)) more
+    → IsWhollyPut trail txn info effect write → IsWhollyPut (trail ++ more) txn info effect write
 
 -- ---- what keeps them true of the files
 
@@ -70,16 +76,16 @@ NotedMarksStand =
 -- a file of the change of an open transaction, which is put
 abbrev pub PutMarksStand : Type 0
 PutMarksStand =
-    (limits : Limits) (trail : List TrailItem) (before now : Tree) (txn : ℕ) (info : TableInfo) (effect : Effect) (write : ℕ)
-    (place : Place) (bytes : List ℕ)
+    (limits : Limits) (trail : List TrailItem) (files : Tree) (txn : ℕ) (info : TableInfo) (effect : Effect) (write : ℕ) (place : Place) (bytes : List ℕ)
     → IsFitting limits trail → IsChanging (state_at trail) txn info effect write → IsFileOf info effect write place bytes
-    → IsPutAt place bytes before now → MarksStand trail before → MarksStand (trail ++ Marked (Wrote (by_txn txn) place) ∷ []) now
+    → MarksStand trail files → MarksStand (trail ++ Marked (Wrote (by_txn txn) place) ∷ []) (tree.insert files place bytes)
 
--- a put in an own directory that failed, whatever it left there
+-- a put in an own directory that failed, whatever it left there: elsewhere the files are as they were
 abbrev pub BrokenMarksStand : Type 0
 BrokenMarksStand =
     (limits : Limits) (trail : List TrailItem) (before now : Tree) (txn : ℕ) (place : Place) (put : Bool) (count : ℕ)
-    → IsFitting limits trail → IsOfOwner (state_at trail).tables txn place → KeepsElsewhere place before now
+    → IsFitting limits trail → IsOwnPlace (state_at trail).tables txn place
+    → ((other : Place) → (other ≡ place → ⊥) → tree.get now other ≡ tree.get before other)
     → MarksStand trail before → MarksStand (trail ++ Marked (Broke (Some (by_txn txn)) put count) ∷ []) now
 
 -- a call that failed and left the files as they are
@@ -87,13 +93,6 @@ abbrev pub UnreadMarksStand : Type 0
 UnreadMarksStand =
     (trail : List TrailItem) (files : Tree) (by : Option Reader) (put : Bool) (count : ℕ)
     → MarksStand trail files → MarksStand (trail ++ Marked (Broke by put count) ∷ []) files
-
--- what calls on a store change, in these words
-abbrev pub StoresArePut : Type 0
-StoresArePut = (place : Place) (bytes : List ℕ) (before now : Store) → HasFile place bytes before now → IsPutAt place bytes before.tree now.tree
-
-abbrev pub StoresAreTorn : Type 0
-StoresAreTorn = (place : Place) (before now : Store) → TornFile place before now → KeepsElsewhere place before.tree now.tree
 
 -- ---- what they are for
 
@@ -104,18 +103,17 @@ ChangesAreOpen =
     → IsUnderWay book asking txn place said ((info.table.0, write) ∷ []) → meant (take place book) said ≡ Some (Change info effect)
     → IsChanging (state_of book) txn info effect write
 
--- places in own directories of its write id are its own
-abbrev pub ChangesOwnPlaces : Type 0
-ChangesOwnPlaces =
-    (limits : Limits) (trail : List TrailItem) (txn : ℕ) (info : TableInfo) (effect : Effect) (write : ℕ) (place : Place) (bytes : List ℕ)
-    → IsFitting limits trail → IsChanging (state_at trail) txn info effect write → IsFileOf info effect write place bytes
-    → IsOfOwner (state_at trail).tables txn place
+-- places in own directories of a write id are those of the transaction that it was given to
+abbrev pub GivenPlacesAreOwn : Type 0
+GivenPlacesAreOwn =
+    (limits : Limits) (trail : List TrailItem) (txn table write : ℕ) (place : Place)
+    → AllFit limits nothing_yet (book_of trail) → Has trail txn (IsGiven table write) → IsOfId table write place
+    → IsOwnPlace (state_at trail).tables txn place
 
--- With a mark of each of its files, and no call that failed, just its files stand in its own directories, and can be read again.
+-- Of what was wholly put just the files stand in its own directories, and they can be read again, as its rows are held.
 abbrev pub MarksGiveFiles : Type 0
 MarksGiveFiles =
     (limits : Limits) (trail : List TrailItem) (files : Tree) (txn : ℕ) (info : TableInfo) (effect : Effect) (write : ℕ)
-    → IsFitting limits trail → MarksStand trail files
-    → IsChanging (state_at trail) txn info effect write → broken (by_txn txn) trail ≡ None → HasAllMarks trail txn info effect write
-    → AllByRecursion CanBeRead (files_of info.shape write 0 effect) → AreHeld effect.inserts
+    → IsFitting limits trail → MarksStand trail files → IsWhollyPut trail txn info effect write
+    → AllByRecursion HasFile (files_of info.shape write 0 effect) → AreHeld effect.inserts
     → HasPut files info write effect

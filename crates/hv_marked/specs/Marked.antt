@@ -39,7 +39,7 @@ abbrev pub IsChanging : State → ℕ → TableInfo → Effect → ℕ → Type 
 IsChanging state txn info effect write = Of state txn (ChangesBy info effect write)
 
 -- the place is in an own directory, of either kind and any statement, of a write id of that table that this transaction was given
-pub record IsOfOwner (tables : List Table) (txn : ℕ) (place : Place) : Type 0 where
+pub record IsOwnPlace (tables : List Table) (txn : ℕ) (place : Place) : Type 0 where
   pub table : Table
   pub named : numbered tables place.table.0 ≡ Some table
   pub write : ℕ
@@ -64,7 +64,7 @@ pub record MarksStandIn (state : State) (trail : List TrailItem) (files : Tree) 
       → IsChanging state txn info effect write → broken (by_txn txn) trail ≡ None
       → (place : Place) → IsOfId info.table.0 write place
       → IsMarkedAt trail txn place (file_wanted info effect write place) (tree.get files place)
-  pub own : (txn : ℕ) (place : Place) → HasWritten trail (by_txn txn) place → IsOfOwner state.tables txn place
+  pub own : (txn : ℕ) (place : Place) → HasWritten trail (by_txn txn) place → IsOwnPlace state.tables txn place
 
 abbrev pub MarksStand : List TrailItem → Tree → Type 0
 MarksStand trail files = MarksStandIn (state_at trail) trail files
@@ -74,20 +74,15 @@ abbrev pub HasAllMarks : List TrailItem → ℕ → TableInfo → Effect → ℕ
 HasAllMarks trail txn info effect write =
     AllByRecursion (λ (file : OutFile). HasWritten trail (by_txn txn) (place_of_file info.table.0 write file)) (files_of info.shape write 0 effect)
 
+-- all of an open change was put: what a statement keeps in mind between its last file and its commit
+pub record IsWhollyPut (trail : List TrailItem) (txn : ℕ) (info : TableInfo) (effect : Effect) (write : ℕ) : Type 0 where
+  pub changing : IsChanging (state_at trail) txn info effect write
+  pub unbroken : broken (by_txn txn) trail ≡ None
+  pub marks : HasAllMarks trail txn info effect write
+
 -- the place is that of a file of this change under this write id, and these are the file's bytes
 pub record IsFileOf (info : TableInfo) (effect : Effect) (write : ℕ) (place : Place) (bytes : List ℕ) : Type 0 where
   pub file : OutFile
   pub among : Contains (files_of info.shape write 0 effect) file
   pub place_is : place ≡ place_of_file info.table.0 write file
   pub bytes_are : bytes ≡ file_spelling file.deletes file.bucket file.recs
-
--- ---- files before and now
-
--- everywhere else they are as they were
-abbrev pub KeepsElsewhere : Place → Tree → Tree → Type 0
-KeepsElsewhere place before now = (other : Place) → (other ≡ place → ⊥) → tree.get now other ≡ tree.get before other
-
--- these bytes stand at the place now
-pub record IsPutAt (place : Place) (bytes : List ℕ) (before now : Tree) : Type 0 where
-  pub here : tree.get now place ≡ Some bytes
-  pub others : KeepsElsewhere place before now

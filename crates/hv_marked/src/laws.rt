@@ -1,14 +1,14 @@
-ghost use Rattle.hv_marked.specs.Laws.{WrittenStays, UnbrokenStays, UnbrokenWas, OpenedMarksStand, NotedMarksStand, PutMarksStand, BrokenMarksStand, UnreadMarksStand, StoresArePut, StoresAreTorn, ChangesAreOpen, ChangesOwnPlaces, MarksGiveFiles};
+ghost use Rattle.hv_marked.specs.Laws.{WrittenStays, UnbrokenStays, PutStays, OpenedMarksStand, NotedMarksStand, PutMarksStand, BrokenMarksStand, UnreadMarksStand, ChangesAreOpen, GivenPlacesAreOwn, MarksGiveFiles};
 
-/// A mark stays whatever others add to the trail; a reader for whom no call failed stays so while none fails for it, and was so
-/// before.
+/// A mark stays whatever follows it in the trail, and a reader for whom no call failed stays so while none fails for it: so all that
+/// a transaction put stays put while others add to the trail.
 pub fn marks_last()
     ensures written { WrittenStays }
     ensures unbroken { UnbrokenStays }
-    ensures was { UnbrokenWas }
+    ensures put { PutStays }
 {}
 
-/// The marks of a house that was just opened say what stands in its store: nothing of any open transaction.
+/// The marks of a house that was just opened are true of its files: no transaction is open, and there is no mark.
 pub fn opened_marks_stand()
     ensures law { OpenedMarksStand }
 {}
@@ -23,25 +23,19 @@ pub fn put_marks_stand()
     ensures law { PutMarksStand }
 {}
 
-/// So does a put at an own place that failed, and a call that failed and left the files.
+/// So does a put at an own place that failed, whatever it left there, and any call that failed and left the files.
 pub fn broken_marks_stand()
     ensures puts { BrokenMarksStand }
     ensures reads { UnreadMarksStand }
 {}
 
-/// What a store that has a file, or whose put failed, is in the words of these laws.
-pub fn stores_change()
-    ensures put { StoresArePut }
-    ensures torn { StoresAreTorn }
-{}
-
-/// A statement that is under way with a change and its write id is one that is changing rows, and its files' places are its own.
+/// A statement that is under way with a change and its write id is changing rows, and places of its write id are its own.
 pub fn changes_are_open()
     ensures open_ { ChangesAreOpen }
-    ensures own { ChangesOwnPlaces }
+    ensures own { GivenPlacesAreOwn }
 {}
 
-/// A transaction with a mark of each file of its change, for which no call failed, has just these files in its own directories.
+/// A transaction whose change was wholly put has just the files of it in its own directories.
 pub fn marks_give_files()
     ensures law { MarksGiveFiles }
 {}

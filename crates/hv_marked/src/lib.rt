@@ -5,5 +5,5 @@ mod laws;
 
 pub use laws::{
     broken_marks_stand, changes_are_open, marks_give_files, marks_last, noted_marks_stand,
-    opened_marks_stand, put_marks_stand, stores_change,
+    opened_marks_stand, put_marks_stand,
 };
