@@ -1,7 +1,7 @@
 -- What is so of each transaction of a book whose entries fit: without a snapshot it has no write id, and a change that it means can
 -- be read again, once its files can.
 -- A transaction that is changing rows behind an entry was so before it, or was given its write id there.
-use Rattle.std.proofs.Common.{◌≡◌, ◌⊎◌, inl, inr, ℕ, zero, suc, true, false, is_some, Option, Some, None, List, [], ◌∷◌, ◌++◌, fold, refl, sym, ap, ◌∙◌, subst, ◌+◌, ◌==◌, cond, length, eqb-true}
+use Rattle.std.proofs.Common.{◌≡◌, ◌⊎◌, inl, inr, ℕ, zero, suc, Bool, true, false, is_some, Option, Some, None, List, [], ◌∷◌, ◌++◌, fold, refl, sym, ap, ◌∙◌, subst, ◌+◌, ◌==◌, cond, length, eqb-true}
 use Rattle.std.specs.Prelude.{IsTrue, IsFalse, IsSomeAnd}
 use Rattle.std.specs.List.{slice_get, AllByRecursion}
 use Rattle.hv_base.specs.declared.ids.Limits.{Limits}
@@ -19,6 +19,8 @@ use Rattle.hv_history.specs.declared.state.Snapshot.{Snapshot}
 use Rattle.hv_history.specs.declared.state.Statement.{Statement}
 use Rattle.hv_history.specs.declared.state.Transaction.{Transaction}
 use Rattle.hv_history.specs.declared.state.Ending.TheVariants.{Aborted, Made, Committed}
+use Rattle.hv_history.specs.declared.state.Ending.{Ending}
+use Rattle.hv_history.specs.declared.state.Table.{Table}
 use Rattle.hv_history.specs.State.{State, nothing_yet, numbered, changed_at, first_of, first_known, meant_in, means, meaning, meaning_in, statement_meaning, opened, started, given_id, wrote_as, committed, ended, while_open, acted, after, state_of, written_by, changed, unless_ended}
 use Rattle.hv_history.specs.Legal.{GivenFits, Fits, AllFit, StartFits, CommitFits, CauseFits, CreateFits}
 use Rattle.hv_stands.specs.Files.{IsEncoded}
@@ -28,8 +30,6 @@ use Rattle.hv_stands.proofs.Numbers.{none_is, found, either, numbered-changed, n
 use Rattle.hv_stands.proofs.Soundness.{all-more, all-changed, all-numbered}
 use Rattle.hv_stands.proofs.Keeping.{open-by, all-open, sound-after, nothing-sound}
 use Rattle.hv_stands.proofs.Written.{effect-encoded}
-use Rattle.hv_history.specs.declared.state.Ending.{Ending}
-use Rattle.hv_history.specs.declared.state.Table.{Table}
 use Rattle.hv_marked.specs.Marked.{ChangesBy, IsChanging}
 
 pub record IsReadable (info : TableInfo) (effect : Effect) : Type 0 where
@@ -136,17 +136,6 @@ all-settled limits book fit = settled-all limits book nothing_yet fit nothing-so
 pub is-there : {A : Type 0} (P : A → Type 0) (o : Option A) (x : A) → o ≡ Some x → P x → IsSomeAnd o P
 is-there P o x at h = subst (λ q. IsSomeAnd q P) (sym at) h
 
--- where one is changed while it is open
-changed-cases : (P : Transaction → Type 0) (f : Transaction → Transaction) (xs : List Transaction) (n m : ℕ) (t : Transaction)
-    → numbered xs n ≡ Some t → IsSomeAnd (numbered (changed (while_open f) xs n) m) P
-    → ((m ≡ n) × P (while_open f t)) ⊎ IsSomeAnd (numbered xs m) P
-changed-cases P f xs n m t at h = by (either (m == n)) (subst (λ o. IsSomeAnd o P) (numbered-changed (while_open f) xs n m t at) h)
-  where
-    by : (m == n ≡ true) ⊎ (m == n ≡ false) → IsSomeAnd (cond (m == n) (Some (while_open f t)) (numbered xs m)) P
-        → ((m ≡ n) × P (while_open f t)) ⊎ IsSomeAnd (numbered xs m) P
-    by (inl same) h = inl (eqb-true m n same, subst (λ b. IsSomeAnd (cond b (Some (while_open f t)) (numbered xs m)) P) same h)
-    by (inr apart) h = inr (subst (λ b. IsSomeAnd (cond b (Some (while_open f t)) (numbered xs m)) P) apart h)
-
 -- ---- a write id more
 
 single-last : {A : Type 0} (xs : List A) (x y : A) → xs ++ x ∷ [] ≡ y ∷ [] → (xs ≡ []) × (x ≡ y)
@@ -185,49 +174,37 @@ module _ (limits : Limits) (s : State) (settled : AllByRecursion IsSettled s.tra
       by (inl at) = inl (is-there Changes (numbered s.transactions txn) there.0 at there.2)
       by (inr last) = absurd (bare-not there.0 (ap (λ (x : Transaction). x.given) last.1 ∙ none) there.2.given_is)
 
-  -- one that is open behind a change was changed
-  now-open : (f : Transaction → Transaction) (t : Transaction) → Changes (while_open f t) → Changes (f t)
-  now-open f t h = by t.ending refl h
+  -- where one is changed while it is open
+  changed-before : (f : Transaction → Transaction) (n : ℕ) (t : Transaction) → numbered s.transactions n ≡ Some t → (txn ≡ n → Changes (f t) → WasChanging)
+      → IsSomeAnd (numbered (changed (while_open f) s.transactions n) txn) Changes → WasChanging
+  changed-before f n t at own h =
+      by (either (txn == n)) t.ending refl (subst (λ o. IsSomeAnd o Changes) (numbered-changed (while_open f) s.transactions n txn t at) h)
     where
-      by : (o : Option Ending) → t.ending ≡ o → Changes (unless_ended o t (f t)) → Changes (f t)
-      by None is h = h
-      by (Some ending) is h = absurd (none_is t.ending ending h.unended is)
+      at_if : Transaction → Bool → Type 0
+      at_if x b = IsSomeAnd (cond b (Some x) (numbered s.transactions txn)) Changes
 
-  started-before : (n number : ℕ) (t : Transaction) → numbered s.transactions n ≡ Some t → StartFits limits s number t
-      → IsSomeAnd (numbered (changed (while_open (started s number)) s.transactions n) txn) Changes → WasChanging
-  started-before n number t at fits h = by (changed-cases Changes (started s number) s.transactions n txn t at h)
-    where
-      by : ((txn ≡ n) × Changes (while_open (started s number) t)) ⊎ IsSomeAnd (numbered s.transactions txn) Changes → WasChanging
-      by (inl own) =
-          absurd (bare-not t ((all-numbered IsSettled s.transactions n t at settled).bare (unstarted t.snapshot fits.waiting.unstarted))
-          (now-open (started s number) t own.1).given_is)
-      by (inr h) = inl h
+      by : (txn == n ≡ true) ⊎ (txn == n ≡ false) → (o : Option Ending) → t.ending ≡ o → at_if (unless_ended o t (f t)) (txn == n) → WasChanging
+      by (inl same) None is h = own (eqb-true txn n same) (subst (at_if (f t)) same h)
+      by (inl same) (Some ending) is h = let there : Changes t = subst (at_if t) same h in absurd (none_is t.ending ending there.unended is)
+      by (inr apart) o is h = inl (subst (at_if (unless_ended o t (f t))) apart h)
 
-  given-before : (n k w : ℕ) (t : Transaction) → numbered s.transactions n ≡ Some t → GivenFits limits s k w t
-      → IsSomeAnd (numbered (changed (while_open (given_id k w)) s.transactions n) txn) Changes → WasChanging
-  given-before n k w t at fits h = by (changed-cases Changes (given_id k w) s.transactions n txn t at h)
-    where
-      by : ((txn ≡ n) × Changes (while_open (given_id k w) t)) ⊎ IsSomeAnd (numbered s.transactions txn) Changes → WasChanging
-      by (inl own) =
-          let only = single-last t.given (k, w) (info.table.0, write) (now-open (given_id k w) t own.1).given_is in
-          let there = found (λ (x : Table). IsTrue x.is_live × (w ≡ length x.owners + 1)) (numbered s.tables k) fits.live in
-          inr (record {
-            transaction = t;
-            at = ap (numbered s.transactions) own.0 ∙ at;
-            none = only.0;
-            table = there.0;
-            here = ap (λ (id : ℕ × ℕ). numbered s.tables id.0) (sym only.1) ∙ there.1;
-            next = ap (λ (id : ℕ × ℕ). id.1) (sym only.1) ∙ there.2.1;
-          })
-      by (inr h) = inl h
+  just-given : (k w : ℕ) (t : Transaction) → numbered s.transactions txn ≡ Some t → GivenFits limits s k w t
+      → t.given ++ (k, w) ∷ [] ≡ (info.table.0, write) ∷ [] → IsJustGiven s txn info.table.0 write
+  just-given k w t at fits given =
+      let only = single-last t.given (k, w) (info.table.0, write) given in
+      let there = found (λ (x : Table). IsTrue x.is_live × (w ≡ length x.owners + 1)) (numbered s.tables k) fits.live in
+      record {
+        transaction = t;
+        at = at;
+        none = only.0;
+        table = there.0;
+        here = ap (λ (id : ℕ × ℕ). numbered s.tables id.0) (sym only.1) ∙ there.1;
+        next = ap (λ (id : ℕ × ℕ). id.1) (sym only.1) ∙ there.2.1;
+      }
 
-  ended-before : (f : Transaction → Transaction) (n : ℕ) (t : Transaction) (ending : Ending) → (f t).ending ≡ Some ending
-      → numbered s.transactions n ≡ Some t → IsSomeAnd (numbered (changed (while_open f) s.transactions n) txn) Changes → WasChanging
-  ended-before f n t ending ends at h = by (changed-cases Changes f s.transactions n txn t at h)
-    where
-      by : ((txn ≡ n) × Changes (while_open f t)) ⊎ IsSomeAnd (numbered s.transactions txn) Changes → WasChanging
-      by (inl own) = absurd (none_is (f t).ending ending (now-open f t own.1).unended ends)
-      by (inr h) = inl h
+  -- what has ended isn't open
+  ended-not : (t : Transaction) (ending : Ending) → t.ending ≡ Some ending → Changes t → WasChanging
+  ended-not t ending is own = absurd (none_is t.ending ending own.unended is)
 
   pub was-changing : (event : Entry) → Fits limits s event → IsChanging (after s event) txn info effect write
       → IsChanging s txn info effect write ⊎ IsJustGiven s txn info.table.0 write
@@ -236,17 +213,19 @@ module _ (limits : Limits) (s : State) (settled : AllByRecursion IsSettled s.tra
   was-changing (entry.Opened by_ session number text) fits h = opened-before (opened session number text) refl h
   was-changing (entry.Start by_ statement) fits h =
       let here = found (StartFits limits s statement) (numbered s.transactions by_.0) fits in
-      started-before by_.0 statement here.0 here.1 here.2 h
+      let bare = (all-numbered IsSettled s.transactions by_.0 here.0 here.1 settled).bare (unstarted here.0.snapshot here.2.waiting.unstarted) in
+      changed-before (started s statement) by_.0 here.0 here.1 (λ same own. absurd (bare-not here.0 bare own.given_is)) h
   was-changing (entry.Given by_ table given) fits h =
       let here = found (GivenFits limits s table.0 given.0) (numbered s.transactions by_.0) fits in
-      given-before by_.0 table.0 given.0 here.0 here.1 here.2 h
+      changed-before (given_id table.0 given.0) by_.0 here.0 here.1
+      (λ same own. inr (just-given table.0 given.0 here.0 (ap (numbered s.transactions) same ∙ here.1) here.2 own.given_is)) h
   was-changing (entry.Commit by_ wrote) fits h =
       let here = found (CommitFits s wrote) (numbered s.transactions by_.0) fits in
-      ended-before (committed s.entries wrote) by_.0 here.0 (Committed s.entries wrote) refl here.1 h
+      changed-before (committed s.entries wrote) by_.0 here.0 here.1 (λ same. ended-not (committed s.entries wrote here.0) (Committed s.entries wrote) refl) h
   was-changing (entry.Abort by_ cause) fits h =
       let here = found (CauseFits limits s by_.0 cause) (numbered s.transactions by_.0) fits in
-      ended-before (ended (Aborted s.entries cause)) by_.0 here.0 (Aborted s.entries cause) refl here.1 h
+      changed-before (ended (Aborted s.entries cause)) by_.0 here.0 here.1 (λ same. ended-not (ended (Aborted s.entries cause) here.0) (Aborted s.entries cause) refl) h
   was-changing (entry.Create by_ table) fits h =
       let here = found (CreateFits s table.0) (numbered s.transactions by_.0) fits in
-      ended-before (ended (Made s.entries table.0)) by_.0 here.0 (Made s.entries table.0) refl here.1 h
+      changed-before (ended (Made s.entries table.0)) by_.0 here.0 here.1 (λ same. ended-not (ended (Made s.entries table.0) here.0) (Made s.entries table.0) refl) h
   was-changing event fits h = absurd fits

@@ -1,14 +1,28 @@
 -- Whose an own directory is, and the files of a change by their places.
 use Rattle.std.proofs.Common.{◌≡◌, ℕ, ◌<◌, Some, List, [], ◌∷◌, ◌++◌, length, map, option_map, refl, sym, ap, ◌∙◌, subst, arith, Bool, true, false, cond}
+use Rattle.std.specs.List.{slice_get, AllByRecursion, Contains}
+use Rattle.std.specs.List.Sorted.{IsStrictlySortedBy}
+use Rattle.std.specs.declared.cmp.Ordering.TheVariants.{Less}
+use Rattle.std.proofs.lemmas.List.Elements.{All-contains, All-from_recursion}
 use Rattle.hv_base.specs.declared.ids.Limits.{Limits}
 use Rattle.hv_shelf.specs.declared.place.Place.{Place}
 use Rattle.hv_logic.specs.declared.catalog.TableInfo.{TableInfo}
 use Rattle.hv_logic.specs.declared.effect.Effect.{Effect}
+use Rattle.hv_logic.specs.declared.meaning.Meaning.TheVariants.{Change}
+use Rattle.hv_logic.specs.Rows.{found_cmp}
+use Rattle.hv_route.specs.declared.files.OutFile.{OutFile}
+use Rattle.hv_route.specs.Routes.{files_of}
+use Rattle.hv_route.specs.Rising.{file_cmp}
+use Rattle.hv_route.specs.Standing.{is_file_of, recs_at}
+use Rattle.hv_route.proofs.RisingLemmas.{all-files-rise}
+use Rattle.hv_route.proofs.StandingLemmas.{files-have-rows, files-have-records}
+use Rattle.hv_rowfile.specs.declared.record.Rec.{Rec}
+use Rattle.hv_rowfile.specs.Layout.{file_spelling}
 use Rattle.hv_history.specs.declared.entry.Entry.{Entry}
 use Rattle.hv_history.specs.declared.state.Table.{Table}
 use Rattle.hv_history.specs.declared.state.Transaction.{Transaction}
 use Rattle.hv_history.specs.declared.state.Statement.{Statement}
-use Rattle.hv_logic.specs.declared.meaning.Meaning.TheVariants.{Change}
+use Rattle.hv_history.specs.declared.state.Written.{Written}
 use Rattle.hv_history.specs.State.{State, nothing_yet, numbered, given_in, statement_meaning, after, state_of, written_by}
 use Rattle.hv_history.specs.Legal.{AllFit}
 use Rattle.hv_history.specs.Lasting.{TableLater}
@@ -23,25 +37,11 @@ use Rattle.hv_stands.proofs.MadeFiles.{own_dir-same, made-by, made-own}
 use Rattle.hv_stands.proofs.Keeping.{owner-table, sound-all, nothing-sound}
 use Rattle.hv_stands.proofs.Behind.{entries-are}
 use Rattle.hv_stands.proofs.OwnFiles.{found-given}
+use Rattle.hv_stands.proofs.FileRecords.{IsKeyOf, file-key, key-file, less-other}
 use Rattle.hv_trail.specs.declared.trail.TrailItem.{TrailItem}
 use Rattle.hv_trail.specs.Trail.{book_of, state_at}
 use Rattle.hv_marked.specs.Marked.{ChangesBy, IsChanging, IsOwnPlace, file_wanted, IsFileOf}
 use Rattle.hv_marked.specs.Laws.{IsFitting}
-use Rattle.std.specs.List.{slice_get, AllByRecursion, Contains}
-use Rattle.std.specs.List.Sorted.{IsStrictlySortedBy}
-use Rattle.std.proofs.lemmas.List.Elements.{All-contains, All-from_recursion}
-use Rattle.std.specs.declared.cmp.Ordering.TheVariants.{Less}
-use Rattle.hv_logic.specs.Rows.{found_cmp}
-use Rattle.hv_history.specs.declared.state.Written.{Written}
-use Rattle.hv_rowfile.specs.declared.record.Rec.{Rec}
-use Rattle.hv_rowfile.specs.Layout.{file_spelling}
-use Rattle.hv_route.specs.Routes.{files_of}
-use Rattle.hv_route.specs.Rising.{file_cmp}
-use Rattle.hv_route.specs.Standing.{is_file_of, recs_at}
-use Rattle.hv_route.specs.declared.files.OutFile.{OutFile}
-use Rattle.hv_route.proofs.RisingLemmas.{all-files-rise}
-use Rattle.hv_route.proofs.StandingLemmas.{files-have-rows, files-have-records}
-use Rattle.hv_stands.proofs.FileRecords.{IsKeyOf, file-key, key-file, less-other}
 
 -- ---- files that rise by kind, partition and bucket
 
@@ -102,19 +102,8 @@ module _ (info : TableInfo) (effect : Effect) (write : ℕ) (up : IsStrictlySort
   abbrev outs : List OutFile
   outs = files_of info.shape write 0 effect
 
-  record IsOut (file : OutFile) : Type 0 where
-    records_are : ItsRecords outs file
-    some : 0 < length file.recs
-
-  all-out : (files : List OutFile) → AllByRecursion (ItsRecords outs) files → AllByRecursion (λ (file : OutFile). 0 < length file.recs) files → AllByRecursion IsOut files
-  all-out [] a b = tt
-  all-out (file ∷ files) a b = (record { records_are = a.0; some = b.0 }, all-out files a.1 b.1)
-
-  out-of : (file : OutFile) → Contains outs file → IsOut file
-  out-of file among =
-      All-contains IsOut outs file
-      (All-from_recursion IsOut outs
-      (all-out outs (all-found outs (all-files-rise info.shape write 0 effect)) (files-have-records info.shape write 0 effect))) among
+  its : (P : OutFile → Type 0) (file : OutFile) → Contains outs file → AllByRecursion P outs → P file
+  its P file among each = All-contains P outs file (All-from_recursion P outs each) among
 
   commit-is : (deletes : Bool) (partition : List ℕ) (bucket : ℕ)
       → commit_file info.shape deletes partition bucket written ≡ file_of deletes bucket (recs_at outs deletes partition bucket)
@@ -122,18 +111,15 @@ module _ (info : TableInfo) (effect : Effect) (write : ℕ) (up : IsStrictlySort
   commit-is deletes partition bucket = ap (file_of deletes bucket) (sym (files-have-rows info.shape write 0 effect deletes partition bucket up))
 
   -- a file of the change is wanted at its place
-  wanted-there : (file : OutFile) → IsOut file → file_wanted info effect write (place_of_file info.table.0 write file) ≡ Some (file_spelling file.deletes file.bucket file.recs)
-  wanted-there file out =
-      made-own info.shape written file.deletes (place_of_file info.table.0 write file) small refl
-      ∙ commit-is file.deletes file.partition file.bucket
-      ∙ ap (file_of file.deletes file.bucket) out.records_are
-      ∙ some-file file.deletes file.bucket file.recs out.some
-
   file-wanted : (place : Place) (bytes : List ℕ) → IsFileOf info effect write place bytes → file_wanted info effect write place ≡ Some bytes
-  file-wanted place bytes file =
-      ap (file_wanted info effect write) file.place_is
-      ∙ wanted-there file.file (out-of file.file file.among)
-      ∙ ap (λ (bs : List ℕ). Some bs) (sym file.bytes_are)
+  file-wanted place bytes of =
+      let file = of.file in
+      ap (file_wanted info effect write) of.place_is
+      ∙ made-own info.shape written file.deletes (place_of_file info.table.0 write file) small refl
+      ∙ commit-is file.deletes file.partition file.bucket
+      ∙ ap (file_of file.deletes file.bucket) (its (ItsRecords outs) file of.among (all-found outs (all-files-rise info.shape write 0 effect)))
+      ∙ some-file file.deletes file.bucket file.recs (its (λ (one : OutFile). 0 < length one.recs) file of.among (files-have-records info.shape write 0 effect))
+      ∙ ap (λ (bs : List ℕ). Some bs) (sym of.bytes_are)
 
   -- what is wanted at a place of its own table is one of its files
   wanted-file : (P : OutFile → Type 0) (place : Place) (bytes : List ℕ) → place.table.0 ≡ info.table.0 → file_wanted info effect write place ≡ Some bytes

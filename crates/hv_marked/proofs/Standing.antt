@@ -1,12 +1,18 @@
 -- What each item that a trail gains leaves of its marks and files, and what they are for.
 use Rattle.std.proofs.Common.{◌≡◌, ◌⊎◌, inl, inr, ℕ, ◌+◌, ◌<◌, Option, Some, None, List, [], ◌∷◌, ◌++◌, length, map, refl, sym, ap, ◌∙◌, subst, arith, Bool, true, false, cond}
 use Rattle.std.specs.FinMap as tree
+use Rattle.std.specs.Ordering.{eq_by_cmp}
 use Rattle.hv_base.specs.declared.ids.Limits.{Limits}
 use Rattle.hv_shelf.specs.declared.place.Place.{Place}
 use Rattle.hv_shelf.specs.Disk.{Tree}
+use Rattle.hv_shelf.specs.Places.{place_cmp, place_total}
 use Rattle.hv_logic.specs.declared.catalog.TableInfo.{TableInfo}
 use Rattle.hv_logic.specs.declared.effect.Effect.{Effect}
+use Rattle.hv_logic.specs.declared.meaning.Meaning.TheVariants.{Change}
+use Rattle.hv_route.specs.declared.files.OutFile.{OutFile}
+use Rattle.hv_route.specs.Routes.{files_of}
 use Rattle.hv_history.specs.declared.entry.Entry.{Entry}
+use Rattle.hv_history.specs.declared.state.Transaction.{Transaction}
 use Rattle.hv_history.specs.State.{State, nothing_yet, numbered, after, state_of}
 use Rattle.hv_history.specs.Legal.{Fits, AllFit}
 use Rattle.hv_dirs.specs.Names.{write_end}
@@ -20,21 +26,15 @@ use Rattle.hv_stands.proofs.Behind.{entries-are}
 use Rattle.hv_stands.proofs.OwnFiles.{unowned}
 use Rattle.hv_trail.specs.declared.trail.TrailItem.{TrailItem}
 use Rattle.hv_trail.specs.declared.trail.TrailItem.TheVariants.{Noted, Marked}
+use Rattle.hv_trail.specs.declared.trail.Mark.{Mark}
+use Rattle.hv_trail.specs.declared.trail.Mark.TheVariants.{Wrote, Broke}
 use Rattle.hv_trail.specs.Trail.{book_of, state_at, HasWritten, broken}
+use Rattle.hv_trail.specs.Lasting.{IsGiven}
 use Rattle.hv_trail.proofs.LastingLaws.{state-append}
 use Rattle.hv_trail.proofs.MarkLaws.{whole-book}
 use Rattle.hv_trail.proofs.OwnLaws.{others-leave}
-use Rattle.hv_trail.specs.Lasting.{IsGiven}
 use Rattle.hv_marked.specs.Marked.{by_txn, ChangesBy, IsChanging, IsOwnPlace, file_wanted, IsMarkedAt, MarksStandIn, MarksStand, IsFileOf, HasAllMarks}
 use Rattle.hv_marked.specs.Laws.{IsFitting, PutStays, OpenedMarksStand, NotedMarksStand, PutMarksStand, BrokenMarksStand, UnreadMarksStand, ChangesAreOpen, GivenPlacesAreOwn, MarksGiveFiles}
-use Rattle.std.specs.Ordering.{eq_by_cmp}
-use Rattle.hv_shelf.specs.Places.{place_cmp, place_total}
-use Rattle.hv_logic.specs.declared.meaning.Meaning.TheVariants.{Change}
-use Rattle.hv_history.specs.declared.state.Transaction.{Transaction}
-use Rattle.hv_trail.specs.declared.trail.Mark.{Mark}
-use Rattle.hv_trail.specs.declared.trail.Mark.TheVariants.{Wrote, Broke}
-use Rattle.hv_route.specs.declared.files.OutFile.{OutFile}
-use Rattle.hv_route.specs.Routes.{files_of}
 use Rattle.hv_marked.proofs.Marks.{written-stays, unbroken-stays, written-cases, written-before, entry-unwritten, fault-unwritten, same-written, same-txn, entries-unwritten, unbroken-was, broke-it}
 use Rattle.hv_marked.proofs.Books.{IsSettled, all-settled, is-there, IsJustGiven, was-changing}
 use Rattle.hv_marked.proofs.ItsFiles.{given-place, sound-of, near-of, one-owner, the-one, of-changing, own-place, wanted-here, one-wanted, owner-stays}
