@@ -1,7 +1,7 @@
 -- Marks and faults of a trail with more items behind it.
 use Rattle.std.proofs.Common.{◌≡◌, ℕ, ◌⊎◌, inl, inr, Bool, true, false, if◌then◌else◌, Option, Some, None, List, [], ◌∷◌, ◌++◌, map, refl, sym, ap, ◌∙◌, eq-eqb}
 use Rattle.std.specs.List.{AllByRecursion}
-use Rattle.std.proofs.lemmas.List.Elements.{All-contains, All-from_recursion, Contains-append_left, Contains-push_cases}
+use Rattle.std.proofs.lemmas.List.Elements.{All-contains, All-from_recursion, Contains-push_cases}
 use Rattle.hv_base.specs.declared.ids.TxnId.{TxnId}
 use Rattle.hv_shelf.specs.declared.place.Place.{Place}
 use Rattle.hv_history.specs.declared.entry.Entry.{Entry}
@@ -14,12 +14,9 @@ use Rattle.hv_trail.specs.declared.trail.TrailItem.{TrailItem}
 use Rattle.hv_trail.specs.declared.trail.TrailItem.TheVariants.{Noted, Marked}
 use Rattle.hv_trail.specs.Trail.{is_reader, HasWritten, broken}
 use Rattle.hv_marked.specs.Marked.{by_txn}
-use Rattle.hv_marked.specs.Laws.{WrittenStays, IsNoFaultOf, UnbrokenStays}
+use Rattle.hv_marked.specs.Laws.{IsNoFaultOf, UnbrokenStays}
 
 -- ---- marks
-
-pub written-stays : WrittenStays
-written-stays trail more reader place has = Contains-append_left trail more (Marked (Wrote reader place)) has
 
 -- a mark behind one more item was there, or is that item
 pub written-cases : (trail : List TrailItem) (item : TrailItem) (reader : Reader) (place : Place) → HasWritten (trail ++ item ∷ []) reader place

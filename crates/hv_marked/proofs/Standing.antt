@@ -2,6 +2,7 @@
 use Rattle.std.proofs.Common.{◌≡◌, ◌⊎◌, inl, inr, ℕ, ◌+◌, ◌<◌, Option, Some, None, List, [], ◌∷◌, ◌++◌, length, map, refl, sym, ap, ◌∙◌, subst, arith, Bool, true, false, cond}
 use Rattle.std.specs.FinMap as tree
 use Rattle.std.specs.Ordering.{eq_by_cmp}
+use Rattle.std.proofs.lemmas.List.Elements.{Contains-append_left}
 use Rattle.hv_base.specs.declared.ids.Limits.{Limits}
 use Rattle.hv_shelf.specs.declared.place.Place.{Place}
 use Rattle.hv_shelf.specs.Disk.{Tree}
@@ -35,7 +36,7 @@ use Rattle.hv_trail.proofs.MarkLaws.{whole-book}
 use Rattle.hv_trail.proofs.OwnLaws.{others-leave}
 use Rattle.hv_marked.specs.Marked.{by_txn, ChangesBy, IsChanging, IsOwnPlace, file_wanted, IsMarkedAt, MarksStandIn, MarksStand, IsFileOf, HasAllMarks}
 use Rattle.hv_marked.specs.Laws.{IsFitting, PutStays, OpenedMarksStand, NotedMarksStand, PutMarksStand, BrokenMarksStand, UnreadMarksStand, ChangesAreOpen, GivenPlacesAreOwn, MarksGiveFiles}
-use Rattle.hv_marked.proofs.Marks.{written-stays, unbroken-stays, written-cases, written-before, entry-unwritten, fault-unwritten, same-written, same-txn, entries-unwritten, unbroken-was, broke-it}
+use Rattle.hv_marked.proofs.Marks.{unbroken-stays, written-cases, written-before, entry-unwritten, fault-unwritten, same-written, same-txn, entries-unwritten, unbroken-was, broke-it}
 use Rattle.hv_marked.proofs.Books.{IsSettled, all-settled, is-there, IsJustGiven, was-changing}
 use Rattle.hv_marked.proofs.ItsFiles.{given-place, sound-of, near-of, one-owner, the-one, of-changing, own-place, wanted-here, one-wanted, owner-stays}
 
@@ -295,7 +296,7 @@ put-stays trail more txn info effect write spare apart put =
       unbroken = unbroken-stays trail more (by_txn txn) apart put.unbroken;
       marks = all-mapped (λ (file : OutFile). HasWritten trail (by_txn txn) (place_of_file info.table.0 write file))
           (λ (file : OutFile). HasWritten (trail ++ more) (by_txn txn) (place_of_file info.table.0 write file))
-          (λ file has. written-stays trail more (by_txn txn) (place_of_file info.table.0 write file) has) (files_of info.shape write 0 effect) put.marks;
+          (λ file has. Contains-append_left trail more (Marked (Wrote (by_txn txn) (place_of_file info.table.0 write file))) has) (files_of info.shape write 0 effect) put.marks;
     }
 
 module _ (limits : Limits) (trail : List TrailItem) (fitting : IsFitting limits trail) (txn : ℕ) (info : TableInfo) (effect : Effect) (write : ℕ)

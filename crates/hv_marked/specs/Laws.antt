@@ -23,7 +23,7 @@ use Rattle.hv_trail.specs.declared.trail.Reader.{Reader}
 use Rattle.hv_trail.specs.declared.trail.Mark.TheVariants.{Wrote, Broke}
 use Rattle.hv_trail.specs.declared.trail.TrailItem.{TrailItem}
 use Rattle.hv_trail.specs.declared.trail.TrailItem.TheVariants.{Noted, Marked}
-use Rattle.hv_trail.specs.Trail.{book_of, state_at, is_reader, HasWritten, broken}
+use Rattle.hv_trail.specs.Trail.{book_of, state_at, is_reader, broken}
 use Rattle.hv_trail.specs.Lasting.{Has, IsGiven}
 use Rattle.hv_trail.specs.Own.{AllSpare}
 use Rattle.hv_marked.specs.Marked.{by_txn, IsChanging, IsOwnPlace, MarksStand, IsWhollyPut, IsFileOf}
@@ -33,11 +33,7 @@ pub record IsFitting (limits : Limits) (trail : List TrailItem) : Type 0 where
   pub fit : AllFit limits nothing_yet (book_of trail)
   pub few : length (book_of trail) < write_end
 
--- ---- marks last, whatever others add
-
-abbrev pub WrittenStays : Type 0
-WrittenStays =
-    (trail more : List TrailItem) (reader : Reader) (place : Place) → HasWritten trail reader place → HasWritten (trail ++ more) reader place
+-- ---- what others add leaves it; that marks last is hv_trail's
 
 -- the item isn't of a call that failed for this reader
 abbrev pub IsNoFaultOf : Reader → TrailItem → Type 0

@@ -1,9 +1,8 @@
-ghost use Rattle.hv_marked.specs.Laws.{WrittenStays, UnbrokenStays, PutStays, OpenedMarksStand, NotedMarksStand, PutMarksStand, BrokenMarksStand, UnreadMarksStand, ChangesAreOpen, GivenPlacesAreOwn, MarksGiveFiles};
+ghost use Rattle.hv_marked.specs.Laws.{UnbrokenStays, PutStays, OpenedMarksStand, NotedMarksStand, PutMarksStand, BrokenMarksStand, UnreadMarksStand, ChangesAreOpen, GivenPlacesAreOwn, MarksGiveFiles};
 
-/// A mark stays whatever follows it in the trail, and a reader for whom no call failed stays so while none fails for it: so all that
-/// a transaction put stays put while others add to the trail.
-pub fn marks_last()
-    ensures written { WrittenStays }
+/// A reader for whom no call failed stays so while none fails for it, and all that a transaction put stays put whatever others add to
+/// the trail.
+pub fn others_leave_marks()
     ensures unbroken { UnbrokenStays }
     ensures put { PutStays }
 {}

@@ -4,6 +4,6 @@
 mod laws;
 
 pub use laws::{
-    broken_marks_stand, changes_are_open, marks_give_files, marks_last, noted_marks_stand,
-    opened_marks_stand, put_marks_stand,
+    broken_marks_stand, changes_are_open, marks_give_files, noted_marks_stand, opened_marks_stand,
+    others_leave_marks, put_marks_stand,
 };
