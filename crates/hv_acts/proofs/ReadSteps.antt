@@ -66,14 +66,15 @@ module _ {D : Type 0} (told : D → Option Store) (faults : D → ℕ) where
       → found ≡ option_map info_in (table_of_name name (state_of (take place (entries_of house))).tables) → FindStep told faults place name house (Ok found)
   find-done place name found house ready is = record {
     step = answered (seen_of house);
-    answers = (
-      fitting-book told house ready,
-      subst (λ (book : List Entry). found ≡ option_map info_in (table_of_name name (state_of (take place book)).tables)) (sym (book-is house)) is,
-    );
+    answers = record {
+      running = ready.kept.running;
+      book = fitting-book told house ready;
+      found_is = subst (λ (book : List Entry). found ≡ option_map info_in (table_of_name name (state_of (take place book)).tables)) (sym (book-is house)) is;
+    };
   }
 
-  pub find-lacks : (place : ℕ) (name : List ℕ) (house : House D) → FindStep told faults place name house (Err (act.House fault.NoMemory))
-  find-lacks place name house = record { step = asked told faults (seen_of house); answers = tt }
+  pub find-lacks : (place : ℕ) (name : List ℕ) (house : House D) → IsReady told house → FindStep told faults place name house (Err (act.House fault.NoMemory))
+  find-lacks place name house ready = record { step = asked told faults (seen_of house); answers = ready.kept.running }
 
 -- ---- what a read leaves
 

@@ -61,18 +61,24 @@ pub record IsThere (trail : List TrailItem) (place : ℕ) (info : TableInfo) : T
   pub here : numbered (state_then trail place).tables table.info.table.0 ≡ Some table
   pub info_is : table.info ≡ info
 
--- a closed house finds nothing; any other fails for want of memory alone
+-- what an open house found
+pub record HasFound {D : Type 0} (house : HouseSeen D) (place : ℕ) (name : List ℕ) (found : Option TableInfo) : Type 0 where
+  pub running : house.closed ≡ false
+  pub book : HasFittingBook house.trail
+  pub found_is : found ≡ info_then house.trail place name
+
+-- a closed house finds nothing, and an open one fails for want of memory alone
 abbrev pub IsFindWhy : Bool → ActFault → Type 0
 IsFindWhy closed (act.Ended at) = ⊥
 IsFindWhy closed (act.Full entries) = ⊥
 IsFindWhy closed (act.Broken put count) = ⊥
 IsFindWhy closed act.Unfit = ⊥
 IsFindWhy closed (act.House fault.Store) = closed ≡ true
-IsFindWhy closed (act.House fault.NoMemory) = Unit {0}
+IsFindWhy closed (act.House fault.NoMemory) = closed ≡ false
 IsFindWhy closed (act.House (fault.Failed count)) = ⊥
 
 abbrev pub FindAnswers : {D : Type 0} → HouseSeen D → ℕ → List ℕ → Result (Option TableInfo) ActFault → Type 0
-FindAnswers house place name (Ok found) = HasFittingBook house.trail × (found ≡ info_then house.trail place name)
+FindAnswers house place name (Ok found) = HasFound house place name found
 FindAnswers house place name (Err why) = IsFindWhy house.closed why
 
 -- all that is promised of a table that was to be found: the house was only asked

@@ -7,4 +7,4 @@ returns-in-Ok g c = record {
 }
 
 pub returns-in-Err : goal.returns-in-Err
-returns-in-Err g c = record { found = find-lacks g.D.Shelf.told g.D.Shelf.faults c.args.place c.args.name.now c.args.house.now }
+returns-in-Err g c = record { found = find-lacks g.D.Shelf.told g.D.Shelf.faults c.args.place c.args.name.now c.args.house.now c.requires.ready }
