@@ -5,3 +5,5 @@ pub mod Puts
 pub mod Begins
 pub mod Commits
 pub mod Lasting
+pub mod Readings
+pub mod ReadSteps

@@ -19,11 +19,11 @@ use Rattle.hv_house.specs.Housed.{IsReadyOrClosed}
 pub book-is : {D : Type 0} (house : House D) → book_of (trail_of house.trail) ≡ entries_of house
 book-is house = trail-book house.trail.entries house.trail.marks
 
-moves-same : (o : Option Store) (P : Store → Store → Type 0) → ((s : Store) → P s s) → Moves P o o
+pub moves-same : (o : Option Store) (P : Store → Store → Type 0) → ((s : Store) → P s s) → Moves P o o
 moves-same None P same = tt
 moves-same (Some s) P same = same s
 
-or-false : (b : Bool) → b ≡ b || false
+pub or-false : (b : Bool) → b ≡ b || false
 or-false true = refl
 or-false false = refl
 
@@ -56,7 +56,7 @@ module _ {D : Type 0} (told : D → Option Store) (faults : D → ℕ) (seen : H
 -- ---- between two calls
 
 -- what closed the house is no readiness
-shut-closed : (before now : Bool) → before ≡ false → now ≡ before || true → now ≡ false → ⊥
+pub shut-closed : (before now : Bool) → before ≡ false → now ≡ before || true → now ≡ false → ⊥
 shut-closed before now running closed still = true≢false (sym (closed ∙ ap (λ b. b || true) running) ∙ still)
 
 module _ {D : Type 0} (told : D → Option Store) (before now : House D) (running : before.trail.closed ≡ false) where

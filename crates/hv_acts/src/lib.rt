@@ -4,18 +4,26 @@
 mod aborting;
 mod committing;
 mod fault;
+mod finding;
+mod getting;
 mod giving;
 mod laws;
+mod listing;
 mod making;
 mod noting;
 mod opening;
 mod putting;
+mod reading;
 
 pub use aborting::AbortFor;
 pub use committing::{CommitWrites, Committed};
 pub use fault::{ActFault, BeginFault};
+pub use finding::FindTable;
+pub use getting::GetFile;
 pub use giving::GiveId;
 pub use laws::what_is_asked_lasts;
+pub use listing::ListTable;
 pub use making::MakeTable;
 pub use opening::{Begin, Begun};
 pub use putting::PutFile;
+pub use reading::{places_last, what_was_found_is_there, what_was_listed_stands};

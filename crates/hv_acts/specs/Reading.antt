@@ -1,0 +1,203 @@
+-- What acts that read ask and answer: the table of a name, the files of a table that are taken, and the bytes of one.
+use Rattle.std.specs.Prelude.{◌≡◌, ℕ, ◌≤◌, Bool, true, false, Option, Some, None, List, [], length, take, Result, Ok, Err}
+use Rattle.std.specs.Option.{option_map}
+use Rattle.std.specs.Global.{Vec}
+use Rattle.std.specs.FinMap as tree
+use Rattle.hv_base.specs.Told.{Tells}
+use Rattle.hv_base.specs.declared.ids.TxnId.{TxnId}
+use Rattle.hv_base.specs.declared.ids.TableId.{TableId}
+use Rattle.hv_shelf.specs.declared.place.Place.{Place}
+use Rattle.hv_shelf.specs.Disk.{Store, Tree}
+use Rattle.hv_logic.specs.declared.catalog.TableInfo.{TableInfo}
+use Rattle.hv_history.specs.declared.state.Table.{Table}
+use Rattle.hv_history.specs.State.{State, state_of, numbered}
+use Rattle.hv_history.specs.Lasting.{IsFront}
+use Rattle.hv_stands.specs.Files.{Stands, made_at}
+use Rattle.hv_stands.specs.Reading.{table_of_name}
+use Rattle.hv_stands.specs.Statements.{AllFitting}
+use Rattle.hv_visible.specs.Members.{IsIn}
+use Rattle.hv_choosing.specs.declared.listing.DirFile.{DirFile}
+use Rattle.hv_trail.specs.declared.trail.Reader.TheVariants.{Txn}
+use Rattle.hv_trail.specs.declared.trail.TrailItem.{TrailItem}
+use Rattle.hv_trail.specs.Trail.{book_of, state_at}
+use Rattle.hv_trail.specs.Steps.{HouseSeen, Read, Ask, Step}
+use Rattle.hv_house.specs.declared.fault.HouseFault.TheVariants as fault
+use Rattle.hv_house.specs.declared.listing.Listing.{Listing}
+use Rattle.hv_house.specs.declared.listing.GetFault.{GetFault}
+use Rattle.hv_house.specs.declared.listing.GetFault.TheVariants as get_fault
+use Rattle.hv_house.specs.declared.house.House.{House}
+use Rattle.hv_house.specs.House.{book_limit}
+use Rattle.hv_house.specs.Seeing.{ids_in}
+use Rattle.hv_house.specs.Steps.{seen_of, broken_by}
+use Rattle.hv_house.specs.Listing.{info_in, AreTaken, get_outcome}
+use Rattle.hv_house.specs.Housed.{IsReadyOrClosed}
+use Rattle.hv_acts.specs.declared.fault.ActFault.{ActFault}
+use Rattle.hv_acts.specs.declared.fault.ActFault.TheVariants as act
+use Rattle.hv_acts.specs.Answers.{answer_outcome}
+
+-- ---- a place of the book
+
+-- the book has so many entries
+abbrev pub HasPlace : List TrailItem → ℕ → Type 0
+HasPlace trail place = place ≤ length (book_of trail)
+
+-- the state there: the entries before it count
+abbrev pub state_then : List TrailItem → ℕ → State
+state_then trail place = state_of (take place (book_of trail))
+
+-- all that the book has fits, and it has no more than a house takes
+pub record HasFittingBook (trail : List TrailItem) : Type 0 where
+  pub fit : AllFitting (book_of trail)
+  pub few : length (book_of trail) ≤ book_limit
+
+-- ---- the table of a name
+
+abbrev pub info_then : List TrailItem → ℕ → List ℕ → Option TableInfo
+info_then trail place name = option_map info_in (table_of_name name (state_then trail place).tables)
+
+-- a table of this description was there at the place, by its number
+pub record IsThere (trail : List TrailItem) (place : ℕ) (info : TableInfo) : Type 0 where
+  pub table : Table
+  pub here : numbered (state_then trail place).tables table.info.table.0 ≡ Some table
+  pub info_is : table.info ≡ info
+
+-- what an open house found
+pub record HasFound {D : Type 0} (house : HouseSeen D) (place : ℕ) (name : List ℕ) (found : Option TableInfo) : Type 0 where
+  pub running : house.closed ≡ false
+  pub book : HasFittingBook house.trail
+  pub found_is : found ≡ info_then house.trail place name
+
+-- a closed house finds nothing, and an open one fails for want of memory alone
+abbrev pub IsFindWhy : Bool → ActFault → Type 0
+IsFindWhy closed (act.Ended at) = ⊥
+IsFindWhy closed (act.Full entries) = ⊥
+IsFindWhy closed (act.Broken put count) = ⊥
+IsFindWhy closed act.Unfit = ⊥
+IsFindWhy closed (act.House fault.Store) = closed ≡ true
+IsFindWhy closed (act.House fault.NoMemory) = closed ≡ false
+IsFindWhy closed (act.House (fault.Failed count)) = ⊥
+
+abbrev pub FindAnswers : {D : Type 0} → HouseSeen D → ℕ → List ℕ → Result (Option TableInfo) ActFault → Type 0
+FindAnswers house place name (Ok found) = HasFound house place name found
+FindAnswers house place name (Err why) = IsFindWhy house.closed why
+
+-- all that is promised of a table that was to be found: the house was only asked
+pub record FindStep {D : Type 0} (told : D → Option Store) (faults : D → ℕ) (place : ℕ) (name : List ℕ) (house : House D)
+    (result : Result (Option TableInfo) ActFault) : Type 0 where
+  pub step : Step told faults Ask (answer_outcome result) (seen_of house) (seen_of house)
+  pub answers : FindAnswers (seen_of house) place name result
+
+-- ---- the files of a table
+
+-- the files that a reader takes of those that stand, under the list that the table had at the place
+pub record HasListed (told : Option Store) (trail : List TrailItem) (place : ℕ) (table : TableId) (listing : Listing) : Type 0 where
+  pub book : HasFittingBook trail
+  pub list : listing.list ≡ ids_in (state_then trail place) table.0
+  pub files : Tells told (λ s. AreTaken table listing.list s.tree listing.inserts.items listing.deletes.items)
+
+-- no test refused it, but the house
+abbrev pub IsOfHouse : ActFault → Type 0
+IsOfHouse (act.Ended at) = ⊥
+IsOfHouse (act.Full entries) = ⊥
+IsOfHouse (act.Broken put count) = ⊥
+IsOfHouse act.Unfit = ⊥
+IsOfHouse (act.House why) = Unit {0}
+
+abbrev pub ListAnswers : {D : Type 0} → (D → Option Store) → HouseSeen D → ℕ → TableId → Result Listing ActFault → Type 0
+ListAnswers told house place table (Ok listing) = HasListed (told house.shelf) house.trail place table listing
+ListAnswers told house place table (Err why) = IsOfHouse why
+
+-- the mark of a read that failed
+abbrev pub adds_read : TxnId → ActFault → List TrailItem
+adds_read by (act.Ended at) = []
+adds_read by (act.Full entries) = []
+adds_read by (act.Broken put count) = []
+adds_read by act.Unfit = []
+adds_read by (act.House why) = broken_by (Some (Txn by)) false why
+
+abbrev pub adds_listing : {T : Type 0} → TxnId → Result T ActFault → List TrailItem
+adds_listing by (Ok x) = []
+adds_listing by (Err why) = adds_read by why
+
+-- all that is promised of files that were to be listed for this transaction
+pub record ListStep {D : Type 0} (told : D → Option Store) (faults : D → ℕ) (by : TxnId) (place : ℕ) (table : TableId) (before now : House D)
+    (result : Result Listing ActFault) : Type 0 where
+  pub keeps : IsReadyOrClosed told now
+  pub step : Step told faults (Read (Some (Txn by))) (answer_outcome result) (seen_of before) (seen_of now)
+  pub answers : ListAnswers told (seen_of before) place table result
+
+-- ---- the bytes of a file
+
+-- the files of the book stand in the store, where it tells, and the book makes these bytes there
+pub record IsMadeAt (told : Option Store) (trail : List TrailItem) (place : Place) (bytes : List ℕ) : Type 0 where
+  pub stands : Tells told (λ s. Stands (state_at trail) s.tree)
+  pub made : made_at (state_at trail).tables place ≡ Some bytes
+
+-- just these bytes stand there
+pub record HasGot (told : Option Store) (trail : List TrailItem) (place : Place) (found : List ℕ) : Type 0 where
+  pub book : HasFittingBook trail
+  pub bytes : Tells told (λ s. tree.get s.tree place ≡ Some found)
+  pub made : (bytes : List ℕ) → IsMadeAt told trail place bytes → Tells told (λ s. found ≡ bytes)
+
+-- nothing stands there
+pub record HasMissed (told : Option Store) (trail : List TrailItem) (place : Place) : Type 0 where
+  pub book : HasFittingBook trail
+  pub none : Tells told (λ s. tree.get s.tree place ≡ None)
+  pub unmade : (bytes : List ℕ) → IsMadeAt told trail place bytes → Tells told (λ s. ⊥)
+
+abbrev pub IsGetWhy : Option Store → List TrailItem → Place → GetFault → Type 0
+IsGetWhy told trail place get_fault.NotFound = HasMissed told trail place
+IsGetWhy told trail place (get_fault.House why) = Unit {0}
+
+abbrev pub GetAnswers : {D : Type 0} → (D → Option Store) → HouseSeen D → Place → Result (Vec ℕ) GetFault → Type 0
+GetAnswers told house place (Ok bytes) = HasGot (told house.shelf) house.trail place bytes.items
+GetAnswers told house place (Err why) = IsGetWhy (told house.shelf) house.trail place why
+
+abbrev pub adds_missed : TxnId → GetFault → List TrailItem
+adds_missed by get_fault.NotFound = []
+adds_missed by (get_fault.House why) = broken_by (Some (Txn by)) false why
+
+abbrev pub adds_getting : {T : Type 0} → TxnId → Result T GetFault → List TrailItem
+adds_getting by (Ok x) = []
+adds_getting by (Err why) = adds_missed by why
+
+-- all that is promised of a file that was to be got for this transaction
+pub record GetStep {D : Type 0} (told : D → Option Store) (faults : D → ℕ) (by : TxnId) (place : Place) (before now : House D)
+    (result : Result (Vec ℕ) GetFault) : Type 0 where
+  pub keeps : IsReadyOrClosed told now
+  pub step : Step told faults (Read (Some (Txn by))) (get_outcome result) (seen_of before) (seen_of now)
+  pub answers : GetAnswers told (seen_of before) place result
+
+-- ---- one reading over several acts
+
+-- A reader of a table at a place of the book sees it twice, and others act between: what it saw goes on; the files of the book stood in the
+-- store, and stand in it now; and the table was there at the place.
+pub record ReadsOn (before now : List TrailItem) (files files' : Tree) (place : ℕ) (table : Table) : Type 0 where
+  pub front : IsFront before now
+  pub has : HasPlace before place
+  pub book : HasFittingBook now
+  pub stood : Stands (state_at before) files
+  pub stand : Stands (state_at now) files'
+  pub here : numbered (state_then before place).tables table.info.table.0 ≡ Some table
+
+-- its bytes stand there as they stood
+pub record StandsStill (files files' : Tree) (file : DirFile) : Type 0 where
+  pub bytes : List ℕ
+  pub stood : tree.get files file.place ≡ Some bytes
+  pub stands : tree.get files' file.place ≡ Some bytes
+
+abbrev pub AllStandStill : Tree → Tree → List DirFile → Type 0
+AllStandStill files files' taken = (file : DirFile) → IsIn file taken → StandsStill files files' file
+
+-- the same files are taken
+pub record AreSameFiles (taken taken' : List DirFile) : Type 0 where
+  pub still : (file : DirFile) → IsIn file taken → IsIn file taken'
+  pub no_more : (file : DirFile) → IsIn file taken' → IsIn file taken
+
+-- Where it is got later, it is there, with the bytes that it had.
+pub record IsGotStill (store store' : Store) (trail' : List TrailItem) (file : DirFile) : Type 0 where
+  pub got : (found : List ℕ) → HasGot (Some store') trail' file.place found → tree.get store.tree file.place ≡ Some found
+  pub never_missed : HasMissed (Some store') trail' file.place → ⊥
+
+abbrev pub AllGotStill : Store → Store → List TrailItem → List DirFile → Type 0
+AllGotStill store store' trail' taken = (file : DirFile) → IsIn file taken → IsGotStill store store' trail' file

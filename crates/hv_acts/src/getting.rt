@@ -1,0 +1,55 @@
+ghost use Rattle.hv_house.specs.House.{IsReady};
+ghost use Rattle.hv_acts.specs.Reading.{GetStep};
+
+use hv_actor::Act;
+use hv_base::TxnId;
+use hv_house::{GetFault, House, HouseFault};
+use hv_shelf::{Place, Shelf};
+use std::alloc::Global;
+
+/// Gets, for a transaction, the bytes of the file at a place.
+#[derive(Drop)]
+pub struct GetFile<'a> {
+    pub by: TxnId,
+    pub place: &'a Place,
+}
+
+fn get_file<D: Shelf>(
+    alloc: Global,
+    house: &mut House<D>,
+    by: TxnId,
+    place: &Place,
+) -> Result<Vec<u8>, GetFault>
+    requires ready { IsReady D.told house.old }
+    ensures got { GetStep D.told D.faults by place.now house.old house.new result }
+{
+    house.get(alloc, by, place)
+}
+
+impl<'a, D: Shelf + Drop> Act<D, House<D>> for GetFile<'a> {
+    ghost use Rattle.std.specs.Prelude.{Some};
+    ghost use Rattle.hv_trail.specs.declared.trail.Reader.TheVariants.{Txn};
+    ghost use Rattle.hv_trail.specs.Steps.{Read};
+    ghost use Rattle.hv_house.specs.Listing.{get_outcome};
+    ghost use Rattle.hv_acts.specs.Reading.{GetAnswers, adds_getting};
+
+    type Answer = Result<Vec<u8>, GetFault>;
+
+    ghost can = { λ act house. Unit {0} };
+
+    ghost call = { λ act house answer. Read (Some (Txn act.by)) };
+
+    ghost outcome = { λ act answer. get_outcome answer };
+
+    ghost adds = { λ act answer. adds_getting act.by answer };
+
+    ghost does = { λ act house answer. GetAnswers D.told house act.place.now answer };
+
+    fn act(self, alloc: Global, house: &mut House<D>) -> Result<Vec<u8>, GetFault> {
+        if house.is_closed() {
+            Err(GetFault::House(HouseFault::Store))
+        } else {
+            get_file(alloc, house, self.by, self.place)
+        }
+    }
+}

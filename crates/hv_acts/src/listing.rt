@@ -1,0 +1,61 @@
+ghost use Rattle.hv_house.specs.House.{IsReady};
+ghost use Rattle.hv_acts.specs.Reading.{ListStep};
+
+use crate::fault::ActFault;
+use hv_actor::Act;
+use hv_base::{TableId, TxnId};
+use hv_house::{House, HouseFault, Listing};
+use hv_shelf::Shelf;
+use std::alloc::Global;
+
+/// Lists, for a transaction, the files of a table that are taken under the list of its write ids at a place of the book.
+#[derive(Drop)]
+pub struct ListTable {
+    pub by: TxnId,
+    pub place: u64,
+    pub table: TableId,
+}
+
+fn list_table<D: Shelf>(
+    alloc: Global,
+    house: &mut House<D>,
+    by: TxnId,
+    place: u64,
+    table: TableId,
+) -> Result<Listing, ActFault>
+    requires ready { IsReady D.told house.old }
+    ensures listed { ListStep D.told D.faults by place table house.old house.new result }
+{
+    match house.list(alloc, by, place, table) {
+        Ok(listing) => Ok(listing),
+        Err(fault) => Err(ActFault::House(fault)),
+    }
+}
+
+impl<D: Shelf + Drop> Act<D, House<D>> for ListTable {
+    ghost use Rattle.std.specs.Prelude.{Some};
+    ghost use Rattle.hv_trail.specs.declared.trail.Reader.TheVariants.{Txn};
+    ghost use Rattle.hv_trail.specs.Steps.{Read};
+    ghost use Rattle.hv_acts.specs.Answers.{answer_outcome};
+    ghost use Rattle.hv_acts.specs.Reading.{HasPlace, ListAnswers, adds_listing};
+
+    type Answer = Result<Listing, ActFault>;
+
+    ghost can = { λ act house. HasPlace house.trail act.place };
+
+    ghost call = { λ act house answer. Read (Some (Txn act.by)) };
+
+    ghost outcome = { λ act answer. answer_outcome answer };
+
+    ghost adds = { λ act answer. adds_listing act.by answer };
+
+    ghost does = { λ act house answer. ListAnswers D.told house act.place act.table answer };
+
+    fn act(self, alloc: Global, house: &mut House<D>) -> Result<Listing, ActFault> {
+        if house.is_closed() {
+            Err(ActFault::House(HouseFault::Store))
+        } else {
+            list_table(alloc, house, self.by, self.place, self.table)
+        }
+    }
+}

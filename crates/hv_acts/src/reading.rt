@@ -1,0 +1,49 @@
+//! Why a reading in several acts is sound, whatever others do between.
+
+ghost use Rattle.std.specs.Prelude.{◌≡◌, ℕ, Some, List, take};
+ghost use Rattle.hv_shelf.specs.Disk.{Tree, Store};
+ghost use Rattle.hv_logic.specs.declared.catalog.TableInfo.{TableInfo};
+ghost use Rattle.hv_choosing.specs.declared.listing.DirFile.{DirFile};
+ghost use Rattle.hv_history.specs.declared.state.Table.{Table};
+ghost use Rattle.hv_history.specs.Lasting.{IsFront};
+ghost use Rattle.hv_trail.specs.declared.trail.TrailItem.{TrailItem};
+ghost use Rattle.hv_trail.specs.Trail.{book_of};
+ghost use Rattle.hv_house.specs.Listing.{AreTaken};
+ghost use Rattle.hv_house.specs.declared.listing.Listing.{Listing};
+ghost use Rattle.hv_house.specs.Seeing.{ids_in};
+ghost use Rattle.hv_acts.specs.Reading.{HasPlace, state_then, HasFittingBook, info_then, IsThere, ReadsOn, AllStandStill, AreSameFiles, HasListed, AllGotStill};
+
+/// A place of a book is one of every longer book, and the entries before it are the same: so are the table of a name there and
+/// the list of a table's write ids.
+pub fn places_last()
+    ensures has { (before now : List TrailItem) (place : ℕ) → IsFront before now → HasPlace before place → HasPlace now place }
+    ensures front { (before now : List TrailItem) (place : ℕ) → IsFront before now → HasPlace before place
+        → take place (book_of now) ≡ take place (book_of before) }
+    ensures found { (before now : List TrailItem) (place : ℕ) (name : List ℕ) → IsFront before now → HasPlace before place
+        → info_then now place name ≡ info_then before place name }
+    ensures list { (before now : List TrailItem) (place table : ℕ) → IsFront before now → HasPlace before place
+        → ids_in (state_then now place) table ≡ ids_in (state_then before place) table }
+{}
+
+/// A table that is found by its name was there, by its number.
+pub fn what_was_found_is_there()
+    ensures law { (trail : List TrailItem) (place : ℕ) (name : List ℕ) (info : TableInfo) → HasFittingBook trail
+        → Some info ≡ info_then trail place name → IsThere trail place info }
+{}
+
+/// The files of a table that were listed under a reader's place stand later with the bytes that they had, and just these are listed
+/// again, where the files of the book stand. One that is got later is there, with these bytes.
+pub fn what_was_listed_stands()
+    ensures stand { (before now : List TrailItem) (files files' : Tree) (place : ℕ) (table : Table) (inserts deletes : List DirFile)
+        → ReadsOn before now files files' place table
+        → AreTaken table.info.table (ids_in (state_then before place) table.info.table.0) files inserts deletes
+        → AllStandStill files files' inserts × AllStandStill files files' deletes }
+    ensures same { (before now : List TrailItem) (files files' : Tree) (place : ℕ) (table : Table) (inserts deletes inserts' deletes' : List DirFile)
+        → ReadsOn before now files files' place table
+        → AreTaken table.info.table (ids_in (state_then before place) table.info.table.0) files inserts deletes
+        → AreTaken table.info.table (ids_in (state_then now place) table.info.table.0) files' inserts' deletes'
+        → AreSameFiles inserts inserts' × AreSameFiles deletes deletes' }
+    ensures got { (before now : List TrailItem) (store store' : Store) (place : ℕ) (table : Table) (listing : Listing)
+        → ReadsOn before now store.tree store'.tree place table → HasListed (Some store) before place table.info.table listing
+        → AllGotStill store store' now listing.inserts.items × AllGotStill store store' now listing.deletes.items }
+{}
