@@ -1,0 +1,4 @@
+pub mod Marks
+pub mod Books
+pub mod ItsFiles
+pub mod Standing
