@@ -1,0 +1,112 @@
+-- An entry that fits and is true leaves the book legal, its files standing, and what its trail's marks say.
+use Rattle.std.proofs.Common.{◌≡◌, ◌⊎◌, inl, inr, ◌+◌, ◌<◌, None, List, [], ◌∷◌, ◌++◌, length, fold, refl, sym, subst, arith}
+use Rattle.hv_base.specs.declared.ids.Limits.{Limits}
+use Rattle.hv_base.specs.declared.ids.TxnId.{TxnId}
+use Rattle.hv_shelf.specs.Disk.{Store}
+use Rattle.hv_dirs.specs.Names.{write_end}
+use Rattle.hv_history.specs.declared.entry.Entry.{Entry}
+use Rattle.hv_history.specs.declared.entry.Entry.TheVariants as entry
+use Rattle.hv_history.specs.State.{State, nothing_yet, after, state_of}
+use Rattle.hv_history.specs.Legal.{Fits, IsTruthful, AllFit, AllTruthful, IsLegal, profile}
+use Rattle.hv_stands.specs.Files.{Stands}
+use Rattle.hv_stands.specs.Running.{HasPut}
+use Rattle.hv_stands.specs.Statements.{AllFitting}
+use Rattle.hv_stands.proofs.Fitting.{fitting-room}
+use Rattle.hv_stands.proofs.StatementFiles.{quiet-entries-stand, other-entries-stand, commits-stand}
+use Rattle.hv_trail.specs.declared.trail.Reader.TheVariants.{Txn}
+use Rattle.hv_trail.specs.declared.trail.TrailItem.{TrailItem}
+use Rattle.hv_trail.specs.declared.trail.TrailItem.TheVariants.{Noted}
+use Rattle.hv_trail.specs.Trail.{book_of, broken}
+use Rattle.hv_trail.specs.Kept.{trail_of}
+use Rattle.hv_trail.proofs.LastingLaws.{book-append}
+use Rattle.hv_marked.proofs.Standing.{noted-marks-stand, changes-are-open, marks-give-files}
+use Rattle.hv_house.specs.declared.house.House.{House}
+use Rattle.hv_house.specs.House.{IsFaithful}
+use Rattle.hv_house.specs.Steps.{IsMarked}
+use Rattle.hv_telling.specs.Telling.{StandsByMarks, HasNoId, IsPutAsMeant, IsTrueNow}
+
+-- ---- a legal book and one entry more
+
+fit-next : (limits : Limits) (book : List Entry) (s : State) (event : Entry) → AllFit limits s book → Fits limits (fold after s book) event
+    → AllFit limits s (book ++ event ∷ [])
+fit-next limits [] s event fit fits = (fits, tt)
+fit-next limits (first ∷ book) s event fit fits = (fit.0, fit-next limits book (after s first) event fit.1 fits)
+
+truthful-next : (book : List Entry) (s : State) (event : Entry) → AllTruthful s book → IsTruthful (fold after s book) event
+    → AllTruthful s (book ++ event ∷ [])
+truthful-next [] s event truthful says = (says, tt)
+truthful-next (first ∷ book) s event truthful says = (truthful.0, truthful-next book (after s first) event truthful.1 says)
+
+pub legal-next : (book : List Entry) (event : Entry) → IsLegal profile book → Fits profile (state_of book) event → IsTruthful (state_of book) event
+    → IsLegal profile (book ++ event ∷ [])
+legal-next book event legal fits says = record {
+  fit = fit-next profile book nothing_yet event legal.fit fits;
+  truthful = truthful-next book nothing_yet event legal.truthful says;
+}
+
+-- ---- one that is true now
+
+pub true-says : (book : List Entry) (trail : List TrailItem) (event : Entry) → IsTrueNow book trail event → IsTruthful (state_of book) event
+true-says book trail (entry.Commit txn wrote) truly = truly.0
+true-says book trail (entry.Create txn table) truly = truly.0
+true-says book trail event truly = truly
+
+-- no call on files failed for one that commits
+abbrev pub IsUnbroken : List TrailItem → Entry → Type 0
+IsUnbroken trail (entry.Commit txn wrote) = broken (Txn txn) trail ≡ None
+IsUnbroken trail event = Unit {0}
+
+pub marked-unbroken : {D : Type 0} (house : House D) (event : Entry) → IsMarked house event → IsUnbroken (trail_of house.trail) event
+marked-unbroken house (entry.Commit txn wrote) marked = marked.unbroken
+marked-unbroken house event marked = tt
+
+-- there is room for it
+pub near-end : (book : List Entry) (event : Entry) → AllFitting book → Fits profile (state_of book) event → length book + 1 < write_end
+near-end book event fit fits = omega (arith, fitting-room book event fit fits)
+
+module _ (trail : List TrailItem) (store : Store) (fit : AllFitting (book_of trail)) (true_ : StandsByMarks trail (book_of trail) store) where
+  abbrev book : List Entry
+  book = book_of trail
+
+  -- the files of a change that was put as it is meant
+  put-files : (txn : TxnId) → length book < write_end → broken (Txn txn) trail ≡ None → (put : IsPutAsMeant book trail txn)
+      → HasPut store.tree put.info put.write put.effect
+  put-files txn near unbroken put =
+      marks-give-files profile trail store.tree txn.0 put.info put.effect put.write (record { fit = fit; few = near }) true_.marks
+      (record {
+        changing = changes-are-open book put.asking txn.0 put.place put.said put.info put.effect put.write put.under_way put.means;
+        unbroken = unbroken;
+        marks = put.files;
+      })
+      put.encoded put.held
+
+  event-stands : (event : Entry) → Fits profile (state_of book) event → IsUnbroken trail event → IsTrueNow book trail event
+      → Stands (state_of (book ++ event ∷ [])) store.tree
+  event-stands (entry.Commit txn wrote) fits unbroken truly = by truly.1
+    where
+      near : length book + 1 < write_end
+      near = near-end book (entry.Commit txn wrote) fit fits
+
+      by : HasNoId book txn ⊎ IsPutAsMeant book trail txn → Stands (state_of (book ++ entry.Commit txn wrote ∷ [])) store.tree
+      by (inl none) =
+          quiet-entries-stand book none.asking txn.0 none.place none.said [] (entry.Commit txn wrote) store.tree fit fits none.under_way (refl, refl)
+          true_.faithful.stands
+      by (inr put) =
+          commits-stand book put.asking txn.0 put.place put.said put.info put.effect put.write wrote store.tree fit (omega (arith, near)) fits put.under_way
+          put.means (put-files txn (omega (arith, near)) unbroken put) true_.faithful.stands
+  event-stands (entry.Create txn table) fits unbroken truly =
+      let none : HasNoId book txn = truly.1 in
+      quiet-entries-stand book none.asking txn.0 none.place none.said [] (entry.Create txn table) store.tree fit fits none.under_way (refl, refl)
+      true_.faithful.stands
+  event-stands event fits unbroken truly = other-entries-stand book event store.tree fit fits tt true_.faithful.stands
+
+  -- it stands behind the entry too
+  pub noted-true : (event : Entry) → Fits profile (state_of book) event → IsUnbroken trail event → IsTrueNow book trail event
+      → StandsByMarks (trail ++ Noted event ∷ []) (book_of (trail ++ Noted event ∷ [])) store
+  noted-true event fits unbroken truly = record {
+    faithful = subst (λ (entries : List Entry). IsFaithful entries store) (sym (book-append trail (Noted event ∷ []))) (record {
+      stands = event-stands event fits unbroken truly;
+      legal = legal-next book event true_.faithful.legal fits (true-says book trail event truly);
+    });
+    marks = noted-marks-stand profile trail event store.tree fit (near-end book event fit fits) fits true_.faithful.stands true_.marks;
+  }

@@ -1,0 +1,8 @@
+//! A house whose store tells: what is true of it between two calls, and that its calls keep it.
+#![tactic(auto)]
+
+mod laws;
+mod telling;
+
+pub use laws::{opened_is_whole, reads_keep_whole, told_stays, true_shows};
+pub use telling::{begin, note, put};
