@@ -1,5 +1,5 @@
 //! A transaction that is opened, and its Start, noted one by one: between them it waits, with no snapshot and no lock.
-ghost use Rattle.std.specs.Prelude.{◌≡◌, ◌↔◌, ◌≤◌, ◌+◌, ◌<◌, ℕ, IfOk, IfErr, IsErrOf, length};
+ghost use Rattle.std.specs.Prelude.{◌≡◌, ◌↔◌, ◌≤◌, ℕ, IfOk, IfErr, IsErrOf, length};
 ghost use Rattle.hv_base.specs.declared.ids.Limits.{Limits};
 ghost use Rattle.hv_built.specs.Running.{Runs};
 ghost use Rattle.hv_history.specs.declared.entry.Entry.TheVariants as entries;
