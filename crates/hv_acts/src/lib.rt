@@ -10,6 +10,7 @@ mod making;
 mod noting;
 mod opening;
 mod putting;
+mod starting;
 
 pub use aborting::AbortFor;
 pub use committing::{CommitWrites, Committed};
@@ -19,3 +20,4 @@ pub use laws::what_is_asked_lasts;
 pub use making::MakeTable;
 pub use opening::{Begin, Begun};
 pub use putting::PutFile;
+pub use starting::{OpenTransaction, StartTransaction};
