@@ -8,9 +8,8 @@ use Rattle.hv_history.specs.Legal.{profile}
 use Rattle.hv_stands.specs.Running.{next_number}
 use Rattle.hv_trail.specs.Trail.{book_of}
 use Rattle.hv_trail.specs.Kept.{trail_of}
-use Rattle.hv_trail.specs.Steps.{Begin, Done, begun, Step}
+use Rattle.hv_trail.specs.Steps.{Begin, Done, Step}
 use Rattle.hv_house.specs.declared.fault.HouseFault.{HouseFault}
-use Rattle.hv_house.specs.declared.fault.HouseFault.TheVariants as fault
 use Rattle.hv_house.specs.declared.house.House.{House}
 use Rattle.hv_house.specs.House.{entries_of, IsReady, StaysReady}
 use Rattle.hv_house.specs.Faults.{EndsRun}

@@ -19,14 +19,13 @@ use Rattle.hv_conflicts.specs.Clashes.{IsClash}
 use Rattle.hv_trail.specs.declared.trail.Reader.TheVariants.{Txn}
 use Rattle.hv_trail.specs.Trail.{state_at, broken}
 use Rattle.hv_trail.specs.Kept.{trail_of}
-use Rattle.hv_trail.specs.Steps.{Note, Commit, Conflict, HouseSeen, Step}
+use Rattle.hv_trail.specs.Steps.{Note, Commit, HouseSeen, Step}
 use Rattle.hv_house.specs.declared.fault.HouseFault.{HouseFault}
 use Rattle.hv_house.specs.declared.fault.HouseFault.TheVariants as fault
 use Rattle.hv_house.specs.declared.house.House.{House}
 use Rattle.hv_house.specs.House.{entries_of, IsReady, IsSmall, StaysReady}
 use Rattle.hv_house.specs.Faults.{EndsRun}
 use Rattle.hv_house.specs.Steps.{seen_of, fault_outcome, IsPutWhole, CanCommit}
-use Rattle.hv_acts.specs.declared.committing.Committed.TheVariants as committed
 use Rattle.hv_acts.specs.declared.committing.Shared.{Shared}
 use Rattle.hv_acts.specs.declared.fault.ActFault.{ActFault}
 use Rattle.hv_acts.specs.declared.fault.ActFault.TheVariants as act
@@ -169,6 +168,7 @@ module _ {D : Type 0} (told : D → Option Store) (faults : D → ℕ) (txn : Tx
       → Step told faults (call_behind (Commit txn wrote) why) (act_outcome why) before now
   commit-behind (act.Ended at) s = s
   commit-behind (act.Full entries) s = s
+  commit-behind (act.Held holder) s = s
   commit-behind (act.Broken put count) s = s
   commit-behind act.Unfit s = s
   commit-behind (act.House why) s = commit-fails why s

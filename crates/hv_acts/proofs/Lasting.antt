@@ -1,5 +1,5 @@
 -- What acts ask of a trail is true of every longer one.
-use Rattle.std.proofs.Common.{◌≡◌, inl, inr, ℕ, Bool, true, false, Option, Some, None, List, [], ◌∷◌, refl, sym, ◌∙◌, subst}
+use Rattle.std.proofs.Common.{◌≡◌, inl, inr, ℕ, true, false, Option, Some, None, List, [], ◌∷◌, refl, sym, ◌∙◌, subst}
 use Rattle.std.specs.Prelude.{IsSomeAnd, Contains}
 use Rattle.std.specs.List.{AllByRecursion}
 use Rattle.std.proofs.lemmas.List.Elements.{Contains-append_left}
@@ -19,7 +19,7 @@ use Rattle.hv_trail.specs.declared.trail.Mark.TheVariants.{Wrote, Broke}
 use Rattle.hv_trail.specs.declared.trail.TrailItem.{TrailItem}
 use Rattle.hv_trail.specs.declared.trail.TrailItem.TheVariants.{Marked}
 use Rattle.hv_trail.specs.Trail.{state_at, HasWritten}
-use Rattle.hv_trail.specs.Lasting.{Has, IsGiven, GoesOn}
+use Rattle.hv_trail.specs.Lasting.{Has, IsGiven}
 use Rattle.hv_trail.proofs.LastingLaws.{goes-on-front, lasts, given-keeps}
 use Rattle.hv_acts.specs.Answers.{HasItsMark}
 use Rattle.hv_acts.specs.Putting.{HasIdFor}

@@ -1,5 +1,5 @@
 -- An entry that is noted where it fits.
-use Rattle.std.proofs.Common.{◌≡◌, ℕ, ◌+◌, ◌↔◌, not, length, Bool, false, true, Option, Some, None, Ok, Err, IsTrue, List, map, true≢false, refl, sym, ap, ◌∙◌, subst}
+use Rattle.std.proofs.Common.{◌≡◌, ℕ, ◌+◌, ◌↔◌, not, length, Bool, false, Option, Some, None, Ok, Err, IsTrue, List, map, true≢false, refl, sym, ap, ◌∙◌, subst}
 use Rattle.hv_base.specs.declared.ids.TxnId.{TxnId}
 use Rattle.std.specs.Option.{option_map}
 use Rattle.std.proofs.lemmas.List.{length-map}
@@ -9,8 +9,6 @@ use Rattle.hv_base.specs.declared.ids.TableId.{TableId}
 use Rattle.hv_base.specs.declared.ids.WriteId.{WriteId}
 use Rattle.hv_shelf.specs.Disk.{Store}
 use Rattle.hv_history.specs.declared.entry.Entry.{Entry}
-use Rattle.hv_history.specs.declared.entry.Entry.TheVariants as entry
-use Rattle.hv_history.specs.declared.entry.Cause.TheVariants as cause
 use Rattle.hv_history.specs.declared.state.Table.{Table}
 use Rattle.hv_history.specs.State.{state_of, numbered}
 use Rattle.hv_history.specs.Legal.{Of, Fits, FullFits, profile}
@@ -21,7 +19,6 @@ use Rattle.hv_trail.specs.declared.trail.TrailItem.{TrailItem}
 use Rattle.hv_trail.specs.Trail.{state_at}
 use Rattle.hv_trail.specs.Kept.{trail_of}
 use Rattle.hv_trail.specs.Steps.{Call, Note, Done, HouseSeen, Step}
-use Rattle.hv_house.specs.declared.fault.HouseFault.TheVariants as fault
 use Rattle.hv_house.specs.declared.house.House.{House}
 use Rattle.hv_house.specs.House.{entries_of, IsReady}
 use Rattle.hv_house.specs.Steps.{seen_of}
@@ -35,6 +32,7 @@ use Rattle.hv_acts.proofs.Steps.{book-is, asked}
 pub why-of : (trail : List TrailItem) (txn : TxnId) (Fact : Type 0) (why : ActFault) → IsLate trail txn why → (Fact → ⊥) → IsWhy trail txn Fact why
 why-of trail txn Fact (act.Ended at) late not = late
 why-of trail txn Fact (act.Full entries) late not = absurd late
+why-of trail txn Fact (act.Held by) late not = absurd late
 why-of trail txn Fact (act.Broken put count) late not = absurd late
 why-of trail txn Fact act.Unfit late not = (late, not)
 why-of trail txn Fact (act.House why) late not = absurd late
@@ -44,6 +42,7 @@ pub asked-late : {D : Type 0} (told : D → Option Store) (faults : D → ℕ) (
     → IsLate trail txn why → Step told faults (call_behind call why) (act_outcome why) seen seen
 asked-late told faults seen trail txn call (act.Ended at) late = asked told faults seen
 asked-late told faults seen trail txn call (act.Full entries) late = absurd late
+asked-late told faults seen trail txn call (act.Held by) late = absurd late
 asked-late told faults seen trail txn call (act.Broken put count) late = absurd late
 asked-late told faults seen trail txn call act.Unfit late = asked told faults seen
 asked-late told faults seen trail txn call (act.House why) late = absurd late

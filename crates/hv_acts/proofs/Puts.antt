@@ -15,12 +15,10 @@ use Rattle.hv_trail.specs.Trail.{state_at}
 use Rattle.hv_trail.specs.Kept.{trail_of}
 use Rattle.hv_trail.specs.Lasting.{IsGiven}
 use Rattle.hv_trail.specs.Steps.{Put, Done, Step}
-use Rattle.hv_house.specs.declared.fault.HouseFault.TheVariants as fault
 use Rattle.hv_house.specs.declared.house.House.{House}
 use Rattle.hv_house.specs.House.{entries_of, IsReady}
 use Rattle.hv_house.specs.Steps.{seen_of, HoldsId, IsOwnFile}
 use Rattle.hv_acts.specs.declared.fault.ActFault.{ActFault}
-use Rattle.hv_acts.specs.declared.fault.ActFault.TheVariants as act
 use Rattle.hv_acts.specs.Answers.{IsLate}
 use Rattle.hv_acts.specs.Putting.{HasIdFor, Runs, FileStep}
 use Rattle.hv_acts.proofs.Steps.{book-is}

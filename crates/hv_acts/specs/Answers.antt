@@ -3,26 +3,24 @@ use Rattle.std.specs.Prelude.{◌≡◌, ℕ, ◌+◌, true, false, Option, Some
 use Rattle.hv_base.specs.declared.ids.TxnId.{TxnId}
 use Rattle.hv_base.specs.declared.ids.TableId.{TableId}
 use Rattle.hv_base.specs.declared.ids.WriteId.{WriteId}
-use Rattle.hv_shelf.specs.declared.place.Place.{Place}
 use Rattle.hv_shelf.specs.Disk.{Store}
 use Rattle.hv_history.specs.declared.entry.Entry.{Entry}
 use Rattle.hv_history.specs.declared.entry.Cause.{Cause}
 use Rattle.hv_history.specs.declared.entry.Cause.TheVariants as cause
 use Rattle.hv_history.specs.declared.state.Table.{Table}
 use Rattle.hv_history.specs.State.{numbered}
-use Rattle.hv_history.specs.Legal.{Of, Fits, FullFits, profile}
+use Rattle.hv_history.specs.Legal.{Of, Fits, FullFits, BlockedFits, profile}
 use Rattle.hv_meta.specs.declared.facts.TxnState.{TxnState}
 use Rattle.hv_meta.specs.declared.facts.TxnState.TheVariants as standing
 use Rattle.hv_meta.specs.States.{state_in}
 use Rattle.hv_trail.specs.declared.trail.Reader.TheVariants.{Txn}
 use Rattle.hv_trail.specs.declared.trail.TrailItem.{TrailItem}
 use Rattle.hv_trail.specs.declared.trail.TrailItem.TheVariants.{Noted, Marked}
-use Rattle.hv_trail.specs.declared.trail.Mark.TheVariants.{Wrote, Broke}
+use Rattle.hv_trail.specs.declared.trail.Mark.TheVariants.{Broke}
 use Rattle.hv_trail.specs.Trail.{book_of, state_at, broken}
 use Rattle.hv_trail.specs.Kept.{trail_of}
 use Rattle.hv_trail.specs.Steps.{Call, Note, Ask, Outcome, Done, Refused, Step}
 use Rattle.hv_house.specs.declared.house.House.{House}
-use Rattle.hv_house.specs.declared.fault.HouseFault.TheVariants as fault
 use Rattle.hv_house.specs.Steps.{seen_of, fault_outcome}
 use Rattle.hv_house.specs.Housed.{IsReadyOrClosed}
 use Rattle.hv_acts.specs.declared.fault.ActFault.{ActFault}
@@ -34,6 +32,7 @@ use Rattle.hv_acts.specs.declared.fault.ActFault.TheVariants as act
 abbrev pub act_outcome : ActFault → Outcome
 act_outcome (act.Ended at) = Refused
 act_outcome (act.Full entries) = Refused
+act_outcome (act.Held by) = Refused
 act_outcome (act.Broken put count) = Refused
 act_outcome act.Unfit = Refused
 act_outcome (act.House why) = fault_outcome why
@@ -41,6 +40,7 @@ act_outcome (act.House why) = fault_outcome why
 abbrev pub call_behind : Call → ActFault → Call
 call_behind call (act.Ended at) = Ask
 call_behind call (act.Full entries) = Ask
+call_behind call (act.Held by) = Ask
 call_behind call (act.Broken put count) = Ask
 call_behind call act.Unfit = Ask
 call_behind call (act.House why) = call
@@ -76,6 +76,7 @@ IsLate trail txn why = ⊥
 abbrev pub IsWhy : List TrailItem → TxnId → Type 0 → ActFault → Type 0
 IsWhy trail txn Fact (act.Ended at) = state_in (state_at trail) txn.0 ≡ standing.Ended at
 IsWhy trail txn Fact (act.Full entries) = (entries ≡ length (book_of trail)) × Of (state_at trail) txn.0 (FullFits profile (state_at trail))
+IsWhy trail txn Fact (act.Held by) = Of (state_at trail) txn.0 (BlockedFits (state_at trail) by.0)
 IsWhy trail txn Fact (act.Broken put count) = broken (Txn txn) trail ≡ Some (put, count)
 IsWhy trail txn Fact act.Unfit = HasNotEnded (state_in (state_at trail) txn.0) × (Fact → ⊥)
 IsWhy trail txn Fact (act.House why) = Unit {0}

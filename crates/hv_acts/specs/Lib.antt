@@ -3,3 +3,4 @@ pub mod Beginning
 pub mod Committing
 pub mod Putting
 pub mod Reading
+pub mod Waiting

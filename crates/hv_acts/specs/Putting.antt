@@ -45,6 +45,7 @@ abbrev pub adds_fault : TxnId → ActFault → List TrailItem
 adds_fault by (act.House why) = adds_mark by why
 adds_fault by (act.Ended at) = []
 adds_fault by (act.Full entries) = []
+adds_fault by (act.Held holder) = []
 adds_fault by (act.Broken put count) = []
 adds_fault by act.Unfit = []
 

@@ -71,6 +71,7 @@ pub record HasFound {D : Type 0} (house : HouseSeen D) (place : ℕ) (name : Lis
 abbrev pub IsFindWhy : Bool → ActFault → Type 0
 IsFindWhy closed (act.Ended at) = ⊥
 IsFindWhy closed (act.Full entries) = ⊥
+IsFindWhy closed (act.Held holder) = ⊥
 IsFindWhy closed (act.Broken put count) = ⊥
 IsFindWhy closed act.Unfit = ⊥
 IsFindWhy closed (act.House fault.Store) = closed ≡ true
@@ -99,6 +100,7 @@ pub record HasListed (told : Option Store) (trail : List TrailItem) (place : ℕ
 abbrev pub IsOfHouse : ActFault → Type 0
 IsOfHouse (act.Ended at) = ⊥
 IsOfHouse (act.Full entries) = ⊥
+IsOfHouse (act.Held holder) = ⊥
 IsOfHouse (act.Broken put count) = ⊥
 IsOfHouse act.Unfit = ⊥
 IsOfHouse (act.House why) = Unit {0}
@@ -111,6 +113,7 @@ ListAnswers told house place table (Err why) = IsOfHouse why
 abbrev pub adds_read : TxnId → ActFault → List TrailItem
 adds_read by (act.Ended at) = []
 adds_read by (act.Full entries) = []
+adds_read by (act.Held holder) = []
 adds_read by (act.Broken put count) = []
 adds_read by act.Unfit = []
 adds_read by (act.House why) = broken_by (Some (Txn by)) false why

@@ -8,9 +8,12 @@ pub enum ActFault {
     /// The transaction was ended, by the entry at this place.
     #[error("the transaction has ended")]
     Ended { at: u64 },
-    /// There is no room for an entry more: the book has so many.
+    /// There is no room for what the act notes: the book has so many entries.
     #[error("the journal is full")]
     Full { entries: u64 },
+    /// Its Start has to wait: this is the lowest open started transaction that holds a lock against its statement.
+    #[error("another transaction holds a lock")]
+    Held { by: TxnId },
     /// A call on files failed for the transaction: whether it was to put a file, and the store's count of faults then.
     #[error("a call on files failed before")]
     Broken { put: bool, count: u64 },

@@ -14,6 +14,7 @@ mod noting;
 mod opening;
 mod putting;
 mod reading;
+mod starting;
 
 pub use aborting::AbortFor;
 pub use committing::{CommitWrites, Committed};
@@ -27,3 +28,4 @@ pub use making::MakeTable;
 pub use opening::{Begin, Begun};
 pub use putting::PutFile;
 pub use reading::{places_last, what_was_found_is_there, what_was_listed_stands};
+pub use starting::{OpenTransaction, StartTransaction};

@@ -1,6 +1,6 @@
 -- What is asked of the book before an entry is noted.
 use Rattle.std.proofs.Common.{refl, ◌≡◌, ℕ, ◌+◌, ◌≤◌, Bool, true, false, Option, Some, None, List, [], ◌∷◌, ◌++◌, length, map, sym, ap, ◌∙◌, subst, arith, append-nil}
-use Rattle.std.specs.Prelude.{◌||◌, if◌then◌else◌, IsSomeAnd, sum_by}
+use Rattle.std.specs.Prelude.{◌||◌, if◌then◌else◌, IsTrue, IsSomeAnd, sum_by}
 use Rattle.std.specs.List.{list_any}
 use Rattle.std.specs.Option.{option_map}
 use Rattle.std.proofs.lemmas.List.Sums.{sum_by-append, sum_by-cons}
@@ -16,17 +16,18 @@ use Rattle.hv_history.specs.declared.entry.Entry.TheVariants.{Opened}
 use Rattle.hv_history.specs.declared.state.Table.{Table}
 use Rattle.hv_history.specs.declared.state.Transaction.{Transaction}
 use Rattle.hv_history.specs.State.{State, numbered, opened, acted, after, state_of}
-use Rattle.hv_history.specs.Legal.{open_one, working_one, load, StartFits, holds_against, first_holder, locks_of, locks_of_tree}
+use Rattle.hv_history.specs.Legal.{is_open, open_one, working_one, load, StartFits, holds_against, first_holder, locks_of, locks_of_tree}
 use Rattle.hv_book.specs.declared.notes.TableNote.{TableNote}
 use Rattle.hv_book.specs.Briefs.{brief_table}
 use Rattle.hv_book.specs.Notes.{notes_of}
 use Rattle.hv_book.proofs.BookLaws.{follows, high-below}
-use Rattle.hv_stands.specs.Running.{Asking, next_number, opening}
+use Rattle.hv_stands.specs.Running.{Asking, next_number, opening, IsWaiting}
 use Rattle.hv_stands.proofs.Numbers.{numbered-map}
 use Rattle.hv_stands.proofs.Soundness.{all-numbered}
 use Rattle.hv_stands.proofs.Behind.{one-behind, opened-there}
 use Rattle.hv_house.specs.House.{BeginFitsWithin}
 use Rattle.hv_house.specs.Asking.{holder_against, lock_state}
+use Rattle.hv_house.specs.Calls.{IfOpen, CanStart}
 
 -- ---- locks
 
@@ -114,6 +115,27 @@ begin-fits limits book tree room free asking runs =
           (subst (λ (o : Option Transaction). IsSomeAnd o (StartFits limits (after s (opening book asking)) 0)) (sym (opened-there s asking.session asking.number asking.text))
           (started-fits s asking.session asking.number asking.text limits tree runs.read room free)),
     )
+
+-- ---- an Opened and a Start noted one by one
+
+pub opened-waits : (book : List Entry) (asking : Asking) (tree : Stmt) → Runs asking.text tree → IsWaiting (book ++ opening book asking ∷ []) asking (next_number book) tree
+opened-waits book asking tree runs = record {
+  runs = runs;
+  here = ap (λ (now : State). numbered now.transactions (next_number book)) (one-behind book (opening book asking))
+      ∙ opened-there (state_of book) asking.session asking.number asking.text;
+}
+
+pub waits-can-start : (book : List Entry) (asking : Asking) (txn : ℕ) (tree : Stmt) → IsWaiting book asking txn tree → holder_against book tree ≡ None
+    → IfOpen (state_of book) txn (CanStart (state_of book))
+waits-can-start book asking txn tree waits free =
+    let ts : List Transaction = (state_of book).transactions in
+    let own : locks_of (opened asking.session asking.number asking.text) ≡ names_in tree =
+    append-nil (locks_of_tree (tree_of asking.text)) ∙ ap locks_of_tree waits.runs.read in
+    subst (λ (o : Option Transaction). IsSomeAnd o (λ t. IsTrue (is_open t) → CanStart (state_of book) t)) (sym waits.here)
+    (λ unended. record {
+      waiting = record { unended = refl; unstarted = refl };
+      unlocked = subst (λ locks. list_any (holds_against locks) ts ≡ false) (sym own) (none-held (names_in tree) 1 ts free);
+    })
 
 -- ---- what a call answers
 

@@ -15,9 +15,10 @@ use Rattle.hv_history.specs.declared.entry.Entry.TheVariants.{Boot}
 use Rattle.hv_history.specs.Journal.{record_of, place_of, Reads, IsJournal}
 use Rattle.hv_history.specs.declared.state.Ending.{Ending}
 use Rattle.hv_history.specs.State.{State, Openings, nothing_yet, after, state_of}
-use Rattle.hv_history.specs.Legal.{is_open, one_if, open_one, working_one, load, AllFit}
+use Rattle.hv_history.specs.Legal.{is_open, one_if, open_one, working_one, load, HasRoom, AllFit}
 use Rattle.hv_journal.specs.Appending.{Holds, KeepsTree, StaysShort}
 use Rattle.hv_journal.proofs.Lengths.{length-record}
+use Rattle.hv_recovery.specs.Recovery.{IsJournalOf}
 use Rattle.hv_book.specs.declared.openings.OpeningNotes.{OpeningNotes}
 use Rattle.hv_book.specs.Briefs.{brief, end_of, open_next, open_from}
 use Rattle.hv_book.specs.Index.{openings_in}
@@ -31,7 +32,7 @@ use Rattle.hv_house.specs.declared.fault.HouseFault.TheVariants as house
 use Rattle.hv_house.specs.declared.boot.BootFault.TheVariants as fault
 use Rattle.hv_house.specs.House.{entries_of, IsKept, IsReadyWithin, IsHalted, Leaves}
 use Rattle.hv_house.specs.Steps.{KeepsMarks, IsOpenedOver}
-use Rattle.hv_house.specs.Booting.{number_next, marked_from, open_numbers, lost_entry, opening_entries, opening_of, boot_fault, LeavesFront, IsCutOpening, CutsOpening, LosesSome, IsLearned}
+use Rattle.hv_house.specs.Booting.{number_next, marked_from, open_numbers, lost_entry, opening_entries, opening_of, boot_fault, LeavesFront, IsCutOpening, CutsOpening, LosesSome, NotesWithRoom, StopsWithRoom, IsLearned}
 
 -- ---- what is learned of a book
 
@@ -179,6 +180,39 @@ stopped-early (Some s) book journal = record {
   parts = refl;
   leaves = subst (λ b. IsJournal b s.journal) (sym (append-nil book)) journal;
 }
+
+-- ---- something was noted only where there is room for all of it
+
+pub unnoted : (limits : Limits) (told : Option Store) (book : List Entry) → Tells told (λ s. IsJournal book s.journal)
+    → Tells told (λ s. NotesWithRoom limits book s.journal)
+unnoted limits None book journal = tt
+unnoted limits (Some s) book journal = inl journal
+
+pub noted-with-room : (limits : Limits) (told : Option Store) (book : List Entry) → HasRoom limits (state_of book) 1
+    → Tells told (λ s. NotesWithRoom limits book s.journal)
+noted-with-room limits None book room = tt
+noted-with-room limits (Some s) book room = inr room
+
+-- the store is as it was
+pub roomy-unread : (limits : Limits) (before now : Option Store) → now ≡ before → StopsWithRoom limits before now
+roomy-unread limits None None same = tt
+roomy-unread limits None (Some t) same = cc
+roomy-unread limits (Some s) None same = cc
+roomy-unread limits (Some s) (Some t) same =
+    let is : t ≡ s = cc in
+    λ book reads. inl (subst (λ (x : Store). IsJournal book x.journal) (sym is) reads.journal)
+
+-- the book that was read is the only one
+pub roomy-read : (limits : Limits) (found : List Entry) (before now : Option Store) → Moves KeepsTree before now
+    → Tells before (λ s. (book : List Entry) → IsJournalOf limits book s.journal → found ≡ book)
+    → Tells now (λ s. NotesWithRoom limits found s.journal) → StopsWithRoom limits before now
+roomy-read limits found None None moves only roomy = tt
+roomy-read limits found None (Some t) moves only roomy = absurd moves
+roomy-read limits found (Some s) None moves only roomy = absurd moves
+roomy-read limits found (Some s) (Some t) moves only roomy =
+    λ book reads. subst (λ b. NotesWithRoom limits b t.journal) (only book reads) roomy
+
+-- ---- where it stopped
 
 module _ {D : Type 0} (told : D → Option Store) where
   -- at one of those that are aborted

@@ -1,6 +1,6 @@
 -- What a call that notes one entry by its name leaves, and when it is refused.
-use Rattle.std.proofs.Common.{◌≡◌, ℕ, ◌+◌, ◌<◌, ◌≤◌, Bool, true, false, is_none, Option, Some, None, Ok, Err, List, [], ◌∷◌, length, map, refl, sym, ap, ◌∙◌, subst, arith, IsErrOf}
-use Rattle.std.specs.Prelude.{◌↔◌, IsTrue, IsSome, IsSomeAnd}
+use Rattle.std.proofs.Common.{◌≡◌, ℕ, ◌+◌, ◌<◌, ◌≤◌, Bool, true, false, is_none, Option, Some, None, Result, Ok, Err, List, [], ◌∷◌, length, map, refl, sym, ap, ◌∙◌, subst, arith, IsErrOf}
+use Rattle.std.specs.Prelude.{◌↔◌, IsTrue, IsSome, IsSomeAnd, IfErr}
 use Rattle.std.specs.Prelude.{nat_lt}
 use Rattle.std.specs.Option.{option_map}
 use Rattle.std.proofs.lemmas.Bool.Decides.{nat_tests}
@@ -9,13 +9,15 @@ use Rattle.hv_base.specs.declared.ids.TableId.{TableId}
 use Rattle.hv_base.specs.declared.ids.Limits.{Limits}
 use Rattle.hv_base.specs.Told.{Moves, StaysTold}
 use Rattle.hv_shelf.specs.Disk.{Store}
+use Rattle.hv_ast.specs.declared.statement.Stmt.{Stmt}
+use Rattle.hv_built.specs.Running.{Runs}
 use Rattle.hv_history.specs.declared.entry.Entry.{Entry}
 use Rattle.hv_history.specs.declared.entry.Entry.TheVariants as entry
 use Rattle.hv_history.specs.declared.state.Ending.{Ending}
 use Rattle.hv_history.specs.declared.state.Table.{Table}
 use Rattle.hv_history.specs.declared.state.Transaction.{Transaction}
 use Rattle.hv_history.specs.State.{State, numbered, state_of}
-use Rattle.hv_history.specs.Legal.{is_open, is_started, load, HasRoom, GivenFits, CreateFits, Fits, Of}
+use Rattle.hv_history.specs.Legal.{is_open, is_started, load, HasRoom, OpenedFits, StartFits, GivenFits, CreateFits, Fits, Of}
 use Rattle.std.proofs.lemmas.List.{length-map}
 use Rattle.hv_book.specs.declared.notes.TableNote.{TableNote}
 use Rattle.hv_book.specs.Briefs.{brief_table}
@@ -31,7 +33,7 @@ use Rattle.hv_house.specs.declared.calls.EntryFault.TheVariants as fault
 use Rattle.hv_house.specs.Faults.{HasRisen, EndsRun}
 use Rattle.hv_house.specs.House.{IsReadyWithin, StaysReadyWithin, IsNoted, IsHalted}
 use Rattle.hv_house.specs.Steps.{seen_of, fault_outcome}
-use Rattle.hv_house.specs.Calls.{entry_outcome, place_ended, HasEndedAt, HasNotEnded, HasNoRoom, IfOpen, CanBeGiven, next_given, next_table, IsHouseFault, EntryStepWithin}
+use Rattle.hv_house.specs.Calls.{entry_outcome, place_ended, HasEndedAt, HasNotEnded, HasNoRoom, LacksRoom, IfOpen, CanBeGiven, CanStart, next_given, next_table, IsHouseFault, EntryStepWithin}
 use Rattle.hv_house.proofs.Stays.{stays_of}
 use Rattle.hv_house.proofs.Steps.{noting-one, step-halted}
 
@@ -145,6 +147,22 @@ pub when-open : (o : Option Transaction) (P : Transaction → Type 0) → IsSome
 when-open None P can none = absurd can
 when-open (Some t) P can none = can (unended t.ending (is_started t) none)
 
+-- ---- an Opened, and a Start
+
+pub opening-fits : (limits : Limits) (book : List Entry) (txn : ℕ) (text : List ℕ) (tree : Stmt) → txn ≡ length (state_of book).transactions + 1 → Runs text tree
+    → HasRoom limits (state_of book) 2 → OpenedFits limits (state_of book) txn text
+opening-fits limits book txn text tree next runs room = record { next = next; statement = (tree, runs); room = room }
+
+starting-fits : (limits : Limits) (s : State) (o : Option Transaction) → IsSomeAnd o (CanStart s) → HasRoom limits s 1 → IsSomeAnd o (StartFits limits s 0)
+starting-fits limits s None can room = absurd can
+starting-fits limits s (Some t) can room = record { waiting = can.waiting; first = refl; unlocked = can.unlocked; room = room }
+
+pub start-fits : (limits : Limits) (book : List Entry) (txn : TxnId) → IfOpen (state_of book) txn.0 (CanStart (state_of book))
+    → HasNotEnded book txn.0 → HasRoom limits (state_of book) 1 → Fits limits (state_of book) (entry.Start txn 0)
+start-fits limits book txn can none room =
+    let o : Option Transaction = numbered (state_of book).transactions txn.0 in
+    starting-fits limits (state_of book) o (when-open o (CanStart (state_of book)) can none) room
+
 -- ---- the next write id
 
 live-next : (o : Option Table) → IsSomeAnd o (λ t. IsTrue t.is_live) → IsSomeAnd o (λ t. IsTrue t.is_live × (length (owners_in o) + 1 ≡ length t.owners + 1))
@@ -241,10 +259,10 @@ err-not-full (fault.House why) is k e = cc
 err-not-full (fault.NotOpen at) is k e = absurd is
 err-not-full (fault.Full entries) is k e = absurd is
 
-lacks-room : (limits : Limits) (s : State) → (HasRoom limits s 1 → ⊥) → limits.entries < load s + 1
-lacks-room limits s none = by (nat_lt limits.entries (load s + 1)) refl
+lacks-room : (limits : Limits) (s : State) (more : ℕ) → (HasRoom limits s more → ⊥) → limits.entries < load s + more
+lacks-room limits s more none = by (nat_lt limits.entries (load s + more)) refl
   where
-    by : (b : Bool) → nat_lt limits.entries (load s + 1) ≡ b → limits.entries < load s + 1
+    by : (b : Bool) → nat_lt limits.entries (load s + more) ≡ b → limits.entries < load s + more
     by true is = grind (arith, nat_tests, is)
     by false is = absurd (none (grind (arith, nat_tests, is)))
 
@@ -252,7 +270,7 @@ pub full-there : {T : Type 0} (limits : Limits) (book : List Entry) (txn n : ℕ
     → (k : ℕ) → IsErrOf {T = T} (Err (fault.Full n)) (fault.Full k) ↔ HasNoRoom limits book txn k
 full-there {T = T} limits book txn n unended_ count none k = (
   λ (e : IsErrOf {T = T} (Err (fault.Full n)) (fault.Full k)). let same : n ≡ k = cc in
-      record { unended = unended_; count = sym same ∙ count; full = lacks-room limits (state_of book) none },
+      record { unended = unended_; count = sym same ∙ count; full = lacks-room limits (state_of book) 1 none },
   λ (lacks : HasNoRoom limits book txn k). ap (λ m. Err (fault.Full m)) (count ∙ sym lacks.count),
 )
 
@@ -271,3 +289,31 @@ failed-not-full {T = T} why is limits book txn room k = (λ e. absurd (err-not-f
 pub ended-not-full : {T : Type 0} (limits : Limits) (book : List Entry) (txn at : ℕ) → HasEndedAt book txn at
     → (k : ℕ) → IsErrOf {T = T} (Err (fault.NotOpen at)) (fault.Full k) ↔ HasNoRoom limits book txn k
 ended-not-full limits book txn at ended k = (λ e. cc, λ lacks. let both : None ≡ Some at = sym lacks.unended ∙ ended in cc)
+
+-- ---- of a call that asks for more room
+
+pub lacking-there : {T : Type 0} (limits : Limits) (book : List Entry) (more n : ℕ) → n ≡ length book → (HasRoom limits (state_of book) more → ⊥)
+    → (k : ℕ) → IsErrOf {T = T} (Err (fault.Full n)) (fault.Full k) ↔ LacksRoom limits book more k
+lacking-there {T = T} limits book more n count none k = (
+  λ (e : IsErrOf {T = T} (Err (fault.Full n)) (fault.Full k)). let same : n ≡ k = cc in
+      record { count = sym same ∙ count; full = lacks-room limits (state_of book) more none },
+  λ (lacks : LacksRoom limits book more k). ap (λ m. Err (fault.Full m)) (count ∙ sym lacks.count),
+)
+
+has-room-for : (limits : Limits) (book : List Entry) (more k : ℕ) → HasRoom limits (state_of book) more → LacksRoom limits book more k → ⊥
+has-room-for limits book more k room lacks = omega (arith, room, lacks.full)
+
+pub passed-lacks-not : {T : Type 0} (result : Result T EntryFault) → IfErr result IsHouseFault → (limits : Limits) (book : List Entry) (more : ℕ)
+    → HasRoom limits (state_of book) more → (k : ℕ) → IsErrOf result (fault.Full k) ↔ LacksRoom limits book more k
+passed-lacks-not (Ok x) is limits book more room k = (λ e. cc, λ lacks. absurd (has-room-for limits book more k room lacks))
+passed-lacks-not {T = T} (Err why) is limits book more room k =
+    (λ e. absurd (err-not-full {T = T} why is k e), λ lacks. absurd (has-room-for limits book more k room lacks))
+
+pub passed-not-ended : {T : Type 0} (result : Result T EntryFault) → IfErr result IsHouseFault → (k : ℕ) → IsErrOf result (fault.NotOpen k) → ⊥
+passed-not-ended (Ok x) is k e = cc
+passed-not-ended (Err (fault.House why)) is k e = cc
+passed-not-ended (Err (fault.NotOpen at)) is k e = absurd is
+passed-not-ended (Err (fault.Full entries)) is k e = absurd is
+
+pub full-not-ended : {T : Type 0} (n k : ℕ) → IsErrOf {T = T} (Err (fault.Full n)) (fault.NotOpen k) → ⊥
+full-not-ended n k e = cc

@@ -121,6 +121,14 @@ CutsOpening why book opening told = Tells told (λ s. IsCutShort (boot_fault why
 abbrev pub StopsOpening : Limits → Option Store → Option Store → BootFault → Type 0
 StopsOpening limits before now why = Moves (λ s t. (book : List Entry) → IsJournalOf limits book s.journal → IsCutOpening why book t.journal) before now
 
+-- The journal reads to this book, as it did before its opening, or the limits have room for the whole opening: where they haven't, nothing of it is noted.
+abbrev pub NotesWithRoom : Limits → List Entry → List ℕ → Type 0
+NotesWithRoom limits book bytes = IsJournal book bytes ⊎ HasRoom limits (state_of book) 1
+
+-- so it is of an opening that stopped, for the book that the journal read to
+abbrev pub StopsWithRoom : Limits → Option Store → Option Store → Type 0
+StopsWithRoom limits before now = Moves (λ s t. (book : List Entry) → IsJournalOf limits book s.journal → NotesWithRoom limits book t.journal) before now
+
 -- some of these transactions were aborted as lost, and the next one wasn't
 pub record LosesSome {D : Type 0} (told : D → Option Store) (why : HouseFault) (open_ : List ℕ) (before now : House D) : Type 0 where
   pub lost : List ℕ

@@ -9,7 +9,7 @@ use Rattle.hv_history.specs.declared.entry.Entry.{Entry}
 use Rattle.hv_history.specs.declared.entry.Entry.TheVariants as entry
 use Rattle.hv_history.specs.declared.state.Transaction.{Transaction}
 use Rattle.hv_history.specs.State.{State, numbered, given_in, state_of}
-use Rattle.hv_history.specs.Legal.{is_open, load, Of, IsRunning}
+use Rattle.hv_history.specs.Legal.{is_open, load, Of, IsRunning, IsWaiting, IsUnlocked}
 use Rattle.hv_book.specs.Past.{owners_in}
 use Rattle.hv_meta.specs.declared.facts.TxnState.{TxnState}
 use Rattle.hv_meta.specs.declared.facts.TxnState.TheVariants as txn_state
@@ -45,6 +45,11 @@ pub record HasNoRoom (limits : Limits) (book : List Entry) (txn entries : ℕ) :
   pub count : entries ≡ length book
   pub full : limits.entries < load (state_of book) + 1
 
+-- there is no room for so many of the load more of a book with so many entries
+pub record LacksRoom (limits : Limits) (book : List Entry) (more entries : ℕ) : Type 0 where
+  pub count : entries ≡ length book
+  pub full : limits.entries < load (state_of book) + more
+
 -- the transaction of that number has an Opened, and where it is open the fact holds of it
 abbrev pub IfOpen : State → ℕ → (Transaction → Type 0) → Type 0
 IfOpen state txn P = Of state txn (λ t. IsTrue (is_open t) → P t)
@@ -63,6 +68,11 @@ pub record CanBeGiven (state : State) (table : ℕ) (transaction : Transaction) 
   pub running : IsRunning transaction
   pub live : IsSomeAnd (numbered state.tables table) (λ t. IsTrue t.is_live)
   pub first : IsNone (given_in table transaction.given)
+
+-- a transaction may start, where there is room: it was opened and hasn't started, and no lock is held against its statement
+pub record CanStart (state : State) (transaction : Transaction) : Type 0 where
+  pub waiting : IsWaiting transaction
+  pub unlocked : IsUnlocked state transaction
 
 -- the number of the table that is made next
 abbrev pub next_table : List Entry → ℕ

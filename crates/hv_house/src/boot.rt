@@ -10,7 +10,7 @@ ghost use Rattle.hv_recovery.specs.Recovery.{IsJournalOf};
 ghost use Rattle.hv_house.specs.Faults.{StoreCause, FileCause};
 ghost use Rattle.hv_house.specs.House.{entries_of, book_limit, IsKept, IsReadyWithin, IsBeside};
 ghost use Rattle.hv_house.specs.Steps.{KeepsMarks, IsOpenedOver};
-ghost use Rattle.hv_house.specs.Booting.{boot_fault, lost_entry, opening_of, IsLearned, LosesSome, CutsOpening, IsCutOpening, IsRaiseFault, Opens, IsBootFault, IsBootStore, StopsOpening};
+ghost use Rattle.hv_house.specs.Booting.{boot_fault, lost_entry, opening_of, IsLearned, LosesSome, CutsOpening, IsCutOpening, IsRaiseFault, Opens, IsBootFault, IsBootStore, StopsOpening, NotesWithRoom, StopsWithRoom};
 
 use crate::fault::HouseFault;
 use crate::house::House;
@@ -186,6 +186,8 @@ impl<D: Shelf + Drop> House<D> {
         ensures later { IfOk result (λ house. D.faults shelf ≤ D.faults house.shelf) }
         ensures cause { IfErr result (λ x.
             StoreCause (D.faults shelf) (D.faults x.1) (IsBootStore x.0)) }
+        ensures roomy { IfErr result (λ x. Tells (D.told x.1)
+            (λ s. NotesWithRoom limits book.entries s.journal)) }
     {
         let entries = book.entries().len() as u64;
         if place > MOST_BYTES {
@@ -221,7 +223,8 @@ impl<D: Shelf + Drop> House<D> {
     ///
     /// # Errors
     /// `BadJournal` where the journal is bad, and `Full` where it has no room for its opening; the
-    /// store is then as it was. `Store` where the store failed. The store is given back.
+    /// store is then as it was. `Store` where the store failed. The store is given back. Nothing is
+    /// noted where there is no room for the whole opening.
     pub fn boot(alloc: Global, shelf: D, limits: Limits) -> Result<House<D>, (BootFault, D)>
         requires most { limits.entries ≤ book_limit }
         ensures ready { IfOk result (IsReadyWithin limits D.told) }
@@ -235,6 +238,7 @@ impl<D: Shelf + Drop> House<D> {
         ensures later { IfOk result (λ house. D.faults shelf ≤ D.faults house.shelf) }
         ensures cause { IfErr result (λ x.
             StoreCause (D.faults shelf) (D.faults x.1) (IsBootStore x.0)) }
+        ensures roomy { IfErr result (λ x. StopsWithRoom limits (D.told shelf) (D.told x.1)) }
     {
         let start = Snapshot::of(&shelf);
         let mut shelf = shelf;

@@ -26,7 +26,7 @@ pub enum EntryFault {
     /// The entry at this place ended the transaction.
     #[error("the transaction ended at {at}")]
     NotOpen { at: u64 },
-    /// The journal has so many entries, and no room for one more.
+    /// The journal has so many entries, and no room for what the call notes.
     #[error("the journal is full")]
     Full { entries: u64 },
     /// A call of the house failed.
@@ -46,7 +46,7 @@ fn place_ended(state: TxnState) -> Option<u64>
 }
 
 /// The place of the entry that ended a transaction of a book.
-fn ended_at(book: &Book, txn: TxnId) -> Option<u64>
+pub(crate) fn ended_at(book: &Book, txn: TxnId) -> Option<u64>
     ensures at { result ≡ place_ended (state_in (state_of book.now.entries) txn.0) }
 {
     place_ended(state_of(book, txn))
@@ -56,7 +56,7 @@ fn discard<T: Drop>(_value: T) {}
 
 impl<D: Shelf> House<D> {
     /// Notes an entry that fits and has no text.
-    fn note_entry(&mut self, entry: Entry) -> Result<(), EntryFault>
+    pub(crate) fn note_entry(&mut self, entry: Entry) -> Result<(), EntryFault>
         ghost limits: { Limits }
         requires ready { IsReadyWithin limits D.told self.old }
         requires textless { tree_of_entry entry ≡ None }

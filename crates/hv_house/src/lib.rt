@@ -12,10 +12,11 @@ mod housed;
 mod laws;
 mod listing;
 mod noting;
+mod opening;
 
 pub use boot::BootFault;
 pub use calls::EntryFault;
 pub use fault::{HouseFault, RowFault};
 pub use house::House;
-pub use laws::seen_is_content;
+pub use laws::{seen_is_content, who_waits_can_start};
 pub use listing::{GetFault, Listing};

@@ -2,7 +2,7 @@ use Rattle.std.proofs.Common.{◌≤◌, ◌<◌, ◌+◌, ◌++◌, ◌∷◌, 
 use Rattle.hv_history.specs.declared.entry.Entry.{Entry}
 use Rattle.hv_history.specs.declared.entry.Entry.TheVariants.{Boot}
 use Rattle.hv_house.specs.Booting.{lost_entry}
-use Rattle.hv_house.proofs.Boots.{load-full, load-small, raised-ready, settled-ready, over-book, stopped-early, stopped-full}
+use Rattle.hv_house.proofs.Boots.{load-full, load-small, raised-ready, settled-ready, over-book, stopped-early, stopped-full, unnoted, noted-with-room}
 use Rattle.hv_house.proofs.house.House.raise.Goals as goal
 
 pub returns-then-entries-len-clause-full : goal.returns-then-entries-len-clause-full
@@ -45,3 +45,16 @@ returns-in-Ok-note_opening-clause-over g c =
     over-book c.args.start.value c.note_opening.new.self _ (ap (λ s. s.value) c.in-Ok-note_opening.ensures.marks.start)
     (c.settle.ensures.marks ∙ c.in-Ok-note_opening.ensures.marks.marks ∙ c.over.ensures.marks)
     (c.in-Ok-note_opening.ensures.marks.marks ∙ c.over.ensures.marks) c.settle.ensures.entries c.settle.ensures.opened
+
+pub returns-then-place-gt-MOST_BYTES-clause-roomy : goal.returns-then-place-gt-MOST_BYTES-clause-roomy
+returns-then-place-gt-MOST_BYTES-clause-roomy g c = unnoted c.args.limits (g.D.Shelf.told c.args.shelf) c.args.book.entries c.requires.journal
+
+pub returns-then-entries-len-clause-roomy : goal.returns-then-entries-len-clause-roomy
+returns-then-entries-len-clause-roomy g c = unnoted c.args.limits (g.D.Shelf.told c.args.shelf) c.args.book.entries c.requires.journal
+
+pub returns-in-Ok-clause-roomy : goal.returns-in-Ok-clause-roomy
+returns-in-Ok-clause-roomy g c =
+    let room : length c.args.book.entries + length c.in-Ok.found.unended.items + 1 ≤ c.args.limits.entries =
+    omega (arith, c.if-entries-len.false, c.len.ensures, ap length c.entries.ensures.entries) in
+    noted-with-room c.args.limits (g.D.Shelf.told c.close.result) c.args.book.entries
+    (load-small c.args.limits c.args.book.entries c.requires.fit c.in-Ok.found.unended.items c.in-Ok.ensures.learned.open_are room)

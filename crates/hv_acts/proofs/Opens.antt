@@ -1,0 +1,182 @@
+-- A transaction that an act opens, and what its Start waits for.
+use Rattle.std.proofs.Common.{◌≡◌, ℕ, ◌+◌, ◌<◌, ◌↔◌, Bool, true, false, Option, Some, None, Ok, Err, IsTrue, List, length, IsErrOf, true≢false, eqb-true, eq-eqb, refl, sym, ap, ◌∙◌, subst, arith}
+use Rattle.std.specs.Prelude.{nat_lt, ◌==◌, ◌&&◌, IsSomeAnd}
+use Rattle.std.proofs.lemmas.Bool.Decides.{nat_tests}
+use Rattle.hv_base.specs.declared.ids.TxnId.{TxnId}
+use Rattle.hv_shelf.specs.Disk.{Store}
+use Rattle.hv_ast.specs.declared.statement.Stmt.{Stmt}
+use Rattle.hv_logic.specs.Names.{names_in}
+use Rattle.hv_book.specs.Briefs.{tree_in}
+use Rattle.hv_fits.specs.Texts.{TextsRun}
+use Rattle.hv_fits.proofs.LockLemmas.{texts-run, no-text, blocked-law}
+use Rattle.hv_history.specs.declared.entry.Entry.{Entry}
+use Rattle.hv_history.specs.declared.state.Transaction.{Transaction}
+use Rattle.hv_history.specs.State.{State, state_of, numbered}
+use Rattle.hv_history.specs.Legal.{Of, IsWaiting, BlockedFits, HasRoom, first_holder, load, profile}
+use Rattle.hv_stands.specs.Running.{next_number, opening}
+use Rattle.hv_trail.specs.Kept.{trail_of}
+use Rattle.hv_trail.specs.Steps.{Note, Done, Step}
+use Rattle.hv_house.specs.declared.fault.HouseFault.{HouseFault}
+use Rattle.hv_house.specs.declared.calls.EntryFault.{EntryFault}
+use Rattle.hv_house.specs.declared.calls.EntryFault.TheVariants as refusal
+use Rattle.hv_house.specs.declared.house.House.{House}
+use Rattle.hv_house.specs.House.{entries_of, IsReady, StaysReady}
+use Rattle.hv_house.specs.Faults.{EndsRun}
+use Rattle.hv_locks.specs.declared.table.LockState.TheVariants.{Granted, Waiting}
+use Rattle.hv_house.specs.Asking.{holder_against, lock_state}
+use Rattle.hv_house.specs.Calls.{LacksRoom, EntryStepWithin}
+use Rattle.hv_house.specs.Steps.{seen_of, fault_outcome}
+use Rattle.hv_acts.specs.declared.fault.ActFault.TheVariants as act
+use Rattle.hv_acts.specs.Waiting.{next_txn, IsHeld, OpenStep}
+use Rattle.hv_acts.proofs.Steps.{book-is, asked, keeps-noted}
+
+-- ---- what a Start waits for
+
+waits-in : (o : Option Transaction) (state : State) (by : ℕ) → IsSomeAnd o (BlockedFits state by) → IsSomeAnd o IsWaiting
+waits-in None state by fits = absurd fits
+waits-in (Some t) state by fits = fits.waiting
+
+-- of one that waits, the first holder of its tree's locks
+found-by : (state : State) (n by : ℕ) (tree : Stmt) → TextsRun state → Some tree ≡ tree_in (numbered state.transactions n) → Of state n (BlockedFits state by)
+    → (f : Option ℕ) → first_holder (names_in tree) 1 state.transactions ≡ f → f ≡ Some by
+found-by state n by tree texts at fits None is =
+    let never : IsTrue (true && false) =
+    (blocked-law state by n tree texts at true false (λ e. waits-in (numbered state.transactions n) state by fits, λ w. refl)
+    (λ e. cc, λ (h : first_holder (names_in tree) 1 state.transactions ≡ Some by). let both : None ≡ Some by = sym is ∙ h in cc)).1 fits in
+    absurd (true≢false (sym never))
+found-by state n by tree texts at fits (Some x) is =
+    let same : IsTrue (true && (x == by)) =
+    (blocked-law state by n tree texts at true (x == by) (λ e. waits-in (numbered state.transactions n) state by fits, λ w. refl)
+    (λ e. is ∙ ap Some (eqb-true x by e), λ (h : first_holder (names_in tree) 1 state.transactions ≡ Some by). let both : Some x ≡ Some by = sym is ∙ h in let here : x ≡ by = cc in eq-eqb x by here)).1 fits in
+    ap Some (eqb-true x by same)
+
+-- there is one at most
+one-holder : (state : State) (o : Option Transaction) (a b : ℕ) → IsSomeAnd o (BlockedFits state a) → IsSomeAnd o (BlockedFits state b) → a ≡ b
+one-holder state None a b first other = absurd first
+one-holder state (Some t) a b first other = let both : Some a ≡ Some b = sym first.held ∙ other.held in cc
+
+pub not-held : (o : Option TxnId) (by : TxnId) (P : Type 0) → o ≡ None → (P → ⊥) → (o ≡ Some by) ↔ P
+not-held o by P none not = (λ e. let both : None ≡ Some by = sym none ∙ e in absurd (cc), λ p. absurd (not p))
+
+module _ {D : Type 0} (told : D → Option Store) (house : House D) (ready : IsReady told house) (txn : TxnId) where
+  abbrev held-in : List Entry → TxnId → Type 0
+  held-in book by = Of (state_of book) txn.0 (BlockedFits (state_of book) by.0)
+
+  to-trail : (by : TxnId) → held-in (entries_of house) by → IsHeld (trail_of house.trail) txn by
+  to-trail by held = subst (λ (book : List Entry). held-in book by) (sym (book-is house)) held
+
+  of-trail : (by : TxnId) → IsHeld (trail_of house.trail) txn by → held-in (entries_of house) by
+  of-trail by held = subst (λ (book : List Entry). held-in book by) (book-is house) held
+
+  -- no text, no transaction
+  pub textless : None ≡ tree_in (numbered (state_of (entries_of house)).transactions txn.0) → (by : TxnId) → IsHeld (trail_of house.trail) txn by → ⊥
+  textless none by held =
+      true≢false (sym ((no-text (state_of (entries_of house)) txn.0 (BlockedFits (state_of (entries_of house)) by.0) (texts-run profile (entries_of house) ready.fit) none).1 (of-trail by held)))
+
+  -- the one that was found is the one
+  pub held-there : (blocker : TxnId) → held-in (entries_of house) blocker → (by : TxnId) → (Some blocker ≡ Some by) ↔ IsHeld (trail_of house.trail) txn by
+  held-there blocker here by = (
+    λ e. let same : blocker ≡ by = cc in to-trail by (subst (held-in (entries_of house)) same here),
+    λ held. let same : blocker.0 ≡ by.0 = one-holder (state_of (entries_of house)) (numbered (state_of (entries_of house)).transactions txn.0) blocker.0 by.0 here (of-trail by held) in
+        λ i. Some (record { 0 = same i }),
+  )
+
+  -- the house's test finds no other
+  pub held-found : (tree : Stmt) → Some tree ≡ tree_in (numbered (state_of (entries_of house)).transactions txn.0) → (f : Option ℕ)
+      → holder_against (entries_of house) tree ≡ f → (by : TxnId) → IsHeld (trail_of house.trail) txn by → f ≡ Some by.0
+  held-found tree at f is by held =
+      found-by (state_of (entries_of house)) txn.0 by.0 tree (texts-run profile (entries_of house) ready.fit) at (of-trail by held) f is
+
+  -- another than the one that waits for it by the house's test would be that one
+  pub other-unheld : (tree : Stmt) (blocker : TxnId) → Some tree ≡ tree_in (numbered (state_of (entries_of house)).transactions txn.0)
+      → Waiting blocker ≡ lock_state (holder_against (entries_of house) tree) → (held-in (entries_of house) blocker → ⊥)
+      → (by : TxnId) → IsHeld (trail_of house.trail) txn by → ⊥
+  other-unheld tree blocker at waits not by held =
+      let found : holder_against (entries_of house) tree ≡ Some by.0 = held-found tree at (holder_against (entries_of house) tree) refl by held in
+      let both : Waiting blocker ≡ Waiting by = waits ∙ ap lock_state found in
+      let same : by ≡ blocker = cc in
+      not (subst (held-in (entries_of house)) same (of-trail by held))
+
+  pub granted-unheld : (tree : Stmt) → Some tree ≡ tree_in (numbered (state_of (entries_of house)).transactions txn.0)
+      → Granted ≡ lock_state (holder_against (entries_of house) tree) → (by : TxnId) → IsHeld (trail_of house.trail) txn by → ⊥
+  granted-unheld tree at granted by held =
+      let found : holder_against (entries_of house) tree ≡ Some by.0 = held-found tree at (holder_against (entries_of house) tree) refl by held in
+      let both : Granted ≡ Waiting by = granted ∙ ap lock_state found in
+      cc
+
+-- ---- room
+
+room-for : (s : State) (more : ℕ) → (profile.entries < load s + more → ⊥) → HasRoom profile s more
+room-for s more none = by (nat_lt profile.entries (load s + more)) refl
+  where
+    by : (b : Bool) → nat_lt profile.entries (load s + more) ≡ b → HasRoom profile s more
+    by true is = absurd (none (grind (arith, nat_tests, is)))
+    by false is = grind (arith, nat_tests, is)
+
+-- one that was opened had room
+had-room : (txn : TxnId) (book : List Entry) → ((k : ℕ) → IsErrOf (Ok txn) (refusal.Full k) ↔ LacksRoom profile book 2 k) → HasRoom profile (state_of book) 2
+had-room txn book full = room-for (state_of book) 2 (λ lacks. let never : Ok txn ≡ Err (refusal.Full (length book)) = (full (length book)).1 (record { count = refl; full = lacks }) in cc)
+
+-- its number
+pub next-of : {D : Type 0} (house : House D) (txn : TxnId) → txn.0 ≡ next_number (entries_of house) → txn ≡ next_txn (trail_of house.trail)
+next-of house txn is = λ i. record { 0 = (is ∙ ap next_number (sym (book-is house))) i }
+
+-- ---- its step
+
+module _ {D : Type 0} (told : D → Option Store) (faults : D → ℕ) (session : List ℕ) (number : ℕ) (text : List ℕ) where
+  abbrev asked-for : List Entry → Entry
+  asked-for book = opening book (record { session = session; number = number; text = text })
+
+  pub open-done : (txn : TxnId) (before now : House D) → IsReady told now → txn.0 ≡ next_number (entries_of before)
+      → ((k : ℕ) → IsErrOf (Ok txn) (refusal.Full k) ↔ LacksRoom profile (entries_of before) 2 k)
+      → Step told faults (Note (asked-for (entries_of before))) Done (seen_of before) (seen_of now)
+      → OpenStep told faults session number text before now (Ok txn)
+  open-done txn before now ready next full step = record {
+    keeps = λ still. ready;
+    step = subst (λ (book : List Entry). Step told faults (Note (asked-for book)) Done (seen_of before) (seen_of now)) (sym (book-is before)) step;
+    answers = (
+      subst (λ (book : List Entry). HasRoom profile (state_of book) 2) (sym (book-is before)) (had-room txn (entries_of before) full),
+      next-of before txn next,
+    );
+  }
+
+  open-full : (entries : ℕ) (house now : House D) → now ≡ house → IsReady told house → LacksRoom profile (entries_of house) 2 entries
+      → OpenStep told faults session number text house now (Err (act.Full entries))
+  open-full entries house now same ready lacks =
+      subst (λ (next : House D). OpenStep told faults session number text house next (Err (act.Full entries))) (sym same)
+      (record {
+        keeps = λ still. ready;
+        step = asked told faults (seen_of house);
+        answers = (
+          lacks.count ∙ ap length (sym (book-is house)),
+          λ room. let here : HasRoom profile (state_of (entries_of house)) 2 = subst (λ (book : List Entry). HasRoom profile (state_of book) 2) (book-is house) room in
+              omega (arith, here, lacks.full),
+        );
+      })
+
+  open-failed : (why : HouseFault) (before now : House D) → before.trail.closed ≡ false → StaysReady told why now → EndsRun why
+      → Step told faults (Note (asked-for (entries_of before))) (fault_outcome why) (seen_of before) (seen_of now)
+      → OpenStep told faults session number text before now (Err (act.House why))
+  open-failed why before now running stays ends step = record {
+    keeps = keeps-noted told before now running why stays ends step.closed;
+    step = subst (λ (book : List Entry). Step told faults (Note (asked-for book)) (fault_outcome why) (seen_of before) (seen_of now)) (sym (book-is before)) step;
+    answers = tt;
+  }
+
+  -- by what the house's call answered
+  pub full-answered : (why : EntryFault) (entries : ℕ) (house now : House D) → why ≡ refusal.Full entries → IsReady told house
+      → EntryStepWithin {T = TxnId} profile told faults (asked-for (entries_of house)) house now (Err why)
+      → ((k : ℕ) → IsErrOf {T = TxnId} (Err why) (refusal.Full k) ↔ LacksRoom profile (entries_of house) 2 k)
+      → OpenStep told faults session number text house now (Err (act.Full entries))
+  full-answered why entries house now is ready step full =
+      let refused : EntryStepWithin {T = TxnId} profile told faults (asked-for (entries_of house)) house now (Err (refusal.Full entries)) =
+      subst (λ (w : EntryFault). EntryStepWithin {T = TxnId} profile told faults (asked-for (entries_of house)) house now (Err w)) is step in
+      open-full entries house now refused.halted ready ((full entries).0 (ap Err is))
+
+  pub house-answered : (why : EntryFault) (fault : HouseFault) (house now : House D) → why ≡ refusal.House fault → IsReady told house
+      → EntryStepWithin {T = TxnId} profile told faults (asked-for (entries_of house)) house now (Err why)
+      → OpenStep told faults session number text house now (Err (act.House fault))
+  house-answered why fault house now is ready step =
+      let failed : EntryStepWithin {T = TxnId} profile told faults (asked-for (entries_of house)) house now (Err (refusal.House fault)) =
+      subst (λ (w : EntryFault). EntryStepWithin {T = TxnId} profile told faults (asked-for (entries_of house)) house now (Err w)) is step in
+      open-failed fault house now ready.kept.running failed.stays failed.ends failed.step

@@ -1,0 +1,60 @@
+-- A transaction that is opened, and waits for its Start; and one that is started.
+use Rattle.std.specs.Prelude.{◌≡◌, ℕ, Option, List, length, Result, Ok, Err}
+use Rattle.hv_base.specs.declared.ids.TxnId.{TxnId}
+use Rattle.hv_shelf.specs.Disk.{Store}
+use Rattle.hv_history.specs.declared.entry.Entry.{Entry}
+use Rattle.hv_history.specs.declared.entry.Entry.TheVariants as entry
+use Rattle.hv_history.specs.Legal.{Of, BlockedFits, HasRoom, profile}
+use Rattle.hv_stands.specs.Running.{next_number, opening}
+use Rattle.hv_trail.specs.declared.trail.TrailItem.{TrailItem}
+use Rattle.hv_trail.specs.Trail.{book_of, state_at}
+use Rattle.hv_trail.specs.Kept.{trail_of}
+use Rattle.hv_trail.specs.Steps.{Note, Step}
+use Rattle.hv_house.specs.declared.house.House.{House}
+use Rattle.hv_house.specs.Steps.{seen_of}
+use Rattle.hv_house.specs.Housed.{IsReadyOrClosed}
+use Rattle.hv_acts.specs.declared.fault.ActFault.{ActFault}
+use Rattle.hv_acts.specs.declared.fault.ActFault.TheVariants as act
+use Rattle.hv_acts.specs.Answers.{answer_call, answer_outcome, EntryFits, Answers}
+
+-- the number of the transaction that is opened next, and its Opened
+abbrev pub next_txn : List TrailItem → TxnId
+next_txn trail = record { 0 = next_number (book_of trail) }
+
+abbrev pub next_opened : List TrailItem → List ℕ → ℕ → List ℕ → Entry
+next_opened trail session number text = opening (book_of trail) (record { session = session; number = number; text = text })
+
+-- why it wasn't opened: there is no room for its Opened and the entry that ends it, or the house's call failed
+abbrev pub IsOpenWhy : List TrailItem → ActFault → Type 0
+IsOpenWhy trail (act.Full entries) = (entries ≡ length (book_of trail)) × (HasRoom profile (state_at trail) 2 → ⊥)
+IsOpenWhy trail (act.House why) = Unit {0}
+IsOpenWhy trail why = ⊥
+
+-- it is opened only where there is room, under the next number
+abbrev pub OpenAnswers : List TrailItem → Result TxnId ActFault → Type 0
+OpenAnswers trail (Ok txn) = HasRoom profile (state_at trail) 2 × (txn ≡ next_txn trail)
+OpenAnswers trail (Err why) = IsOpenWhy trail why
+
+-- all that is promised of a transaction that was to be opened
+pub record OpenStep {D : Type 0} (told : D → Option Store) (faults : D → ℕ) (session : List ℕ) (number : ℕ) (text : List ℕ) (before now : House D)
+    (result : Result TxnId ActFault) : Type 0 where
+  pub keeps : IsReadyOrClosed told now
+  pub step : Step told faults (answer_call (Note (next_opened (trail_of before.trail) session number text)) result) (answer_outcome result) (seen_of before) (seen_of now)
+  pub answers : OpenAnswers (trail_of before.trail) result
+
+-- ---- its Start
+
+-- it waits, and this is the lowest open started transaction that holds a lock against its statement
+abbrev pub IsHeld : List TrailItem → TxnId → TxnId → Type 0
+IsHeld trail txn by = Of (state_at trail) txn.0 (BlockedFits (state_at trail) by.0)
+
+-- the answer where that one holds a lock, unless the house's call failed
+abbrev pub TellsHolder : {T : Type 0} → TxnId → Result T ActFault → Type 0
+TellsHolder by (Err (act.Held holder)) = holder ≡ by
+TellsHolder by (Err (act.House why)) = Unit {0}
+TellsHolder by answer = ⊥
+
+-- it is started only where its Start fits; where a lock is held against it, the answer is who holds it
+pub record StartAnswers (trail : List TrailItem) (txn : TxnId) (answer : Result ℕ ActFault) : Type 0 where
+  pub answers : Answers trail txn (EntryFits trail (entry.Start txn 0)) (λ (place : ℕ). place ≡ length (book_of trail)) answer
+  pub held : (by : TxnId) → IsHeld trail txn by → TellsHolder by answer
