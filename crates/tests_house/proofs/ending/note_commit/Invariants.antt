@@ -1,0 +1,4 @@
+use Rattle.tests_house.proofs.ending.note_commit.Given as goal
+
+abbrev pub ghost-note : goal.ghost-note
+ghost-note g a = g.limits
