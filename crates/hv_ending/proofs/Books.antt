@@ -1,19 +1,19 @@
--- What one entry more of a statement says, and that the book stays faithful with it.
-use Rattle.std.proofs.Common.{◌≡◌, ℕ, ◌≤◌, inr, Bool, true, Option, Some, None, IsSomeAnd, List, [], ◌∷◌, ◌++◌, length, take, fold, refl, sym, ap, subst, length-append, arith, ◌∙◌}
+-- What one entry more of a statement says.
+use Rattle.std.proofs.Common.{◌≡◌, ℕ, ◌≤◌, inr, Bool, true, Option, Some, None, IsSomeAnd, List, [], ◌∷◌, ◌++◌, length, take, refl, sym, ap, subst, length-append, arith, ◌∙◌}
 use Rattle.std.proofs.lemmas.List.{take-append-le, take_all}
-use Rattle.hv_base.specs.declared.ids.Limits.{Limits}
 use Rattle.hv_base.specs.declared.ids.Touch.{Touch}
 use Rattle.hv_ast.specs.declared.statement.Stmt.{Stmt}
 use Rattle.hv_logic.specs.declared.catalog.TableInfo.{TableInfo}
 use Rattle.hv_logic.specs.declared.effect.Effect.{Effect}
+use Rattle.hv_logic.specs.declared.meaning.Meaning.{Meaning}
 use Rattle.hv_history.specs.declared.entry.Entry.{Entry}
 use Rattle.hv_history.specs.declared.entry.Entry.TheVariants as entry
 use Rattle.hv_history.specs.declared.entry.Cause.{Cause}
 use Rattle.hv_history.specs.declared.entry.Cause.TheVariants as cause
 use Rattle.hv_history.specs.declared.state.Snapshot.{Snapshot}
 use Rattle.hv_history.specs.declared.state.Transaction.{Transaction}
-use Rattle.hv_history.specs.State.{State, nothing_yet, after, state_of, numbered, meaning}
-use Rattle.hv_history.specs.Legal.{Of, IsRunning, Fits, CauseFits, CauseIsTrue, IsTruthful, TouchesAreMeant, AllFit, AllTruthful, IsLegal, profile}
+use Rattle.hv_history.specs.State.{State, state_of, numbered, meaning}
+use Rattle.hv_history.specs.Legal.{Of, Fits, CauseFits, CauseIsTrue, IsTruthful, TouchesAreMeant, profile}
 use Rattle.hv_history.specs.Answers.{cause_text}
 use Rattle.hv_stands.specs.Running.{Asking, meant, snapshot_at, running, IsWaiting, IsUnderWay}
 use Rattle.hv_ending.proofs.Replied.{abort-replies, waiting-abort-replies}
@@ -22,25 +22,6 @@ use Rattle.hv_ending.specs.Ending.{KeepsCount, aborting, EndsUncommitted, NamesL
 use Rattle.hv_stands.specs.Statements.{AllFitting}
 use Rattle.hv_stands.proofs.SeeingEnough.{tables-stay}
 use Rattle.hv_ending.specs.Steps.{CauseIsMeant}
-
--- ---- a legal book and one entry more
-
-fit-next : (limits : Limits) (book : List Entry) (s : State) (event : Entry) → AllFit limits s book → Fits limits (fold after s book) event
-    → AllFit limits s (book ++ event ∷ [])
-fit-next limits [] s event fit fits = (fits, tt)
-fit-next limits (first ∷ book) s event fit fits = (fit.0, fit-next limits book (after s first) event fit.1 fits)
-
-truthful-next : (book : List Entry) (s : State) (event : Entry) → AllTruthful s book → IsTruthful (fold after s book) event
-    → AllTruthful s (book ++ event ∷ [])
-truthful-next [] s event truthful says = (says, tt)
-truthful-next (first ∷ book) s event truthful says = (truthful.0, truthful-next book (after s first) event truthful.1 says)
-
-pub legal-next : (book : List Entry) (event : Entry) → IsLegal profile book → Fits profile (state_of book) event → IsTruthful (state_of book) event
-    → IsLegal profile (book ++ event ∷ [])
-legal-next book event legal fits says = record {
-  fit = fit-next profile book nothing_yet event legal.fit fits;
-  truthful = truthful-next book nothing_yet event legal.truthful says;
-}
 
 -- ---- a change that can be ended
 
@@ -80,14 +61,33 @@ one-line snapshot cause.PartitionLimit uncommitted = refl
 one-line snapshot cause.Memory uncommitted = refl
 one-line snapshot cause.Lost uncommitted = refl
 
+-- ---- what is true of every open transaction
+
+pub memory-true : (book : List Entry) (txn : ℕ) → Fits profile (state_of book) (aborting txn cause.Memory) → IsTruthful (state_of book) (aborting txn cause.Memory)
+memory-true book txn fits =
+    some-more (CauseFits profile (state_of book) txn cause.Memory) (CauseIsTrue (state_of book) cause.Memory) (numbered (state_of book).transactions txn) (λ t open_. tt) fits
+
+-- that a write failed
+pub fault-true : (book : List Entry) (txn count : ℕ) → Fits profile (state_of book) (aborting txn (cause.WriteFault count))
+    → IsTruthful (state_of book) (aborting txn (cause.WriteFault count))
+fault-true book txn count fits =
+    some-more (CauseFits profile (state_of book) txn (cause.WriteFault count)) (CauseIsTrue (state_of book) (cause.WriteFault count))
+    (numbered (state_of book).transactions txn) (λ t open_. tt) fits
+
 -- ---- a statement that is under way
+
+abbrev meaning-of : Option Transaction → Option Meaning
+meaning-of None = None
+meaning-of (Some t) = meaning t
+
+-- a transaction has one meaning, whoever says so
+pub one-meaning : (book : List Entry) (asking other : Asking) (txn place : ℕ) (said told : Stmt) (given ids : List (ℕ × ℕ))
+    → IsUnderWay book asking txn place said given → IsUnderWay book other txn place told ids → meant (take place book) told ≡ meant (take place book) said
+one-meaning book asking other txn place said told given ids one two = ap meaning-of (sym two.here ∙ one.here)
 
 module _ (book : List Entry) (asking : Asking) (txn place : ℕ) (said : Stmt) (given : List (ℕ × ℕ)) (way : IsUnderWay book asking txn place said given) where
   pub memory-fits : Fits profile (state_of book) (aborting txn cause.Memory)
   memory-fits = of-here (CauseFits profile (state_of book) txn cause.Memory) (state_of book) txn _ way.here refl
-
-  pub runs-on : Of (state_of book) txn IsRunning
-  runs-on = of-here IsRunning (state_of book) txn _ way.here (record { unended = refl; started = refl })
 
   pub means-still : (more : List Entry) → meant (take place (book ++ more)) said ≡ meant (take place book) said
   means-still more = ap (λ (front : List Entry). meant front said) (take-append-le place book more (omega (arith, way.early)))

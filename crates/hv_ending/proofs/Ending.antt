@@ -1,13 +1,12 @@
 -- A statement that is ready ends: by its commit or its Create, by the abort for a conflict, or for want of memory.
-use Rattle.std.proofs.Common.{◌≡◌, ℕ, ◌<◌, ◌⊎◌, inl, inr, true, false, Option, Some, None, IsSomeAnd, Result, Ok, Err, IfOk, List, [], ◌∷◌, ◌++◌, length, take, refl, sym, ap, ◌∙◌, subst, arith}
+use Rattle.std.proofs.Common.{◌≡◌, ℕ, ◌⊎◌, inl, inr, true, false, Option, Some, None, IsSomeAnd, Result, Ok, Err, IfOk, List, [], ◌∷◌, ◌++◌, length, take, refl, sym, ap, ◌∙◌, subst}
 use Rattle.std.specs.List.{slice_get, AllByRecursion}
 use Rattle.hv_base.specs.declared.ids.Touch.{Touch}
 use Rattle.hv_base.specs.declared.ids.TableId.{TableId}
 use Rattle.hv_base.specs.declared.ids.TxnId.{TxnId}
 use Rattle.hv_shelf.specs.declared.place.Place.{Place}
-use Rattle.hv_shelf.specs.Disk.{Store, Tree}
+use Rattle.hv_shelf.specs.Disk.{Store}
 use Rattle.hv_ast.specs.declared.statement.Stmt.{Stmt}
-use Rattle.hv_dirs.specs.Names.{write_end}
 use Rattle.hv_logic.specs.declared.catalog.TableInfo.{TableInfo}
 use Rattle.hv_logic.specs.declared.effect.Effect.{Effect}
 use Rattle.hv_logic.specs.declared.meaning.Meaning.{Meaning}
@@ -21,14 +20,12 @@ use Rattle.hv_history.specs.declared.state.Transaction.{Transaction}
 use Rattle.hv_history.specs.State.{state_of, numbered, given_in, meaning}
 use Rattle.hv_history.specs.Legal.{Of, Fits, ConflictFits, CauseIsTrue, ConflictIsTrue, IsFirstConflict, IsRunning, IsTruthful, IsMake, TouchesAreMeant, place_of_snapshot, profile}
 use Rattle.hv_history.specs.Answers.{cause_text, conflict_text, name_of, name_at}
-use Rattle.hv_journal.specs.Appending.{KeepsTree}
-use Rattle.hv_stands.specs.Files.{Stands, place_of_file}
+use Rattle.hv_stands.specs.Files.{place_of_file}
 use Rattle.hv_stands.specs.Running.{Asking, IsOf, meant, snapshot_at, running, IsUnderWay}
 use Rattle.hv_stands.specs.Statements.{AllFitting}
 use Rattle.hv_ending.proofs.Replied.{commit-replies, create-replies, abort-replies}
 use Rattle.hv_stands.proofs.Fitting.{fronts-fit}
 use Rattle.hv_stands.proofs.SeeingEnough.{changed-table-stood}
-use Rattle.hv_stands.proofs.StatementFiles.{quiet-entries-stand, other-entries-stand, commits-stand}
 use Rattle.hv_conflicts.specs.declared.meeting.Clash.{Clash}
 use Rattle.hv_conflicts.specs.Clashes.{IsClash}
 use Rattle.hv_conflicts.proofs.ClashLemmas.{clash-fits}
@@ -37,19 +34,18 @@ use Rattle.hv_trail.specs.declared.trail.TrailItem.{TrailItem}
 use Rattle.hv_trail.specs.Trail.{broken, HasWritten}
 use Rattle.hv_house.specs.declared.fault.HouseFault.{HouseFault}
 use Rattle.hv_house.specs.declared.house.House.{House}
-use Rattle.hv_house.specs.House.{entries_of, IsReady, IsFaithful}
+use Rattle.hv_house.specs.House.{entries_of}
 use Rattle.hv_house.specs.Steps.{HoldsId, CanCommit}
+use Rattle.hv_telling.specs.Telling.{HasNoId, IsPutAsMeant, IsTrueNow}
 use Rattle.hv_ending.specs.declared.ready.Reply.{Reply}
 use Rattle.hv_ending.specs.declared.ready.Way.{Way}
 use Rattle.hv_ending.specs.declared.ready.End.TheVariants as end
 use Rattle.hv_ending.specs.declared.ready.PutFiles.{PutFiles}
 use Rattle.hv_ending.specs.declared.ready.Ready.{Ready}
-use Rattle.hv_ending.specs.Ending.{KeepsCount, IsUndamaged, IsNoEnd, aborting, committing, creating, IsChangeReady, IsTrulyReady, EndsTruly, HasReplied, places_of_files, IsOfChange}
-use Rattle.hv_ending.specs.Steps.{Goes, StandsWith, LacksMemory, AbortedOrLacks, DoneOrLacks, conflict_cause, Conclusion}
-use Rattle.hv_ending.proofs.Books.{of-here, legal-next, abort-true, commit-true, abort-answered, as-replied, names-last}
+use Rattle.hv_ending.specs.Ending.{KeepsCount, IsUndamaged, IsNoEnd, aborting, committing, creating, IsChangeReady, IsTrulyReady, HasReplied, places_of_files, IsOfChange}
+use Rattle.hv_ending.specs.Steps.{Goes, LacksMemory, AbortedOrLacks, DoneOrLacks, conflict_cause, Conclusion}
+use Rattle.hv_ending.proofs.Books.{of-here, commit-true, abort-answered, as-replied, names-last}
 use Rattle.hv_ending.proofs.Touched.{touch-of-table, found-given}
-use Rattle.hv_ending.proofs.Readying.{told-on, same-stands}
-use Rattle.hv_ending.proofs.Runs.{goes-known}
 
 -- ---- what fits
 
@@ -60,30 +56,100 @@ conflict-fits book txn wrote clash touch runs met found =
     (clash-fits (state_of book) txn met.t wrote clash touch met.is
     (subst (λ (o : Option Transaction). IsSomeAnd o IsRunning) met.is runs) met found)
 
+-- ---- what a commit needs
+
+of-places : (P : Place → Type 0) (table write : ℕ) (files : List OutFile) → AllByRecursion P (places_of_files table write files)
+    → AllByRecursion (λ file. P (place_of_file table write file)) files
+of-places P table write [] all = tt
+of-places P table write (file ∷ files) all = (all.0, of-places P table write files all.1)
+
+-- all files at the places that were kept in mind have marks
+all-written : (trail : List TrailItem) (txn : TxnId) (table write : ℕ) (files : List OutFile) (places : List Place) → places ≡ places_of_files table write files
+    → AllByRecursion (HasWritten trail (Txn txn)) places → AllByRecursion (λ file. HasWritten trail (Txn txn) (place_of_file table write file)) files
+all-written trail txn table write files places are written =
+    of-places (HasWritten trail (Txn txn)) table write files (subst (AllByRecursion (HasWritten trail (Txn txn))) are written)
+
+pub holds-id : (book : List Entry) (asking : Asking) (txn place : ℕ) (said : Stmt) (table write : ℕ) → IsUnderWay book asking txn place said ((table, write) ∷ [])
+    → HoldsId book txn table write
+holds-id book asking txn place said table write under =
+    of-here (λ (t : Transaction). IsRunning t × (given_in table t.given ≡ Some write)) (state_of book) txn _ under.here
+    (record { unended = refl; started = refl }, found-given table write)
+
+pub can-commit : (book : List Entry) (trail : List TrailItem) (asking : Asking) (txn : TxnId) (place : ℕ) (said : Stmt) (given : List (ℕ × ℕ)) (wrote : List Touch)
+    (places : List Place) → IsUnderWay book asking txn.0 place said given → (wrote ≡ []) ⊎ IsOfChange book given wrote places → broken (Txn txn) trail ≡ None
+    → AllByRecursion (HasWritten trail (Txn txn)) places → CanCommit book trail txn wrote
+can-commit book trail asking txn place said given wrote places under (inl none) unbroken written = record { unbroken = unbroken; put = inl none }
+can-commit book trail asking txn place said given wrote places under (inr change) unbroken written = record {
+  unbroken = unbroken;
+  put = inr (record {
+    info = change.info;
+    table = change.can.table;
+    here = change.can.here;
+    same = change.can.same;
+    effect = change.effect;
+    write = change.write;
+    touches = change.touches;
+    holds = holds-id book asking txn.0 place said change.info.table.0 change.write (subst (IsUnderWay book asking txn.0 place said) change.id under);
+    files = all-written trail txn change.info.table.0 change.write (files_of change.info.shape change.write 0 change.effect) places change.places_are written;
+  });
+}
+
 -- ---- what an entry that ends it says
 
-module _ (book : List Entry) (files : Tree) (asking : Asking) (txn place : ℕ) (said : Stmt) (wrote : List Touch) (name : List ℕ) (put : PutFiles) (text : List ℕ)
-    (truly : IsTrulyReady book files asking txn place said (record { end = end.Commit wrote name put; text = text })) where
+-- it has no write id, or its change's files have marks
+as-meant : (book : List Entry) (trail : List TrailItem) (asking : Asking) (txn : TxnId) (place : ℕ) (said : Stmt) (given : List (ℕ × ℕ)) (wrote : List Touch)
+    (name : List ℕ) (put : PutFiles) → IsUnderWay book asking txn.0 place said given
+    → ((given ≡ []) × (wrote ≡ [])) ⊎ IsChangeReady (meant (take place book) said) given name put → AllByRecursion (HasWritten trail (Txn txn)) put.places
+    → HasNoId book txn ⊎ IsPutAsMeant book trail txn
+as-meant book trail asking txn place said given wrote name put under (inl none) written = inl (record {
+  asking = asking;
+  place = place;
+  said = said;
+  under_way = subst (IsUnderWay book asking txn.0 place said) none.0 under;
+})
+as-meant book trail asking txn place said given wrote name put under (inr change) written = inr (record {
+  asking = asking;
+  place = place;
+  said = said;
+  info = change.info;
+  effect = change.effect;
+  write = change.write;
+  under_way = subst (IsUnderWay book asking txn.0 place said) change.id under;
+  means = change.is_change;
+  files = all-written trail txn change.info.table.0 change.write (files_of change.info.shape change.write 0 change.effect) put.places change.places written;
+  held = change.held;
+  encoded = change.encoded;
+})
+
+pub commit-now : (book : List Entry) (trail : List TrailItem) (asking : Asking) (txn : TxnId) (place : ℕ) (said : Stmt) (wrote : List Touch) (name : List ℕ) (put : PutFiles)
+    (text : List ℕ) → IsTrulyReady book asking txn.0 place said (record { end = end.Commit wrote name put; text = text })
+    → AllByRecursion (HasWritten trail (Txn txn)) put.places → IsTrueNow book trail (committing txn.0 wrote)
+commit-now book trail asking txn place said wrote name put text truly written = (
+  commit-true book asking txn.0 place said truly.to_end.given truly.to_end.under_way wrote truly.truly.meant,
+  as-meant book trail asking txn place said truly.to_end.given wrote name put truly.to_end.under_way truly.truly.files_are written,
+)
+
+pub create-now : (book : List Entry) (trail : List TrailItem) (asking : Asking) (txn : TxnId) (place : ℕ) (said : Stmt) (table : TableId) (text : List ℕ)
+    → IsTrulyReady book asking txn.0 place said (record { end = end.Create; text = text }) → IsTrueNow book trail (creating txn.0 table)
+create-now book trail asking txn place said table text truly = (
+  of-here (λ (t : Transaction). IsMake (meaning t)) (state_of book) txn.0 _ truly.to_end.under_way.here truly.truly.makes,
+  record {
+    asking = asking;
+    place = place;
+    said = said;
+    under_way = subst (IsUnderWay book asking txn.0 place said) truly.truly.none truly.to_end.under_way;
+  },
+)
+
+module _ (book : List Entry) (asking : Asking) (txn place : ℕ) (said : Stmt) (wrote : List Touch) (name : List ℕ) (put : PutFiles) (text : List ℕ)
+    (truly : IsTrulyReady book asking txn place said (record { end = end.Commit wrote name put; text = text })) where
   abbrev given : List (ℕ × ℕ)
   given = truly.to_end.given
 
   abbrev under : IsUnderWay book asking txn place said given
   under = truly.to_end.under_way
 
-  pub commit-says : IsTruthful (state_of book) (committing txn wrote)
-  commit-says = commit-true book asking txn place said given under wrote truly.truly.meant
-
-  pub commit-stands : AllFitting book → length book < write_end → Fits profile (state_of book) (committing txn wrote) → Stands (state_of book) files
-      → Stands (state_of (book ++ committing txn wrote ∷ [])) files
-  commit-stands fit near fits stands = by truly.truly.files_are
-    where
-      by : ((given ≡ []) × (wrote ≡ [])) ⊎ IsChangeReady files (meant (take place book) said) given name → Stands (state_of (book ++ committing txn wrote ∷ [])) files
-      by (inl none) = quiet-entries-stand book asking txn place said given (committing txn wrote) files fit fits under (refl, none.0) stands
-      by (inr change) =
-          commits-stand book asking txn place said change.info change.effect change.write wrote files fit near fits
-          (subst (λ (ids : List (ℕ × ℕ)). IsUnderWay book asking txn place said ids) change.id under) change.is_change change.put stands
-
-  pub commit-answered : (reply : Reply) → reply.text ≡ text → reply.refused ≡ false → reply.ended ≡ Some (length book)
+  commit-answered : (reply : Reply) → reply.text ≡ text → reply.refused ≡ false → reply.ended ≡ Some (length book)
       → HasReplied (book ++ committing txn wrote ∷ []) txn reply.text reply.refused reply.ended
   commit-answered reply text_is accepted ended_is =
       as-replied (book ++ committing txn wrote ∷ []) txn _ _ _ reply (text_is ∙ truly.truly.reply) accepted ended_is
@@ -93,10 +159,10 @@ module _ (book : List Entry) (files : Tree) (asking : Asking) (txn place : ℕ) 
 
   module _ (clash : Clash) (touch : Touch) (met : IsClash (state_of book) txn wrote clash) (found : slice_get wrote clash.at ≡ Some touch) where
     -- a change alone conflicts
-    pub conflict-change : IsChangeReady files (meant (take place book) said) given name
+    conflict-change : IsChangeReady (meant (take place book) said) given name put
     conflict-change = by truly.truly.files_are
       where
-        by : ((given ≡ []) × (wrote ≡ [])) ⊎ IsChangeReady files (meant (take place book) said) given name → IsChangeReady files (meant (take place book) said) given name
+        by : ((given ≡ []) × (wrote ≡ [])) ⊎ IsChangeReady (meant (take place book) said) given name put → IsChangeReady (meant (take place book) said) given name put
         by (inl none) =
             let never : None ≡ Some touch = sym (ap (λ (ts : List Touch). slice_get ts clash.at) none.1) ∙ found in cc
         by (inr change) = change
@@ -142,7 +208,7 @@ module _ (book : List Entry) (files : Tree) (asking : Asking) (txn place : ℕ) 
     line-is snapshot is =
         ap (λ (n : List ℕ). conflict_text clash.by.0 n touch.partition) is
 
-    pub conflict-answered : AllFitting book → (reply : Reply) → reply.text ≡ conflict_text clash.by.0 name touch.partition → reply.refused ≡ true
+    conflict-answered : AllFitting book → (reply : Reply) → reply.text ≡ conflict_text clash.by.0 name touch.partition → reply.refused ≡ true
         → reply.ended ≡ Some (length book)
         → HasReplied (book ++ aborting txn (conflict_cause clash.by touch) ∷ []) txn reply.text reply.refused reply.ended
     conflict-answered fit reply text_is refusal ended_is =
@@ -152,269 +218,93 @@ module _ (book : List Entry) (files : Tree) (asking : Asking) (txn place : ℕ) 
 
 -- ---- one entry ended it
 
--- the entry is true, the files stand behind it, and the reply is its answer, where it is truly ready
+-- the entry is its own and ends it, and the reply is its answer, where it is truly ready
 pub record EndsWell (way : Way) (ready : Ready) (book : List Entry) (event : Entry) (reply : Reply) : Type 0 where
-  pub fits : Fits profile (state_of book) event
   pub of_it : IsOf way.txn.0 event
   pub undamaged : IsUndamaged event
   pub ends : IsNoEnd event → ⊥
-  pub says : (files : Tree) (asking : Asking) (said : Stmt) → IsTrulyReady book files asking way.txn.0 way.place said ready → IsTruthful (state_of book) event
-  pub stands : (files : Tree) (asking : Asking) (said : Stmt) → IsTrulyReady book files asking way.txn.0 way.place said ready
-      → Stands (state_of book) files → Stands (state_of (book ++ event ∷ [])) files
-  pub answered : (files : Tree) (asking : Asking) (said : Stmt) → IsTrulyReady book files asking way.txn.0 way.place said ready
+  pub answered : (asking : Asking) (said : Stmt) → IsTrulyReady book asking way.txn.0 way.place said ready
       → HasReplied (book ++ event ∷ []) way.txn.0 reply.text reply.refused reply.ended
   pub ended_is : reply.ended ≡ Some (length book)
 
 module _ {D : Type 0} (told : D → Option Store) (faults : D → ℕ) (way : Way) (ready : Ready) (before now : House D) where
-  ended-conclusion : (event : Entry) (reply : Reply) → Goes told faults KeepsTree (EndsTruly (entries_of before) way ready) way.txn.0 before now (Ok reply)
+  ended-conclusion : (event : Entry) (reply : Reply) → Goes told faults way.txn.0 before now (Ok reply)
       → entries_of now ≡ entries_of before ++ event ∷ [] → KeepsCount (faults before.shelf) (faults now.shelf) event
       → EndsWell way ready (entries_of before) event reply → Conclusion told faults way ready before now (Ok reply)
   ended-conclusion event reply goes book counts well = record {
     goes = goes;
     added = record { added = event ∷ []; book = book; of_it = (well.of_it, tt); counts = (counts, tt); undamaged = (well.undamaged, tt); ends = (event, well.ends, refl) };
-    shows = λ asking said truly shows.
-        told-on KeepsTree (λ s. IsTrulyReady (entries_of before) s.tree asking way.txn.0 way.place said ready) (IsFaithful (entries_of before)) (IsFaithful (entries_of now))
-        (told before.shelf) (told now.shelf) goes.moves
-        (λ x y same is faithful. subst (λ (b : List Entry). IsFaithful b y) (sym book) (record {
-          stands = same-stands (entries_of before ++ event ∷ []) x y same (well.stands x.tree asking said is faithful.stands);
-          legal = legal-next (entries_of before) event faithful.legal well.fits (well.says x.tree asking said is);
-        }))
-        truly shows;
-    answered = λ asking said truly shows.
-        told-on KeepsTree (λ s. IsTrulyReady (entries_of before) s.tree asking way.txn.0 way.place said ready) (IsFaithful (entries_of before))
-        (λ _. HasReplied (entries_of now) way.txn.0 reply.text reply.refused reply.ended)
-        (told before.shelf) (told now.shelf) goes.moves
-        (λ x y same is faithful. subst (λ (b : List Entry). HasReplied b way.txn.0 reply.text reply.refused reply.ended) (sym book) (well.answered x.tree asking said is))
-        truly shows;
+    answered = λ asking said truly.
+        subst (λ (b : List Entry). HasReplied b way.txn.0 reply.text reply.refused reply.ended) (sym book) (well.answered asking said truly);
     last = names-last (entries_of before) (entries_of now) event reply book well.ended_is;
   }
 
-  pub stopped-conclusion : (why : HouseFault) → Goes {T = Reply} told faults KeepsTree (EndsTruly (entries_of before) way ready) way.txn.0 before now (Err why)
-      → Conclusion told faults way ready before now (Err why)
-  stopped-conclusion why goes = record {
-    goes = goes;
-    added = tt;
-    shows = λ asking said truly shows. tt;
-    answered = λ asking said truly shows. tt;
-    last = tt;
-  }
+  stopped-conclusion : (why : HouseFault) → Goes {T = Reply} told faults way.txn.0 before now (Err why) → Conclusion told faults way ready before now (Err why)
+  stopped-conclusion why goes = record { goes = goes; added = tt; answered = λ asking said truly. tt; last = tt }
 
   -- memory lacked
-  lacking-well : (reply : Reply) → IsReady told before → LacksMemory way.txn.0 (entries_of before) (entries_of now) reply
-      → EndsWell way ready (entries_of before) (aborting way.txn.0 cause.Memory) reply
-  lacking-well reply go lacks = record {
-    fits = lacks.fits;
+  lacking : (reply : Reply) → Goes told faults way.txn.0 before now (Ok reply) → LacksMemory way.txn.0 (entries_of before) (entries_of now) reply
+      → Conclusion told faults way ready before now (Ok reply)
+  lacking reply goes lacks = ended-conclusion (aborting way.txn.0 cause.Memory) reply goes lacks.book tt (record {
     of_it = refl;
     undamaged = tt;
     ends = λ never. never;
-    says = λ files asking said truly. abort-true (entries_of before) asking way.txn.0 way.place said truly.to_end.given truly.to_end.under_way cause.Memory tt;
-    stands = λ files asking said truly stands. other-entries-stand (entries_of before) (aborting way.txn.0 cause.Memory) files go.fit lacks.fits tt stands;
-    answered = λ files asking said truly.
+    answered = λ asking said truly.
         as-replied (entries_of before ++ aborting way.txn.0 cause.Memory ∷ []) way.txn.0 _ _ _ reply lacks.text_is lacks.refusal lacks.ended_is
         (abort-answered (entries_of before) asking way.txn.0 way.place said truly.to_end.given truly.to_end.under_way cause.Memory tt);
     ended_is = lacks.ended_is;
-  }
+  })
 
-  lacking : (reply : Reply) → IsReady told before → Goes told faults KeepsTree (EndsTruly (entries_of before) way ready) way.txn.0 before now (Ok reply)
-      → LacksMemory way.txn.0 (entries_of before) (entries_of now) reply → Conclusion told faults way ready before now (Ok reply)
-  lacking reply go goes lacks = ended-conclusion (aborting way.txn.0 cause.Memory) reply goes lacks.book tt (lacking-well reply go lacks)
-
-  -- it suffices that the files stand
-  faithful-goes : (result : Result Reply HouseFault) → Goes told faults KeepsTree (IsFaithful (entries_of before)) way.txn.0 before now result
-      → Goes told faults KeepsTree (EndsTruly (entries_of before) way ready) way.txn.0 before now result
-  faithful-goes result goes =
-      goes-known told faults KeepsTree (IsFaithful (entries_of before)) (EndsTruly (entries_of before) way ready) way.txn.0 before now result
-      (λ s ends. ends.faithful) goes
-
-  -- an entry that is true and leaves them standing
-  well-goes : (event : Entry) (result : Result Reply HouseFault)
-      → ((files : Tree) (asking : Asking) (said : Stmt) → IsTrulyReady (entries_of before) files asking way.txn.0 way.place said ready
-      → Fits profile (state_of (entries_of before)) event → IsTruthful (state_of (entries_of before)) event)
-      → ((files : Tree) (asking : Asking) (said : Stmt) → IsTrulyReady (entries_of before) files asking way.txn.0 way.place said ready
-      → Fits profile (state_of (entries_of before)) event → Stands (state_of (entries_of before)) files → Stands (state_of (entries_of before ++ event ∷ [])) files)
-      → Goes told faults KeepsTree (StandsWith (entries_of before) event) way.txn.0 before now result
-      → Goes told faults KeepsTree (EndsTruly (entries_of before) way ready) way.txn.0 before now result
-  well-goes event result says stands goes =
-      goes-known told faults KeepsTree (StandsWith (entries_of before) event) (EndsTruly (entries_of before) way ready) way.txn.0 before now result
-      (λ s ends. record {
-        alone = ends.faithful;
-        with_it = λ fits. record {
-          stands = stands s.tree ends.asking ends.said ends.truly fits ends.faithful.stands;
-          legal = legal-next (entries_of before) event ends.faithful.legal fits (says s.tree ends.asking ends.said ends.truly fits);
-        };
-      })
-      goes
-
-  pub lacking-conclusion : (result : Result Reply HouseFault) → IsReady told before
-      → Goes told faults KeepsTree (IsFaithful (entries_of before)) way.txn.0 before now result
+  pub lacking-conclusion : (result : Result Reply HouseFault) → Goes told faults way.txn.0 before now result
       → IfOk result (LacksMemory way.txn.0 (entries_of before) (entries_of now)) → Conclusion told faults way ready before now result
-  lacking-conclusion (Ok reply) go goes lacks = lacking reply go (faithful-goes (Ok reply) goes) lacks
-  lacking-conclusion (Err why) go goes lacks = stopped-conclusion why (faithful-goes (Err why) goes)
-
--- ---- what a commit needs
-
-of-places : (P : Place → Type 0) (table write : ℕ) (files : List OutFile) → AllByRecursion P (places_of_files table write files)
-    → AllByRecursion (λ file. P (place_of_file table write file)) files
-of-places P table write [] all = tt
-of-places P table write (file ∷ files) all = (all.0, of-places P table write files all.1)
-
-pub holds-id : (book : List Entry) (asking : Asking) (txn place : ℕ) (said : Stmt) (table write : ℕ) → IsUnderWay book asking txn place said ((table, write) ∷ [])
-    → HoldsId book txn table write
-holds-id book asking txn place said table write under =
-    of-here (λ (t : Transaction). IsRunning t × (given_in table t.given ≡ Some write)) (state_of book) txn _ under.here
-    (record { unended = refl; started = refl }, found-given table write)
-
-pub can-commit : (book : List Entry) (trail : List TrailItem) (asking : Asking) (txn : TxnId) (place : ℕ) (said : Stmt) (given : List (ℕ × ℕ)) (wrote : List Touch)
-    (places : List Place) → IsUnderWay book asking txn.0 place said given → (wrote ≡ []) ⊎ IsOfChange book given wrote places → broken (Txn txn) trail ≡ None
-    → AllByRecursion (HasWritten trail (Txn txn)) places → CanCommit book trail txn wrote
-can-commit book trail asking txn place said given wrote places under (inl none) unbroken written = record { unbroken = unbroken; put = inl none }
-can-commit book trail asking txn place said given wrote places under (inr change) unbroken written = record {
-  unbroken = unbroken;
-  put = inr (record {
-    info = change.info;
-    table = change.can.table;
-    here = change.can.here;
-    same = change.can.same;
-    effect = change.effect;
-    write = change.write;
-    touches = change.touches;
-    holds = holds-id book asking txn.0 place said change.info.table.0 change.write (subst (IsUnderWay book asking txn.0 place said) change.id under);
-    files = of-places (HasWritten trail (Txn txn)) change.info.table.0 change.write (files_of change.info.shape change.write 0 change.effect)
-        (subst (AllByRecursion (HasWritten trail (Txn txn))) change.places_are written);
-  });
-}
+  lacking-conclusion (Ok reply) goes lacks = lacking reply goes lacks
+  lacking-conclusion (Err why) goes lacks = stopped-conclusion why goes
 
 -- ---- its commit, its conflict, its Create
 
-module _ {D : Type 0} (told : D → Option Store) (faults : D → ℕ) (way : Way) (text : List ℕ) (before now : House D) (go : IsReady told before) where
-  near : length (entries_of before) < write_end
-  near = omega (arith, go.kept.few)
-
-  pub commit-conclusion : (wrote : List Touch) (name : List ℕ) (put : PutFiles) (result : Result Reply HouseFault)
-      → Goes told faults KeepsTree (StandsWith (entries_of before) (committing way.txn.0 wrote)) way.txn.0 before now result
+module _ {D : Type 0} (told : D → Option Store) (faults : D → ℕ) (way : Way) (text : List ℕ) (before now : House D) where
+  pub commit-conclusion : (wrote : List Touch) (name : List ℕ) (put : PutFiles) (result : Result Reply HouseFault) → Goes told faults way.txn.0 before now result
       → IfOk result (DoneOrLacks way.txn.0 (committing way.txn.0 wrote) text (entries_of before) (entries_of now))
       → Conclusion told faults way (record { end = end.Commit wrote name put; text = text }) before now result
-  commit-conclusion wrote name put result goes done = by result (on result goes) done
-    where
-      ready : Ready
-      ready = record { end = end.Commit wrote name put; text = text }
-
-      event : Entry
-      event = committing way.txn.0 wrote
-
-      says : (files : Tree) (asking : Asking) (said : Stmt) → IsTrulyReady (entries_of before) files asking way.txn.0 way.place said ready
-          → IsTruthful (state_of (entries_of before)) event
-      says files asking said truly = commit-says (entries_of before) files asking way.txn.0 way.place said wrote name put text truly
-
-      stands : (files : Tree) (asking : Asking) (said : Stmt) → IsTrulyReady (entries_of before) files asking way.txn.0 way.place said ready
-          → Fits profile (state_of (entries_of before)) event → Stands (state_of (entries_of before)) files → Stands (state_of (entries_of before ++ event ∷ [])) files
-      stands files asking said truly fits standing =
-          commit-stands (entries_of before) files asking way.txn.0 way.place said wrote name put text truly go.fit near fits standing
-
-      on : (result : Result Reply HouseFault) → Goes told faults KeepsTree (StandsWith (entries_of before) event) way.txn.0 before now result
-          → Goes told faults KeepsTree (EndsTruly (entries_of before) way ready) way.txn.0 before now result
-      on result goes =
-          well-goes told faults way ready before now event result (λ files asking said truly fits. says files asking said truly) stands goes
-
-      by : (result : Result Reply HouseFault) → Goes told faults KeepsTree (EndsTruly (entries_of before) way ready) way.txn.0 before now result
-          → IfOk result (DoneOrLacks way.txn.0 event text (entries_of before) (entries_of now)) → Conclusion told faults way ready before now result
-      by (Err why) goes done = stopped-conclusion told faults way ready before now why goes
-      by (Ok reply) goes (inr lacks) = lacking told faults way ready before now reply go goes lacks
-      by (Ok reply) goes (inl done) = ended-conclusion told faults way ready before now event reply goes done.book tt (record {
-        fits = done.fits;
-        of_it = refl;
-        undamaged = tt;
-        ends = λ never. never;
-        says = says;
-        stands = λ files asking said truly standing. stands files asking said truly done.fits standing;
-        answered = λ files asking said truly. commit-answered (entries_of before) files asking way.txn.0 way.place said wrote name put text truly reply done.text_is done.accepted done.ended_is;
-        ended_is = done.ended_is;
-      })
+  commit-conclusion wrote name put (Err why) goes done = stopped-conclusion told faults way _ before now why goes
+  commit-conclusion wrote name put (Ok reply) goes (inr lacks) = lacking told faults way _ before now reply goes lacks
+  commit-conclusion wrote name put (Ok reply) goes (inl done) = ended-conclusion told faults way _ before now (committing way.txn.0 wrote) reply goes done.book tt (record {
+    of_it = refl;
+    undamaged = tt;
+    ends = λ never. never;
+    answered = λ asking said truly.
+        commit-answered (entries_of before) asking way.txn.0 way.place said wrote name put text truly reply done.text_is done.accepted done.ended_is;
+    ended_is = done.ended_is;
+  })
 
   pub conflict-conclusion : (wrote : List Touch) (name : List ℕ) (put : PutFiles) (clash : Clash) (touch : Touch) (result : Result Reply HouseFault)
-      → IsClash (state_of (entries_of before)) way.txn.0 wrote clash → slice_get wrote clash.at ≡ Some touch
-      → Goes told faults KeepsTree (StandsWith (entries_of before) (aborting way.txn.0 (conflict_cause clash.by touch))) way.txn.0 before now result
+      → AllFitting (entries_of before) → IsClash (state_of (entries_of before)) way.txn.0 wrote clash → slice_get wrote clash.at ≡ Some touch
+      → Goes told faults way.txn.0 before now result
       → IfOk result (AbortedOrLacks way.txn.0 (conflict_cause clash.by touch) (conflict_text clash.by.0 name touch.partition) (entries_of before) (entries_of now))
       → Conclusion told faults way (record { end = end.Commit wrote name put; text = text }) before now result
-  conflict-conclusion wrote name put clash touch result met found goes done = by result (on result goes) done
-    where
-      ready : Ready
-      ready = record { end = end.Commit wrote name put; text = text }
-
-      event : Entry
-      event = aborting way.txn.0 (conflict_cause clash.by touch)
-
-      says : (files : Tree) (asking : Asking) (said : Stmt) → IsTrulyReady (entries_of before) files asking way.txn.0 way.place said ready
-          → IsTruthful (state_of (entries_of before)) event
-      says files asking said truly = conflict-says (entries_of before) files asking way.txn.0 way.place said wrote name put text truly clash touch met found
-
-      stands : (files : Tree) (asking : Asking) (said : Stmt) → IsTrulyReady (entries_of before) files asking way.txn.0 way.place said ready
-          → Fits profile (state_of (entries_of before)) event → Stands (state_of (entries_of before)) files → Stands (state_of (entries_of before ++ event ∷ [])) files
-      stands files asking said truly fits standing = other-entries-stand (entries_of before) event files go.fit fits tt standing
-
-      on : (result : Result Reply HouseFault) → Goes told faults KeepsTree (StandsWith (entries_of before) event) way.txn.0 before now result
-          → Goes told faults KeepsTree (EndsTruly (entries_of before) way ready) way.txn.0 before now result
-      on result goes =
-          well-goes told faults way ready before now event result (λ files asking said truly fits. says files asking said truly) stands goes
-
-      by : (result : Result Reply HouseFault) → Goes told faults KeepsTree (EndsTruly (entries_of before) way ready) way.txn.0 before now result
-          → IfOk result (AbortedOrLacks way.txn.0 (conflict_cause clash.by touch) (conflict_text clash.by.0 name touch.partition) (entries_of before) (entries_of now))
-          → Conclusion told faults way ready before now result
-      by (Err why) goes done = stopped-conclusion told faults way ready before now why goes
-      by (Ok reply) goes (inr lacks) = lacking told faults way ready before now reply go goes lacks
-      by (Ok reply) goes (inl done) = ended-conclusion told faults way ready before now event reply goes done.book tt (record {
-        fits = done.fits;
+  conflict-conclusion wrote name put clash touch (Err why) fit met found goes done = stopped-conclusion told faults way _ before now why goes
+  conflict-conclusion wrote name put clash touch (Ok reply) fit met found goes (inr lacks) = lacking told faults way _ before now reply goes lacks
+  conflict-conclusion wrote name put clash touch (Ok reply) fit met found goes (inl done) =
+      ended-conclusion told faults way _ before now (aborting way.txn.0 (conflict_cause clash.by touch)) reply goes done.book tt (record {
         of_it = refl;
         undamaged = tt;
         ends = λ never. never;
-        says = says;
-        stands = λ files asking said truly standing. stands files asking said truly done.fits standing;
-        answered = λ files asking said truly.
-            conflict-answered (entries_of before) files asking way.txn.0 way.place said wrote name put text truly clash touch met found go.fit reply done.text_is done.refusal done.ended_is;
+        answered = λ asking said truly.
+            conflict-answered (entries_of before) asking way.txn.0 way.place said wrote name put text truly clash touch met found fit reply done.text_is done.refusal done.ended_is;
         ended_is = done.ended_is;
       })
 
-  pub create-conclusion : (table : TableId) (result : Result Reply HouseFault)
-      → Goes told faults KeepsTree (StandsWith (entries_of before) (creating way.txn.0 table)) way.txn.0 before now result
+  pub create-conclusion : (table : TableId) (result : Result Reply HouseFault) → Goes told faults way.txn.0 before now result
       → IfOk result (DoneOrLacks way.txn.0 (creating way.txn.0 table) text (entries_of before) (entries_of now))
       → Conclusion told faults way (record { end = end.Create; text = text }) before now result
-  create-conclusion table result goes done = by result (on result goes) done
-    where
-      ready : Ready
-      ready = record { end = end.Create; text = text }
-
-      event : Entry
-      event = creating way.txn.0 table
-
-      says : (files : Tree) (asking : Asking) (said : Stmt) → IsTrulyReady (entries_of before) files asking way.txn.0 way.place said ready
-          → IsTruthful (state_of (entries_of before)) event
-      says files asking said truly =
-          of-here (λ (t : Transaction). IsMake (meaning t)) (state_of (entries_of before)) way.txn.0 _ truly.to_end.under_way.here truly.truly.makes
-
-      stands : (files : Tree) (asking : Asking) (said : Stmt) → IsTrulyReady (entries_of before) files asking way.txn.0 way.place said ready
-          → Fits profile (state_of (entries_of before)) event → Stands (state_of (entries_of before)) files → Stands (state_of (entries_of before ++ event ∷ [])) files
-      stands files asking said truly fits standing =
-          quiet-entries-stand (entries_of before) asking way.txn.0 way.place said truly.to_end.given event files go.fit fits
-          truly.to_end.under_way (refl, truly.truly.none) standing
-
-      on : (result : Result Reply HouseFault) → Goes told faults KeepsTree (StandsWith (entries_of before) event) way.txn.0 before now result
-          → Goes told faults KeepsTree (EndsTruly (entries_of before) way ready) way.txn.0 before now result
-      on result goes =
-          well-goes told faults way ready before now event result (λ files asking said truly fits. says files asking said truly) stands goes
-
-      by : (result : Result Reply HouseFault) → Goes told faults KeepsTree (EndsTruly (entries_of before) way ready) way.txn.0 before now result
-          → IfOk result (DoneOrLacks way.txn.0 event text (entries_of before) (entries_of now)) → Conclusion told faults way ready before now result
-      by (Err why) goes done = stopped-conclusion told faults way ready before now why goes
-      by (Ok reply) goes (inr lacks) = lacking told faults way ready before now reply go goes lacks
-      by (Ok reply) goes (inl done) = ended-conclusion told faults way ready before now event reply goes done.book tt (record {
-        fits = done.fits;
-        of_it = refl;
-        undamaged = tt;
-        ends = λ never. never;
-        says = says;
-        stands = λ files asking said truly standing. stands files asking said truly done.fits standing;
-        answered = λ files asking said truly.
-            as-replied (entries_of before ++ event ∷ []) way.txn.0 _ _ _ reply (done.text_is ∙ truly.truly.reply) done.accepted done.ended_is
-            (create-replies (entries_of before) asking way.txn.0 way.place said truly.to_end.given truly.to_end.under_way table);
-        ended_is = done.ended_is;
-      })
+  create-conclusion table (Err why) goes done = stopped-conclusion told faults way _ before now why goes
+  create-conclusion table (Ok reply) goes (inr lacks) = lacking told faults way _ before now reply goes lacks
+  create-conclusion table (Ok reply) goes (inl done) = ended-conclusion told faults way _ before now (creating way.txn.0 table) reply goes done.book tt (record {
+    of_it = refl;
+    undamaged = tt;
+    ends = λ never. never;
+    answered = λ asking said truly.
+        as-replied (entries_of before ++ creating way.txn.0 table ∷ []) way.txn.0 _ _ _ reply (done.text_is ∙ truly.truly.reply) done.accepted done.ended_is
+        (create-replies (entries_of before) asking way.txn.0 way.place said truly.to_end.given truly.to_end.under_way table);
+    ended_is = done.ended_is;
+  })

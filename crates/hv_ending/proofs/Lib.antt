@@ -2,7 +2,6 @@ pub mod Runs
 pub mod Replied
 pub mod Puts
 pub mod Books
-pub mod Opens
 pub mod Touched
 pub mod Shorts
 pub mod Readying

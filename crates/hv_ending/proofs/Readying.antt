@@ -1,42 +1,32 @@
 -- A statement that is prepared without a write id: it is ready, or it was aborted.
 use Rattle.std.proofs.Common.{◌≡◌, ℕ, ◌⊎◌, inl, inr, Option, Some, None, Result, Ok, Err, IfOk, List, [], ◌∷◌, ◌++◌, take, refl, sym, ap, ◌∙◌, subst, append-nil}
-use Rattle.hv_base.specs.Told.{Tells, Moves}
-use Rattle.hv_shelf.specs.Disk.{Store, Tree}
-use Rattle.std.specs.FinMap as tree
+use Rattle.hv_shelf.specs.Disk.{Store}
 use Rattle.hv_ast.specs.declared.statement.Stmt.{Stmt}
 use Rattle.hv_logic.specs.declared.meaning.Meaning.{Meaning}
 use Rattle.hv_history.specs.declared.entry.Entry.{Entry}
 use Rattle.hv_history.specs.declared.entry.Cause.{Cause}
 use Rattle.hv_history.specs.declared.entry.Cause.TheVariants as cause
-use Rattle.hv_history.specs.declared.state.Table.{Table}
 use Rattle.hv_history.specs.State.{state_of}
-use Rattle.hv_history.specs.Legal.{Fits, TouchesAreMeant, profile}
+use Rattle.hv_history.specs.Legal.{IsTruthful, TouchesAreMeant}
 use Rattle.hv_history.specs.Answers.{cause_text, committed_text}
-use Rattle.hv_journal.specs.Appending.{KeepsTree}
-use Rattle.hv_stands.specs.Files.{Stands}
-use Rattle.hv_stands.specs.Running.{Asking, meant, IsUnderWay, KeepsGiven}
-use Rattle.hv_stands.proofs.StatementFiles.{other-entries-stand}
+use Rattle.hv_stands.specs.Running.{Asking, meant, IsUnderWay}
 use Rattle.hv_house.specs.declared.fault.HouseFault.{HouseFault}
 use Rattle.hv_house.specs.declared.house.House.{House}
-use Rattle.hv_house.specs.House.{entries_of, IsFaithful, Shows}
+use Rattle.hv_house.specs.House.{entries_of}
 use Rattle.hv_ending.specs.declared.ready.Reply.{Reply}
 use Rattle.hv_ending.specs.declared.ready.Way.{Way}
 use Rattle.hv_ending.specs.declared.ready.End.{End}
 use Rattle.hv_ending.specs.declared.ready.Prepared.{Prepared}
 use Rattle.hv_ending.specs.declared.ready.Prepared.TheVariants as prepared
 use Rattle.hv_ending.specs.declared.ready.Ready.{Ready}
-use Rattle.hv_ending.specs.Ending.{KeepsCount, IsUndamaged, aborting, EndsUncommitted, Prepares, EndCanBeNoted, EndIsTrue, IsReadyToEnd, IsTrulyPrepared, HasReplied, MeansThis, idle_end}
-use Rattle.hv_ending.specs.Steps.{Goes, StandsWith, HasAborted, LacksMemory, IsWithdrawn, CauseIsMeant, EndsBy, ended, IsMadeReady, Preparation}
-use Rattle.hv_ending.proofs.Runs.{goes-by, goes-known, goes-ended}
+use Rattle.hv_ending.specs.Ending.{KeepsCount, IsUndamaged, aborting, EndsUncommitted, Prepares, EndCanBeNoted, EndIsTrue, IsReadyToEnd, HasReplied, idle_end}
+use Rattle.hv_ending.specs.Steps.{Goes, HasAborted, LacksMemory, IsWithdrawn, CauseIsMeant, EndsBy, ended, IsMadeReady, Preparation}
+use Rattle.hv_ending.proofs.Runs.{goes-ended, goes-ok}
 use Rattle.hv_ending.proofs.Shorts.{short_idle}
 use Rattle.hv_ending.proofs.Touched.{nothing-touched}
-use Rattle.hv_ending.proofs.Books.{legal-next, abort-true, abort-answered, as-replied, names-last}
+use Rattle.hv_ending.proofs.Books.{abort-true, abort-answered, as-replied, names-last}
 
 -- ---- aborts
-
--- files that are all as they were, those of write ids that were given too
-pub keeps-given : (tables : List Table) (before now : Store) → KeepsTree before now → KeepsGiven tables before now
-keeps-given tables before now same place of_it = ap (λ (files : Tree). tree.get files place) same
 
 pub ends-for : (P : Cause → Type 0) (txn low high : ℕ) (why : Cause) (before now : List Entry) (reply : Reply) → P why → P cause.Memory
     → EndsUncommitted why → IsUndamaged (aborting txn why) → KeepsCount low high (aborting txn why)
@@ -65,27 +55,11 @@ pub ends-lacking : (P : Cause → Type 0) (txn low high : ℕ) (before now : Lis
     → EndsBy P txn low high before now reply
 ends-lacking P txn low high before now reply memory done = record { why = cause.Memory; meant = memory; done = done; uncommitted = tt; undamaged = tt; counts = tt }
 
--- ---- the book with an abort behind it
-
-pub abort-faithful : (book : List Entry) (asking : Asking) (txn place : ℕ) (said : Stmt) (given : List (ℕ × ℕ)) (why : Cause) (before now : Store)
-    → IsUnderWay book asking txn place said given → Fits profile (state_of book) (aborting txn why) → CauseIsMeant given (meant (take place book) said) why
-    → Stands (state_of book) now.tree → IsFaithful book before → IsFaithful (book ++ aborting txn why ∷ []) now
-abort-faithful book asking txn place said given why before now way fits is_so stands faithful = record {
-  stands = other-entries-stand book (aborting txn why) now.tree faithful.legal.fit fits tt stands;
-  legal = legal-next book (aborting txn why) faithful.legal fits (abort-true book asking txn place said given way why is_so);
-}
-
--- ---- facts on what is told
-
-pub told-on : {A : Type 0} (step : A → A → Type 0) (P Q R : A → Type 0) (a b : Option A) → Moves step a b
-    → ((x y : A) → step x y → P x → Q x → R y) → Tells a P → Tells a Q → Tells b R
-told-on step P Q R None None moves on p q = tt
-told-on step P Q R None (Some y) moves on p q = absurd moves
-told-on step P Q R (Some x) None moves on p q = absurd moves
-told-on step P Q R (Some x) (Some y) moves on p q = on x y moves p q
-
-pub same-stands : (book : List Entry) (before now : Store) → KeepsTree before now → Stands (state_of book) before.tree → Stands (state_of book) now.tree
-same-stands book before now same stands = subst (Stands (state_of book)) (sym same) stands
+-- an abort for what it means is true
+pub meant-true : (book : List Entry) (asking : Asking) (txn place : ℕ) (said : Stmt) (meaning : Meaning) (why : Cause) → IsUnderWay book asking txn place said []
+    → meant (take place book) said ≡ Some meaning → CauseIsMeant [] (Some meaning) why → IsTruthful (state_of book) (aborting txn why)
+meant-true book asking txn place said meaning why under means is_so =
+    abort-true book asking txn place said [] under why (subst (λ (o : Option Meaning). CauseIsMeant [] o why) (sym means) is_so)
 
 module _ {D : Type 0} (told : D → Option Store) (faults : D → ℕ) (way : Way) (meaning : Meaning) (before now : House D) where
   -- ---- it has ended
@@ -102,19 +76,6 @@ module _ {D : Type 0} (told : D → Option Store) (faults : D → ℕ) (way : Wa
       undamaged = (ends.undamaged, tt);
     }
 
-    ended-shows : Moves KeepsTree (told before.shelf) (told now.shelf)
-        → (asking : Asking) (said : Stmt) → IsUnderWay (entries_of before) asking way.txn.0 way.place said []
-        → Tells (told before.shelf) (λ _. meant (take way.place (entries_of before)) said ≡ Some meaning)
-        → Shows told before (entries_of before) → Shows told now (entries_of now)
-    ended-shows moves asking said under means shows =
-        told-on KeepsTree (λ _. meant (take way.place (entries_of before)) said ≡ Some meaning) (IsFaithful (entries_of before)) (IsFaithful (entries_of now))
-        (told before.shelf) (told now.shelf) moves
-        (λ x y same m faithful. subst (λ (b : List Entry). IsFaithful b y) (sym ends.done.book)
-        (abort-faithful (entries_of before) asking way.txn.0 way.place said [] ends.why x y under ends.done.fits
-        (subst (λ (o : Option Meaning). CauseIsMeant [] o ends.why) (sym m) ends.meant)
-        (same-stands (entries_of before) x y same faithful.stands) faithful))
-        means shows
-
     ended-answered : (asking : Asking) (said : Stmt) → IsUnderWay (entries_of before) asking way.txn.0 way.place said []
         → HasReplied (entries_of now) way.txn.0 reply.text reply.refused reply.ended
     ended-answered asking said under =
@@ -122,91 +83,57 @@ module _ {D : Type 0} (told : D → Option Store) (faults : D → ℕ) (way : Wa
         (as-replied (entries_of before ++ aborting way.txn.0 ends.why ∷ []) way.txn.0 _ _ _ reply ends.done.text_is ends.done.refusal ends.done.ended_is
         (abort-answered (entries_of before) asking way.txn.0 way.place said [] under ends.why ends.uncommitted))
 
-  -- files of write ids that were given are among those that are as they were
-  kept-goes : {T : Type 0} (result : Result T HouseFault) → Goes told faults KeepsTree (MeansThis (entries_of before) way meaning) way.txn.0 before now result
-      → Goes told faults (KeepsGiven (state_of (entries_of before)).tables) (MeansThis (entries_of before) way meaning) way.txn.0 before now result
-  kept-goes result goes =
-      goes-by told faults KeepsTree (KeepsGiven (state_of (entries_of before)).tables) (MeansThis (entries_of before) way meaning) way.txn.0 before now result
-      (keeps-given (state_of (entries_of before)).tables) goes
-
-  -- it suffices that the files stand
-  meant-goes : {T : Type 0} (result : Result T HouseFault) → Goes told faults KeepsTree (IsFaithful (entries_of before)) way.txn.0 before now result
-      → Goes told faults KeepsTree (MeansThis (entries_of before) way meaning) way.txn.0 before now result
-  meant-goes result goes =
-      goes-known told faults KeepsTree (IsFaithful (entries_of before)) (MeansThis (entries_of before) way meaning) way.txn.0 before now result
-      (λ s means. means.faithful) goes
-
-  -- the abort for a cause that its meaning gives leaves them standing
-  caused-goes : {T : Type 0} (why : Cause) (result : Result T HouseFault) → CauseIsMeant [] (Some meaning) why
-      → Goes told faults KeepsTree (StandsWith (entries_of before) (aborting way.txn.0 why)) way.txn.0 before now result
-      → Goes told faults KeepsTree (MeansThis (entries_of before) way meaning) way.txn.0 before now result
-  caused-goes why result is_so goes =
-      goes-known told faults KeepsTree (StandsWith (entries_of before) (aborting way.txn.0 why)) (MeansThis (entries_of before) way meaning) way.txn.0 before now result
-      (λ s means. record {
-        alone = means.faithful;
-        with_it = λ fits.
-            abort-faithful (entries_of before) means.asking way.txn.0 way.place means.said [] why s s means.under_way fits
-            (subst (λ (o : Option Meaning). CauseIsMeant [] o why) (sym means.means) is_so) means.faithful.stands means.faithful;
-      })
-      goes
-
-  pub always-told : (P : Type 0) (o : Option Store) → P → Tells o (λ _. P)
-  always-told P None p = tt
-  always-told P (Some s) p = p
-
-  pub ended-preparation : (reply : Reply) → Goes told faults KeepsTree (MeansThis (entries_of before) way meaning) way.txn.0 before now (Ok reply)
+  ended-preparation : (reply : Reply) → Goes told faults way.txn.0 before now (Ok reply)
       → EndsBy (CauseIsMeant [] (Some meaning)) way.txn.0 (faults before.shelf) (faults now.shelf) (entries_of before) (entries_of now) reply
       → Preparation told faults way meaning before now (Ok (prepared.Ended reply))
   ended-preparation reply goes ends = record {
-    goes = kept-goes (Ok (prepared.Ended reply)) (goes-ended told faults KeepsTree (MeansThis (entries_of before) way meaning) way.txn.0 before now (Ok reply) goes);
+    goes = goes-ended told faults way.txn.0 before now (Ok reply) goes;
     prepares = ended-prepares reply ends;
     stands = λ asking said under. tt;
-    shows = λ asking said under means shows. ended-shows reply ends goes.moves asking said under means shows;
-    truly = λ asking said under means shows. always-told _ (told now.shelf) (ended-answered reply ends asking said under);
+    truly = λ asking said under means. ended-answered reply ends asking said under;
     last = names-last (entries_of before) (entries_of now) (aborting way.txn.0 ends.why) reply ends.done.book ends.done.ended_is;
+    asked = record { added = aborting way.txn.0 ends.why ∷ []; book = ends.done.book; asked = (tt, tt) };
   }
 
   -- ---- the run has stopped
 
-  pub stopped-preparation : (why : HouseFault)
-      → Goes {T = Prepared} told faults (KeepsGiven (state_of (entries_of before)).tables) (MeansThis (entries_of before) way meaning) way.txn.0 before now (Err why)
+  pub stopped-preparation : (why : HouseFault) → Goes {T = Prepared} told faults way.txn.0 before now (Err why)
       → Preparation told faults way meaning before now (Err why)
   stopped-preparation why goes = record {
     goes = goes;
     prepares = tt;
     stands = λ asking said under. tt;
-    shows = λ asking said under means shows. tt;
-    truly = λ asking said under means shows. tt;
+    truly = λ asking said under means. tt;
     last = tt;
+    asked = tt;
   }
 
   -- ---- by its reply, or the run has stopped
 
-  pub withdrawn-preparation : (result : Result Reply HouseFault) → Goes told faults KeepsTree (MeansThis (entries_of before) way meaning) way.txn.0 before now result
+  withdrawn-preparation : (result : Result Reply HouseFault) → Goes told faults way.txn.0 before now result
       → IfOk result (EndsBy (CauseIsMeant [] (Some meaning)) way.txn.0 (faults before.shelf) (faults now.shelf) (entries_of before) (entries_of now))
       → Preparation told faults way meaning before now (ended result)
   withdrawn-preparation (Ok reply) goes ends = ended-preparation reply goes ends
-  withdrawn-preparation (Err why) goes ends =
-      stopped-preparation why (kept-goes (Err why) (goes-ended told faults KeepsTree (MeansThis (entries_of before) way meaning) way.txn.0 before now (Err why) goes))
+  withdrawn-preparation (Err why) goes ends = stopped-preparation why (goes-ended told faults way.txn.0 before now (Err why) goes)
 
   -- for a cause that its meaning gives
   pub caused-preparation : (why : Cause) (result : Result Reply HouseFault) → CauseIsMeant [] (Some meaning) why → EndsUncommitted why
       → IsUndamaged (aborting way.txn.0 why) → KeepsCount (faults before.shelf) (faults now.shelf) (aborting way.txn.0 why)
-      → Goes told faults KeepsTree (StandsWith (entries_of before) (aborting way.txn.0 why)) way.txn.0 before now result
+      → Goes told faults way.txn.0 before now result
       → IfOk result (IsWithdrawn way.txn.0 why (entries_of before) (entries_of now)) → Preparation told faults way meaning before now (ended result)
   caused-preparation why (Ok reply) is_so uncommitted undamaged counts goes withdrawn =
-      withdrawn-preparation (Ok reply) (caused-goes why (Ok reply) is_so goes)
+      withdrawn-preparation (Ok reply) goes
       (ends-for (CauseIsMeant [] (Some meaning)) way.txn.0 (faults before.shelf) (faults now.shelf) why (entries_of before) (entries_of now) reply
       is_so tt uncommitted undamaged counts withdrawn)
-  caused-preparation why (Err fault) is_so uncommitted undamaged counts goes withdrawn = withdrawn-preparation (Err fault) (caused-goes why (Err fault) is_so goes) tt
+  caused-preparation why (Err fault) is_so uncommitted undamaged counts goes withdrawn = withdrawn-preparation (Err fault) goes tt
 
   -- for want of memory
-  pub lacking-preparation : (result : Result Reply HouseFault) → Goes told faults KeepsTree (IsFaithful (entries_of before)) way.txn.0 before now result
+  pub lacking-preparation : (result : Result Reply HouseFault) → Goes told faults way.txn.0 before now result
       → IfOk result (LacksMemory way.txn.0 (entries_of before) (entries_of now)) → Preparation told faults way meaning before now (ended result)
   lacking-preparation (Ok reply) goes lacks =
-      withdrawn-preparation (Ok reply) (meant-goes (Ok reply) goes)
+      withdrawn-preparation (Ok reply) goes
       (ends-lacking (CauseIsMeant [] (Some meaning)) way.txn.0 (faults before.shelf) (faults now.shelf) (entries_of before) (entries_of now) reply tt lacks)
-  lacking-preparation (Err fault) goes lacks = withdrawn-preparation (Err fault) (meant-goes (Err fault) goes) tt
+  lacking-preparation (Err fault) goes lacks = withdrawn-preparation (Err fault) goes tt
 
   -- ---- it is ready
 
@@ -220,17 +147,16 @@ module _ {D : Type 0} (told : D → Option Store) (faults : D → ℕ) (way : Wa
       can = subst (λ (b : List Entry). EndCanBeNoted b way.txn.0 [] ready.end) (sym same) (subst (EndCanBeNoted (entries_of before) way.txn.0 []) (sym end_is) can);
     }
 
-    ready-true : (files : Tree) (m : Option Meaning) → m ≡ Some meaning → EndIsTrue files (Some meaning) [] last text → EndIsTrue files m [] ready.end ready.text
-    ready-true files m is truly =
-        subst (λ (o : Option Meaning). EndIsTrue files o [] ready.end ready.text) (sym is)
-        (subst (λ (e : End). EndIsTrue files (Some meaning) [] e ready.text) (sym end_is)
-        (subst (EndIsTrue files (Some meaning) [] last) (sym text_is) truly))
+    ready-true : (m : Option Meaning) → m ≡ Some meaning → EndIsTrue (Some meaning) [] last text → EndIsTrue m [] ready.end ready.text
+    ready-true m is truly =
+        subst (λ (o : Option Meaning). EndIsTrue o [] ready.end ready.text) (sym is)
+        (subst (λ (e : End). EndIsTrue (Some meaning) [] e ready.text) (sym end_is)
+        (subst (EndIsTrue (Some meaning) [] last) (sym text_is) truly))
 
-    pub ready-preparation : Goes {T = Prepared} told faults KeepsTree (IsFaithful (entries_of before)) way.txn.0 before now (Ok (prepared.Ready ready))
-        → ((files : Tree) → EndIsTrue files (Some meaning) [] last text)
+    ready-preparation : Goes {T = Prepared} told faults way.txn.0 before now (Ok (prepared.Ready ready)) → EndIsTrue (Some meaning) [] last text
         → Preparation told faults way meaning before now (Ok (prepared.Ready ready))
     ready-preparation goes truly = record {
-      goes = kept-goes (Ok (prepared.Ready ready)) (meant-goes (Ok (prepared.Ready ready)) goes);
+      goes = goes;
       prepares = record {
         added = [];
         book = same ∙ sym (append-nil (entries_of before));
@@ -240,43 +166,31 @@ module _ {D : Type 0} (told : D → Option Store) (faults : D → ℕ) (way : Wa
         undamaged = tt;
       };
       stands = ready-stands;
-      shows = λ asking said under means shows.
-          told-on KeepsTree (λ _. meant (take way.place (entries_of before)) said ≡ Some meaning) (IsFaithful (entries_of before)) (IsFaithful (entries_of now))
-          (told before.shelf) (told now.shelf) goes.moves
-          (λ x y tree m faithful. subst (λ (b : List Entry). IsFaithful b y) (sym same)
-          (record { stands = same-stands (entries_of before) x y tree faithful.stands; legal = faithful.legal }))
-          means shows;
-      truly = λ asking said under means shows.
-          told-on KeepsTree (λ _. meant (take way.place (entries_of before)) said ≡ Some meaning) (IsFaithful (entries_of before))
-          (λ s. IsTrulyPrepared (entries_of now) s.tree asking way.txn.0 way.place said (prepared.Ready ready))
-          (told before.shelf) (told now.shelf) goes.moves
-          (λ x y tree m faithful. record {
-            to_end = ready-stands asking said under;
-            truly = ready-true y.tree (meant (take way.place (entries_of now)) said) (ap (λ (b : List Entry). meant (take way.place b) said) same ∙ m) (truly y.tree);
-          })
-          means shows;
+      truly = λ asking said under means. record {
+        to_end = ready-stands asking said under;
+        truly = ready-true (meant (take way.place (entries_of now)) said) (ap (λ (b : List Entry). meant (take way.place b) said) same ∙ means) truly;
+      };
       last = tt;
+      asked = record { added = []; book = same ∙ sym (append-nil (entries_of before)); asked = tt };
     }
 
   pub made-preparation : (last : End) (text : List ℕ) (result : Result Prepared HouseFault) → EndCanBeNoted (entries_of before) way.txn.0 [] last
-      → ((files : Tree) → EndIsTrue files (Some meaning) [] last text) → Goes told faults KeepsTree (IsFaithful (entries_of before)) way.txn.0 before now result
+      → EndIsTrue (Some meaning) [] last text → Goes told faults way.txn.0 before now result
       → IfOk result (IsMadeReady way.txn.0 last text (entries_of before) (entries_of now))
       → Preparation told faults way meaning before now result
   made-preparation last text (Ok (prepared.Ready ready)) can truly goes made =
       ready-preparation last text ready made.0 made.1 made.2 can goes truly
   made-preparation last text (Ok (prepared.Ended reply)) can truly goes made =
-      ended-preparation reply
-      (record { ready = goes.ready; moves = goes.moves; stopped = tt; opens = λ known. tt; ends = tt; cause = record { later = goes.cause.later; failed = tt } })
+      ended-preparation reply (goes-ok told faults way.txn.0 before now reply goes.whole goes.start goes.cause.later)
       (ends-for (CauseIsMeant [] (Some meaning)) way.txn.0 (faults before.shelf) (faults now.shelf) cause.Memory (entries_of before) (entries_of now) reply
       tt tt tt tt tt made)
-  made-preparation last text (Err why) can truly goes made =
-      stopped-preparation why (kept-goes (Err why) (meant-goes (Err why) goes))
+  made-preparation last text (Err why) can truly goes made = stopped-preparation why goes
 
   -- without a touch
   pub idle-preparation : (last : End) (text : List ℕ) (result : Result Prepared HouseFault) → last ≡ idle_end → TouchesAreMeant [] (Some meaning)
-      → text ≡ committed_text (Some meaning) [] → Goes told faults KeepsTree (IsFaithful (entries_of before)) way.txn.0 before now result
+      → text ≡ committed_text (Some meaning) [] → Goes told faults way.txn.0 before now result
       → IfOk result (IsMadeReady way.txn.0 last text (entries_of before) (entries_of now)) → Preparation told faults way meaning before now result
   idle-preparation last text result is are says goes made =
       made-preparation idle_end text result (record { small = short_idle way.txn.0; touched = nothing-touched; change = inl refl })
-      (λ files. record { meant = are; reply = says; files_are = inl (refl, refl) }) goes
+      (record { meant = are; reply = says; files_are = inl (refl, refl) }) goes
       (subst (λ (e : End). IfOk result (IsMadeReady way.txn.0 e text (entries_of before) (entries_of now))) is made)

@@ -5,14 +5,14 @@ use Rattle.std.specs.List.{AllByRecursion}
 use Rattle.hv_base.specs.declared.ids.TableId.{TableId}
 use Rattle.hv_base.specs.declared.ids.WriteId.{WriteId}
 use Rattle.hv_base.specs.declared.ids.Touch.{Touch}
-use Rattle.hv_base.specs.Told.{Tells}
 use Rattle.hv_shelf.specs.declared.place.Place.{Place}
-use Rattle.hv_shelf.specs.Disk.{Store, Tree}
+use Rattle.hv_shelf.specs.Disk.{Store}
 use Rattle.hv_ast.specs.declared.statement.Stmt.{Stmt}
 use Rattle.hv_logic.specs.declared.catalog.TableInfo.{TableInfo}
 use Rattle.hv_logic.specs.declared.effect.Effect.{Effect}
 use Rattle.hv_logic.specs.declared.meaning.Meaning.{Meaning}
 use Rattle.hv_logic.specs.declared.meaning.Meaning.TheVariants.{Change}
+use Rattle.hv_route.specs.Back.{AreHeld}
 use Rattle.hv_route.specs.Routes.{files_of}
 use Rattle.hv_route.specs.declared.files.OutFile.{OutFile}
 use Rattle.hv_route.specs.Touching.{touches_of, touched}
@@ -26,13 +26,13 @@ use Rattle.hv_history.specs.State.{state_of, numbered, given_in}
 use Rattle.hv_history.specs.Legal.{TouchesAreMeant, IsMake, IsLegalFrom, AllFit, Rise, is_touched, profile}
 use Rattle.hv_history.specs.Answers.{committed_text, ok_line}
 use Rattle.hv_stands.specs.Files.{place_of_file}
-use Rattle.hv_stands.specs.Running.{Asking, AreOf, meant, IsUnderWay, HasAnswered, HasPut}
+use Rattle.hv_stands.specs.Laws.{HasFile, changes_in}
+use Rattle.hv_stands.specs.Running.{Asking, AreOf, meant, IsUnderWay, HasAnswered}
 use Rattle.hv_house.specs.declared.fault.HouseFault.{HouseFault}
 use Rattle.hv_house.specs.declared.house.House.{House}
-use Rattle.hv_house.specs.House.{entries_of, IsSmall, IsFaithful, Leaves}
-use Rattle.hv_house.specs.Booting.{OpensTo}
+use Rattle.hv_house.specs.House.{entries_of, IsSmall, Leaves}
 use Rattle.hv_ending.specs.declared.ready.Ready.{Ready}
-use Rattle.hv_ending.specs.declared.ready.Way.{Way}
+use Rattle.hv_ending.specs.declared.ready.PutFiles.{PutFiles}
 use Rattle.hv_ending.specs.declared.ready.Reply.{Reply}
 use Rattle.hv_ending.specs.declared.ready.End.{End}
 use Rattle.hv_ending.specs.declared.ready.End.TheVariants as end
@@ -154,30 +154,32 @@ EndCanBeNoted book txn given end.Create = Unit {0}
 
 -- ---- a statement of which all is done but its end
 
--- its files stand
-pub record IsChangeReady (files : Tree) (meaning : Option Meaning) (given : List (ℕ × ℕ)) (name : List ℕ) : Type 0 where
+-- it means this change and has its write id; its files can be read again, and these are their places
+pub record IsChangeReady (meaning : Option Meaning) (given : List (ℕ × ℕ)) (name : List ℕ) (put : PutFiles) : Type 0 where
   pub info : TableInfo
   pub effect : Effect
   pub write : ℕ
   pub is_change : meaning ≡ Some (Change info effect)
   pub named : name ≡ info.shape.name
   pub id : given ≡ (info.table.0, write) ∷ []
-  pub put : HasPut files info write effect
+  pub held : AreHeld effect.inserts
+  pub encoded : AllByRecursion HasFile (files_of info.shape write 0 effect)
+  pub places : put.places ≡ places_of_files info.table.0 write (files_of info.shape write 0 effect)
 
--- the touches are those that it means, the reply is theirs, and where it has a write id its files stand; without one it touches nothing
-pub record CommitIsReady (files : Tree) (meaning : Option Meaning) (given : List (ℕ × ℕ)) (wrote : List Touch) (name text : List ℕ) : Type 0 where
+-- the touches are those that it means, the reply is theirs, and where it has a write id it is ready with that change; without one it touches nothing
+pub record CommitIsReady (meaning : Option Meaning) (given : List (ℕ × ℕ)) (wrote : List Touch) (name : List ℕ) (put : PutFiles) (text : List ℕ) : Type 0 where
   pub meant : TouchesAreMeant wrote meaning
   pub reply : text ≡ committed_text meaning wrote
-  pub files_are : ((given ≡ []) × (wrote ≡ [])) ⊎ IsChangeReady files meaning given name
+  pub files_are : ((given ≡ []) × (wrote ≡ [])) ⊎ IsChangeReady meaning given name put
 
 pub record CreateIsReady (meaning : Option Meaning) (given : List (ℕ × ℕ)) (text : List ℕ) : Type 0 where
   pub makes : IsMake meaning
   pub reply : text ≡ ok_line
   pub none : given ≡ []
 
-abbrev pub EndIsTrue : Tree → Option Meaning → List (ℕ × ℕ) → End → List ℕ → Type 0
-EndIsTrue files meaning given (end.Commit wrote name put) text = CommitIsReady files meaning given wrote name text
-EndIsTrue files meaning given end.Create text = CreateIsReady meaning given text
+abbrev pub EndIsTrue : Option Meaning → List (ℕ × ℕ) → End → List ℕ → Type 0
+EndIsTrue meaning given (end.Commit wrote name put) text = CommitIsReady meaning given wrote name put text
+EndIsTrue meaning given end.Create text = CreateIsReady meaning given text
 
 -- ---- what preparing it adds to the book
 
@@ -192,6 +194,21 @@ AddsNoneOrId txn added = (added ≡ []) ⊎ ((table : TableId) × (write : Write
 abbrev pub AddsAbort : ℕ → List Entry → Type 0
 AddsAbort txn added =
     (first : List Entry) × (why : Cause) × AddsNoneOrId txn first × EndsUncommitted why × (added ≡ first ++ aborting txn why ∷ [])
+
+-- a write id is asked for by a change of rows, in its table
+abbrev pub IsOfRows : TableId → Meaning → Type 0
+IsOfRows table (Change info effect) = (table ≡ info.table) × (0 < changes_in effect)
+IsOfRows table meaning = ⊥
+
+abbrev pub IsAskedBy : Meaning → Entry → Type 0
+IsAskedBy meaning (entry.Given txn table write) = IsOfRows table meaning
+IsAskedBy meaning event = Unit {0}
+
+-- what was added asks for no write id but that of such a change
+pub record AddsAsked (meaning : Meaning) (before now : List Entry) : Type 0 where
+  pub added : List Entry
+  pub book : now ≡ before ++ added
+  pub asked : AllByRecursion (IsAskedBy meaning) added
 
 -- it was aborted for this cause, or since memory lacked for that
 pub record IsAborted (txn : ℕ) (why : Cause) (before now : List Entry) : Type 0 where
@@ -234,29 +251,14 @@ abbrev pub IsPreparedIn : List Entry → Asking → ℕ → ℕ → Stmt → Pre
 IsPreparedIn book asking txn place said (prepared.Ready ready) = IsReadyToEnd book asking txn place said ready
 IsPreparedIn book asking txn place said (prepared.Ended reply) = Unit {0}
 
--- and where all is told: it will end as it means, or it has ended
-pub record IsTrulyReady (book : List Entry) (files : Tree) (asking : Asking) (txn place : ℕ) (said : Stmt) (ready : Ready) : Type 0 where
+-- and as it means: it will end so, or it has ended
+pub record IsTrulyReady (book : List Entry) (asking : Asking) (txn place : ℕ) (said : Stmt) (ready : Ready) : Type 0 where
   pub to_end : IsReadyToEnd book asking txn place said ready
-  pub truly : EndIsTrue files (meant (take place book) said) to_end.given ready.end ready.text
+  pub truly : EndIsTrue (meant (take place book) said) to_end.given ready.end ready.text
 
-abbrev pub IsTrulyPrepared : List Entry → Tree → Asking → ℕ → ℕ → Stmt → Prepared → Type 0
-IsTrulyPrepared book files asking txn place said (prepared.Ready ready) = IsTrulyReady book files asking txn place said ready
-IsTrulyPrepared book files asking txn place said (prepared.Ended reply) = HasReplied book txn reply.text reply.refused reply.ended
-
--- where all is told: the files stand for the book, in which the statement is under way, and it means this
-pub record MeansThis (book : List Entry) (way : Way) (meaning : Meaning) (store : Store) : Type 0 where
-  pub asking : Asking
-  pub said : Stmt
-  pub under_way : IsUnderWay book asking way.txn.0 way.place said []
-  pub means : meant (take way.place book) said ≡ Some meaning
-  pub faithful : IsFaithful book store
-
--- or it will end as it means
-pub record EndsTruly (book : List Entry) (way : Way) (ready : Ready) (store : Store) : Type 0 where
-  pub asking : Asking
-  pub said : Stmt
-  pub truly : IsTrulyReady book store.tree asking way.txn.0 way.place said ready
-  pub faithful : IsFaithful book store
+abbrev pub IsTrulyPrepared : List Entry → Asking → ℕ → ℕ → Stmt → Prepared → Type 0
+IsTrulyPrepared book asking txn place said (prepared.Ready ready) = IsTrulyReady book asking txn place said ready
+IsTrulyPrepared book asking txn place said (prepared.Ended reply) = HasReplied book txn reply.text reply.refused reply.ended
 
 -- ---- where it ended
 
@@ -283,14 +285,3 @@ pub record HasStopped {D : Type 0} (told : D → Option Store) (txn : ℕ) (why 
   pub few : length further ≤ 1
   pub fit : AllFit profile (state_of (entries_of now)) further
   pub leaves : Leaves why further (told now.shelf) (entries_of now)
-
--- the store opens to a book that begins with this one
-pub record OpensLater (start : List Entry) (store : Store) : Type 0 where
-  pub book : List Entry
-  pub opens : OpensTo book store
-  pub begins : (more : List Entry) × (book ≡ start ++ more)
-
--- What the house leaves behind a stop opens again, where it tells: to its book, or to that and what was being noted, and all files of
--- either stand.
-abbrev pub StillOpens : {D : Type 0} → (D → Option Store) → House D → Type 0
-StillOpens told now = Tells (told now.shelf) (OpensLater (entries_of now))

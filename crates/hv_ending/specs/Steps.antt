@@ -1,14 +1,10 @@
 -- What each step of ending a statement leaves.
 use Rattle.std.specs.Prelude.{◌≡◌, ◌⊎◌, ℕ, ◌≤◌, true, false, Option, Some, None, Ok, Err, Result, IfOk, IfErr, ◌+◌, List, [], ◌∷◌, ◌++◌, length, take}
 use Rattle.std.specs.List.{AllByRecursion}
-use Rattle.hv_base.specs.Told.{Tells, Moves}
 use Rattle.hv_base.specs.declared.ids.Touch.{Touch}
 use Rattle.hv_base.specs.declared.ids.TxnId.{TxnId}
 use Rattle.hv_ending.specs.declared.concluding.Conflict.{Conflict}
-use Rattle.std.specs.FinMap as tree
-use Rattle.hv_shelf.specs.declared.place.Place.{Place}
 use Rattle.hv_shelf.specs.Disk.{Store}
-use Rattle.hv_journal.specs.Appending.{KeepsTree}
 use Rattle.hv_ast.specs.declared.statement.Stmt.{Stmt}
 use Rattle.hv_logic.specs.declared.catalog.TableInfo.{TableInfo}
 use Rattle.hv_logic.specs.declared.effect.Effect.{Effect}
@@ -24,11 +20,12 @@ use Rattle.hv_history.specs.State.{state_of}
 use Rattle.hv_history.specs.Legal.{Fits, IsRefusedAs, NeedsId, profile}
 use Rattle.hv_history.specs.Answers.{cause_text, conflict_text}
 use Rattle.hv_stands.specs.Laws.{HasFile}
-use Rattle.hv_stands.specs.Running.{Asking, meant, IsUnderWay, IsOfId, KeepsGiven}
+use Rattle.hv_stands.specs.Running.{Asking, meant, IsUnderWay}
 use Rattle.hv_house.specs.declared.fault.HouseFault.{HouseFault}
 use Rattle.hv_house.specs.declared.house.House.{House}
 use Rattle.hv_house.specs.Faults.{FileCause, EndsRun, HasRisen}
-use Rattle.hv_house.specs.House.{entries_of, IsReady, StaysReady, IsHalted, IsFaithful, Shows}
+use Rattle.hv_house.specs.House.{entries_of, IsHalted}
+use Rattle.hv_telling.specs.Telling.{IsToldHouse, IsWhole, StaysWhole, StillOpens}
 use Rattle.hv_ending.specs.declared.ready.Reply.{Reply}
 use Rattle.hv_ending.specs.declared.ready.Way.{Way}
 use Rattle.hv_ending.specs.declared.ready.End.{End}
@@ -37,39 +34,34 @@ use Rattle.hv_ending.specs.declared.ready.Prepared.{Prepared}
 use Rattle.hv_ending.specs.declared.ready.Prepared.TheVariants as prepared
 use Rattle.hv_ending.specs.declared.ready.PutFiles.{PutFiles}
 use Rattle.hv_ending.specs.declared.ready.Ready.{Ready}
-use Rattle.hv_ending.specs.Ending.{KeepsCount, IsUndamaged, aborting, EndsUncommitted, Prepares, Concludes, IsPreparedIn, IsTrulyPrepared, IsTrulyReady, MeansThis, EndsTruly, NamesLast, EndedNamesLast, HasStopped, StillOpens, HasReplied, places_of_files}
-use Rattle.hv_ending.specs.Putting.{PutsFiles}
+use Rattle.hv_ending.specs.Ending.{KeepsCount, IsUndamaged, aborting, EndsUncommitted, AddsAsked, Prepares, Concludes, IsPreparedIn, IsTrulyPrepared, IsTrulyReady, NamesLast, EndedNamesLast, HasStopped, HasReplied, places_of_files}
 
 -- ---- whatever comes of a call
 
--- The house goes on or the run has stopped; the store made this step. One that lacked memory can go on. Where the run has stopped the store
--- opens again, if this was known of it before.
-pub record Goes {D T : Type 0} (told : D → Option Store) (faults : D → ℕ) (step : Store → Store → Type 0) (Known : Store → Type 0) (txn : ℕ) (before now : House D) (result : Result T HouseFault) : Type 0 where
-  pub ready : IfOk result (λ _. IsReady told now)
-  pub moves : Moves step (told before.shelf) (told now.shelf)
+-- The house goes on, or the run has stopped; a house that was told opens again then.
+pub record Goes {D T : Type 0} (told : D → Option Store) (faults : D → ℕ) (txn : ℕ) (before now : House D) (result : Result T HouseFault) : Type 0 where
+  pub whole : IfOk result (λ _. IsWhole told now)
+  pub start : now.start ≡ before.start
   pub stopped : IfErr result (λ why. HasStopped told txn why before now)
-  pub opens : Tells (told before.shelf) Known → IfErr result (λ _. StillOpens told now)
+  pub opens : IsToldHouse told before → IfErr result (λ _. StillOpens told now)
   pub ends : IfErr result EndsRun
   pub cause : FileCause (faults before.shelf) (faults now.shelf) result
-
--- the files stand for the book, and where this entry fits, for the book and it
-pub record StandsWith (book : List Entry) (event : Entry) (store : Store) : Type 0 where
-  pub alone : IsFaithful book store
-  pub with_it : Fits profile (state_of book) event → IsFaithful (book ++ event ∷ []) store
 
 -- ---- one entry is to be noted
 
 -- it was
 pub record IsAdded {D : Type 0} (told : D → Option Store) (faults : D → ℕ) (event : Entry) (before now : House D) : Type 0 where
-  pub ready : IsReady told now
+  pub whole : IsWhole told now
   pub book : entries_of now ≡ entries_of before ++ event ∷ []
-  pub tree : Moves KeepsTree (told before.shelf) (told now.shelf)
+  pub start : now.start ≡ before.start
   pub later : faults before.shelf ≤ faults now.shelf
 
--- it wasn't: the house and its files are as they were, and where memory lacked the house is ready
+-- it wasn't: the book is as it was, and where memory lacked the house is whole
 pub record IsLeftOut {D : Type 0} (told : D → Option Store) (faults : D → ℕ) (event : Entry) (why : HouseFault) (before now : House D) : Type 0 where
-  pub stays : StaysReady told why now
+  pub stays : StaysWhole told why now
   pub halted : IsHalted told event why before now
+  pub start : now.start ≡ before.start
+  pub opens : IsToldHouse told before → StillOpens told now
   pub fits : Fits profile (state_of (entries_of before)) event
   pub ends : EndsRun why
   pub later : faults before.shelf ≤ faults now.shelf
@@ -140,43 +132,28 @@ IsMadeReady txn last text before now (prepared.Ended reply) = IsWithdrawn txn ca
 
 -- ---- its files are put
 
--- files outside the own directories of this write id are as they were
-abbrev pub KeepsOutside : ℕ → ℕ → Store → Store → Type 0
-KeepsOutside table write before now = (place : Place) → (IsOfId table write place → ⊥) → tree.get now.tree place ≡ tree.get before.tree place
-
--- the files stand for the book, whatever is put in them
-abbrev pub StandsAnyway : ℕ → ℕ → List Entry → Store → Type 0
-StandsAnyway table write book before = (now : Store) → KeepsOutside table write before now → IsFaithful book now
-
--- it ended for a fault of its files, which the store counted behind `low`, or the run has stopped for that
-pub record BreaksOff {D : Type 0} (told : D → Option Store) (faults : D → ℕ) (txn low : ℕ) (before now : House D) (result : Result Reply HouseFault) : Type 0 where
-  pub ended : IfOk result (EndsBy IsAnyway txn low (faults now.shelf) (entries_of before) (entries_of now))
-  pub ready : IfOk result (λ _. IsReady told now)
-  pub tree : Moves KeepsTree (told before.shelf) (told now.shelf)
-  pub stopped : IfErr result (λ why. HasStopped told txn why before now)
-  pub opens : Shows told before (entries_of before) → IfErr result (λ _. StillOpens told now)
-  pub ends : IfErr result EndsRun
-  pub cause : FileCause low (faults now.shelf) result
+-- it ended for a fault of its files, or the run has stopped for that
+pub record BreaksOff {D : Type 0} (told : D → Option Store) (faults : D → ℕ) (txn : ℕ) (before now : House D) (result : Result Reply HouseFault) : Type 0 where
+  pub ended : IfOk result (EndsBy IsAnyway txn (faults before.shelf) (faults now.shelf) (entries_of before) (entries_of now))
+  pub goes : Goes told faults txn before now result
 
 -- the files of a change were put under its write id, and its commit is all that is left
-pub record IsWritten {D : Type 0} (told : D → Option Store) (info : TableInfo) (effect : Effect) (write : ℕ) (wrote : List Touch) (text : List ℕ) (before now : House D) (ready : Ready) : Type 0 where
-  pub book : entries_of now ≡ entries_of before
+pub record IsWritten (info : TableInfo) (effect : Effect) (write : ℕ) (wrote : List Touch) (text : List ℕ) (before now : List Entry) (ready : Ready) : Type 0 where
+  pub book : now ≡ before
   pub by : PutFiles
   pub end_is : ready.end ≡ end.Commit wrote info.shape.name by
   pub places : by.places ≡ places_of_files info.table.0 write (files_of info.shape write 0 effect)
   pub text_is : ready.text ≡ text
   pub held : AreHeld effect.inserts
   pub files : AllByRecursion HasFile (files_of info.shape write 0 effect)
-  pub put : Moves (PutsFiles info.table.0 write (files_of info.shape write 0 effect)) (told before.shelf) (told now.shelf)
 
-abbrev pub WritesBy : {D : Type 0} → (D → Option Store) → (D → ℕ) → ℕ → TableInfo → Effect → ℕ → List Touch → List ℕ → House D → House D → Prepared → Type 0
-WritesBy told faults txn info effect write wrote text before now (prepared.Ready ready) = IsWritten told info effect write wrote text before now ready
-WritesBy told faults txn info effect write wrote text before now (prepared.Ended reply) =
-    EndsBy IsAnyway txn (faults before.shelf) (faults now.shelf) (entries_of before) (entries_of now) reply
+abbrev pub WritesBy : (txn low high : ℕ) → TableInfo → Effect → ℕ → List Touch → List ℕ → List Entry → List Entry → Prepared → Type 0
+WritesBy txn low high info effect write wrote text before now (prepared.Ready ready) = IsWritten info effect write wrote text before now ready
+WritesBy txn low high info effect write wrote text before now (prepared.Ended reply) = EndsBy IsAnyway txn low high before now reply
 
 pub record Writing {D : Type 0} (told : D → Option Store) (faults : D → ℕ) (txn : ℕ) (info : TableInfo) (effect : Effect) (write : ℕ) (wrote : List Touch) (text : List ℕ) (before now : House D) (result : Result Prepared HouseFault) : Type 0 where
-  pub goes : Goes told faults (KeepsOutside info.table.0 write) (StandsAnyway info.table.0 write (entries_of before)) txn before now result
-  pub writes : IfOk result (WritesBy told faults txn info effect write wrote text before now)
+  pub goes : Goes told faults txn before now result
+  pub writes : IfOk result (WritesBy txn (faults before.shelf) (faults now.shelf) info effect write wrote text (entries_of before) (entries_of now))
 
 -- ---- its end
 
@@ -201,27 +178,19 @@ pub record IsConflictOf (by : TxnId) (touch : Touch) (name : List ℕ) (found : 
 -- ---- all that is promised of preparing, and of ending
 
 pub record Preparation {D : Type 0} (told : D → Option Store) (faults : D → ℕ) (way : Way) (meaning : Meaning) (before now : House D) (result : Result Prepared HouseFault) : Type 0 where
-  pub goes : Goes told faults (KeepsGiven (state_of (entries_of before)).tables) (MeansThis (entries_of before) way meaning) way.txn.0 before now result
+  pub goes : Goes told faults way.txn.0 before now result
   pub prepares : IfOk result (Prepares way.txn.0 (faults before.shelf) (faults now.shelf) (entries_of before) (entries_of now))
   pub stands : (asking : Asking) (said : Stmt) → IsUnderWay (entries_of before) asking way.txn.0 way.place said []
       → IfOk result (IsPreparedIn (entries_of now) asking way.txn.0 way.place said)
-  pub shows : (asking : Asking) (said : Stmt) → IsUnderWay (entries_of before) asking way.txn.0 way.place said []
-      → Tells (told before.shelf) (λ _. meant (take way.place (entries_of before)) said ≡ Some meaning)
-      → Shows told before (entries_of before) → IfOk result (λ _. Shows told now (entries_of now))
   pub truly : (asking : Asking) (said : Stmt) → IsUnderWay (entries_of before) asking way.txn.0 way.place said []
-      → Tells (told before.shelf) (λ _. meant (take way.place (entries_of before)) said ≡ Some meaning)
-      → Shows told before (entries_of before)
-      → IfOk result (λ found. Tells (told now.shelf) (λ s. IsTrulyPrepared (entries_of now) s.tree asking way.txn.0 way.place said found))
+      → meant (take way.place (entries_of before)) said ≡ Some meaning
+      → IfOk result (IsTrulyPrepared (entries_of now) asking way.txn.0 way.place said)
   pub last : IfOk result (EndedNamesLast (entries_of now))
+  pub asked : IfOk result (λ _. AddsAsked meaning (entries_of before) (entries_of now))
 
 pub record Conclusion {D : Type 0} (told : D → Option Store) (faults : D → ℕ) (way : Way) (ready : Ready) (before now : House D) (result : Result Reply HouseFault) : Type 0 where
-  pub goes : Goes told faults KeepsTree (EndsTruly (entries_of before) way ready) way.txn.0 before now result
+  pub goes : Goes told faults way.txn.0 before now result
   pub added : IfOk result (λ _. Concludes way.txn.0 (faults before.shelf) (faults now.shelf) (entries_of before) (entries_of now))
-  pub shows : (asking : Asking) (said : Stmt)
-      → Tells (told before.shelf) (λ s. IsTrulyReady (entries_of before) s.tree asking way.txn.0 way.place said ready)
-      → Shows told before (entries_of before) → IfOk result (λ _. Shows told now (entries_of now))
-  pub answered : (asking : Asking) (said : Stmt)
-      → Tells (told before.shelf) (λ s. IsTrulyReady (entries_of before) s.tree asking way.txn.0 way.place said ready)
-      → Shows told before (entries_of before)
-      → IfOk result (λ reply. Tells (told now.shelf) (λ _. HasReplied (entries_of now) way.txn.0 reply.text reply.refused reply.ended))
+  pub answered : (asking : Asking) (said : Stmt) → IsTrulyReady (entries_of before) asking way.txn.0 way.place said ready
+      → IfOk result (λ reply. HasReplied (entries_of now) way.txn.0 reply.text reply.refused reply.ended)
   pub last : IfOk result (NamesLast (entries_of now))

@@ -1,12 +1,10 @@
 ghost use Rattle.std.specs.Prelude.{◌≡◌, ◌↔◌, ◌+◌, ◌<◌, IsTrue, true, IfOk, IfErr, None, Some, length};
 ghost use Rattle.std.specs.List.{slice_get, AllByRecursion};
-ghost use Rattle.hv_base.specs.Told.{Tells, Moves, StaysTold};
 ghost use Rattle.hv_ast.specs.declared.statement.Stmt.{Stmt};
 ghost use Rattle.hv_history.specs.State.{state_of};
 ghost use Rattle.hv_history.specs.Answers.{conflict_text};
-ghost use Rattle.hv_history.specs.Legal.{Fits, Of, IsRunning, profile};
+ghost use Rattle.hv_history.specs.Legal.{Fits, Of, IsRunning, IsTruthful, profile};
 ghost use Rattle.hv_history.specs.declared.entry.Cause.TheVariants.{Memory};
-ghost use Rattle.hv_journal.specs.Appending.{KeepsTree};
 ghost use Rattle.hv_base.specs.declared.ids.Touch.{Touch};
 ghost use Rattle.hv_history.specs.Book.{tree_of_entry};
 ghost use Rattle.hv_stands.specs.Running.{Asking, IsOf};
@@ -15,11 +13,12 @@ ghost use Rattle.hv_trail.specs.declared.trail.Reader.TheVariants.{Txn};
 ghost use Rattle.hv_trail.specs.Trail.{broken, HasWritten};
 ghost use Rattle.hv_trail.specs.Kept.{trail_of};
 ghost use Rattle.hv_house.specs.Faults.{FileCause, EndsRun};
-ghost use Rattle.hv_house.specs.House.{entries_of, IsSmall, IsReady, Shows};
+ghost use Rattle.hv_house.specs.House.{entries_of, IsSmall};
 ghost use Rattle.hv_house.specs.Steps.{IsMarked};
+ghost use Rattle.hv_telling.specs.Telling.{IsToldHouse, IsWhole, StillOpens, IsTrueNow};
 ghost use Rattle.hv_ending.specs.declared.ready.End.TheVariants as last;
-ghost use Rattle.hv_ending.specs.Ending.{aborting, committing, creating, Concludes, IsReadyToEnd, IsTrulyReady, EndsTruly, NamesLast, HasStopped, StillOpens, HasReplied};
-ghost use Rattle.hv_ending.specs.Steps.{Goes, StandsWith, IsAdded, IsLeftOut, HasDone, DoneOrLacks, AbortedOrLacks, IsConflictOf, conflict_cause, Conclusion};
+ghost use Rattle.hv_ending.specs.Ending.{aborting, committing, creating, Concludes, IsReadyToEnd, IsTrulyReady, NamesLast, HasStopped, HasReplied};
+ghost use Rattle.hv_ending.specs.Steps.{Goes, IsAdded, IsLeftOut, HasDone, DoneOrLacks, AbortedOrLacks, IsConflictOf, conflict_cause, Conclusion};
 
 use crate::ready::{End, PutFiles, Ready, Reply, Way};
 use crate::refusing::{abort_with, end_without, lack_memory, next_place, note};
@@ -37,11 +36,13 @@ fn note_last<D: Shelf>(
     entry: Entry,
     text: List<u8>,
 ) -> Result<Reply, HouseFault>
-    requires ready { IsReady D.told house.old }
+    requires whole { IsWhole D.told house.old }
     requires tree { tree_of_entry entry ≡ None }
     requires small { IsSmall entry }
     requires fits { Fits profile (state_of (entries_of house.old)) entry }
     requires marked { IsMarked house.old entry }
+    requires truly { IsToldHouse D.told house.old
+        → IsTrueNow (entries_of house.old) (trail_of house.old.trail) entry }
     ensures done { IfOk result (HasDone entry text (entries_of house.old) (entries_of house.new)) }
     ensures added { IfOk result (λ _. IsAdded D.told D.faults entry house.old house.new) }
     ensures left { IfErr result (λ why. IsLeftOut D.told D.faults entry why house.old house.new) }
@@ -65,17 +66,18 @@ fn note_end<D: Shelf>(
     entry: Entry,
     text: List<u8>,
 ) -> Result<Reply, HouseFault>
-    requires ready { IsReady D.told house.old }
+    requires whole { IsWhole D.told house.old }
     requires tree { tree_of_entry entry ≡ None }
     requires small { IsSmall entry }
     requires of_it { IsOf txn.0 entry }
     requires fits { Fits profile (state_of (entries_of house.old)) entry }
     requires marked { IsMarked house.old entry }
+    requires truly { IsToldHouse D.told house.old
+        → IsTrueNow (entries_of house.old) (trail_of house.old.trail) entry }
     requires memory { Fits profile (state_of (entries_of house.old)) (aborting txn.0 Memory) }
     ensures done { IfOk result (DoneOrLacks txn.0 entry text
         (entries_of house.old) (entries_of house.new)) }
-    ensures goes { Goes D.told D.faults KeepsTree (StandsWith (entries_of house.old) entry) txn.0
-        house.old house.new result }
+    ensures goes { Goes D.told D.faults txn.0 house.old house.new result }
 {
     match note_last(house, entry, text) {
         Ok(reply) => Ok(reply),
@@ -121,16 +123,16 @@ fn note_conflict<D: Shelf>(
     txn: TxnId,
     conflict: Conflict,
 ) -> Result<Reply, HouseFault>
-    requires ready { IsReady D.told house.old }
+    requires whole { IsWhole D.told house.old }
     requires small { IsSmall (aborting txn.0 conflict.cause) }
     requires fits { Fits profile (state_of (entries_of house.old)) (aborting txn.0 conflict.cause) }
     requires marked { IsMarked house.old (aborting txn.0 conflict.cause) }
+    requires truly { IsToldHouse D.told house.old
+        → IsTruthful (state_of (entries_of house.old)) (aborting txn.0 conflict.cause) }
     requires memory { Fits profile (state_of (entries_of house.old)) (aborting txn.0 Memory) }
     ensures aborted { IfOk result (AbortedOrLacks txn.0 conflict.cause conflict.text.items
         (entries_of house.old) (entries_of house.new)) }
-    ensures goes { Goes D.told D.faults KeepsTree
-        (StandsWith (entries_of house.old) (aborting txn.0 conflict.cause)) txn.0
-        house.old house.new result }
+    ensures goes { Goes D.told D.faults txn.0 house.old house.new result }
 {
     let Conflict { cause, text } = conflict;
     match abort_with(house, txn, cause, text) {
@@ -148,17 +150,19 @@ fn end_by_conflict<D: Shelf>(
     wrote: &[Touch],
     name: &Text,
 ) -> Result<Reply, HouseFault>
-    requires ready { IsReady D.told house.old }
+    requires whole { IsWhole D.told house.old }
     requires running { Of (state_of (entries_of house.old)) way.txn.0 IsRunning }
     requires small { IsSmall (committing way.txn.0 wrote.now) }
     requires clash { IsClash (state_of (entries_of house.old)) way.txn.0 wrote.now found }
+    requires truly { IsToldHouse D.told house.old
+        → (touch : Touch) → slice_get wrote.now found.at ≡ Some touch
+        → IsTruthful (state_of (entries_of house.old))
+        (aborting way.txn.0 (conflict_cause found.by touch)) }
     ensures conflicts { (touch : Touch) → slice_get wrote.now found.at ≡ Some touch
         → IfOk result (AbortedOrLacks way.txn.0 (conflict_cause found.by touch)
         (conflict_text found.by.0 name.now touch.partition)
         (entries_of house.old) (entries_of house.new)) }
-    ensures goes { (touch : Touch) → slice_get wrote.now found.at ≡ Some touch
-        → Goes D.told D.faults KeepsTree (StandsWith (entries_of house.old)
-        (aborting way.txn.0 (conflict_cause found.by touch))) way.txn.0 house.old house.new result }
+    ensures goes { Goes D.told D.faults way.txn.0 house.old house.new result }
 {
     match conflict_at(alloc, found, wrote, name) {
         Ok(conflict) => note_conflict(alloc, house, way.txn, conflict),
@@ -187,9 +191,11 @@ fn commit<D: Shelf>(
     put: &PutFiles,
     text: List<u8>,
 ) -> Result<Reply, HouseFault>
-    requires ready { IsReady D.told house.old }
+    requires whole { IsWhole D.told house.old }
     requires way { (asking : Asking) × (said : Stmt) × IsReadyToEnd (entries_of house.old)
-        asking way.txn.0 way.place said (record { end = last.Commit wrote name.now put.now; text = text }) }
+        asking way.txn.0 way.place said (record { end = last.Commit wrote name.now put.now; text = text })
+        × (IsToldHouse D.told house.old → IsTrulyReady (entries_of house.old)
+        asking way.txn.0 way.place said (record { end = last.Commit wrote name.now put.now; text = text })) }
     requires fits { Fits profile (state_of (entries_of house.old)) (committing way.txn.0 wrote) }
     ensures whole { Conclusion D.told D.faults way
         (record { end = last.Commit wrote name.now put.now; text = text }) house.old house.new result }
@@ -212,9 +218,11 @@ fn end_by_commit<D: Shelf>(
     put: PutFiles,
     text: List<u8>,
 ) -> Result<Reply, HouseFault>
-    requires ready { IsReady D.told house.old }
+    requires whole { IsWhole D.told house.old }
     requires way { (asking : Asking) × (said : Stmt) × IsReadyToEnd (entries_of house.old)
-        asking way.txn.0 way.place said (record { end = last.Commit wrote name put; text = text }) }
+        asking way.txn.0 way.place said (record { end = last.Commit wrote name put; text = text })
+        × (IsToldHouse D.told house.old → IsTrulyReady (entries_of house.old)
+        asking way.txn.0 way.place said (record { end = last.Commit wrote name put; text = text })) }
     ensures whole { Conclusion D.told D.faults way
         (record { end = last.Commit wrote name put; text = text }) house.old house.new result }
 {
@@ -233,7 +241,7 @@ fn next_table(book: &Book) -> TableId
 
 /// Whether the Create of that table fits as the transaction's.
 fn create_fits<D: Shelf>(house: &House<D>, txn: TxnId, table: TableId) -> bool
-    requires ready { IsReady D.told house.now }
+    requires whole { IsWhole D.told house.now }
     ensures fits { IsTrue result
         ↔ Fits profile (state_of (entries_of house.now)) (creating txn.0 table) }
 {
@@ -247,9 +255,11 @@ fn end_by_create<D: Shelf>(
     way: Way,
     text: List<u8>,
 ) -> Result<Reply, HouseFault>
-    requires ready { IsReady D.told house.old }
+    requires whole { IsWhole D.told house.old }
     requires way { (asking : Asking) × (said : Stmt) × IsReadyToEnd (entries_of house.old)
-        asking way.txn.0 way.place said (record { end = last.Create; text = text }) }
+        asking way.txn.0 way.place said (record { end = last.Create; text = text })
+        × (IsToldHouse D.told house.old → IsTrulyReady (entries_of house.old)
+        asking way.txn.0 way.place said (record { end = last.Create; text = text })) }
     ensures whole { Conclusion D.told D.faults way
         (record { end = last.Create; text = text }) house.old house.new result }
 {
@@ -269,9 +279,11 @@ fn end_ready<D: Shelf>(
     way: Way,
     ready: Ready,
 ) -> Result<Reply, HouseFault>
-    requires ready { IsReady D.told house.old }
+    requires whole { IsWhole D.told house.old }
     requires way { (asking : Asking) × (said : Stmt)
-        × IsReadyToEnd (entries_of house.old) asking way.txn.0 way.place said ready }
+        × IsReadyToEnd (entries_of house.old) asking way.txn.0 way.place said ready
+        × (IsToldHouse D.told house.old
+        → IsTrulyReady (entries_of house.old) asking way.txn.0 way.place said ready) }
     ensures whole { Conclusion D.told D.faults way ready house.old house.new result }
 {
     let Ready { end, text } = ready;
@@ -291,30 +303,22 @@ pub fn conclude<D: Shelf>(
     way: Way,
     ready: Ready,
 ) -> Result<Reply, HouseFault>
-    requires ready { IsReady D.told house.old }
+    requires whole { IsWhole D.told house.old }
     requires way { (asking : Asking) × (said : Stmt)
-        × IsReadyToEnd (entries_of house.old) asking way.txn.0 way.place said ready }
-    ensures ready { IfOk result (λ _. IsReady D.told house.new) }
+        × IsReadyToEnd (entries_of house.old) asking way.txn.0 way.place said ready
+        × (IsToldHouse D.told house.old
+        → IsTrulyReady (entries_of house.old) asking way.txn.0 way.place said ready) }
+    ensures whole { IfOk result (λ _. IsWhole D.told house.new) }
     ensures added { IfOk result (λ _. Concludes way.txn.0
         (D.faults house.old.shelf) (D.faults house.new.shelf)
         (entries_of house.old) (entries_of house.new)) }
-    ensures shows { (asking : Asking) (said : Stmt)
-        → Tells (D.told house.old.shelf) (λ s. IsTrulyReady
-        (entries_of house.old) s.tree asking way.txn.0 way.place said ready)
-        → Shows D.told house.old (entries_of house.old)
-        → IfOk result (λ _. Shows D.told house.new (entries_of house.new)) }
-    ensures answered { (asking : Asking) (said : Stmt)
-        → Tells (D.told house.old.shelf) (λ s. IsTrulyReady
-        (entries_of house.old) s.tree asking way.txn.0 way.place said ready)
-        → Shows D.told house.old (entries_of house.old)
-        → IfOk result (λ reply. Tells (D.told house.new.shelf) (λ _. HasReplied
-        (entries_of house.new) way.txn.0 reply.text reply.refused reply.ended)) }
+    ensures answered { IsToldHouse D.told house.old → IfOk result (λ reply. HasReplied
+        (entries_of house.new) way.txn.0 reply.text reply.refused reply.ended) }
     ensures ended { IfOk result (NamesLast (entries_of house.new)) }
-    ensures tree { Moves KeepsTree (D.told house.old.shelf) (D.told house.new.shelf) }
-    ensures tells { StaysTold (D.told house.old.shelf) (D.told house.new.shelf) }
+    ensures start { house.new.start ≡ house.old.start }
     ensures stopped { IfErr result (λ why.
         HasStopped D.told way.txn.0 why house.old house.new) }
-    ensures opens { Tells (D.told house.old.shelf) (EndsTruly (entries_of house.old) way ready)
+    ensures opens { IsToldHouse D.told house.old
         → IfErr result (λ _. StillOpens D.told house.new) }
     ensures ends { IfErr result EndsRun }
     ensures cause { FileCause (D.faults house.old.shelf) (D.faults house.new.shelf) result }

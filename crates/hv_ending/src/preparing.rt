@@ -1,27 +1,29 @@
 ghost use Rattle.std.specs.Prelude.{◌≡◌, ◌↔◌, ◌<◌, ◌≤◌, ℕ, Some, Ok, take, true, false, [], ◌∷◌, IsTrue, IsSome, IfOk, IfErr};
 ghost use Rattle.std.specs.Option.{option_map};
 ghost use Rattle.std.specs.List.{AllByRecursion};
-ghost use Rattle.hv_base.specs.Told.{Tells, Moves, StaysTold};
 ghost use Rattle.hv_ast.specs.declared.statement.Stmt.{Stmt};
 ghost use Rattle.hv_dirs.specs.Names.{write_end};
 ghost use Rattle.hv_history.specs.State.{state_of, numbered};
 ghost use Rattle.hv_history.specs.Answers.{counts_line};
-ghost use Rattle.hv_history.specs.Legal.{Fits, profile};
+ghost use Rattle.hv_history.specs.Legal.{Fits, IsTruthful, profile};
 ghost use Rattle.hv_history.specs.declared.entry.Cause.TheVariants.{Memory, Full};
-ghost use Rattle.hv_journal.specs.Appending.{KeepsTree};
 ghost use Rattle.hv_logic.specs.declared.meaning.Meaning.TheVariants.{Change};
 ghost use Rattle.hv_route.specs.Routes.{files_of};
 ghost use Rattle.hv_route.specs.Touching.{touches_of, touched};
 ghost use Rattle.hv_tables.specs.Putting.{CanPut};
 ghost use Rattle.hv_stands.specs.Laws.{changes_in};
-ghost use Rattle.hv_stands.specs.Running.{Asking, meant, IsUnderWay, KeepsGiven};
-ghost use Rattle.hv_house.specs.Faults.{FileCause, EndsRun, HasRisen};
-ghost use Rattle.hv_house.specs.House.{entries_of, IsSmall, IsReady, IsFaithful, StaysPut, Shows};
+ghost use Rattle.hv_stands.specs.Running.{Asking, meant, IsUnderWay};
+ghost use Rattle.hv_house.specs.declared.house.House.{House};
+ghost use Rattle.hv_house.specs.Faults.{FileCause, EndsRun};
+ghost use Rattle.hv_house.specs.House.{entries_of, IsSmall};
 ghost use Rattle.hv_house.specs.Steps.{HasBrokenPut, HoldsId, IsPutMarkedFor};
+ghost use Rattle.hv_telling.specs.Telling.{IsToldHouse, IsWhole, StaysWhole, StillOpens};
 ghost use Rattle.hv_ending.specs.declared.ready.End.TheVariants as last;
 ghost use Rattle.hv_ending.specs.declared.ready.Prepared.TheVariants as found;
-ghost use Rattle.hv_ending.specs.Ending.{giving, aborting, CanChange, CanEnd, Prepares, IsPreparedIn, IsTrulyPrepared, MeansThis, EndedNamesLast, HasStopped, StillOpens, idle_end};
-ghost use Rattle.hv_ending.specs.Steps.{ended, Goes, StandsWith, IsMadeReady, IsWithdrawn, IsNextOf, BreaksOff, Writing, Preparation};
+ghost use Rattle.hv_house.specs.declared.fault.HouseFault.TheVariants as house_fault;
+ghost use Rattle.hv_ending.specs.Ending.{giving, aborting, CanChange, CanEnd, AddsAsked, Prepares, IsPreparedIn, IsTrulyPrepared, EndedNamesLast, HasStopped, idle_end};
+ghost use Rattle.hv_ending.specs.Putting.{IsMeantChange, IsPutOff};
+ghost use Rattle.hv_ending.specs.Steps.{ended, Goes, IsMadeReady, IsWithdrawn, IsNextOf, BreaksOff, Writing, Preparation};
 
 use crate::putting::put;
 use crate::ready::{End, Prepared, PutFiles, Ready, Reply, Way};
@@ -63,12 +65,11 @@ fn made_ready<D: Shelf>(
     end: End,
     text: Result<Vec<u8>, NoMemory>,
 ) -> Result<Prepared, HouseFault>
-    requires ready { IsReady D.told house.old }
+    requires whole { IsWhole D.told house.old }
     requires fits { Fits profile (state_of (entries_of house.old)) (aborting txn.0 Memory) }
     ensures made { (wanted : List ℕ) → IfOk text (λ line. line.items ≡ wanted)
         → IfOk result (IsMadeReady txn.0 end wanted (entries_of house.old) (entries_of house.new)) }
-    ensures goes { Goes D.told D.faults KeepsTree (IsFaithful (entries_of house.old)) txn.0
-        house.old house.new result }
+    ensures goes { Goes D.told D.faults txn.0 house.old house.new result }
 {
     match text {
         Ok(text) => Ok(Prepared::Ready(Ready {
@@ -133,11 +134,12 @@ fn fail<D: Shelf>(
     txn: TxnId,
     count: u64,
 ) -> Result<Reply, HouseFault>
-    requires ready { IsReady D.told house.old }
+    requires whole { IsWhole D.told house.old }
     requires marked { HasBrokenPut house.old txn count }
     requires fits { Fits profile (state_of (entries_of house.old)) (aborting txn.0 Memory) }
-    ensures broken { (low : ℕ) → low < count → count ≤ D.faults house.old.shelf
-        → BreaksOff D.told D.faults txn.0 low house.old house.new result }
+    ensures broken { (first : House D)
+        → IsPutOff D.told D.faults txn (house_fault.Failed count) first house.old
+        → BreaksOff D.told D.faults txn.0 first house.new result }
 {
     if abort_fits(house, txn, Cause::WriteFault { count }) {
         withdraw(alloc, house, txn, Cause::WriteFault { count })
@@ -153,12 +155,11 @@ fn break_off<D: Shelf>(
     txn: TxnId,
     fault: HouseFault,
 ) -> Result<Reply, HouseFault>
-    requires stays { StaysPut D.told fault house.old }
+    requires stays { StaysWhole D.told fault house.old }
     requires marked { IsPutMarkedFor house.old txn fault }
     requires fits { Fits profile (state_of (entries_of house.old)) (aborting txn.0 Memory) }
-    ensures broken { (low : ℕ) → low ≤ D.faults house.old.shelf
-        → HasRisen low (D.faults house.old.shelf) fault
-        → BreaksOff D.told D.faults txn.0 low house.old house.new result }
+    ensures broken { (first : House D) → IsPutOff D.told D.faults txn fault first house.old
+        → BreaksOff D.told D.faults txn.0 first house.new result }
 {
     match fault {
         HouseFault::Store => Err(HouseFault::Store),
@@ -185,12 +186,14 @@ fn put_rows<D: Shelf>(
     change: RowChange,
     write: WriteId,
 ) -> Result<Prepared, HouseFault>
-    requires ready { IsReady D.told house.old }
+    requires whole { IsWhole D.told house.old }
     requires fits { Fits profile (state_of (entries_of house.old)) (aborting txn.0 Memory) }
     requires can { AllByRecursion CanPut (files_of change.info.shape write.0 0 change.effect) }
     requires first { 1 ≤ write.0 }
     requires last { write.0 < write_end }
     requires holds { HoldsId (entries_of house.old) txn.0 change.info.table.0 write.0 }
+    requires truly { IsToldHouse D.told house.old
+        → IsMeantChange (entries_of house.old) txn change.info change.effect write.0 }
     ensures written { Writing D.told D.faults txn.0 change.info change.effect write.0
         change.wrote change.text.items house.old house.new result }
 {
@@ -208,7 +211,7 @@ fn put_rows<D: Shelf>(
 
 /// Whether a write id of a table fits as the transaction's.
 fn id_fits<D: Shelf>(house: &House<D>, txn: TxnId, table: TableId, write: WriteId) -> bool
-    requires ready { IsReady D.told house.now }
+    requires whole { IsWhole D.told house.now }
     ensures fits { IsTrue result
         ↔ Fits profile (state_of (entries_of house.now)) (giving txn.0 table write) }
 {
@@ -217,12 +220,13 @@ fn id_fits<D: Shelf>(house: &House<D>, txn: TxnId, table: TableId, write: WriteI
 
 /// Ends a statement for whose write id there is no room.
 fn lack_room<D: Shelf>(alloc: Global, house: &mut House<D>, txn: TxnId) -> Result<Reply, HouseFault>
-    requires ready { IsReady D.told house.old }
+    requires whole { IsWhole D.told house.old }
     requires fits { Fits profile (state_of (entries_of house.old)) (aborting txn.0 Memory) }
+    requires truly { IsToldHouse D.told house.old
+        → IsTruthful (state_of (entries_of house.old)) (aborting txn.0 Full) }
     ensures full { IfOk result
         (IsWithdrawn txn.0 Full (entries_of house.old) (entries_of house.new)) }
-    ensures goes { Goes D.told D.faults KeepsTree
-        (StandsWith (entries_of house.old) (aborting txn.0 Full)) txn.0 house.old house.new result }
+    ensures goes { Goes D.told D.faults txn.0 house.old house.new result }
 {
     if abort_fits(house, txn, Cause::Full) {
         withdraw(alloc, house, txn, Cause::Full)
@@ -239,9 +243,11 @@ fn write_rows<D: Shelf>(
     change: RowChange,
     write: WriteId,
 ) -> Result<Prepared, HouseFault>
-    requires ready { IsReady D.told house.old }
+    requires whole { IsWhole D.told house.old }
     requires way { (asking : Asking) × (said : Stmt)
-        × IsUnderWay (entries_of house.old) asking way.txn.0 way.place said [] }
+        × IsUnderWay (entries_of house.old) asking way.txn.0 way.place said []
+        × (IsToldHouse D.told house.old
+        → meant (take way.place (entries_of house.old)) said ≡ Some (Change change.info change.effect)) }
     requires can { CanChange (entries_of house.old) change.info change.effect }
     requires some { 0 < changes_in change.effect }
     requires wrote { change.wrote ≡ touches_of change.info change.effect }
@@ -278,9 +284,11 @@ fn change_rows<D: Shelf>(
     way: Way,
     change: RowChange,
 ) -> Result<Prepared, HouseFault>
-    requires ready { IsReady D.told house.old }
+    requires whole { IsWhole D.told house.old }
     requires way { (asking : Asking) × (said : Stmt)
-        × IsUnderWay (entries_of house.old) asking way.txn.0 way.place said [] }
+        × IsUnderWay (entries_of house.old) asking way.txn.0 way.place said []
+        × (IsToldHouse D.told house.old
+        → meant (take way.place (entries_of house.old)) said ≡ Some (Change change.info change.effect)) }
     requires can { CanChange (entries_of house.old) change.info change.effect }
     requires some { 0 < changes_in change.effect }
     requires wrote { change.wrote ≡ touches_of change.info change.effect }
@@ -305,9 +313,11 @@ fn prepare_rows<D: Shelf>(
     info: TableInfo,
     effect: Effect,
 ) -> Result<Prepared, HouseFault>
-    requires ready { IsReady D.told house.old }
+    requires whole { IsWhole D.told house.old }
     requires way { (asking : Asking) × (said : Stmt)
-        × IsUnderWay (entries_of house.old) asking way.txn.0 way.place said [] }
+        × IsUnderWay (entries_of house.old) asking way.txn.0 way.place said []
+        × (IsToldHouse D.told house.old
+        → meant (take way.place (entries_of house.old)) said ≡ Some (Change info effect)) }
     requires can { CanChange (entries_of house.old) info effect }
     requires some { 0 < changes_in effect }
     requires fits { Fits profile (state_of (entries_of house.old)) (aborting way.txn.0 Memory) }
@@ -327,9 +337,11 @@ fn prepare_change<D: Shelf>(
     info: TableInfo,
     effect: Effect,
 ) -> Result<Prepared, HouseFault>
-    requires ready { IsReady D.told house.old }
+    requires whole { IsWhole D.told house.old }
     requires way { (asking : Asking) × (said : Stmt)
-        × IsUnderWay (entries_of house.old) asking way.txn.0 way.place said [] }
+        × IsUnderWay (entries_of house.old) asking way.txn.0 way.place said []
+        × (IsToldHouse D.told house.old
+        → meant (take way.place (entries_of house.old)) said ≡ Some (Change info effect)) }
     requires can { CanChange (entries_of house.old) info effect }
     requires fits { Fits profile (state_of (entries_of house.old)) (aborting way.txn.0 Memory) }
     ensures whole { Preparation D.told D.faults way (Change info effect) house.old house.new result }
@@ -354,9 +366,11 @@ fn prepare_meaning<D: Shelf>(
     way: Way,
     meaning: Meaning,
 ) -> Result<Prepared, HouseFault>
-    requires ready { IsReady D.told house.old }
+    requires whole { IsWhole D.told house.old }
     requires way { (asking : Asking) × (said : Stmt)
-        × IsUnderWay (entries_of house.old) asking way.txn.0 way.place said [] }
+        × IsUnderWay (entries_of house.old) asking way.txn.0 way.place said []
+        × (IsToldHouse D.told house.old
+        → meant (take way.place (entries_of house.old)) said ≡ Some meaning) }
     requires can { CanEnd (entries_of house.old) meaning }
     requires fits { Fits profile (state_of (entries_of house.old)) (aborting way.txn.0 Memory) }
     ensures whole { Preparation D.told D.faults way meaning house.old house.new result }
@@ -390,40 +404,32 @@ pub fn prepare<D: Shelf>(
     way: Way,
     meaning: Meaning,
 ) -> Result<Prepared, HouseFault>
-    requires ready { IsReady D.told house.old }
+    requires whole { IsWhole D.told house.old }
     requires can { CanEnd (entries_of house.old) meaning }
     requires way { (asking : Asking) × (said : Stmt)
-        × IsUnderWay (entries_of house.old) asking way.txn.0 way.place said [] }
-    ensures ready { IfOk result (λ _. IsReady D.told house.new) }
+        × IsUnderWay (entries_of house.old) asking way.txn.0 way.place said []
+        × (IsToldHouse D.told house.old
+        → meant (take way.place (entries_of house.old)) said ≡ Some meaning) }
+    ensures whole { IfOk result (λ _. IsWhole D.told house.new) }
     ensures prepares { IfOk result (Prepares way.txn.0
         (D.faults house.old.shelf) (D.faults house.new.shelf)
         (entries_of house.old) (entries_of house.new)) }
     ensures stands { (asking : Asking) (said : Stmt)
         → IsUnderWay (entries_of house.old) asking way.txn.0 way.place said []
         → IfOk result (IsPreparedIn (entries_of house.new) asking way.txn.0 way.place said) }
-    ensures shows { (asking : Asking) (said : Stmt)
-        → IsUnderWay (entries_of house.old) asking way.txn.0 way.place said []
-        → Tells (D.told house.old.shelf)
-        (λ _. meant (take way.place (entries_of house.old)) said ≡ Some meaning)
-        → Shows D.told house.old (entries_of house.old)
-        → IfOk result (λ _. Shows D.told house.new (entries_of house.new)) }
     ensures truly { (asking : Asking) (said : Stmt)
         → IsUnderWay (entries_of house.old) asking way.txn.0 way.place said []
-        → Tells (D.told house.old.shelf)
-        (λ _. meant (take way.place (entries_of house.old)) said ≡ Some meaning)
-        → Shows D.told house.old (entries_of house.old)
-        → IfOk result (λ found. Tells (D.told house.new.shelf) (λ s. IsTrulyPrepared
-        (entries_of house.new) s.tree asking way.txn.0 way.place said found)) }
+        → IsToldHouse D.told house.old
+        → IfOk result (IsTrulyPrepared (entries_of house.new) asking way.txn.0 way.place said) }
     ensures ended { IfOk result (EndedNamesLast (entries_of house.new)) }
-    ensures keeps { Moves (KeepsGiven (state_of (entries_of house.old)).tables)
-        (D.told house.old.shelf) (D.told house.new.shelf) }
-    ensures tells { StaysTold (D.told house.old.shelf) (D.told house.new.shelf) }
+    ensures start { house.new.start ≡ house.old.start }
     ensures stopped { IfErr result (λ why.
         HasStopped D.told way.txn.0 why house.old house.new) }
-    ensures opens { Tells (D.told house.old.shelf) (MeansThis (entries_of house.old) way meaning)
+    ensures opens { IsToldHouse D.told house.old
         → IfErr result (λ _. StillOpens D.told house.new) }
     ensures ends { IfErr result EndsRun }
     ensures cause { FileCause (D.faults house.old.shelf) (D.faults house.new.shelf) result }
+    ensures asked { IfOk result (λ _. AddsAsked meaning (entries_of house.old) (entries_of house.new)) }
 {
     prepare_meaning(alloc, house, way, meaning)
 }

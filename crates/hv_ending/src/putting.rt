@@ -1,13 +1,14 @@
-ghost use Rattle.std.specs.Prelude.{◌≡◌, ◌<◌, ◌≤◌, [], ◌∷◌, IfOk};
+ghost use Rattle.std.specs.Prelude.{◌≡◌, ◌<◌, ◌≤◌, [], ◌∷◌, IfOk, IfErr};
 ghost use Rattle.std.specs.List.{AllByRecursion};
 ghost use Rattle.hv_dirs.specs.Names.{write_end};
 ghost use Rattle.hv_route.specs.Routes.{files_of};
 ghost use Rattle.hv_stands.specs.Files.{place_of_file};
 ghost use Rattle.hv_tables.specs.Putting.{CanPut};
-ghost use Rattle.hv_house.specs.House.{entries_of, IsReady};
+ghost use Rattle.hv_house.specs.House.{entries_of};
 ghost use Rattle.hv_house.specs.Steps.{HoldsId};
+ghost use Rattle.hv_telling.specs.Telling.{IsToldHouse, IsWhole, IsMeantFile};
 ghost use Rattle.hv_ending.specs.Ending.{places_of_files};
-ghost use Rattle.hv_ending.specs.Putting.{with_place, PutsEach, Puts};
+ghost use Rattle.hv_ending.specs.Putting.{with_place, IsMeantChange, AreMeantFiles, ArePut, IsPutOff, IsChangePut};
 
 use crate::ready::PutFiles;
 use hv_base::{Duplicate, List, NoMemory, TableId, TxnId, WriteId};
@@ -54,16 +55,19 @@ fn put_one<D: Shelf>(
     write: WriteId,
     file: &OutFile,
 ) -> Result<Place, HouseFault>
-    requires ready { IsReady D.told house.old }
+    requires whole { IsWhole D.told house.old }
     requires can { CanPut file.now }
     requires first { 1 ≤ write.0 }
     requires last { write.0 < write_end }
     requires holds { HoldsId (entries_of house.old) txn.0 table.0 write.0 }
+    requires truly { IsToldHouse D.told house.old
+        → IsMeantFile (entries_of house.old) txn (place_of_file table.0 write.0 file.now) file.now }
     ensures place { IfOk result (λ place. place ≡ place_of_file table.0 write.0 file.now) }
-    ensures each { PutsEach D.told D.faults txn table.0 write.0 (file.now ∷ []) house.old house.new result }
+    ensures put { IfOk result (λ _. ArePut D.told D.faults (file.now ∷ []) house.old house.new) }
+    ensures left { IfErr result (λ why. IsPutOff D.told D.faults txn why house.old house.new) }
 {
     match places_of(alloc, table, write, file) {
-        Ok((place, copy)) => with_place(copy, house.put(alloc, txn, place, file)),
+        Ok((place, copy)) => with_place(copy, hv_telling::put(alloc, house, txn, place, file)),
         Err(NoMemory) => Err(HouseFault::NoMemory),
     }
 }
@@ -77,13 +81,16 @@ fn put_each<D: Shelf>(
     write: WriteId,
     files: &[OutFile],
 ) -> Result<Vec<Place>, HouseFault>
-    requires ready { IsReady D.told house.old }
+    requires whole { IsWhole D.told house.old }
     requires can { AllByRecursion CanPut files.now }
     requires first { 1 ≤ write.0 }
     requires last { write.0 < write_end }
     requires holds { HoldsId (entries_of house.old) txn.0 table.0 write.0 }
+    requires truly { IsToldHouse D.told house.old
+        → AreMeantFiles (entries_of house.old) txn table.0 write.0 files.now }
     ensures places { IfOk result (λ places. places.items ≡ places_of_files table.0 write.0 files.now) }
-    ensures each { PutsEach D.told D.faults txn table.0 write.0 files.now house.old house.new result }
+    ensures put { IfOk result (λ _. ArePut D.told D.faults files.now house.old house.new) }
+    ensures left { IfErr result (λ why. IsPutOff D.told D.faults txn why house.old house.new) }
 {
     let mut places = Vec::new(alloc);
     places.reserve(files.len())?;
@@ -103,13 +110,16 @@ fn put_files<D: Shelf>(
     write: WriteId,
     files: &[OutFile],
 ) -> Result<PutFiles, HouseFault>
-    requires ready { IsReady D.told house.old }
+    requires whole { IsWhole D.told house.old }
     requires can { AllByRecursion CanPut files.now }
     requires first { 1 ≤ write.0 }
     requires last { write.0 < write_end }
     requires holds { HoldsId (entries_of house.old) txn.0 table.0 write.0 }
+    requires truly { IsToldHouse D.told house.old
+        → AreMeantFiles (entries_of house.old) txn table.0 write.0 files.now }
     ensures places { IfOk result (λ put. put.places ≡ places_of_files table.0 write.0 files.now) }
-    ensures each { PutsEach D.told D.faults txn table.0 write.0 files.now house.old house.new result }
+    ensures put { IfOk result (λ _. ArePut D.told D.faults files.now house.old house.new) }
+    ensures left { IfErr result (λ why. IsPutOff D.told D.faults txn why house.old house.new) }
 {
     let since = house.marks();
     match put_each(alloc, house, txn, table, write, files) {
@@ -130,12 +140,16 @@ pub fn put<D: Shelf>(
     effect: Effect,
     write: WriteId,
 ) -> Result<PutFiles, HouseFault>
-    requires ready { IsReady D.told house.old }
+    requires whole { IsWhole D.told house.old }
     requires can { AllByRecursion CanPut (files_of info.now.shape write.0 0 effect) }
     requires first { 1 ≤ write.0 }
     requires last { write.0 < write_end }
     requires holds { HoldsId (entries_of house.old) txn.0 info.now.table.0 write.0 }
-    ensures puts { Puts D.told D.faults txn info.now effect write.0 house.old house.new result }
+    requires truly { IsToldHouse D.told house.old
+        → IsMeantChange (entries_of house.old) txn info.now effect write.0 }
+    ensures put { IfOk result
+        (IsChangePut D.told D.faults info.now effect write.0 house.old house.new) }
+    ensures left { IfErr result (λ why. IsPutOff D.told D.faults txn why house.old house.new) }
 {
     match route(alloc, &info.shape, write, 0, effect) {
         Ok(files) => put_files(alloc, house, txn, info.table, write, &files),

@@ -1,5 +1,4 @@
 ghost use Rattle.std.specs.Prelude.{◌≡◌, ◌↔◌, ℕ, List, None, IsTrue, IfOk, IfErr, length};
-ghost use Rattle.hv_base.specs.Told.{Tells, Moves, StaysTold};
 ghost use Rattle.hv_ast.specs.declared.statement.Stmt.{Stmt};
 ghost use Rattle.hv_history.specs.declared.entry.Entry.{Entry};
 ghost use Rattle.hv_house.specs.declared.house.House.{House};
@@ -8,13 +7,14 @@ ghost use Rattle.hv_history.specs.Answers.{cause_text};
 ghost use Rattle.hv_history.specs.State.{state_of};
 ghost use Rattle.hv_history.specs.Legal.{Fits, IsTruthful, profile};
 ghost use Rattle.hv_history.specs.declared.entry.Cause.TheVariants.{Memory};
-ghost use Rattle.hv_journal.specs.Appending.{KeepsTree};
 ghost use Rattle.hv_stands.specs.Running.{Asking, IsOf, IsWaiting, IsUnderWay};
+ghost use Rattle.hv_trail.specs.Kept.{trail_of};
 ghost use Rattle.hv_house.specs.Faults.{FileCause, EndsRun};
-ghost use Rattle.hv_house.specs.House.{entries_of, IsSmall, IsReady, StaysReady, IsFaithful, Shows};
+ghost use Rattle.hv_house.specs.House.{entries_of, IsSmall};
 ghost use Rattle.hv_house.specs.Steps.{IsMarked};
-ghost use Rattle.hv_ending.specs.Ending.{aborting, EndsUncommitted, IsAborted, NamesLast, HasStopped, StillOpens, HasReplied};
-ghost use Rattle.hv_ending.specs.Steps.{Goes, StandsWith, IsAdded, IsLeftOut, HasAborted, LacksMemory, IsWithdrawn};
+ghost use Rattle.hv_telling.specs.Telling.{IsToldHouse, IsWhole, StaysWhole, StillOpens, IsTrueNow};
+ghost use Rattle.hv_ending.specs.Ending.{aborting, EndsUncommitted, IsAborted, NamesLast, HasStopped, HasReplied};
+ghost use Rattle.hv_ending.specs.Steps.{Goes, IsAdded, IsLeftOut, HasAborted, LacksMemory, IsWithdrawn};
 
 use crate::ready::Reply;
 use hv_base::{List, NoMemory, TxnId};
@@ -25,15 +25,17 @@ use std::alloc::Global;
 
 /// Notes an entry that has no text.
 pub fn note<D: Shelf>(house: &mut House<D>, entry: Entry) -> Result<(), HouseFault>
-    requires ready { IsReady D.told house.old }
+    requires whole { IsWhole D.told house.old }
     requires tree { tree_of_entry entry ≡ None }
     requires small { IsSmall entry }
     requires fits { Fits profile (state_of (entries_of house.old)) entry }
     requires marked { IsMarked house.old entry }
+    requires truly { IsToldHouse D.told house.old
+        → IsTrueNow (entries_of house.old) (trail_of house.old.trail) entry }
     ensures added { IfOk result (λ _. IsAdded D.told D.faults entry house.old house.new) }
     ensures left { IfErr result (λ why. IsLeftOut D.told D.faults entry why house.old house.new) }
 {
-    house.note(entry, None)
+    hv_telling::note(house, entry, None)
 }
 
 /// The place of the entry that is noted next.
@@ -50,10 +52,12 @@ pub fn abort_with<D: Shelf>(
     cause: Cause,
     text: Vec<u8>,
 ) -> Result<Reply, HouseFault>
-    requires ready { IsReady D.told house.old }
+    requires whole { IsWhole D.told house.old }
     requires small { IsSmall (aborting txn.0 cause) }
     requires fits { Fits profile (state_of (entries_of house.old)) (aborting txn.0 cause) }
     requires marked { IsMarked house.old (aborting txn.0 cause) }
+    requires truly { IsToldHouse D.told house.old
+        → IsTruthful (state_of (entries_of house.old)) (aborting txn.0 cause) }
     ensures aborted { IfOk result
         (HasAborted txn.0 cause text.items (entries_of house.old) (entries_of house.new)) }
     ensures added { IfOk result (λ _.
@@ -79,10 +83,12 @@ fn abort<D: Shelf>(
     txn: TxnId,
     cause: Cause,
 ) -> Result<Reply, HouseFault>
-    requires ready { IsReady D.told house.old }
+    requires whole { IsWhole D.told house.old }
     requires small { IsSmall (aborting txn.0 cause) }
     requires fits { Fits profile (state_of (entries_of house.old)) (aborting txn.0 cause) }
     requires marked { IsMarked house.old (aborting txn.0 cause) }
+    requires truly { IsToldHouse D.told house.old
+        → IsTruthful (state_of (entries_of house.old)) (aborting txn.0 cause) }
     ensures aborted { IfOk result (HasAborted txn.0 cause (cause_text None cause)
         (entries_of house.old) (entries_of house.new)) }
     ensures added { IfOk result (λ _.
@@ -102,12 +108,11 @@ pub fn lack_memory<D: Shelf>(
     house: &mut House<D>,
     txn: TxnId,
 ) -> Result<Reply, HouseFault>
-    requires ready { IsReady D.told house.old }
+    requires whole { IsWhole D.told house.old }
     requires fits { Fits profile (state_of (entries_of house.old)) (aborting txn.0 Memory) }
     ensures aborted { IfOk result
         (LacksMemory txn.0 (entries_of house.old) (entries_of house.new)) }
-    ensures goes { Goes D.told D.faults KeepsTree (IsFaithful (entries_of house.old)) txn.0
-        house.old house.new result }
+    ensures goes { Goes D.told D.faults txn.0 house.old house.new result }
 {
     abort(alloc, house, txn, Cause::Memory)
 }
@@ -119,14 +124,13 @@ pub fn end_without<D: Shelf>(
     txn: TxnId,
     fault: HouseFault,
 ) -> Result<Reply, HouseFault>
-    requires ready { StaysReady D.told fault house.old }
+    requires stays { StaysWhole D.told fault house.old }
     requires fits { Fits profile (state_of (entries_of house.old)) (aborting txn.0 Memory) }
     ensures aborted { IfOk result
         (LacksMemory txn.0 (entries_of house.old) (entries_of house.new)) }
     ensures goes { (first : House D) (event : Entry) → IsOf txn.0 event
         → IsLeftOut D.told D.faults event fault first house.old
-        → Goes D.told D.faults KeepsTree (StandsWith (entries_of first) event) txn.0
-        first house.new result }
+        → Goes D.told D.faults txn.0 first house.new result }
 {
     match fault {
         HouseFault::NoMemory => lack_memory(alloc, house, txn),
@@ -142,14 +146,15 @@ pub fn withdraw<D: Shelf>(
     txn: TxnId,
     cause: Cause,
 ) -> Result<Reply, HouseFault>
-    requires ready { IsReady D.told house.old }
+    requires whole { IsWhole D.told house.old }
     requires small { IsSmall (aborting txn.0 cause) }
     requires fits { Fits profile (state_of (entries_of house.old)) (aborting txn.0 cause) }
     requires marked { IsMarked house.old (aborting txn.0 cause) }
+    requires truly { IsToldHouse D.told house.old
+        → IsTruthful (state_of (entries_of house.old)) (aborting txn.0 cause) }
     ensures withdrawn { IfOk result
         (IsWithdrawn txn.0 cause (entries_of house.old) (entries_of house.new)) }
-    ensures goes { Goes D.told D.faults KeepsTree
-        (StandsWith (entries_of house.old) (aborting txn.0 cause)) txn.0 house.old house.new result }
+    ensures goes { Goes D.told D.faults txn.0 house.old house.new result }
 {
     match abort(alloc, house, txn, cause) {
         Ok(reply) => Ok(reply),
@@ -159,7 +164,7 @@ pub fn withdraw<D: Shelf>(
 
 /// Whether an abort for this cause fits.
 pub fn abort_fits<D: Shelf>(house: &House<D>, txn: TxnId, cause: Cause) -> bool
-    requires ready { IsReady D.told house.now }
+    requires whole { IsWhole D.told house.now }
     ensures fits { IsTrue result ↔ Fits profile (state_of (entries_of house.now)) (aborting txn.0 cause) }
 {
     house.fits(&Entry::Abort { txn, cause }, None)
@@ -175,12 +180,14 @@ pub fn refuse<D: Shelf>(
     txn: TxnId,
     cause: Cause,
 ) -> Result<Reply, HouseFault>
-    requires ready { IsReady D.told house.old }
+    requires whole { IsWhole D.told house.old }
     requires small { IsSmall (aborting txn.0 cause) }
     requires fits { Fits profile (state_of (entries_of house.old)) (aborting txn.0 cause) }
     requires marked { IsMarked house.old (aborting txn.0 cause) }
     requires uncommitted { EndsUncommitted cause }
-    ensures ready { IfOk result (λ _. IsReady D.told house.new) }
+    requires truly { IsToldHouse D.told house.old
+        → IsTruthful (state_of (entries_of house.old)) (aborting txn.0 cause) }
+    ensures whole { IfOk result (λ _. IsWhole D.told house.new) }
     ensures aborted { IfOk result (λ _.
         IsAborted txn.0 cause (entries_of house.old) (entries_of house.new)) }
     ensures answered { (asking : Asking) (place : ℕ) (said : Stmt) (given : List (ℕ × ℕ))
@@ -190,16 +197,9 @@ pub fn refuse<D: Shelf>(
         → IsWaiting (entries_of house.old) asking txn.0 said
         → IfOk result (λ reply. HasReplied (entries_of house.new) txn.0 reply.text reply.refused reply.ended) }
     ensures ended { IfOk result (NamesLast (entries_of house.new)) }
-    ensures shows { Tells (D.told house.old.shelf)
-        (λ _. IsTruthful (state_of (entries_of house.old)) (aborting txn.0 cause))
-        → Shows D.told house.old (entries_of house.old)
-        → IfOk result (λ _. Shows D.told house.new (entries_of house.new)) }
-    ensures tree { Moves KeepsTree (D.told house.old.shelf) (D.told house.new.shelf) }
-    ensures tells { StaysTold (D.told house.old.shelf) (D.told house.new.shelf) }
+    ensures start { house.new.start ≡ house.old.start }
     ensures stopped { IfErr result (λ why. HasStopped D.told txn.0 why house.old house.new) }
-    ensures opens { Tells (D.told house.old.shelf)
-        (λ _. IsTruthful (state_of (entries_of house.old)) (aborting txn.0 cause))
-        → Shows D.told house.old (entries_of house.old)
+    ensures opens { IsToldHouse D.told house.old
         → IfErr result (λ _. StillOpens D.told house.new) }
     ensures ends { IfErr result EndsRun }
     ensures cause { FileCause (D.faults house.old.shelf) (D.faults house.new.shelf) result }

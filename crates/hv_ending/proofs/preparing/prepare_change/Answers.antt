@@ -14,7 +14,7 @@ pub returns-else-changes_rows : goal.returns-else-changes_rows
 returns-else-changes_rows g c = record {
   whole = made-preparation g.D.Shelf.told g.D.Shelf.faults c.args.way (Change c.args.info c.args.effect) c.args.house.now c.made_ready.new.house
       idle_end (counts_line []) c.made_ready.result (record { small = short_idle c.args.way.txn.0; touched = nothing-touched; change = inl refl })
-      (λ files. record {
+      (record {
         meant = touches-none c.args.info c.args.effect (c.changes_rows.ensures.none c.if-changes_rows.false);
         reply = refl;
         files_are = inl (refl, refl);

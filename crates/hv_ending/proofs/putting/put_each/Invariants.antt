@@ -4,4 +4,4 @@ use Rattle.hv_ending.proofs.putting.put_each.Given as goal
 
 abbrev pub invariant-loop-file : goal.invariant-loop-file
 invariant-loop-file g l =
-    PutsUpTo g.D.Shelf.told g.D.Shelf.faults l.txn l.table.0 l.write.0 (take l.file-index l.files) l.fn.house l.house l.places.items
+    PutsUpTo g.D.Shelf.told g.D.Shelf.faults l.table.0 l.write.0 (take l.file-index l.files) l.fn.house l.house l.places.items
