@@ -1,17 +1,16 @@
 -- What was done stays done as the book goes on, and one more action.
-use Rattle.std.proofs.Common.{◌≡◌, ℕ, ◌+◌, ◌<◌, Bool, true, false, ◌||◌, cond, Option, Some, None, List, [], ◌∷◌, ◌++◌, length, inl, inr, refl, sym, ap, ◌∙◌, subst, append_assoc}
+use Rattle.std.proofs.Common.{ℕ, Bool, true, false, ◌||◌, cond, Option, Some, None, List, [], ◌∷◌, ◌++◌, inl, inr, refl, sym, ap, ◌∙◌, subst, append_assoc}
 use Rattle.std.specs.List.{AllByRecursion}
 use Rattle.std.proofs.Math.Bool.{or_assoc, or-false}
 use Rattle.std.proofs.lemmas.List.{append-nil}
 use Rattle.std.proofs.lemmas.List.Elements.{Contains-append_left}
 use Rattle.hv_base.specs.declared.gate.Stage.{Stage}
 use Rattle.hv_history.specs.declared.entry.Entry.{Entry}
-use Rattle.hv_history.specs.State.{state_of}
 use Rattle.hv_directives.specs.declared.actions.Action.{Action}
 use Rattle.hv_directives.specs.declared.actions.Action.TheVariants as action
 use Rattle.hv_stands.specs.Running.{Asking, next_number}
 use Rattle.hv_ending.proofs.Replied.{replies-stay}
-use Rattle.hv_program.specs.Doing.{Waiting, Standing, is_session, waiting_in, without, asking_of, IsAnswerIn, WentOn, RepliesAtOnce, IsHeldNow, Replies, IsPutOff, GoesOnHeld, ReleasesOne, IsDone, AreDone}
+use Rattle.hv_program.specs.Doing.{Waiting, Standing, is_session, waiting_in, without, asking_of, IsAnswerIn, RepliesAtOnce, IsHeldNow, ReleasesOne, IsDone, AreDone}
 use Rattle.hv_program.specs.Running.{IsLater}
 
 -- ---- as the book goes on

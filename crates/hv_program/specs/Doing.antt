@@ -1,12 +1,10 @@
 -- What the actions of a script do, one after another: how the book goes on by each, which statements are held behind it, and
 -- what is printed.
-use Rattle.std.specs.Prelude.{◌≡◌, ◌⊎◌, ℕ, ◌+◌, ◌<◌, Bool, true, false, ◌||◌, if◌then◌else◌, nat_eq, Option, Some, None, List, [], ◌∷◌, ◌++◌, length, codes, filter, Contains}
+use Rattle.std.specs.Prelude.{◌≡◌, ◌⊎◌, ℕ, ◌+◌, ◌<◌, Bool, true, false, ◌||◌, if◌then◌else◌, nat_eq, Option, Some, None, List, [], ◌∷◌, ◌++◌, length, codes, Contains}
 use Rattle.std.specs.Cmp.Lexicographic.{pointwise}
 use Rattle.hv_base.specs.declared.gate.Stage.{Stage}
-use Rattle.hv_base.specs.declared.ids.TxnId.{TxnId}
 use Rattle.hv_directives.specs.declared.actions.Action.{Action}
 use Rattle.hv_directives.specs.declared.actions.Action.TheVariants as action
-use Rattle.hv_directives.specs.declared.actions.Session.{Session}
 use Rattle.hv_directives.specs.declared.actions.Statement.{Statement}
 use Rattle.hv_ast.specs.declared.statement.Stmt.{Stmt}
 use Rattle.hv_built.specs.Running.{Runs, IsRefused}
