@@ -1,8 +1,8 @@
 -- One action, from what a session answers.
-use Rattle.std.proofs.Common.{◌≡◌, ◌⊎◌, ℕ, zero, suc, ◌+◌, ◌<◌, ◌≤◌, Bool, true, false, cond, Option, Some, None, Result, Ok, Err, IfOk, IfErr, IsErrAnd, List, [], ◌∷◌, ◌++◌, length, map, fold, inl, inr, refl, sym, ap, ◌∙◌, subst, arith}
+use Rattle.std.proofs.Common.{◌≡◌, ◌⊎◌, ℕ, ◌≤◌, Bool, true, false, cond, Option, Some, None, Result, Ok, Err, IfOk, IfErr, IsErrAnd, List, [], ◌∷◌, ◌++◌, length, map, fold, inl, inr, refl, sym, ap, ◌∙◌, subst, arith}
 use Rattle.std.specs.List.{AllByRecursion, Contains}
 use Rattle.std.specs.Option.{option_map}
-use Rattle.std.proofs.lemmas.List.{append-nil, append_cancel_left, length-append}
+use Rattle.std.proofs.lemmas.List.{append-nil, append_cancel_left}
 use Rattle.std.proofs.lemmas.List.Elements.{Contains-append_right}
 use Rattle.hv_base.specs.Told.{Tells, Moves}
 use Rattle.hv_base.specs.declared.gate.Stage.{Stage}
@@ -13,7 +13,6 @@ use Rattle.hv_shelf.specs.Disk.{Store}
 use Rattle.hv_history.specs.declared.entry.Entry.{Entry}
 use Rattle.hv_history.specs.declared.entry.Entry.TheVariants as entry
 use Rattle.hv_history.specs.State.{State, state_of, after}
-use Rattle.hv_history.specs.Legal.{AllFit, profile}
 use Rattle.hv_journal.specs.Appending.{Holds}
 use Rattle.hv_directives.specs.declared.actions.Action.{Action}
 use Rattle.hv_directives.specs.declared.actions.Action.TheVariants as action
@@ -35,12 +34,12 @@ use Rattle.hv_session.specs.declared.paused.Taken.TheVariants as taken
 use Rattle.hv_session.specs.Taking.{IsHeld, IsHeldBySome, IsTrulyHeld, HoldsAt, IsReplied, WentThrough, IsKept, IsKeptIn, IsTakenAs, IsFinished}
 use Rattle.hv_session.specs.Ways.{StopsTaken}
 use Rattle.hv_program.specs.declared.held.Held.{Held}
-use Rattle.hv_program.specs.Doing.{Waiting, Standing, is_session, waiting_in, without, asking_of, ReleasesOne, session_line}
-use Rattle.hv_program.specs.Own.{Grows, IsNotLost, IsOfRun}
+use Rattle.hv_program.specs.Doing.{Waiting, Standing, is_session, waiting_in, asking_of, ReleasesOne, session_line}
+use Rattle.hv_program.specs.Own.{Grows, IsOfRun}
 use Rattle.hv_program.specs.Keeping.{waiting_of, paused_in, held_without, IsHeldIn, standing_of, AreHeld, IsTrulyHeldIn, HasAllOf, IsShown}
-use Rattle.hv_program.specs.Running.{IsBehind, IsLater, Acts, txn_of_waiting, number_of, AreOfSome, Stops}
+use Rattle.hv_program.specs.Running.{IsLater, Acts, txn_of_waiting, number_of, AreOfSome, Stops}
 use Rattle.hv_program.proofs.HeldStay.{LeavesAlone, others, all-stay, all-true}
-use Rattle.hv_program.proofs.HeldLists.{WaitsAs, found-waits, none-waits, waits-without, waits-last, none-left, all-without, all-found, all-last, all-map, order-without, order-last, found-apart, IsApart, IsBelow}
+use Rattle.hv_program.proofs.HeldLists.{found-waits, none-waits, waits-without, waits-last, none-left, all-without, all-found, all-last, all-map, order-without, order-last, found-apart, IsApart, IsBelow}
 use Rattle.hv_program.proofs.OwnEntries.{unlost-all, unlost-or-none, not-lost, state-of, more-fits, of-run, grows-none}
 use Rattle.hv_program.proofs.Counted.{grown-transactions}
 
@@ -226,6 +225,7 @@ module _ (low high : ℕ) (before now : List Entry) (waiting : List Waiting) (st
           ended = ended;
           answered = w.answered;
         };
+        in_order = w.in_order;
       });
       waiting_same = refl;
     });
@@ -314,6 +314,8 @@ acts-kept low high before now helds statement held store fit adds named k =
           at_hold = k.at_hold;
           own = grown-transactions start before behind.grown.0 behind.grown.1;
           was_opened = opens-it before now k.added (asking_of statement) k.book;
+          in_order = k.in_order;
+          up_to_hold = k.up_to_hold;
         };
         waits = waits-last helds held ∙ ap (λ (w : Waiting). map waiting_of helds ++ w ∷ []) one;
         nothing = refl;
@@ -362,6 +364,7 @@ acts-finished low high before now helds session paused reply refused ended fit h
               own = all-waiting (IsLater start) name (map waiting_of helds) waits.waiting behind.later waits.is;
               ended = ended;
               answered = subst (λ (txn : ℕ). HasReplied now txn reply refused ended) (sym waits.txn_is) f.answered;
+              in_order = f.in_order;
             },
             waits-without name helds,
           );
