@@ -164,6 +164,7 @@ module _ {D : Type 0} (told : D → Option Store) (faults : D → ℕ) (way : Wa
     shows = λ asking said under means shows. ended-shows reply ends goes.moves asking said under means shows;
     truly = λ asking said under means shows. always-told _ (told now.shelf) (ended-answered reply ends asking said under);
     last = names-last (entries_of before) (entries_of now) (aborting way.txn.0 ends.why) reply ends.done.book ends.done.ended_is;
+    asked = record { added = aborting way.txn.0 ends.why ∷ []; book = ends.done.book; asked = (tt, tt) };
   }
 
   -- ---- the run has stopped
@@ -178,6 +179,7 @@ module _ {D : Type 0} (told : D → Option Store) (faults : D → ℕ) (way : Wa
     shows = λ asking said under means shows. tt;
     truly = λ asking said under means shows. tt;
     last = tt;
+    asked = tt;
   }
 
   -- ---- by its reply, or the run has stopped
@@ -256,6 +258,7 @@ module _ {D : Type 0} (told : D → Option Store) (faults : D → ℕ) (way : Wa
           })
           means shows;
       last = tt;
+      asked = record { added = []; book = same ∙ sym (append-nil (entries_of before)); asked = tt };
     }
 
   pub made-preparation : (last : End) (text : List ℕ) (result : Result Prepared HouseFault) → EndCanBeNoted (entries_of before) way.txn.0 [] last

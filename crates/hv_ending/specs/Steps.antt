@@ -37,7 +37,7 @@ use Rattle.hv_ending.specs.declared.ready.Prepared.{Prepared}
 use Rattle.hv_ending.specs.declared.ready.Prepared.TheVariants as prepared
 use Rattle.hv_ending.specs.declared.ready.PutFiles.{PutFiles}
 use Rattle.hv_ending.specs.declared.ready.Ready.{Ready}
-use Rattle.hv_ending.specs.Ending.{KeepsCount, IsUndamaged, aborting, EndsUncommitted, Prepares, Concludes, IsPreparedIn, IsTrulyPrepared, IsTrulyReady, MeansThis, EndsTruly, NamesLast, EndedNamesLast, HasStopped, StillOpens, HasReplied, places_of_files}
+use Rattle.hv_ending.specs.Ending.{KeepsCount, IsUndamaged, aborting, EndsUncommitted, AddsAsked, Prepares, Concludes, IsPreparedIn, IsTrulyPrepared, IsTrulyReady, MeansThis, EndsTruly, NamesLast, EndedNamesLast, HasStopped, StillOpens, HasReplied, places_of_files}
 use Rattle.hv_ending.specs.Putting.{PutsFiles}
 
 -- ---- whatever comes of a call
@@ -213,6 +213,7 @@ pub record Preparation {D : Type 0} (told : D → Option Store) (faults : D → 
       → Shows told before (entries_of before)
       → IfOk result (λ found. Tells (told now.shelf) (λ s. IsTrulyPrepared (entries_of now) s.tree asking way.txn.0 way.place said found))
   pub last : IfOk result (EndedNamesLast (entries_of now))
+  pub asked : IfOk result (λ _. AddsAsked meaning (entries_of before) (entries_of now))
 
 pub record Conclusion {D : Type 0} (told : D → Option Store) (faults : D → ℕ) (way : Way) (ready : Ready) (before now : House D) (result : Result Reply HouseFault) : Type 0 where
   pub goes : Goes told faults KeepsTree (EndsTruly (entries_of before) way ready) way.txn.0 before now result

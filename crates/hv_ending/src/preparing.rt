@@ -20,7 +20,7 @@ ghost use Rattle.hv_house.specs.House.{entries_of, IsSmall, IsReady, IsFaithful,
 ghost use Rattle.hv_house.specs.Steps.{HasBrokenPut, HoldsId, IsPutMarkedFor};
 ghost use Rattle.hv_ending.specs.declared.ready.End.TheVariants as last;
 ghost use Rattle.hv_ending.specs.declared.ready.Prepared.TheVariants as found;
-ghost use Rattle.hv_ending.specs.Ending.{giving, aborting, CanChange, CanEnd, Prepares, IsPreparedIn, IsTrulyPrepared, MeansThis, EndedNamesLast, HasStopped, StillOpens, idle_end};
+ghost use Rattle.hv_ending.specs.Ending.{giving, aborting, CanChange, CanEnd, AddsAsked, Prepares, IsPreparedIn, IsTrulyPrepared, MeansThis, EndedNamesLast, HasStopped, StillOpens, idle_end};
 ghost use Rattle.hv_ending.specs.Steps.{ended, Goes, StandsWith, IsMadeReady, IsWithdrawn, IsNextOf, BreaksOff, Writing, Preparation};
 
 use crate::putting::put;
@@ -424,6 +424,7 @@ pub fn prepare<D: Shelf>(
         → IfErr result (λ _. StillOpens D.told house.new) }
     ensures ends { IfErr result EndsRun }
     ensures cause { FileCause (D.faults house.old.shelf) (D.faults house.new.shelf) result }
+    ensures asked { IfOk result (λ _. AddsAsked meaning (entries_of house.old) (entries_of house.new)) }
 {
     prepare_meaning(alloc, house, way, meaning)
 }

@@ -198,6 +198,7 @@ module _ (low high : ℕ) (before now : List Entry) (waiting : List Waiting) (st
           ended = ended;
           answered = w.answered;
         };
+        in_order = w.in_order;
       });
       waiting_same = refl;
     });
@@ -282,6 +283,8 @@ acts-kept low high before now helds statement held fit adds named k =
           at_hold = k.at_hold;
           own = grown-transactions start before behind.grown.0 behind.grown.1;
           was_opened = opens-it before now k.added (asking_of statement) k.book;
+          in_order = k.in_order;
+          up_to_hold = k.up_to_hold;
         };
         waits = waits-last helds held ∙ ap (λ (w : Waiting). map waiting_of helds ++ w ∷ []) one;
         nothing = refl;
@@ -330,6 +333,7 @@ acts-finished low high before now helds session paused reply refused ended fit h
               own = all-waiting (IsLater start) name (map waiting_of helds) waits.waiting behind.later waits.is;
               ended = ended;
               answered = subst (λ (txn : ℕ). HasReplied now txn reply refused ended) (sym waits.txn_is) f.answered;
+              in_order = f.in_order;
             },
             waits-without name helds,
           );

@@ -35,6 +35,7 @@ at-once-more start book more before now asking hold reply refused (inl h) = inl 
   of_it = h.of_it;
   in_time = h.in_time;
   is_answer = answer-more start book more asking (next_number before) reply refused h.is_answer;
+  in_order = h.in_order;
 })
 at-once-more start book more before now asking hold reply refused (inr h) = inr h
 
@@ -49,6 +50,8 @@ held-more start book more before now asking hold h = record {
   at_hold = h.at_hold;
   own = h.own;
   was_opened = Contains-append_left book more _ h.was_opened;
+  in_order = h.in_order;
+  up_to_hold = h.up_to_hold;
 }
 
 released-more : (start book more : List Entry) (before now : Standing) (name : List ℕ) (found : Option Waiting) (output : List ℕ) (refused : Bool)
@@ -62,6 +65,7 @@ released-more start book more before now name (Some waiting) output refused h = 
     own = h.0.own;
     ended = h.0.ended;
     answered = replies-stay book more waiting.txn output refused h.0.ended h.0.answered;
+    in_order = h.0.in_order;
   },
   h.1,
 )
