@@ -1,10 +1,9 @@
 -- One action, from what a session answers.
-use Rattle.std.proofs.Common.{◌≡◌, ◌⊎◌, ℕ, zero, suc, ◌+◌, ◌<◌, ◌≤◌, Bool, true, false, cond, Option, Some, None, Result, Ok, Err, IfOk, IfErr, IsErrAnd, List, [], ◌∷◌, ◌++◌, length, map, fold, inl, inr, refl, sym, ap, ◌∙◌, subst, arith}
+use Rattle.std.proofs.Common.{◌≡◌, ◌⊎◌, ℕ, ◌≤◌, Bool, true, false, cond, Option, Some, None, Result, Ok, Err, IfOk, IfErr, IsErrAnd, List, [], ◌∷◌, ◌++◌, length, map, fold, inl, inr, refl, sym, ap, ◌∙◌, subst, arith}
 use Rattle.std.specs.List.{AllByRecursion, Contains}
 use Rattle.std.specs.Option.{option_map}
-use Rattle.std.proofs.lemmas.List.{append-nil, append_cancel_left, length-append}
+use Rattle.std.proofs.lemmas.List.{append-nil, append_cancel_left}
 use Rattle.std.proofs.lemmas.List.Elements.{Contains-append_right}
-use Rattle.hv_base.specs.Told.{Tells, Moves}
 use Rattle.hv_base.specs.declared.gate.Stage.{Stage}
 use Rattle.hv_base.specs.declared.gate.Stage.TheVariants as stage
 use Rattle.hv_base.specs.declared.ids.TableId.{TableId}
@@ -13,21 +12,22 @@ use Rattle.hv_shelf.specs.Disk.{Store}
 use Rattle.hv_history.specs.declared.entry.Entry.{Entry}
 use Rattle.hv_history.specs.declared.entry.Entry.TheVariants as entry
 use Rattle.hv_history.specs.State.{State, state_of, after}
-use Rattle.hv_history.specs.Legal.{AllFit, profile}
 use Rattle.hv_journal.specs.Appending.{Holds}
 use Rattle.hv_directives.specs.declared.actions.Action.{Action}
 use Rattle.hv_directives.specs.declared.actions.Action.TheVariants as action
 use Rattle.hv_directives.specs.declared.actions.Session.{Session}
 use Rattle.hv_directives.specs.declared.actions.Statement.{Statement}
-use Rattle.hv_stands.specs.Running.{Asking, next_number, opening, AreOf, KeepsGiven}
+use Rattle.hv_stands.specs.Running.{Asking, next_number, opening, AreOf}
 use Rattle.hv_stands.specs.Statements.{AllFitting}
 use Rattle.hv_stands.proofs.Numbers.{numbered-within}
 use Rattle.hv_house.specs.declared.fault.HouseFault.{HouseFault}
 use Rattle.hv_house.specs.declared.fault.HouseFault.TheVariants as fault
 use Rattle.hv_house.specs.declared.house.House.{House}
-use Rattle.hv_house.specs.House.{entries_of, BeginFits, beginning_of, Leaves, IsFaithful, IsReady, Shows}
-use Rattle.hv_ending.specs.Ending.{AddsOf, HasStopped, StillOpens, KeepsCount, IsUndamaged, HasReplied}
-use Rattle.hv_ending.proofs.Opens.{held-opens}
+use Rattle.hv_house.specs.House.{entries_of, BeginFits, beginning_of, Leaves}
+use Rattle.hv_telling.specs.Telling.{IsWhole, IsToldHouse, StillOpens}
+use Rattle.hv_telling.proofs.Told.{told-stays}
+use Rattle.hv_telling.proofs.Opens.{whole-opens}
+use Rattle.hv_ending.specs.Ending.{AddsOf, HasStopped, KeepsCount, IsUndamaged, HasReplied}
 use Rattle.hv_ending.specs.declared.ready.Reply.{Reply}
 use Rattle.hv_session.specs.declared.paused.Paused.{Paused}
 use Rattle.hv_session.specs.declared.paused.Taken.{Taken}
@@ -35,12 +35,12 @@ use Rattle.hv_session.specs.declared.paused.Taken.TheVariants as taken
 use Rattle.hv_session.specs.Taking.{IsHeld, IsHeldBySome, IsTrulyHeld, HoldsAt, IsReplied, WentThrough, IsKept, IsKeptIn, IsTakenAs, IsFinished}
 use Rattle.hv_session.specs.Ways.{StopsTaken}
 use Rattle.hv_program.specs.declared.held.Held.{Held}
-use Rattle.hv_program.specs.Doing.{Waiting, Standing, is_session, waiting_in, without, asking_of, ReleasesOne, session_line}
-use Rattle.hv_program.specs.Own.{Grows, IsNotLost, IsOfRun}
-use Rattle.hv_program.specs.Keeping.{waiting_of, paused_in, held_without, IsHeldIn, standing_of, AreHeld, IsTrulyHeldIn, HasAllOf, IsShown}
-use Rattle.hv_program.specs.Running.{IsBehind, IsLater, Acts, txn_of_waiting, number_of, AreOfSome, Stops}
+use Rattle.hv_program.specs.Doing.{Waiting, Standing, is_session, waiting_in, asking_of, ReleasesOne, session_line}
+use Rattle.hv_program.specs.Own.{Grows, IsOfRun}
+use Rattle.hv_program.specs.Keeping.{waiting_of, paused_in, held_without, IsHeldIn, standing_of, AreHeld, IsTrulyHeldIn, AreTrulyHeld}
+use Rattle.hv_program.specs.Running.{IsLater, Acts, txn_of_waiting, number_of, AreOfSome, Stops}
 use Rattle.hv_program.proofs.HeldStay.{LeavesAlone, others, all-stay, all-true}
-use Rattle.hv_program.proofs.HeldLists.{WaitsAs, found-waits, none-waits, waits-without, waits-last, none-left, all-without, all-found, all-last, all-map, order-without, order-last, found-apart, IsApart, IsBelow}
+use Rattle.hv_program.proofs.HeldLists.{found-waits, none-waits, waits-without, waits-last, none-left, all-without, all-found, all-last, all-map, order-without, order-last, found-apart, IsApart, IsBelow}
 use Rattle.hv_program.proofs.OwnEntries.{unlost-all, unlost-or-none, not-lost, state-of, more-fits, of-run, grows-none}
 use Rattle.hv_program.proofs.Counted.{grown-transactions}
 
@@ -77,26 +77,11 @@ held-after before now helds txn low high fit adds apart h = record {
   begun = begun-after before now helds txn low high adds h.begun;
 }
 
-truly-after : (before now : List Entry) (helds : List Held) (txn low high : ℕ) (store store' : Store) → AllFitting before → AllFitting now
-    → AddsOf txn low high before now → AllByRecursion (IsApart txn) helds → KeepsGiven (state_of before).tables store store'
-    → AllByRecursion (IsTrulyHeldIn before store.tree) helds → AllByRecursion (IsTrulyHeldIn now store'.tree) helds
-truly-after before now helds txn low high store store' fit fits adds apart keeps truly =
-    subst (λ (book : List Entry). AllByRecursion (IsTrulyHeldIn book store'.tree) helds) (sym adds.book)
-    (all-true before adds.added helds store store' fit (subst AllFitting adds.book fits) (leaves-alone txn adds.added helds adds.of_it apart) keeps truly)
-
-pub faithful-of : (told : Option Store) (book : List Entry) (helds : List Held) → Tells told (HasAllOf book helds) → Tells told (IsFaithful book)
-faithful-of None book helds h = tt
-faithful-of (Some store) book helds h = h.faithful
-
--- what the store shows of those that are held, behind what one of another transaction did
-pub shown-after : (told told' : Option Store) (before now : List Entry) (helds : List Held) (txn low high : ℕ) → AllFitting before → AllFitting now
-    → AddsOf txn low high before now → AllByRecursion (IsApart txn) helds → Moves (KeepsGiven (state_of before).tables) told told'
-    → Tells told' (IsFaithful now) → Tells told (HasAllOf before helds) → Tells told' (HasAllOf now helds)
-shown-after None None before now helds txn low high fit fits adds apart keeps faithful shown = tt
-shown-after None (Some store') before now helds txn low high fit fits adds apart keeps faithful shown = absurd keeps
-shown-after (Some store) None before now helds txn low high fit fits adds apart keeps faithful shown = tt
-shown-after (Some store) (Some store') before now helds txn low high fit fits adds apart keeps faithful shown =
-    record { faithful = faithful; truly = truly-after before now helds txn low high store store' fit fits adds apart keeps shown.truly }
+truly-after : (before now : List Entry) (helds : List Held) (txn low high : ℕ) → AllFitting now → AddsOf txn low high before now → AllByRecursion (IsApart txn) helds
+    → AllByRecursion (IsTrulyHeldIn before) helds → AllByRecursion (IsTrulyHeldIn now) helds
+truly-after before now helds txn low high fits adds apart truly =
+    subst (λ (book : List Entry). AllByRecursion (IsTrulyHeldIn book) helds) (sym adds.book)
+    (all-true before adds.added helds (subst AllFitting adds.book fits) (leaves-alone txn adds.added helds adds.of_it apart) truly)
 
 -- ---- one more that is held
 
@@ -128,12 +113,6 @@ held-one-more before now helds held asking low high fit adds h kept =
       begun = inr (begun-here before now asking held.paused low high adds kept.0 kept.1);
     }
 
-pub shown-one-more : (told : Option Store) (book : List Entry) (helds : List Held) (held : Held) → Tells told (HasAllOf book helds)
-    → Tells told (λ s. IsTrulyHeld book s.tree held.paused) → Tells told (HasAllOf book (helds ++ held ∷ []))
-shown-one-more None book helds held shown truly = tt
-shown-one-more (Some store) book helds held shown truly =
-    record { faithful = shown.faithful; truly = all-last (IsTrulyHeldIn book store.tree) helds held shown.truly truly }
-
 -- ---- one that is let go
 
 let-go-begun : (before : List Entry) (name : List ℕ) (helds : List Held) → (helds ≡ []) ⊎ ((state_of before).openings.only_lost ≡ false)
@@ -152,16 +131,9 @@ pub let-go-one : (before : List Entry) (name : List ℕ) (helds : List Held) (pa
     → IsHeldBySome before paused
 let-go-one before name helds paused h found = all-found (IsHeldBySome before) name helds paused h.each found
 
-pub let-go-shown : (told : Option Store) (before : List Entry) (name : List ℕ) (helds : List Held) → Tells told (HasAllOf before helds)
-    → Tells told (HasAllOf before (held_without name helds))
-let-go-shown None before name helds shown = tt
-let-go-shown (Some store) before name helds shown =
-    record { faithful = shown.faithful; truly = all-without (IsTrulyHeldIn before store.tree) name helds shown.truly }
-
-pub let-go-truly : (told : Option Store) (before : List Entry) (name : List ℕ) (helds : List Held) (paused : Paused) → paused_in name helds ≡ Some paused
-    → Tells told (HasAllOf before helds) → Tells told (λ s. IsTrulyHeld before s.tree paused)
-let-go-truly None before name helds paused found shown = tt
-let-go-truly (Some store) before name helds paused found shown = all-found (IsTrulyHeld before store.tree) name helds paused shown.truly found
+pub let-go-true : (before : List Entry) (name : List ℕ) (helds : List Held) (paused : Paused) → paused_in name helds ≡ Some paused
+    → AllByRecursion (IsTrulyHeldIn before) helds → IsTrulyHeld before paused
+let-go-true before name helds paused found truly = all-found (IsTrulyHeld before) name helds paused truly found
 
 -- one is held, so that no transaction is lost any more
 some-begun : (before : List Entry) (name : List ℕ) (helds : List Held) (paused : Paused) → paused_in name helds ≡ Some paused
@@ -226,6 +198,7 @@ module _ (low high : ℕ) (before now : List Entry) (waiting : List Waiting) (st
           ended = ended;
           answered = w.answered;
         };
+        in_order = w.in_order;
       });
       waiting_same = refl;
     });
@@ -256,10 +229,6 @@ module _ (low high : ℕ) (before now : List Entry) (waiting : List Waiting) (st
     });
   }
 
-pub tells-acts : (told : Option Store) (P : Store → Type 0) (Q : Type 0) → ((s : Store) → P s → Q) → Tells told P → Tells told (λ _. Q)
-tells-acts None P Q f p = tt
-tells-acts (Some s) P Q f p = f s p
-
 -- ---- one that is held from then on
 
 -- what stands behind the opening of one that is held
@@ -288,12 +257,12 @@ quiet (Some stage.Commit) txn added (inr h) = quiet-id txn added h.0 h.1 h.2
 quiet (Some stage.Taken) txn added h = absurd h
 quiet (Some stage.Replied) txn added h = absurd h
 
-pub acts-kept : (low high : ℕ) (before now : List Entry) (helds : List Held) (statement : Statement) (held : Held) (store : Store)
+pub acts-kept : (low high : ℕ) (before now : List Entry) (helds : List Held) (statement : Statement) (held : Held)
     → AllFitting now → AddsOf (next_number before) low high before now → held.session ≡ statement.session.name
-    → IsKept before now store.tree (asking_of statement) statement.hold held.paused
+    → IsKept before now (asking_of statement) statement.hold held.paused
     → Acts low high (record { book = before; waiting = map waiting_of helds }) (record { book = now; waiting = map waiting_of (helds ++ held ∷ []) })
     (action.Run statement) [] false
-acts-kept low high before now helds statement held store fit adds named k =
+acts-kept low high before now helds statement held fit adds named k =
     let is = quiet statement.hold (next_number before) k.added k.at_hold in
     let one : waiting_of held ≡ record { session = statement.session.name; txn = next_number before } =
     ap (λ session. record { session = session; txn = held.paused.txn.0 }) named
@@ -314,6 +283,8 @@ acts-kept low high before now helds statement held store fit adds named k =
           at_hold = k.at_hold;
           own = grown-transactions start before behind.grown.0 behind.grown.1;
           was_opened = opens-it before now k.added (asking_of statement) k.book;
+          in_order = k.in_order;
+          up_to_hold = k.up_to_hold;
         };
         waits = waits-last helds held ∙ ap (λ (w : Waiting). map waiting_of helds ++ w ∷ []) one;
         nothing = refl;
@@ -362,6 +333,7 @@ acts-finished low high before now helds session paused reply refused ended fit h
               own = all-waiting (IsLater start) name (map waiting_of helds) waits.waiting behind.later waits.is;
               ended = ended;
               answered = subst (λ (txn : ℕ). HasReplied now txn reply refused ended) (sym waits.txn_is) f.answered;
+              in_order = f.in_order;
             },
             waits-without name helds,
           );
@@ -475,11 +447,9 @@ err-always (Ok x) P p = tt
 err-always (Err why) P p = p
 
 -- the store opens as it stands
-pub opens-first : {D T : Type 0} (told : D → Option Store) (house : House D) (helds : List Held) (result : Result T HouseFault) → Holds (told house.shelf) (entries_of house)
-    → IsShown told house helds → IfErr result (λ _. StillOpens told house)
-opens-first told house helds result holds shown =
-    err-always result (StillOpens told house)
-    (held-opens (entries_of house) (told house.shelf) holds (faithful-of (told house.shelf) (entries_of house) helds shown))
+pub opens-first : {D T : Type 0} (told : D → Option Store) (house : House D) (result : Result T HouseFault) → IsWhole told house
+    → IsToldHouse told house → IfErr result (λ _. StillOpens told house)
+opens-first told house result whole is = err-always result (StillOpens told house) (whole-opens told house whole is)
 
 -- ---- what taking up a statement leaves
 
@@ -488,25 +458,24 @@ pub replied-held : (before now : List Entry) (helds helds' : List Held) (low hig
 replied-held before now helds helds' low high same fit adds h =
     subst (AreHeld now) (sym same) (held-after before now helds (next_number before) low high fit adds (next-apart before helds h) h)
 
-pub replied-shown : (told told' : Option Store) (before now : List Entry) (helds helds' : List Held) (low high : ℕ) → helds' ≡ helds → AllFitting before → AllFitting now
-    → AddsOf (next_number before) low high before now → AreHeld before helds → Moves (KeepsGiven (state_of before).tables) told told'
-    → (Tells told (IsFaithful before) → Tells told' (IsFaithful now)) → Tells told (HasAllOf before helds) → Tells told' (HasAllOf now helds')
-replied-shown told told' before now helds helds' low high same fit fits adds h keeps shows shown =
-    subst (λ (hs : List Held). Tells told' (HasAllOf now hs)) (sym same)
-    (shown-after told told' before now helds (next_number before) low high fit fits adds (next-apart before helds h) keeps (shows (faithful-of told before helds shown)) shown)
+pub replied-truly : {D : Type 0} (told : D → Option Store) (before now : House D) (helds helds' : List Held) (low high : ℕ) → helds' ≡ helds → now.start ≡ before.start
+    → AllFitting (entries_of now) → AddsOf (next_number (entries_of before)) low high (entries_of before) (entries_of now) → AreHeld (entries_of before) helds
+    → AreTrulyHeld told before helds → AreTrulyHeld told now helds'
+replied-truly told before now helds helds' low high same start fits adds h truly is =
+    subst (AllByRecursion (IsTrulyHeldIn (entries_of now))) (sym same)
+    (truly-after (entries_of before) (entries_of now) helds (next_number (entries_of before)) low high fits adds (next-apart (entries_of before) helds h)
+    (truly (told-stays told now before (sym start) is)))
 
-pub replied-acts : (told : Option Store) (before now : List Entry) (helds helds' : List Held) (low high : ℕ) (statement : Statement) (found : Taken) (reply : Reply)
+pub replied-acts : (before now : List Entry) (helds helds' : List Held) (low high : ℕ) (statement : Statement) (found : Taken) (reply : Reply)
     → helds' ≡ helds → found ≡ taken.Replied reply → AllFitting now → AddsOf (next_number before) low high before now
-    → Tells told (λ s. IsTakenAs before now s.tree (asking_of statement) statement.hold found)
-    → Tells told (λ _. Acts low high (record { book = before; waiting = map waiting_of helds }) (record { book = now; waiting = map waiting_of helds' })
-    (action.Run statement) reply.text reply.refused)
-replied-acts told before now helds helds' low high statement found reply same is fit adds all =
-    tells-acts told (λ s. IsTakenAs before now s.tree (asking_of statement) statement.hold found) _
-    (λ s taken_as.
+    → IsTakenAs before now (asking_of statement) statement.hold found
+    → Acts low high (record { book = before; waiting = map waiting_of helds }) (record { book = now; waiting = map waiting_of helds' })
+    (action.Run statement) reply.text reply.refused
+replied-acts before now helds helds' low high statement found reply same is fit adds taken_as =
     subst (λ (hs : List Held). Acts low high (record { book = before; waiting = map waiting_of helds }) (record { book = now; waiting = map waiting_of hs })
     (action.Run statement) reply.text reply.refused) (sym same)
     (acts-replied low high before now (map waiting_of helds) statement reply.text reply.refused reply.ended fit adds
-    (subst (IsTakenAs before now s.tree (asking_of statement) statement.hold) is taken_as))) all
+    (subst (IsTakenAs before now (asking_of statement) statement.hold) is taken_as))
 
 pub kept-held : (before now : List Entry) (helds helds' helds'' : List Held) (held : Held) (asking : Asking) (low high : ℕ) (found : Taken) → helds' ≡ helds
     → helds'' ≡ helds' ++ held ∷ [] → found ≡ taken.Kept held.paused → AllFitting now → AddsOf (next_number before) low high before now → AreHeld before helds
@@ -515,36 +484,30 @@ kept-held before now helds helds' helds'' held asking low high found same one is
     subst (AreHeld now) (sym (one ∙ ap (λ (hs : List Held). hs ++ held ∷ []) same))
     (held-one-more before now helds held asking low high fit adds h (subst (IsKeptIn before now asking) is kept))
 
-kept-truly : (told : Option Store) (before now : List Entry) (statement : Statement) (held : Held) (found : Taken) → found ≡ taken.Kept held.paused
-    → Tells told (λ s. IsTakenAs before now s.tree (asking_of statement) statement.hold found) → Tells told (λ s. IsTrulyHeld now s.tree held.paused)
-kept-truly None before now statement held found is all = tt
-kept-truly (Some store) before now statement held found is all = (subst (IsTakenAs before now store.tree (asking_of statement) statement.hold) is all).truly
+pub kept-truly : {D : Type 0} (told : D → Option Store) (before now : House D) (helds helds' helds'' : List Held) (held : Held) (low high : ℕ) (statement : Statement) (found : Taken)
+    → helds' ≡ helds → helds'' ≡ helds' ++ held ∷ [] → found ≡ taken.Kept held.paused → now.start ≡ before.start
+    → AllFitting (entries_of now) → AddsOf (next_number (entries_of before)) low high (entries_of before) (entries_of now) → AreHeld (entries_of before) helds
+    → (IsToldHouse told before → IsTakenAs (entries_of before) (entries_of now) (asking_of statement) statement.hold found)
+    → AreTrulyHeld told before helds → AreTrulyHeld told now helds''
+kept-truly told before now helds helds' helds'' held low high statement found same one found_is start fits adds h takes truly is =
+    let told_before = told-stays told now before (sym start) is in
+    let others = truly-after (entries_of before) (entries_of now) helds (next_number (entries_of before)) low high fits adds (next-apart (entries_of before) helds h) (truly told_before) in
+    subst (AllByRecursion (IsTrulyHeldIn (entries_of now))) (sym (one ∙ ap (λ (hs : List Held). hs ++ held ∷ []) same))
+    (all-last (IsTrulyHeldIn (entries_of now)) helds held others
+    (subst (IsTakenAs (entries_of before) (entries_of now) (asking_of statement) statement.hold) found_is (takes told_before)).truly)
 
-pub kept-shown : (told told' : Option Store) (before now : List Entry) (helds helds' helds'' : List Held) (held : Held) (low high : ℕ) (statement : Statement) (found : Taken) → helds' ≡ helds
-    → helds'' ≡ helds' ++ held ∷ [] → found ≡ taken.Kept held.paused → AllFitting before → AllFitting now → AddsOf (next_number before) low high before now → AreHeld before helds
-    → Moves (KeepsGiven (state_of before).tables) told told' → (Tells told (IsFaithful before) → Tells told' (IsFaithful now))
-    → (Tells told (IsFaithful before) → Tells told' (λ s. IsTakenAs before now s.tree (asking_of statement) statement.hold found))
-    → Tells told (HasAllOf before helds) → Tells told' (HasAllOf now helds'')
-kept-shown told told' before now helds helds' helds'' held low high statement found same one is fit fits adds h keeps shows takes shown =
-    let faithful = faithful-of told before helds shown in
-    let others = shown-after told told' before now helds (next_number before) low high fit fits adds (next-apart before helds h) keeps (shows faithful) shown in
-    subst (λ (hs : List Held). Tells told' (HasAllOf now hs)) (sym (one ∙ ap (λ (hs : List Held). hs ++ held ∷ []) same))
-    (shown-one-more told' now helds held others (kept-truly told' before now statement held found is (takes faithful)))
-
-pub kept-acts : (told : Option Store) (before now : List Entry) (helds helds' helds'' : List Held) (held : Held) (low high : ℕ) (statement : Statement) (found : Taken) (reply : Reply)
+pub kept-acts : (before now : List Entry) (helds helds' helds'' : List Held) (held : Held) (low high : ℕ) (statement : Statement) (found : Taken) (reply : Reply)
     → helds' ≡ helds → helds'' ≡ helds' ++ held ∷ [] → found ≡ taken.Kept held.paused → held.session ≡ statement.session.name → reply ≡ record { text = []; refused = false; ended = None }
     → AllFitting now → AddsOf (next_number before) low high before now
-    → Tells told (λ s. IsTakenAs before now s.tree (asking_of statement) statement.hold found)
-    → Tells told (λ _. Acts low high (record { book = before; waiting = map waiting_of helds }) (record { book = now; waiting = map waiting_of helds'' })
-    (action.Run statement) reply.text reply.refused)
-kept-acts told before now helds helds' helds'' held low high statement found reply same one is named said fit adds all =
-    tells-acts told (λ s. IsTakenAs before now s.tree (asking_of statement) statement.hold found) _
-    (λ s taken_as.
+    → IsTakenAs before now (asking_of statement) statement.hold found
+    → Acts low high (record { book = before; waiting = map waiting_of helds }) (record { book = now; waiting = map waiting_of helds'' })
+    (action.Run statement) reply.text reply.refused
+kept-acts before now helds helds' helds'' held low high statement found reply same one is named said fit adds taken_as =
     subst (λ (r : Reply). Acts low high (record { book = before; waiting = map waiting_of helds }) (record { book = now; waiting = map waiting_of helds'' })
     (action.Run statement) r.text r.refused) (sym said)
     (subst (λ (hs : List Held). Acts low high (record { book = before; waiting = map waiting_of helds }) (record { book = now; waiting = map waiting_of hs })
     (action.Run statement) [] false) (sym (one ∙ ap (λ (hs : List Held). hs ++ held ∷ []) same))
-    (acts-kept low high before now helds statement held s fit adds named (subst (IsTakenAs before now s.tree (asking_of statement) statement.hold) is taken_as)))) all
+    (acts-kept low high before now helds statement held fit adds named (subst (IsTakenAs before now (asking_of statement) statement.hold) is taken_as)))
 
 -- ---- and what a release leaves
 
@@ -552,56 +515,41 @@ ok-both : {T : Type 0} (r : Result T HouseFault) (P Q : Type 0) (R : T → Type 
 ok-both (Ok x) P Q R f p q = f p q x
 ok-both (Err why) P Q R f p q = tt
 
-pub released-held : {D : Type 0} (told : D → Option Store) (r : Result Reply HouseFault) (before now : House D) (helds helds' : List Held) (name : List ℕ) (paused : Paused) (low high : ℕ)
-    → paused_in name helds ≡ Some paused → helds' ≡ held_without name helds → AreHeld (entries_of before) helds
-    → IfOk r (λ _. IsReady told now) → IfOk r (λ _. AddsOf paused.txn.0 low high (entries_of before) (entries_of now))
-    → IfOk r (λ _. AreHeld (entries_of now) helds')
-released-held told r before now helds helds' name paused low high found left h ready adds =
-    ok-both r (IsReady told now) (AddsOf paused.txn.0 low high (entries_of before) (entries_of now)) (λ _. AreHeld (entries_of now) helds')
-    (λ is added reply.
-    subst (AreHeld (entries_of now)) (sym left)
-    (held-after (entries_of before) (entries_of now) (held_without name helds) paused.txn.0 low high is.fit added (found-apart name helds paused h.apart found) (let-go-held (entries_of before) name helds h)))
-    ready adds
-
 ok-three : {T : Type 0} (r : Result T HouseFault) (P Q : Type 0) (S R : T → Type 0) → (P → Q → (x : T) → S x → R x) → IfOk r (λ _. P) → IfOk r (λ _. Q) → IfOk r S → IfOk r R
 ok-three (Ok x) P Q S R f p q s = f p q x s
 ok-three (Err why) P Q S R f p q s = tt
 
-pub released-shown : {D : Type 0} (told : D → Option Store) (r : Result Reply HouseFault) (before now : House D) (helds helds' : List Held) (name : List ℕ) (paused : Paused) (low high : ℕ)
-    → paused_in name helds ≡ Some paused → helds' ≡ held_without name helds → AllFitting (entries_of before) → AreHeld (entries_of before) helds
-    → IfOk r (λ _. IsReady told now) → IfOk r (λ _. AddsOf paused.txn.0 low high (entries_of before) (entries_of now))
-    → Moves (KeepsGiven (state_of (entries_of before)).tables) (told before.shelf) (told now.shelf)
-    → (Shows told before (entries_of before) → Tells (told before.shelf) (λ s. IsTrulyHeld (entries_of before) s.tree paused) → IfOk r (λ _. Shows told now (entries_of now)))
-    → IsShown told before helds → IfOk r (λ _. IsShown told now helds')
-released-shown told r before now helds helds' name paused low high found left fit h ready adds keeps shows shown =
-    let faithful = faithful-of (told before.shelf) (entries_of before) helds shown in
-    let truly = let-go-truly (told before.shelf) (entries_of before) name helds paused found shown in
-    ok-three r (IsReady told now) (AddsOf paused.txn.0 low high (entries_of before) (entries_of now)) (λ _. Shows told now (entries_of now)) (λ _. IsShown told now helds')
-    (λ is added reply faithful_now.
-    subst (IsShown told now) (sym left)
-    (shown-after (told before.shelf) (told now.shelf) (entries_of before) (entries_of now) (held_without name helds) paused.txn.0 low high fit is.fit added
-    (found-apart name helds paused h.apart found) keeps faithful_now (let-go-shown (told before.shelf) (entries_of before) name helds shown)))
-    ready adds (shows faithful truly)
+module _ {D : Type 0} (told : D → Option Store) (r : Result Reply HouseFault) (before now : House D) (helds helds' : List Held) (session : Session) (paused : Paused) (low high : ℕ)
+    (found : paused_in session.name helds ≡ Some paused) (left : helds' ≡ held_without session.name helds) (h : AreHeld (entries_of before) helds)
+    (whole : IfOk r (λ _. IsWhole told now)) (adds : IfOk r (λ _. AddsOf paused.txn.0 low high (entries_of before) (entries_of now))) where
+  pub released-held : IfOk r (λ _. AreHeld (entries_of now) helds')
+  released-held =
+      ok-both r (IsWhole told now) (AddsOf paused.txn.0 low high (entries_of before) (entries_of now)) (λ _. AreHeld (entries_of now) helds')
+      (λ is added reply.
+      subst (AreHeld (entries_of now)) (sym left)
+      (held-after (entries_of before) (entries_of now) (held_without session.name helds) paused.txn.0 low high is.ready.fit added (found-apart session.name helds paused h.apart found)
+      (let-go-held (entries_of before) session.name helds h)))
+      whole adds
 
-pub released-acts : {D : Type 0} (told : D → Option Store) (r : Result Reply HouseFault) (before now : House D) (helds helds' : List Held) (session : Session) (paused : Paused) (low high : ℕ)
-    → paused_in session.name helds ≡ Some paused → helds' ≡ held_without session.name helds → AreHeld (entries_of before) helds
-    → IfOk r (λ _. IsReady told now) → IfOk r (λ _. AddsOf paused.txn.0 low high (entries_of before) (entries_of now))
-    → (Shows told before (entries_of before) → Tells (told before.shelf) (λ s. IsTrulyHeld (entries_of before) s.tree paused)
-    → IfOk r (λ reply. Tells (told now.shelf) (λ _. IsFinished (entries_of before) (entries_of now) paused.txn.0 reply.text reply.refused reply.ended)))
-    → IsShown told before helds
-    → IfOk r (λ reply. Tells (told now.shelf) (λ _. Acts low high (standing_of before helds) (standing_of now helds') (action.Release session) reply.text reply.refused))
-released-acts told r before now helds helds' session paused low high found left h ready adds finished shown =
-    let faithful = faithful-of (told before.shelf) (entries_of before) helds shown in
-    let truly = let-go-truly (told before.shelf) (entries_of before) session.name helds paused found shown in
-    ok-three r (IsReady told now) (AddsOf paused.txn.0 low high (entries_of before) (entries_of now))
-    (λ reply. Tells (told now.shelf) (λ _. IsFinished (entries_of before) (entries_of now) paused.txn.0 reply.text reply.refused reply.ended))
-    (λ reply. Tells (told now.shelf) (λ _. Acts low high (standing_of before helds) (standing_of now helds') (action.Release session) reply.text reply.refused))
-    (λ is added reply done.
-    tells-acts (told now.shelf) (λ _. IsFinished (entries_of before) (entries_of now) paused.txn.0 reply.text reply.refused reply.ended) _
-    (λ s f.
-    subst (λ (hs : List Held). Acts low high (standing_of before helds) (standing_of now hs) (action.Release session) reply.text reply.refused) (sym left)
-    (acts-finished low high (entries_of before) (entries_of now) helds session paused reply.text reply.refused reply.ended is.fit h found added f)) done)
-    ready adds (finished faithful truly)
+  pub released-truly : now.start ≡ before.start → AreTrulyHeld told before helds → IfOk r (λ _. AreTrulyHeld told now helds')
+  released-truly start truly =
+      ok-both r (IsWhole told now) (AddsOf paused.txn.0 low high (entries_of before) (entries_of now)) (λ _. AreTrulyHeld told now helds')
+      (λ is added reply told_now.
+      subst (AllByRecursion (IsTrulyHeldIn (entries_of now))) (sym left)
+      (truly-after (entries_of before) (entries_of now) (held_without session.name helds) paused.txn.0 low high is.ready.fit added (found-apart session.name helds paused h.apart found)
+      (all-without (IsTrulyHeldIn (entries_of before)) session.name helds (truly (told-stays told now before (sym start) told_now)))))
+      whole adds
+
+  pub released-acts : IfOk r (λ reply. IsFinished (entries_of before) (entries_of now) paused.txn.0 reply.text reply.refused reply.ended)
+      → IfOk r (λ reply. Acts low high (standing_of before helds) (standing_of now helds') (action.Release session) reply.text reply.refused)
+  released-acts finished =
+      ok-three r (IsWhole told now) (AddsOf paused.txn.0 low high (entries_of before) (entries_of now))
+      (λ reply. IsFinished (entries_of before) (entries_of now) paused.txn.0 reply.text reply.refused reply.ended)
+      (λ reply. Acts low high (standing_of before helds) (standing_of now helds') (action.Release session) reply.text reply.refused)
+      (λ is added reply f.
+      subst (λ (hs : List Held). Acts low high (standing_of before helds) (standing_of now hs) (action.Release session) reply.text reply.refused) (sym left)
+      (acts-finished low high (entries_of before) (entries_of now) helds session paused reply.text reply.refused reply.ended is.ready.fit h found added f))
+      whole adds finished
 
 err-map : {T : Type 0} (r : Result T HouseFault) (P Q : HouseFault → Type 0) → ((why : HouseFault) → P why → Q why) → IfErr r P → IfErr r Q
 err-map (Ok x) P Q f p = tt
@@ -620,16 +568,15 @@ pub none-held : (book : List Entry) (helds helds' : List Held) (name : List ℕ)
     → AreHeld book helds → AreHeld book helds'
 none-held book helds helds' name none left h = subst (AreHeld book) (sym (left ∙ none-left name helds none)) h
 
-pub none-shown : (told : Option Store) (book : List Entry) (helds helds' : List Held) (name : List ℕ) → paused_in name helds ≡ None → helds' ≡ held_without name helds
-    → Tells told (HasAllOf book helds) → Tells told (HasAllOf book helds')
-none-shown told book helds helds' name none left h = subst (λ (hs : List Held). Tells told (HasAllOf book hs)) (sym (left ∙ none-left name helds none)) h
+pub none-truly : {D : Type 0} (told : D → Option Store) (house : House D) (helds helds' : List Held) (name : List ℕ) → paused_in name helds ≡ None → helds' ≡ held_without name helds
+    → AreTrulyHeld told house helds → AreTrulyHeld told house helds'
+none-truly told house helds helds' name none left truly = subst (AreTrulyHeld told house) (sym (left ∙ none-left name helds none)) truly
 
-pub none-acts : (told : Option Store) (count : ℕ) (book : List Entry) (helds helds' : List Held) (session : Session) (reply : Reply) → paused_in session.name helds ≡ None
+pub none-acts : (count : ℕ) (book : List Entry) (helds helds' : List Held) (session : Session) (reply : Reply) → paused_in session.name helds ≡ None
     → helds' ≡ held_without session.name helds → reply ≡ record { text = []; refused = false; ended = None }
-    → Tells told (λ _. Acts count count (record { book = book; waiting = map waiting_of helds }) (record { book = book; waiting = map waiting_of helds' })
-    (action.Release session) reply.text reply.refused)
-none-acts None count book helds helds' session reply none left said = tt
-none-acts (Some store) count book helds helds' session reply none left said =
+    → Acts count count (record { book = book; waiting = map waiting_of helds }) (record { book = book; waiting = map waiting_of helds' })
+    (action.Release session) reply.text reply.refused
+none-acts count book helds helds' session reply none left said =
     subst (λ (r : Reply). Acts count count (record { book = book; waiting = map waiting_of helds }) (record { book = book; waiting = map waiting_of helds' })
     (action.Release session) r.text r.refused) (sym said)
     (subst (λ (hs : List Held). Acts count count (record { book = book; waiting = map waiting_of helds }) (record { book = book; waiting = map waiting_of hs })

@@ -5,17 +5,18 @@ use Rattle.hv_shelf.specs.Disk.{Store}
 use Rattle.hv_history.specs.declared.entry.Entry.{Entry}
 use Rattle.hv_history.specs.State.{State, after, state_of}
 use Rattle.hv_history.specs.Journal.{IsJournal}
-use Rattle.hv_history.specs.Legal.{HasRoom, IsLegalFrom, profile}
+use Rattle.hv_history.specs.Legal.{Fits, IsTruthful, HasRoom, IsLegalFrom, profile}
 use Rattle.hv_stands.specs.Statements.{CommitsNothing}
 use Rattle.hv_stands.proofs.Behind.{one-behind}
+use Rattle.hv_stands.proofs.StatementFiles.{other-entries-stand}
 use Rattle.hv_house.specs.House.{IsFaithful}
 use Rattle.hv_house.specs.declared.boot.BootFault.{BootFault}
 use Rattle.hv_house.specs.declared.boot.BootFault.TheVariants as fault
 use Rattle.hv_house.specs.Booting.{lost_entry, open_numbers, opening_entries, IsCutOpening, LeavesFront}
 use Rattle.hv_house.proofs.Openings.{opened-book}
-use Rattle.hv_ending.specs.Ending.{OpensLater}
-use Rattle.hv_ending.specs.Steps.{StandsWith}
-use Rattle.hv_ending.proofs.Opens.{event-stands, same-faithful}
+use Rattle.hv_telling.specs.Telling.{OpensLater}
+use Rattle.hv_telling.proofs.Told.{same-faithful}
+use Rattle.hv_telling.proofs.Entries.{legal-next}
 
 -- ---- a front of entries
 
@@ -30,11 +31,18 @@ quiet-front [] more quiet = tt
 quiet-front (e ∷ front) more quiet = (quiet.0, quiet-front front more quiet.1)
 
 -- entries that commit nothing leave the files standing
+event-stands : (book : List Entry) (event : Entry) (store : Store) → Fits profile (state_of book) event → IsTruthful (state_of book) event → CommitsNothing event
+    → IsFaithful book store → IsFaithful (book ++ event ∷ []) store
+event-stands book event store fits says quiet faithful = record {
+  stands = other-entries-stand book event store.tree faithful.legal.fit fits quiet faithful.stands;
+  legal = legal-next book event faithful.legal fits says;
+}
+
 faithful-behind : (book events : List Entry) (store : Store) → IsLegalFrom profile (state_of book) events → AllByRecursion CommitsNothing events → IsFaithful book store
     → IsFaithful (book ++ events) store
 faithful-behind book [] store legal quiet faithful = subst (λ (b : List Entry). IsFaithful b store) (sym (append-nil book)) faithful
 faithful-behind book (e ∷ events) store legal quiet faithful =
-    let one : IsFaithful (book ++ e ∷ []) store = (event-stands book e store quiet.0 (λ fits. legal.truthful.0) faithful).with_it legal.fit.0 in
+    let one : IsFaithful (book ++ e ∷ []) store = event-stands book e store legal.fit.0 legal.truthful.0 quiet.0 faithful in
     let next : IsLegalFrom profile (state_of (book ++ e ∷ [])) events =
     subst (λ (s : State). IsLegalFrom profile s events) (sym (one-behind book e)) (record { fit = legal.fit.1; truthful = legal.truthful.1 }) in
     subst (λ (b : List Entry). IsFaithful b store) (append_assoc book (e ∷ []) events) (faithful-behind (book ++ e ∷ []) events store next quiet.1 one)

@@ -1,17 +1,16 @@
 -- What was done stays done as the book goes on, and one more action.
-use Rattle.std.proofs.Common.{◌≡◌, ℕ, ◌+◌, ◌<◌, Bool, true, false, ◌||◌, cond, Option, Some, None, List, [], ◌∷◌, ◌++◌, length, inl, inr, refl, sym, ap, ◌∙◌, subst, append_assoc}
+use Rattle.std.proofs.Common.{ℕ, Bool, true, false, ◌||◌, cond, Option, Some, None, List, [], ◌∷◌, ◌++◌, inl, inr, refl, sym, ap, ◌∙◌, subst, append_assoc}
 use Rattle.std.specs.List.{AllByRecursion}
 use Rattle.std.proofs.Math.Bool.{or_assoc, or-false}
 use Rattle.std.proofs.lemmas.List.{append-nil}
 use Rattle.std.proofs.lemmas.List.Elements.{Contains-append_left}
 use Rattle.hv_base.specs.declared.gate.Stage.{Stage}
 use Rattle.hv_history.specs.declared.entry.Entry.{Entry}
-use Rattle.hv_history.specs.State.{state_of}
 use Rattle.hv_directives.specs.declared.actions.Action.{Action}
 use Rattle.hv_directives.specs.declared.actions.Action.TheVariants as action
 use Rattle.hv_stands.specs.Running.{Asking, next_number}
 use Rattle.hv_ending.proofs.Replied.{replies-stay}
-use Rattle.hv_program.specs.Doing.{Waiting, Standing, is_session, waiting_in, without, asking_of, IsAnswerIn, WentOn, RepliesAtOnce, IsHeldNow, Replies, IsPutOff, GoesOnHeld, ReleasesOne, IsDone, AreDone}
+use Rattle.hv_program.specs.Doing.{Waiting, Standing, is_session, waiting_in, without, asking_of, IsAnswerIn, RepliesAtOnce, IsHeldNow, ReleasesOne, IsDone, AreDone}
 use Rattle.hv_program.specs.Running.{IsLater}
 
 -- ---- as the book goes on
@@ -36,6 +35,7 @@ at-once-more start book more before now asking hold reply refused (inl h) = inl 
   of_it = h.of_it;
   in_time = h.in_time;
   is_answer = answer-more start book more asking (next_number before) reply refused h.is_answer;
+  in_order = h.in_order;
 })
 at-once-more start book more before now asking hold reply refused (inr h) = inr h
 
@@ -50,6 +50,8 @@ held-more start book more before now asking hold h = record {
   at_hold = h.at_hold;
   own = h.own;
   was_opened = Contains-append_left book more _ h.was_opened;
+  in_order = h.in_order;
+  up_to_hold = h.up_to_hold;
 }
 
 released-more : (start book more : List Entry) (before now : Standing) (name : List ℕ) (found : Option Waiting) (output : List ℕ) (refused : Bool)
@@ -63,6 +65,7 @@ released-more start book more before now name (Some waiting) output refused h = 
     own = h.0.own;
     ended = h.0.ended;
     answered = replies-stay book more waiting.txn output refused h.0.ended h.0.answered;
+    in_order = h.0.in_order;
   },
   h.1,
 )

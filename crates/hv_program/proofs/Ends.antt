@@ -1,5 +1,5 @@
 -- What serving a script's actions leaves, by its status.
-use Rattle.std.proofs.Common.{◌≡◌, ℕ, length, Bool, true, false, Result, Ok, Err, IfOk, IfErr, Option, Some, None, List, [], ◌∷◌, ◌++◌, refl, sym, ap, ◌∙◌, subst, arith, append_assoc, ◌⊎◌, ◌+◌, ◌<◌, ◌≤◌, inl, inr}
+use Rattle.std.proofs.Common.{◌≡◌, ℕ, Bool, true, false, Result, Ok, Err, IfOk, IfErr, Option, Some, None, List, ◌++◌, refl, sym, ap, ◌∙◌, subst, arith, append_assoc, ◌⊎◌, ◌+◌, ◌<◌, ◌≤◌, inl, inr}
 use Rattle.hv_base.specs.Told.{Tells, Moves, StaysTold}
 use Rattle.hv_shelf.specs.Disk.{Store}
 use Rattle.hv_history.specs.declared.entry.Entry.{Entry}
@@ -8,20 +8,24 @@ use Rattle.hv_history.specs.Legal.{load, HasRoom, IsLegal, profile}
 use Rattle.hv_history.specs.Journal.{Reads, IsJournal}
 use Rattle.hv_base.specs.Sink.{Gains, GainsPart}
 use Rattle.hv_journal.specs.Appending.{Holds, KeepsTree}
-use Rattle.hv_stands.specs.Files.{Stands}
 use Rattle.hv_directives.specs.declared.actions.Action.{Action}
-use Rattle.hv_house.specs.House.{IsFaithful}
+use Rattle.hv_house.specs.declared.house.House.{House}
+use Rattle.hv_house.specs.House.{entries_of, IsFaithful}
+use Rattle.hv_house.specs.Steps.{IsOpenedOver}
 use Rattle.hv_house.specs.declared.fault.HouseFault.{HouseFault}
 use Rattle.hv_house.specs.declared.fault.HouseFault.TheVariants as fault
 use Rattle.hv_house.specs.declared.boot.BootFault.{BootFault}
 use Rattle.hv_house.specs.declared.boot.BootFault.TheVariants as boot
 use Rattle.hv_house.specs.Booting.{opening_of, opening_entries, OpensTo, Opens, StopsOpening, IsCutOpening, HasNoBook, HasFullBook}
-use Rattle.hv_house.proofs.Faithful.{Opening, opened-faithful, one-journal}
+use Rattle.hv_house.proofs.Faithful.{one-journal}
 use Rattle.hv_house.proofs.Boots.{reads-journal}
 use Rattle.hv_recovery.specs.Recovery.{IsJournalOf}
-use Rattle.hv_ending.specs.Ending.{OpensLater}
+use Rattle.hv_telling.specs.Telling.{IsWhole, IsToldHouse, OpensLater}
+use Rattle.hv_telling.proofs.Told.{told-stays, whole-shown, found-some}
+use Rattle.hv_telling.proofs.Opening.{opened-is-told}
 use Rattle.hv_program.specs.declared.stop.Stop.{Stop}
 use Rattle.hv_program.specs.declared.stop.Stop.TheVariants as stop
+use Rattle.hv_program.specs.Stops.{status_of_stop}
 use Rattle.hv_program.specs.Lines.{full_line}
 use Rattle.hv_program.specs.Doing.{Standing}
 use Rattle.hv_program.specs.Own.{Grows}
@@ -29,20 +33,12 @@ use Rattle.hv_program.specs.Running.{PrintsAll, CutsOff, StopsIn, Halts, HasAll}
 use Rattle.hv_program.proofs.OwnEntries.{grows-wider}
 use Rattle.hv_program.proofs.CutOpenings.{cut-opens-later, later-behind}
 use Rattle.hv_program.specs.Results.{IsBookOf, HasBook, IsServed, IsCutOff, IsStopped, IsUnopened, ReadsTo, ReadsFurther, StopsForMemory, StopsForStore}
-use Rattle.hv_program.specs.Serving.{ran_status, IsCutFull, ServedOf, Serves, IsSaid}
+use Rattle.hv_program.specs.Serving.{ran_status, IsCutFull, ServedOf, IsAfterServing, Serves, IsSaid}
 
 pub tells-still : {A : Type 0} (a b : Option A) (x : A) → StaysTold a b → a ≡ Some x → (y : A) × (b ≡ Some y)
 tells-still a (Some y) x stays e = (y, refl)
 tells-still None None x stays e = cc
 tells-still (Some z) None x stays e = absurd stays
-
--- ---- an opening
-
-opening-faithful : (start : List Entry) (book : List Entry) (store begun : Store) → Opening book start → begun.tree ≡ store.tree → OpensTo book store → IsFaithful start begun
-opening-faithful start book store begun is same opens =
-    let faithful : IsFaithful (opening_of book) store = opened-faithful book store is.room opens.faithful in
-    subst (λ b. IsFaithful b begun) (sym is.now_is)
-    (record { stands = subst (Stands (state_of (opening_of book))) (sym same) faithful.stands; legal = faithful.legal })
 
 -- ---- what is left by a result
 
@@ -161,161 +157,80 @@ served-seven low high opened actions written now before after h = record {
   memory = λ e. h;
 }
 
-served-by : (low high : ℕ) (opened : List Entry) (actions : List Action) (ran : Result Bool Stop) (written now : List ℕ) (before after : Store) (book : List Entry)
-    → IfOk ran (λ _. Reads book after.journal) → IfOk ran (λ _. IsFaithful book after)
-    → IfOk ran (λ refused. PrintsAll low high (opening_of opened) book actions (Some written) (Some now) refused)
-    → IfErr ran (λ why. Halts why low high (opening_of opened) book actions (Some written) (Some now) (Some after))
-    → ServedOf (ran_status ran) low high opened actions written now before after
-served-by low high opened actions (Ok false) written now before after book reads shows prints halts =
-    served-zero low high opened actions written now before after (all-served low high actions false written now after (opening_of opened) book shows reads prints)
-served-by low high opened actions (Ok true) written now before after book reads shows prints halts =
-    served-one low high opened actions written now before after (all-served low high actions true written now after (opening_of opened) book shows reads prints)
-served-by low high opened actions (Err stop.Source) written now before after book reads shows prints halts = absurd halts
-served-by low high opened actions (Err stop.Sink) written now before after book reads shows prints halts =
-    served-four low high opened actions written now before after (cut-off low high actions written now after (opening_of opened) book halts.1 halts.0)
-served-by low high opened actions (Err stop.Store) written now before after book reads shows prints halts =
-    served-five low high opened actions written now before after (inl (stopped fault.Store (Some after) low high actions written now (opening_of opened) book (ReadsFurther after.journal) halts.0
-    halts.0.stops.leaves after halts.1))
-served-by low high opened actions (Err stop.NoMemory) written now before after book reads shows prints halts =
-    served-seven low high opened actions written now before after (inl (stopped fault.NoMemory (Some after) low high actions written now (opening_of opened) book (ReadsTo after.journal) halts.0
-    halts.0.stops.leaves.2 after halts.1))
+served-ok : (low high : ℕ) (opened : List Entry) (actions : List Action) (refused : Bool) (written now : List ℕ) (before after : Store) (book : List Entry)
+    → Reads book after.journal → IsFaithful book after → PrintsAll low high (opening_of opened) book actions (Some written) (Some now) refused
+    → ServedOf (ran_status (Ok refused)) low high opened actions written now before after
+served-ok low high opened actions false written now before after book reads faithful prints =
+    served-zero low high opened actions written now before after (all-served low high actions false written now after (opening_of opened) book faithful reads prints)
+served-ok low high opened actions true written now before after book reads faithful prints =
+    served-one low high opened actions written now before after (all-served low high actions true written now after (opening_of opened) book faithful reads prints)
 
 -- ---- with what the outside tells
 
 same_some : {A : Type 0} (x y : A) → Some x ≡ Some y → x ≡ y
 same_some x y e = cc
 
-ok_tells : {A B : Type 0} (ran : Result B Stop) (P : B → A → Type 0) (x : A) → IfOk ran (λ b. Tells (Some x) (P b)) → IfOk ran (λ b. P b x)
-ok_tells (Ok b) P x h = h
-ok_tells (Err why) P x h = tt
-
-record IsDone (status low high : ℕ) (opened : List Entry) (actions : List Action) (written : List ℕ) (before : Store) (sink : Option (List ℕ)) (told : Option Store) : Type 0 where
-  now : List ℕ
-  store : Store
-  sink_tells : sink ≡ Some now
-  store_tells : told ≡ Some store
-  served : ServedOf status low high opened actions written now before store
-
 -- the book that was opened is the one to which the store opens
-same-opened : (told : Option Store) (store : Store) (opened start : List Entry) → told ≡ Some store → OpensTo opened store → Opens profile told start → Opening opened start
+same-opened : (told : Option Store) (store : Store) (opened start : List Entry) → told ≡ Some store → OpensTo opened store → Opens profile told start → start ≡ opening_of opened
 same-opened told store opened start at opens is =
     let reads : IsJournalOf profile is.0 store.journal =
     subst (λ (o : Option Store). Tells o (λ s. IsJournalOf profile is.0 s.journal)) at is.1.reads in
     let same : is.0 ≡ opened = one-journal is.0 opened store.journal reads.journal opens.journal in
-    record { room = subst (λ b. HasRoom profile (state_of b) 1) same is.1.room; now_is = is.1.now_is ∙ ap opening_of same }
+    is.1.now_is ∙ ap opening_of same
 
--- what the store told, and what it tells
-ended-told : (low high : ℕ) (opened : List Entry) (actions : List Action) (ran : Result Bool Stop) (w n : List ℕ) (s b s' : Store) (start book : List Entry)
-    → Opening opened start → b.tree ≡ s.tree → OpensTo opened s
-    → IfOk ran (λ _. Reads book s'.journal)
-    → (IsFaithful start b → IfOk ran (λ _. IsFaithful book s'))
-    → (IsFaithful start b → IfOk ran (λ refused. PrintsAll low high start book actions (Some w) (Some n) refused))
-    → (IsFaithful start b → IfErr ran (λ why. Halts why low high start book actions (Some w) (Some n) (Some s')))
-    → ServedOf (ran_status ran) low high opened actions w n s s'
-ended-told low high opened actions ran w n s b s' start book is same opens reads shows prints halts =
-    let begins = opening-faithful start opened s b is same opens in
-    served-by low high opened actions ran w n s s' book reads (shows begins)
-    (subst (λ x. IfOk ran (λ refused. PrintsAll low high x book actions (Some w) (Some n) refused)) is.now_is (prints begins))
-    (subst (λ x. IfErr ran (λ why. Halts why low high x book actions (Some w) (Some n) (Some s'))) is.now_is (halts begins))
-
-none-some : {A : Type 0} (x : A) (o : Option A) → o ≡ None → o ≡ Some x → ⊥
-none-some x o none some = let wrong : None ≡ Some x = sym none ∙ some in cc
-
--- what the outside tells then
-record AreTold (sink sink' : Option (List ℕ)) (told begun told' : Option Store) (written : List ℕ) (store : Store) : Type 0 where
-  n : List ℕ
-  b : Store
-  s' : Store
-  sink_is : Some written ≡ sink
-  sink_now : Some n ≡ sink'
-  told_is : Some store ≡ told
-  begun_is : Some b ≡ begun
-  told_now : Some s' ≡ told'
-  tree : b.tree ≡ store.tree
-
-moved-to : (told begun : Option Store) (store : Store) → told ≡ Some store → Moves KeepsTree told begun → (b : Store) × (begun ≡ Some b) × (b.tree ≡ store.tree)
-moved-to None begun store at moves = absurd (none-some store None refl at)
-moved-to (Some s) None store at moves = absurd moves
-moved-to (Some s) (Some b) store at moves = (b, refl, moves ∙ ap (λ (x : Store). x.tree) (same_some s store at))
-
-are-told : (sink sink' : Option (List ℕ)) (told begun told' : Option Store) (written : List ℕ) (store : Store) → StaysTold sink sink' → Moves KeepsTree told begun
-    → StaysTold begun told' → sink ≡ Some written → told ≡ Some store → AreTold sink sink' told begun told' written store
-are-told sink sink' told begun told' written store heard moves stays at_sink at_told =
-    let now = tells-still sink sink' written heard at_sink in
-    let then = moved-to told begun store at_told moves in
-    let last = tells-still begun told' then.0 stays then.1 in
+-- all were done
+ended-ok : {D : Type 0} (told : D → Option Store) (now : House D) (low high : ℕ) (opened : List Entry) (actions : List Action) (refused : Bool) (sink : Option (List ℕ)) (written n : List ℕ) (before : Store)
+    → IsWhole told now → IsToldHouse told now → sink ≡ Some n → PrintsAll low high (opening_of opened) (entries_of now) actions (Some written) (Some n) refused
+    → IsAfterServing (ran_status (Ok refused)) low high opened actions written before sink (told now.shelf)
+ended-ok told now low high opened actions refused sink written n before whole is at_sink prints =
+    let shown = whole-shown told now whole is in
+    let reads : Reads (entries_of now) shown.0.journal = subst (λ (o : Option Store). Holds o (entries_of now)) shown.1 whole.ready.kept.reads in
     record {
-      n = now.0;
-      b = then.0;
-      s' = last.0;
-      sink_is = sym at_sink;
-      sink_now = sym now.1;
-      told_is = sym at_told;
-      begun_is = sym then.1;
-      told_now = sym last.1;
-      tree = then.2;
+      now = n;
+      store = shown.0;
+      sink_tells = at_sink;
+      store_tells = shown.1;
+      served = served-ok low high opened actions refused written n before shown.0 (entries_of now) reads shown.2 prints;
     }
 
--- what a run was promised, by what is told
-record Promised (low high : ℕ) (ran : Result Bool Stop) (actions : List Action) (start book : List Entry) (sink sink' : Option (List ℕ)) (told begun told' : Option Store) : Type 0 where
-  is : Opens profile told start
-  reads : IfOk ran (λ _. Holds told' book)
-  shows : Tells begun (IsFaithful start) → IfOk ran (λ _. Tells told' (IsFaithful book))
-  prints : Tells begun (IsFaithful start) → IfOk ran (λ refused. Tells begun (λ _. PrintsAll low high start book actions sink sink' refused))
-  halts : Tells begun (IsFaithful start) → IfErr ran (λ why. Tells begun (λ _. Halts why low high start book actions sink sink' told'))
-
-promised-some : (low high : ℕ) (opened : List Entry) (actions : List Action) (ran : Result Bool Stop) (w n : List ℕ) (s b s' : Store) (start book : List Entry)
-    → Promised low high ran actions start book (Some w) (Some n) (Some s) (Some b) (Some s') → b.tree ≡ s.tree → OpensTo opened s → ServedOf (ran_status ran) low high opened actions w n s s'
-promised-some low high opened actions ran w n s b s' start book h same opens =
-    ended-told low high opened actions ran w n s b s' start book (same-opened (Some s) s opened start refl opens h.is) same opens h.reads h.shows h.prints h.halts
-
-promised-told : (low high : ℕ) (opened : List Entry) (actions : List Action) (ran : Result Bool Stop) (sink sink' : Option (List ℕ)) (told begun told' : Option Store) (start book : List Entry)
-    (written : List ℕ) (store : Store) → Promised low high ran actions start book sink sink' told begun told' → OpensTo opened store
-    → (are : AreTold sink sink' told begun told' written store) → ServedOf (ran_status ran) low high opened actions written are.n store are.s'
-promised-told low high opened actions ran sink sink' told begun told' start book written store h opens are =
-    promised-some low high opened actions ran written are.n store are.b are.s' start book
-    (subst (λ x. Promised low high ran actions start book x (Some are.n) (Some store) (Some are.b) (Some are.s')) (sym are.sink_is)
-    (subst (λ x. Promised low high ran actions start book sink x (Some store) (Some are.b) (Some are.s')) (sym are.sink_now)
-    (subst (λ x. Promised low high ran actions start book sink sink' x (Some are.b) (Some are.s')) (sym are.told_is)
-    (subst (λ x. Promised low high ran actions start book sink sink' told x (Some are.s')) (sym are.begun_is)
-    (subst (λ x. Promised low high ran actions start book sink sink' told begun x) (sym are.told_now) h)))))
-    are.tree opens
-
-ended : (low high : ℕ) (opened : List Entry) (actions : List Action) (ran : Result Bool Stop) (sink sink' : Option (List ℕ)) (told begun told' : Option Store) (start book : List Entry)
-    → Opens profile told start → Moves KeepsTree told begun
-    → IfOk ran (λ _. Holds told' book)
-    → (Tells begun (IsFaithful start) → IfOk ran (λ _. Tells told' (IsFaithful book)))
-    → (Tells begun (IsFaithful start) → IfOk ran (λ refused. Tells begun (λ _. PrintsAll low high start book actions sink sink' refused)))
-    → (Tells begun (IsFaithful start) → IfErr ran (λ why. Tells begun (λ _. Halts why low high start book actions sink sink' told')))
-    → StaysTold begun told' → StaysTold sink sink'
-    → (written : List ℕ) (store : Store) → sink ≡ Some written → told ≡ Some store → OpensTo opened store
-    → IsDone (ran_status ran) low high opened actions written store sink' told'
-ended low high opened actions ran sink sink' told begun told' start book is same reads shows prints halts stays heard written store at_sink at_told opens =
-    let are : AreTold sink sink' told begun told' written store = are-told sink sink' told begun told' written store heard same stays at_sink at_told in
+-- or the run stopped
+ended-err : (why : Stop) (low high : ℕ) (opened : List Entry) (actions : List Action) (sink : Option (List ℕ)) (told : Option Store) (written n : List ℕ) (before : Store) (book : List Entry)
+    → sink ≡ Some n → Halts why low high (opening_of opened) book actions (Some written) (Some n) told
+    → IsAfterServing (status_of_stop why) low high opened actions written before sink told
+ended-err stop.Source low high opened actions sink told written n before book at_sink h = absurd h
+ended-err stop.Sink low high opened actions sink told written n before book at_sink h =
+    let left = found-some (HasAll book) told h.1 in
     record {
-      now = are.n;
-      store = are.s';
-      sink_tells = sym are.sink_now;
-      store_tells = sym are.told_now;
-      served = promised-told low high opened actions ran sink sink' told begun told' start book written store
-          (record { is = is; reads = reads; shows = shows; prints = prints; halts = halts }) opens are;
+      now = n;
+      store = left.0;
+      sink_tells = at_sink;
+      store_tells = left.1;
+      served = served-four low high opened actions written n before left.0 (cut-off low high actions written n left.0 (opening_of opened) book left.2 h.0);
     }
-
-ok_then : (ran : Result Bool Stop) (A B : Type 0) → (A → B) → IfOk ran (λ _. A) → IfOk ran (λ _. B)
-ok_then (Ok b) A B f a = f a
-ok_then (Err why) A B f a = tt
-
-Serves-ran : (low high : ℕ) (actions : List Action) (ran : Result Bool Stop) (sink sink' : Option (List ℕ)) (told begun told' : Option Store) (start book : List Entry) (IsReadyNow : Type 0)
-    → Opens profile told start → Moves KeepsTree told begun
-    → (IsReadyNow → Holds told' book) → IfOk ran (λ _. IsReadyNow)
-    → (Tells begun (IsFaithful start) → IfOk ran (λ _. Tells told' (IsFaithful book)))
-    → (Tells begun (IsFaithful start) → IfOk ran (λ refused. Tells begun (λ _. PrintsAll low high start book actions sink sink' refused)))
-    → (Tells begun (IsFaithful start) → IfErr ran (λ why. Tells begun (λ _. Halts why low high start book actions sink sink' told')))
-    → StaysTold begun told' → StaysTold sink sink'
-    → Serves (ran_status ran) low high actions sink sink' told told'
-Serves-ran low high actions ran sink sink' told begun told' start book R is same holds ready shows prints halts stays heard = λ written store opened at_sink at_told opens.
-    let done = ended low high opened actions ran sink sink' told begun told' start book is same (ok_then ran R (Holds told' book) holds ready) shows prints halts stays heard written store at_sink at_told opens in
-    record { now = done.now; store = done.store; sink_tells = done.sink_tells; store_tells = done.store_tells; served = done.served }
+ended-err stop.Store low high opened actions sink told written n before book at_sink h =
+    let left = found-some (OpensLater book) told h.1 in
+    let stops : StopsIn fault.Store (Some left.0) low high (opening_of opened) book actions (Some written) (Some n) =
+    subst (λ (o : Option Store). StopsIn fault.Store o low high (opening_of opened) book actions (Some written) (Some n)) left.1 h.0 in
+    record {
+      now = n;
+      store = left.0;
+      sink_tells = at_sink;
+      store_tells = left.1;
+      served = served-five low high opened actions written n before left.0
+          (inl (stopped fault.Store (Some left.0) low high actions written n (opening_of opened) book (ReadsFurther left.0.journal) stops stops.stops.leaves left.0 left.2));
+    }
+ended-err stop.NoMemory low high opened actions sink told written n before book at_sink h =
+    let left = found-some (OpensLater book) told h.1 in
+    let stops : StopsIn fault.NoMemory (Some left.0) low high (opening_of opened) book actions (Some written) (Some n) =
+    subst (λ (o : Option Store). StopsIn fault.NoMemory o low high (opening_of opened) book actions (Some written) (Some n)) left.1 h.0 in
+    record {
+      now = n;
+      store = left.0;
+      sink_tells = at_sink;
+      store_tells = left.1;
+      served = served-seven low high opened actions written n before left.0
+          (inl (stopped fault.NoMemory (Some left.0) low high actions written n (opening_of opened) book (ReadsTo left.0.journal) stops stops.stops.leaves.2 left.0 left.2));
+    }
 
 -- the counts may lie further apart
 prints-wider : (first low high : ℕ) (start book : List Entry) (actions : List Action) (sink sink' : Option (List ℕ)) (refused : Bool) → first ≤ low
@@ -374,39 +289,50 @@ halts-wider stop.Sink told first low high start book actions sink sink' below h 
 halts-wider stop.Store told first low high start book actions sink sink' below h = (stops-wider fault.Store told first low high start book actions sink sink' below h.0, h.1)
 halts-wider stop.NoMemory told first low high start book actions sink sink' below h = (stops-wider fault.NoMemory told first low high start book actions sink sink' below h.0, h.1)
 
-prints-widened : (ran : Result Bool Stop) (begun : Option Store) (first low high : ℕ) (start book : List Entry) (actions : List Action) (sink sink' : Option (List ℕ)) → first ≤ low
-    → IfOk ran (λ refused. Tells begun (λ _. PrintsAll low high start book actions sink sink' refused))
-    → IfOk ran (λ refused. Tells begun (λ _. PrintsAll first high start book actions sink sink' refused))
-prints-widened (Ok refused) None first low high start book actions sink sink' below h = tt
-prints-widened (Ok refused) (Some s) first low high start book actions sink sink' below h = prints-wider first low high start book actions sink sink' refused below h
-prints-widened (Err why) begun first low high start book actions sink sink' below h = tt
+-- what a run of a house promised, from its start to its close
+record Promised {D : Type 0} (told : D → Option Store) (low high : ℕ) (ran : Result Bool Stop) (actions : List Action) (house now : House D) (sink sink' : Option (List ℕ)) : Type 0 where
+  start : now.start ≡ house.start
+  whole : IfOk ran (λ _. IsWhole told now)
+  prints : IsToldHouse told house → IfOk ran (PrintsAll low high (entries_of house) (entries_of now) actions sink sink')
+  halts : IsToldHouse told house → IfErr ran (λ why. Halts why low high (entries_of house) (entries_of now) actions sink sink' (told now.shelf))
 
-halts-widened : (ran : Result Bool Stop) (begun told : Option Store) (first low high : ℕ) (start book : List Entry) (actions : List Action) (sink sink' : Option (List ℕ)) → first ≤ low
-    → IfErr ran (λ why. Tells begun (λ _. Halts why low high start book actions sink sink' told))
-    → IfErr ran (λ why. Tells begun (λ _. Halts why first high start book actions sink sink' told))
-halts-widened (Ok refused) begun told first low high start book actions sink sink' below h = tt
-halts-widened (Err why) None told first low high start book actions sink sink' below h = tt
-halts-widened (Err why) (Some s) told first low high start book actions sink sink' below h = halts-wider why told first low high start book actions sink sink' below h
+ended : {D : Type 0} (told : D → Option Store) (house now : House D) (first low high : ℕ) (opened : List Entry) (actions : List Action) (ran : Result Bool Stop) (sink sink' : Option (List ℕ))
+    (written n : List ℕ) (before : Store) → first ≤ low → IsToldHouse told house → entries_of house ≡ opening_of opened → sink ≡ Some written → sink' ≡ Some n
+    → Promised told low high ran actions house now sink sink' → IsAfterServing (ran_status ran) first high opened actions written before sink' (told now.shelf)
+ended told house now first low high opened actions (Ok refused) sink sink' written n before below is begun at_sink at_now h =
+    let prints : PrintsAll low high (opening_of opened) (entries_of now) actions (Some written) (Some n) refused =
+    subst (λ (a : Option (List ℕ)). PrintsAll low high (opening_of opened) (entries_of now) actions a (Some n) refused) at_sink
+    (subst (λ (a : Option (List ℕ)). PrintsAll low high (opening_of opened) (entries_of now) actions sink a refused) at_now
+    (subst (λ (book : List Entry). PrintsAll low high book (entries_of now) actions sink sink' refused) begun (h.prints is))) in
+    ended-ok told now first high opened actions refused sink' written n before h.whole (told-stays told house now h.start is) at_now
+    (prints-wider first low high (opening_of opened) (entries_of now) actions (Some written) (Some n) refused below prints)
+ended told house now first low high opened actions (Err why) sink sink' written n before below is begun at_sink at_now h =
+    let halts : Halts why low high (opening_of opened) (entries_of now) actions (Some written) (Some n) (told now.shelf) =
+    subst (λ (a : Option (List ℕ)). Halts why low high (opening_of opened) (entries_of now) actions a (Some n) (told now.shelf)) at_sink
+    (subst (λ (a : Option (List ℕ)). Halts why low high (opening_of opened) (entries_of now) actions sink a (told now.shelf)) at_now
+    (subst (λ (book : List Entry). Halts why low high book (entries_of now) actions sink sink' (told now.shelf)) begun (h.halts is))) in
+    ended-err why first high opened actions sink' (told now.shelf) written n before (entries_of now) at_now
+    (halts-wider why (told now.shelf) first low high (opening_of opened) (entries_of now) actions (Some written) (Some n) below halts)
 
-pub Serves-run : (status first low high last : ℕ) (actions given : List Action) (ran : Result Bool Stop) (sink sink' : Option (List ℕ)) (told begun told' closed : Option Store)
-    (start book : List Entry) (IsReadyNow : Type 0)
-    → status ≡ ran_status ran → first ≤ low → last ≡ high → given ≡ actions → closed ≡ told'
-    → Opens profile told start → Moves KeepsTree told begun
-    → (IsReadyNow → Holds told' book) → IfOk ran (λ _. IsReadyNow)
-    → (Tells begun (IsFaithful start) → IfOk ran (λ _. Tells told' (IsFaithful book)))
-    → (Tells begun (IsFaithful start) → IfOk ran (λ refused. Tells begun (λ _. PrintsAll low high start book given sink sink' refused)))
-    → (Tells begun (IsFaithful start) → IfErr ran (λ why. Tells begun (λ _. Halts why low high start book given sink sink' told')))
-    → StaysTold begun told' → StaysTold sink sink'
-    → Serves status first last actions sink sink' told closed
-Serves-run status first low high last actions given ran sink sink' told begun told' closed start book R status_is below last_is actions_are closed_is is same holds ready shows prints halts stays heard =
-    let there : Serves (ran_status ran) first high given sink sink' told told' =
-    Serves-ran first high given ran sink sink' told begun told' start book R is same holds ready shows
-    (λ s. prints-widened ran begun first low high start book given sink sink' below (prints s))
-    (λ s. halts-widened ran begun told' first low high start book given sink sink' below (halts s)) stays heard in
-    let by_actions : Serves (ran_status ran) first high actions sink sink' told told' = subst (λ t. Serves (ran_status ran) first high t sink sink' told told') actions_are there in
-    let by_close : Serves (ran_status ran) first high actions sink sink' told closed = subst (λ w. Serves (ran_status ran) first high actions sink sink' told w) (sym closed_is) by_actions in
-    let by_count : Serves (ran_status ran) first last actions sink sink' told closed = subst (λ n. Serves (ran_status ran) first n actions sink sink' told closed) (sym last_is) by_close in
-    subst (λ n. Serves n first last actions sink sink' told closed) (sym status_is) by_count
+pub Serves-run : {D : Type 0} (told : D → Option Store) (shelf : D) (house now : House D) (status first low high last : ℕ) (actions given : List Action) (ran : Result Bool Stop)
+    (sink sink' : Option (List ℕ)) (closed : Option Store) → status ≡ ran_status ran → first ≤ low → last ≡ high → given ≡ actions → closed ≡ told now.shelf
+    → Opens profile (told shelf) (entries_of house) → IsOpenedOver shelf house → now.start ≡ house.start → IfOk ran (λ _. IsWhole told now)
+    → (IsToldHouse told house → IfOk ran (PrintsAll low high (entries_of house) (entries_of now) given sink sink'))
+    → (IsToldHouse told house → IfErr ran (λ why. Halts why low high (entries_of house) (entries_of now) given sink sink' (told now.shelf)))
+    → StaysTold sink sink' → Serves status first last actions sink sink' (told shelf) closed
+Serves-run told shelf house now status first low high last actions given ran sink sink' closed status_is below last_is actions_are closed_is is over start whole prints halts heard =
+    let there : Serves (ran_status ran) first high given sink sink' (told shelf) (told now.shelf) = λ written store opened at_sink at_told opens.
+    let n = tells-still sink sink' written heard at_sink in
+    ended told house now first low high opened given ran sink sink' written n.0 store below (opened-is-told told shelf house store opened over at_told opens)
+    (same-opened (told shelf) store opened (entries_of house) at_told opens is) at_sink n.1
+    (record { start = start; whole = whole; prints = prints; halts = halts }) in
+    let by_actions : Serves (ran_status ran) first high actions sink sink' (told shelf) (told now.shelf) =
+    subst (λ t. Serves (ran_status ran) first high t sink sink' (told shelf) (told now.shelf)) actions_are there in
+    let by_close : Serves (ran_status ran) first high actions sink sink' (told shelf) closed =
+    subst (λ w. Serves (ran_status ran) first high actions sink sink' (told shelf) w) (sym closed_is) by_actions in
+    let by_count : Serves (ran_status ran) first last actions sink sink' (told shelf) closed =
+    subst (λ m. Serves (ran_status ran) first m actions sink sink' (told shelf) closed) (sym last_is) by_close in
+    subst (λ m. Serves m first last actions sink sink' (told shelf) closed) (sym status_is) by_count
 
 -- ---- an opening that stopped
 

@@ -4,7 +4,7 @@ use Rattle.std.specs.List.{AllByRecursion}
 use Rattle.std.proofs.lemmas.List.{drop_more}
 use Rattle.hv_session.specs.declared.paused.Paused.{Paused}
 use Rattle.hv_program.specs.declared.held.Held.{Held}
-use Rattle.hv_program.specs.Doing.{Waiting, is_session, waiting_in, without}
+use Rattle.hv_program.specs.Doing.{Waiting, waiting_in, without}
 use Rattle.hv_program.specs.Keeping.{waiting_of, is_of_session, paused_in, held_without, ComesBefore, AreInOrder}
 
 some-same : {A : Type 0} (x y : A) → Some x ≡ Some y → x ≡ y

@@ -1,22 +1,16 @@
--- A held statement stays what it is while others go on: it is under way, what it comes to can be ended, and its files stand.
-use Rattle.std.proofs.Common.{◌≡◌, ◌⊎◌, ℕ, ◌+◌, ◌<◌, ◌≤◌, Option, Some, None, List, [], ◌∷◌, ◌++◌, length, take, refl, sym, ap, ◌∙◌, subst, arith, inl, inr}
+-- A held statement stays what it is while others go on: it is under way, and what it comes to can be ended.
+use Rattle.std.proofs.Common.{◌≡◌, ◌⊎◌, ℕ, ◌<◌, Some, List, [], ◌∷◌, ◌++◌, length, take, sym, ◌∙◌, subst, arith, inl, inr}
 use Rattle.std.specs.List.{AllByRecursion}
-use Rattle.std.proofs.lemmas.List.{append-nil, take-append-le}
-use Rattle.hv_shelf.specs.Disk.{Store}
-use Rattle.hv_ast.specs.declared.statement.Stmt.{Stmt}
-use Rattle.hv_logic.specs.declared.catalog.TableInfo.{TableInfo}
-use Rattle.hv_logic.specs.declared.effect.Effect.{Effect}
+use Rattle.std.proofs.lemmas.List.{take-append-le}
 use Rattle.hv_logic.specs.declared.meaning.Meaning.{Meaning}
 use Rattle.hv_logic.specs.declared.meaning.Meaning.TheVariants.{Change}
 use Rattle.hv_history.specs.declared.entry.Entry.{Entry}
-use Rattle.hv_history.specs.State.{state_of, numbered}
-use Rattle.hv_stands.specs.Running.{Asking, AreOf, AreNotOf, IsOf, IsNotOf, IsUnderWay, meant, KeepsGiven}
+use Rattle.hv_stands.specs.Running.{Asking, AreOf, AreNotOf, IsOf, IsNotOf, meant}
 use Rattle.hv_stands.specs.Statements.{AllFitting}
 use Rattle.hv_stands.proofs.Others.{others-leave-it}
-use Rattle.hv_stands.proofs.StatementFiles.{put-files-stay}
 use Rattle.hv_ending.specs.declared.ready.End.{End}
 use Rattle.hv_ending.specs.declared.ready.End.TheVariants as end
-use Rattle.hv_ending.specs.Ending.{CanEnd, IsOfChange, EndCanBeNoted, IsChangeReady, CommitIsReady, EndIsTrue}
+use Rattle.hv_ending.specs.Ending.{CanEnd, IsOfChange, EndCanBeNoted}
 use Rattle.hv_ending.proofs.Books.{change-stays}
 use Rattle.hv_session.specs.declared.paused.Point.{Point}
 use Rattle.hv_session.specs.declared.paused.Point.TheVariants as point
@@ -84,53 +78,16 @@ held-stays before more paused fit alone h = (h.0, held-by before more h.0 paused
 
 -- ---- and what it will say
 
-record Meanwhile (before : List Entry) (asking : Asking) (txn place : ℕ) (said : Stmt) (given : List (ℕ × ℕ)) (store now : Store) : Type 0 where
-  fit : AllFitting before
-  under_way : IsUnderWay before asking txn place said given
-  keeps : KeepsGiven (state_of before).tables store now
-
-files-stay : (before : List Entry) (asking : Asking) (txn place : ℕ) (said : Stmt) (given : List (ℕ × ℕ)) (store now : Store) (meaning : Option Meaning) (name : List ℕ)
-    → Meanwhile before asking txn place said given store now → IsChangeReady store.tree meaning given name → IsChangeReady now.tree meaning given name
-files-stay before asking txn place said given store now meaning name at h = record {
-  info = h.info;
-  effect = h.effect;
-  write = h.write;
-  is_change = h.is_change;
-  named = h.named;
-  id = h.id;
-  put = put-files-stay before asking txn place said h.info h.effect h.write store now at.fit
-      (subst (IsUnderWay before asking txn place said) h.id at.under_way) at.keeps h.put;
-}
-
-end-true : (before : List Entry) (asking : Asking) (txn place : ℕ) (said : Stmt) (given : List (ℕ × ℕ)) (store now : Store) (meaning : Option Meaning) (end : End) (text : List ℕ)
-    → Meanwhile before asking txn place said given store now → EndIsTrue store.tree meaning given end text → EndIsTrue now.tree meaning given end text
-end-true before asking txn place said given store now meaning (end.Commit wrote name put) text at h =
-    record { meant = h.meant; reply = h.reply; files_are = by h.files_are }
-  where
-    by : ((given ≡ []) × (wrote ≡ [])) ⊎ IsChangeReady store.tree meaning given name → ((given ≡ []) × (wrote ≡ [])) ⊎ IsChangeReady now.tree meaning given name
-    by (inl none) = inl none
-    by (inr change) = inr (files-stay before asking txn place said given store now meaning name at change)
-end-true before asking txn place said given store now meaning end.Create text at h = h
-
-point-true : (before : List Entry) (asking : Asking) (txn place : ℕ) (said : Stmt) (given : List (ℕ × ℕ)) (store now : Store) (meaning : Option Meaning) (point : Point)
-    → Meanwhile before asking txn place said given store now → PointIsTrue store.tree meaning given point → PointIsTrue now.tree meaning given point
-point-true before asking txn place said given store now meaning point.Started at h = tt
-point-true before asking txn place said given store now meaning (point.Meant found) at h = h
-point-true before asking txn place said given store now meaning (point.Ready ready) at h = end-true before asking txn place said given store now meaning ready.end ready.text at h
-
-truly-stays : (before more : List Entry) (paused : Paused) (store now : Store) → AllFitting before → AllFitting (before ++ more) → AreNotOf paused.txn.0 more
-    → KeepsGiven (state_of before).tables store now → IsTrulyHeld before store.tree paused → IsTrulyHeld (before ++ more) now.tree paused
+truly-stays : (before more : List Entry) (paused : Paused) → AllFitting (before ++ more) → AreNotOf paused.txn.0 more
+    → IsTrulyHeld before paused → IsTrulyHeld (before ++ more) paused
 unfolding held-by
-truly-stays before more paused store now fit fits alone keeps h =
-    let way = h.held.under_way in
-    let early : paused.place < length before = way.early in
+truly-stays before more paused fits alone h =
+    let early : paused.place < length before = h.held.under_way.early in
     let place : take paused.place (before ++ more) ≡ take paused.place before = take-append-le paused.place before more (omega arith) in
-    let later = point-true before h.asking paused.txn.0 paused.place paused.tree h.held.given store now (meant (take paused.place before) paused.tree) paused.point
-    (record { fit = fit; under_way = way; keeps = keeps }) h.truly in
     record {
       asking = h.asking;
       held = held-by before more h.asking paused fits alone h.held;
-      truly = subst (λ (book : List Entry). PointIsTrue now.tree (meant book paused.tree) h.held.given paused.point) (sym place) later;
+      truly = subst (λ (book : List Entry). PointIsTrue (meant book paused.tree) h.held.given paused.point) (sym place) h.truly;
     }
 
 -- ---- a list of them
@@ -144,9 +101,8 @@ all-stay before more [] fit alone each = tt
 all-stay before more (held ∷ helds) fit alone each =
     (held-stays before more held.paused fit alone.0 each.0, all-stay before more helds fit alone.1 each.1)
 
-pub all-true : (before more : List Entry) (helds : List Held) (store now : Store) → AllFitting before → AllFitting (before ++ more)
-    → AllByRecursion (LeavesAlone more) helds → KeepsGiven (state_of before).tables store now
-    → AllByRecursion (IsTrulyHeldIn before store.tree) helds → AllByRecursion (IsTrulyHeldIn (before ++ more) now.tree) helds
-all-true before more [] store now fit fits alone keeps each = tt
-all-true before more (held ∷ helds) store now fit fits alone keeps each =
-    (truly-stays before more held.paused store now fit fits alone.0 keeps each.0, all-true before more helds store now fit fits alone.1 keeps each.1)
+pub all-true : (before more : List Entry) (helds : List Held) → AllFitting (before ++ more) → AllByRecursion (LeavesAlone more) helds
+    → AllByRecursion (IsTrulyHeldIn before) helds → AllByRecursion (IsTrulyHeldIn (before ++ more)) helds
+all-true before more [] fits alone each = tt
+all-true before more (held ∷ helds) fits alone each =
+    (truly-stays before more held.paused fits alone.0 each.0, all-true before more helds fits alone.1 each.1)

@@ -10,7 +10,7 @@ use Rattle.hv_script.specs.declared.words.Command.{Command}
 use Rattle.hv_script.specs.Items.{items_of}
 use Rattle.hv_script.specs.declared.script.ScriptFault.{ScriptFault}
 use Rattle.hv_script.specs.declared.script.ScriptFault.TheVariants.{Refused}
-use Rattle.hv_script.specs.Script.{broken_line, bytes_line, earlier, front, limit_line, line_at}
+use Rattle.hv_script.specs.Script.{broken_line, earlier, front, limit_line, line_at}
 use Rattle.hv_directives.specs.declared.actions.Action.{Action}
 use Rattle.hv_directives.specs.Actions.{IsReading, least, refused_at}
 use Rattle.hv_directives.specs.Standing.{fault_lines, first_standing}

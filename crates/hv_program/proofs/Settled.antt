@@ -1,9 +1,9 @@
 -- Where a script isn't refused, each statement that it holds is released, so that none waits behind its last action; and none
 -- waits of a session where a statement of that session is opened.
-use Rattle.std.proofs.Common.{◌≡◌, ℕ, ◌+◌, ◌==◌, Bool, true, false, not, ◌&&◌, ◌||◌, cond, nat_eq, nat_lt, nat_le, ◌⊎◌, Option, Some, None, List, [], ◌∷◌, ◌++◌, length, map, inl, inr, refl, sym, ap, ◌∙◌, subst, eq-eqb}
-use Rattle.std.specs.List.{AllByRecursion, filter, list_any}
+use Rattle.std.proofs.Common.{◌≡◌, ℕ, Bool, true, false, not, ◌&&◌, ◌||◌, cond, nat_eq, nat_lt, nat_le, ◌⊎◌, Option, Some, None, List, [], ◌∷◌, ◌++◌, length, map, inl, inr, refl, sym, ap, ◌∙◌, subst, eq-eqb}
+use Rattle.std.specs.List.{AllByRecursion, filter}
 use Rattle.std.specs.Cmp.Lexicographic.{pointwise, same_text as equal-text}
-use Rattle.std.specs.Option.{is_some, option_map, option_to_list}
+use Rattle.std.specs.Option.{option_map, option_to_list}
 use Rattle.std.proofs.lemmas.Bool.{or_parts}
 use Rattle.hv_script.specs.declared.items.Item.{Item}
 use Rattle.hv_script.specs.Items.{items_of}
@@ -15,10 +15,10 @@ use Rattle.hv_directives.specs.declared.kinds.Kind.TheVariants.{Statement, Sessi
 use Rattle.hv_directives.specs.declared.standing.Pending.{Pending}
 use Rattle.hv_directives.specs.declared.standing.Held.{Held as Keeps}
 use Rattle.hv_directives.specs.Kinds.{kind_of}
-use Rattle.hv_directives.specs.Standing.{Standing as Place, first_standing, holds, is_held, is_other, is_faulty, is_seen, after, with_held, fault_lines, line_of_pending, line_of_held, unreleased}
+use Rattle.hv_directives.specs.Standing.{Standing as Place, first_standing, holds, is_held, is_other, is_faulty, after, with_held, fault_lines, line_of_pending, line_of_held}
 use Rattle.hv_directives.specs.Actions.{action_for, actions_from, actions_of, least, refused_at, stage_of_pending, statement_in}
 use Rattle.hv_session.specs.Taking.{HoldsAt}
-use Rattle.hv_program.specs.Doing.{Waiting, Standing, is_session, waiting_in, without, ReleasesOne, IsDone, AreDone, AreInTurn, IsPutOff, Replies, asking_of}
+use Rattle.hv_program.specs.Doing.{Waiting, Standing, is_session, waiting_in, without, ReleasesOne, AreDone, AreInTurn, IsPutOff, Replies, asking_of}
 use Rattle.hv_program.specs.Running.{beginning}
 
 -- ---- texts

@@ -1,8 +1,7 @@
 -- One action more.
-use Rattle.std.proofs.Common.{◌≡◌, ℕ, zero, suc, ◌+◌, ◌<◌, ◌≤◌, Bool, false, ◌||◌, Option, Some, None, Result, Ok, Err, IfErr, IsErrAnd, List, [], ◌∷◌, ◌++◌, length, get_or, take, drop, refl, sym, ap, ◌∙◌, subst, arith, append_assoc}
-use Rattle.std.specs.List.{AllByRecursion}
-use Rattle.std.proofs.lemmas.List.{append-nil, take_more, length-take-le}
-use Rattle.hv_base.specs.Told.{Tells, Moves, StaysTold}
+use Rattle.std.proofs.Common.{◌≡◌, ℕ, zero, suc, ◌+◌, ◌<◌, ◌≤◌, Bool, false, ◌||◌, Option, Result, Ok, Err, IfErr, IsErrAnd, IsSomeAnd, List, [], ◌∷◌, ◌++◌, length, get_or, take, drop, refl, sym, ap, ◌∙◌, subst, arith, append_assoc}
+use Rattle.std.proofs.lemmas.List.{append-nil, take_more}
+use Rattle.hv_base.specs.Told.{Moves}
 use Rattle.hv_base.specs.Sink.{Gains, GainsPart}
 use Rattle.hv_base.proofs.ToldLemmas.{Moves-then, Moves-same}
 use Rattle.hv_shelf.specs.Disk.{Store}
@@ -15,58 +14,38 @@ use Rattle.hv_house.specs.declared.fault.HouseFault.{HouseFault}
 use Rattle.hv_house.specs.declared.fault.HouseFault.TheVariants as fault
 use Rattle.hv_house.specs.House.{entries_of, IsFaithful}
 use Rattle.hv_house.specs.Faults.{EndsRun}
-use Rattle.hv_ending.specs.Ending.{OpensLater, StillOpens}
+use Rattle.hv_telling.specs.Telling.{IsWhole, IsToldHouse, OpensLater, StillOpens}
+use Rattle.hv_telling.proofs.Told.{both-some, true-shown, whole-shown, opens-told}
 use Rattle.hv_program.specs.declared.held.Held.{Held}
 use Rattle.hv_program.specs.declared.stop.Stop.{Stop}
 use Rattle.hv_program.specs.declared.stop.Stop.TheVariants as stop
 use Rattle.hv_program.specs.Stops.{stop_of}
-use Rattle.hv_program.specs.Doing.{Waiting, Standing, IsDone, AreDone}
+use Rattle.hv_program.specs.Doing.{Waiting, Standing, AreDone}
 use Rattle.hv_program.specs.Own.{Grows}
-use Rattle.hv_program.specs.Keeping.{HasAllOf, standing_of}
-use Rattle.hv_program.specs.Running.{beginning, IsLater, IsBehind, Acts, IsHalfway, Stops, Prints, PrintsAll, EndsWithin, CutsOff, StopsIn, Halts, HasAll}
+use Rattle.hv_program.specs.Keeping.{standing_of}
+use Rattle.hv_program.specs.Running.{beginning, IsBehind, Acts, Stops, Prints, PrintsAll, EndsWithin, CutsOff, StopsIn, Halts, HasAll}
 use Rattle.hv_program.proofs.Doings.{are-done-more, are-done-then, later-done}
 use Rattle.hv_program.proofs.OwnEntries.{grows-none, grows-then, grows-wider}
-use Rattle.hv_program.proofs.Acting.{faithful-of}
 
--- ---- what stays told
+-- ---- a house
 
-pub StaysTold-is : {A : Type 0} (a b c : Option A) → StaysTold a b → c ≡ b → StaysTold a c
-StaysTold-is a b c stays same = subst (StaysTold a) (sym same) stays
-
-Tells-both : (a b : Option Store) (P Q R : Type 0) → StaysTold a b → (P → Q → R) → Tells a (λ _. P) → Tells b (λ _. Q) → Tells a (λ _. R)
-Tells-both None b P Q R stays f p q = tt
-Tells-both (Some s) None P Q R stays f p q = absurd stays
-Tells-both (Some s) (Some t) P Q R stays f p q = f p q
-
-Tells-both' : (a b : Option Store) (P : Type 0) (Q : Store → Type 0) (R : Type 0) → StaysTold a b → (P → (s : Store) → Q s → R) → Tells a (λ _. P) → Tells b Q → Tells a (λ _. R)
-Tells-both' None b P Q R stays f p q = tt
-Tells-both' (Some s) None P Q R stays f p q = absurd stays
-Tells-both' (Some s) (Some t) P Q R stays f p q = f p t q
-
-Tells-and : (a : Option Store) (P Q : Store → Type 0) → Tells a P → Tells a Q → Tells a (λ s. P s × Q s)
-Tells-and None P Q p q = tt
-Tells-and (Some s) P Q p q = (p, q)
-
-Tells-always : (a : Option Store) (P : Type 0) → P → Tells a (λ _. P)
-Tells-always None P p = tt
-Tells-always (Some s) P p = p
-
--- nothing is held before the first action
-pub shown-first : (told : Option Store) (book : List Entry) → Tells told (IsFaithful book) → Tells told (HasAllOf book [])
-shown-first None book h = tt
-shown-first (Some store) book h = record { faithful = h; truly = tt }
+-- a whole house that is told has all of its book
+pub has-all : {D : Type 0} (told : D → Option Store) (house : House D) → IsWhole told house → IsToldHouse told house → IsSomeAnd (told house.shelf) (HasAll (entries_of house))
+has-all told house whole is =
+    both-some (λ (s : Store). Reads (entries_of house) s.journal) (IsFaithful (entries_of house)) (HasAll (entries_of house)) (told house.shelf)
+    (λ s reads faithful. (reads, faithful)) whole.ready.kept.reads (true-shown told house (whole.truly is))
 
 -- ---- what is printed
 
-pub Prints-none : (told : Option Store) (low : ℕ) (book : List Entry) (actions : List Action) (sink : Option (List ℕ)) → actions ≡ []
-    → Tells told (λ _. Prints low low book (record { book = book; waiting = [] }) actions sink sink false)
-Prints-none told low book actions sink e = Tells-always told _ (record {
+pub Prints-none : (low : ℕ) (book : List Entry) (actions : List Action) (sink : Option (List ℕ)) → actions ≡ []
+    → Prints low low book (record { book = book; waiting = [] }) actions sink sink false
+Prints-none low book actions sink e = record {
   grows = grows-none low low book;
   later = tt;
   output = [];
   written = Moves-same (Gains []) (λ x. sym (append-nil x)) sink;
   are_done = subst (λ (acts : List Action). AreDone book book (beginning book) (beginning book) acts [] false) (sym e) (refl, refl, refl);
-})
+}
 
 more_written : (x y z some more : List ℕ) → Gains some x y → Gains more y z → Gains (some ++ more) x z
 more_written x y z some more p q = q ∙ ap (λ w. w ++ more) p ∙ append_assoc x some more
@@ -97,16 +76,14 @@ module _ (low middle high : ℕ) (below : low ≤ middle) (above : middle ≤ hi
             (earlier actions h.output refused acts.grows h.are_done) done;
       }
 
-  pub Prints-next : (told told' : Option Store) (actions : List Action) (i : ℕ) (act : Action) (reply bytes : List ℕ) (refused this : Bool) (a b c : Option (List ℕ))
-      → i < length actions → act ≡ get_or actions i act → StaysTold told told' → bytes ≡ reply → Moves (Gains bytes) b c
-      → Tells told (λ _. Prints low middle start before (take i actions) a b refused) → Tells told' (λ _. Acts middle high before now act reply this)
-      → Tells told (λ _. Prints low high start now (take (i + 1) actions) a c (refused || this))
-  Prints-next told told' actions i act reply bytes refused this a b c inside is stays same wrote_bytes =
+  pub Prints-next : (actions : List Action) (i : ℕ) (act : Action) (reply bytes : List ℕ) (refused this : Bool) (a b c : Option (List ℕ))
+      → i < length actions → act ≡ get_or actions i act → bytes ≡ reply → Moves (Gains bytes) b c
+      → Prints low middle start before (take i actions) a b refused → Acts middle high before now act reply this
+      → Prints low high start now (take (i + 1) actions) a c (refused || this)
+  Prints-next actions i act reply bytes refused this a b c inside is same wrote_bytes h acts =
       let wrote : Moves (Gains reply) b c = subst (λ w. Moves (Gains w) b c) same wrote_bytes in
       let taken : take i actions ++ act ∷ [] ≡ take (i + 1) actions = ap (λ (x : Action). take i actions ++ x ∷ []) is ∙ sym (take_more actions i act inside) in
-      Tells-both told told' _ _ _ stays
-      (λ (h : Prints low middle start before (take i actions) a b refused) (acts : Acts middle high before now act reply this).
-      subst (λ (some : List Action). Prints low high start now some a c (refused || this)) taken (Prints-turn (take i actions) a b c refused act reply this wrote h acts))
+      subst (λ (some : List Action). Prints low high start now some a c (refused || this)) taken (Prints-turn (take i actions) a b c refused act reply this wrote h acts)
 
   -- ---- the sink failed in a reply
 
@@ -144,19 +121,18 @@ passed_up : {T E : Type 0} (r : Result T E) (e : E) (P : E → Type 0) → IsErr
 passed_up (Ok x) e P is p = tt
 passed_up (Err d) e P is p = subst P (sym is) p
 
-pub Halts-cut : (result : Result Bool Stop) (told told' told_now : Option Store) (low middle high : ℕ) (start : List Entry) (before now : Standing) (helds : List Held) (actions : List Action) (i : ℕ) (act : Action)
-    (reply bytes : List ℕ) (refused this : Bool) (a b c : Option (List ℕ)) → IsErrAnd result (λ e. e ≡ stop.Sink) → low ≤ middle → middle ≤ high
-    → i < length actions → act ≡ get_or actions i act → StaysTold told told' → bytes ≡ reply → Moves (GainsPart bytes) b c
-    → Tells told (λ _. Prints low middle start before (take i actions) a b refused) → Tells told' (λ _. Acts middle high before now act reply this)
-    → Tells told_now (λ s. Reads now.book s.journal) → Tells told_now (HasAllOf now.book helds)
-    → IfErr result (λ why. Tells told (λ _. Halts why low high start now.book actions a c told_now))
-Halts-cut result told told' told_now low middle high start before now helds actions i act reply bytes refused this a b c err below above inside is stays same wrote_bytes h acts reads shown =
+pub Halts-cut : {D : Type 0} (told : D → Option Store) (result : Result Bool Stop) (low middle high : ℕ) (start : List Entry) (before : Standing) (house : House D) (helds : List Held) (actions : List Action)
+    (i : ℕ) (act : Action) (reply bytes : List ℕ) (refused this : Bool) (a b c : Option (List ℕ)) → IsErrAnd result (λ e. e ≡ stop.Sink) → low ≤ middle → middle ≤ high
+    → i < length actions → act ≡ get_or actions i act → bytes ≡ reply → Moves (GainsPart bytes) b c
+    → Prints low middle start before (take i actions) a b refused → Acts middle high before (standing_of house helds) act reply this
+    → IsWhole told house → IsToldHouse told house
+    → IfErr result (λ why. Halts why low high start (entries_of house) actions a c (told house.shelf))
+Halts-cut told result low middle high start before house helds actions i act reply bytes refused this a b c err below above inside is same wrote_bytes h acts whole told_of =
     let wrote : Moves (GainsPart reply) b c = subst (λ w. Moves (GainsPart w) b c) same wrote_bytes in
-    let both : Tells told_now (HasAll now.book) = Tells-and told_now (λ s. Reads now.book s.journal) (IsFaithful now.book) reads (faithful-of told_now now.book helds shown) in
-    passed_up result stop.Sink (λ why. Tells told (λ _. Halts why low high start now.book actions a c told_now)) err
-    (Tells-both told told' _ _ _ stays
-    (λ (p : Prints low middle start before (take i actions) a b refused) (q : Acts middle high before now act reply this).
-    (Prints-cut low middle high below above start before now actions (take i actions) (drop (suc i) actions) a b c refused act reply this (split_at actions i act inside is) wrote p q, both)) h acts)
+    passed_up result stop.Sink (λ why. Halts why low high start (entries_of house) actions a c (told house.shelf)) err (
+      Prints-cut low middle high below above start before (standing_of house helds) actions (take i actions) (drop (suc i) actions) a b c refused act reply this (split_at actions i act inside is) wrote h acts,
+      has-all told house whole told_of,
+    )
 
 -- ---- an action wasn't done to its end
 
@@ -180,30 +156,27 @@ Prints-stopped why told low middle high start before book actions front behind a
 }
 
 halts : (why : HouseFault) (told : Option Store) (low high : ℕ) (start book : List Entry) (actions : List Action) (a b : Option (List ℕ)) → EndsRun why
-    → StopsIn why told low high start book actions a b → Tells told (OpensLater book) → Halts (stop_of why) low high start book actions a b told
+    → StopsIn why told low high start book actions a b → IsSomeAnd told (OpensLater book) → Halts (stop_of why) low high start book actions a b told
 halts fault.Store told low high start book actions a b ends stopped opens = (stopped, opens)
 halts (fault.Failed count) told low high start book actions a b ends stopped opens = absurd ends
 halts fault.NoMemory told low high start book actions a b ends stopped opens = (stopped, opens)
 
-pub Halts-stopped : {D : Type 0} (told : D → Option Store) (why : HouseFault) (result : Result Bool Stop) (first : Option Store) (low middle high : ℕ) (start : List Entry) (before now : House D) (helds : List Held)
+pub Halts-stopped : {D : Type 0} (told : D → Option Store) (why : HouseFault) (result : Result Bool Stop) (low middle high : ℕ) (start : List Entry) (before now : House D) (helds : List Held)
     (actions : List Action) (i : ℕ) (act : Action) (refused : Bool) (a b : Option (List ℕ)) → IsErrAnd result (λ e. e ≡ stop_of why) → low ≤ middle → middle ≤ high → EndsRun why
-    → i < length actions → act ≡ get_or actions i act → StaysTold first (told before.shelf)
-    → Tells first (λ _. Prints low middle start (standing_of before helds) (take i actions) a b refused) → Tells (told before.shelf) (HasAllOf (entries_of before) helds)
+    → i < length actions → act ≡ get_or actions i act
+    → Prints low middle start (standing_of before helds) (take i actions) a b refused → IsWhole told before → IsToldHouse told before
     → Stops why (told now.shelf) (standing_of before helds) act (entries_of now) → StillOpens told now
-    → IfErr result (λ e. Tells first (λ _. Halts e low high start (entries_of now) actions a b (told now.shelf)))
-Halts-stopped told why result first low middle high start before now helds actions i act refused a b err below above ends inside is stays h shown stops opens =
-    passed_up result (stop_of why) (λ e. Tells first (λ _. Halts e low high start (entries_of now) actions a b (told now.shelf))) err
-    (Tells-both' first (told before.shelf) _ (HasAllOf (entries_of before) helds) _ stays
-    (λ (p : Prints low middle start (standing_of before helds) (take i actions) a b refused) s (all : HasAllOf (entries_of before) helds s).
-    halts why (told now.shelf) low high start (entries_of now) actions a b ends
+    → IfErr result (λ e. Halts e low high start (entries_of now) actions a b (told now.shelf))
+Halts-stopped told why result low middle high start before now helds actions i act refused a b err below above ends inside is h whole told_of stops opens =
+    let shown = whole-shown told before whole told_of in
+    passed_up result (stop_of why) (λ e. Halts e low high start (entries_of now) actions a b (told now.shelf)) err
+    (halts why (told now.shelf) low high start (entries_of now) actions a b ends
     (Prints-stopped why (told now.shelf) low middle high start (standing_of before helds) (entries_of now) actions (take i actions) (drop (suc i) actions) a b refused act below above
-    (split_at actions i act inside is) all.faithful.legal p stops) opens) h shown)
+    (split_at actions i act inside is) shown.2.legal h stops) (opens-told told now opens))
 
 -- ---- all were done
 
-pub Prints-all : (told : Option Store) (low high : ℕ) (start book : List Entry) (waiting : List Waiting) (actions some : List Action) (a b : Option (List ℕ)) (refused : Bool) → some ≡ actions
-    → Tells told (λ _. Prints low high start (record { book = book; waiting = waiting }) some a b refused)
-    → Tells told (λ _. PrintsAll low high start book actions a b refused)
-Prints-all None low high start book waiting actions some a b refused same h = tt
-Prints-all (Some store) low high start book waiting actions some a b refused same h =
+pub Prints-all : (low high : ℕ) (start book : List Entry) (waiting : List Waiting) (actions some : List Action) (a b : Option (List ℕ)) (refused : Bool) → some ≡ actions
+    → Prints low high start (record { book = book; waiting = waiting }) some a b refused → PrintsAll low high start book actions a b refused
+Prints-all low high start book waiting actions some a b refused same h =
     (waiting, subst (λ (acts : List Action). Prints low high start (record { book = book; waiting = waiting }) acts a b refused) same h)

@@ -1,14 +1,11 @@
 -- Memory lacked before a session was asked: nothing was done.
-use Rattle.std.proofs.Common.{◌≡◌, ℕ, Option, Some, None, Result, Ok, Err, IfErr, IsErrAnd, inl, inr, List, [], ◌∷◌, ◌++◌, append-nil, refl, sym, subst, arith}
-use Rattle.hv_base.specs.Told.{Tells, Moves}
-use Rattle.hv_base.proofs.ToldLemmas.{Moves-same}
+use Rattle.std.proofs.Common.{◌≡◌, ℕ, Option, None, Result, Ok, Err, IfErr, IsErrAnd, inl, inr, List, [], append-nil, refl, sym, subst, arith}
 use Rattle.hv_shelf.specs.Disk.{Store}
 use Rattle.hv_history.specs.declared.entry.Entry.{Entry}
 use Rattle.hv_history.specs.declared.entry.Cause.TheVariants as cause
-use Rattle.hv_history.specs.State.{state_of}
 use Rattle.hv_history.specs.Answers.{cause_text}
 use Rattle.hv_journal.specs.Appending.{Holds}
-use Rattle.hv_stands.specs.Running.{Asking, next_number, KeepsGiven}
+use Rattle.hv_stands.specs.Running.{Asking}
 use Rattle.hv_base.specs.declared.gate.Stage.{Stage}
 use Rattle.hv_house.specs.declared.fault.HouseFault.{HouseFault}
 use Rattle.hv_house.specs.declared.fault.HouseFault.TheVariants as fault
@@ -24,14 +21,9 @@ use Rattle.hv_session.specs.Ways.{StopsTaken}
 pub still-adds : (txn low high : ℕ) (book : List Entry) → AddsOf txn low high book book
 still-adds txn low high book = record { added = []; book = sym (append-nil book); of_it = tt; counts = tt }
 
-pub lacking-taken : (o : Option Store) (book : List Entry) (asking : Asking) (hold : Option Stage) (reply : Reply) → IsLine (cause_text None cause.Memory) reply
-    → Tells o (λ s. IsTakenAs book book s.tree asking hold (taken.Replied reply))
-lacking-taken None book asking hold reply line = tt
-lacking-taken (Some s) book asking hold reply line =
-    inr (inr (inr (record { book = refl; unended = line.unended; is_refused = line.refusal; line = line.line_is })))
-
-pub still-keeps : (o : Option Store) (book : List Entry) → Moves (KeepsGiven (state_of book).tables) o o
-still-keeps o book = Moves-same (KeepsGiven (state_of book).tables) (λ s place given. refl) o
+pub lacking-taken : (book : List Entry) (asking : Asking) (hold : Option Stage) (reply : Reply) → IsLine (cause_text None cause.Memory) reply
+    → IsTakenAs book book asking hold (taken.Replied reply)
+lacking-taken book asking hold reply line = inr (inr (inr (record { book = refl; unended = line.unended; is_refused = line.refusal; line = line.line_is })))
 
 pub still-stops : {D T : Type 0} (told : D → Option Store) (house : House D) (asking : Asking) (result : Result T HouseFault) → IsErrAnd result (λ e. e ≡ fault.NoMemory)
     → Holds (told house.shelf) (entries_of house) → IfErr result (λ why. StopsTaken told asking why house house)

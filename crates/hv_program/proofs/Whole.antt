@@ -1,7 +1,7 @@
 -- What the program promises of a script, from what it promises of its actions.
-use Rattle.std.proofs.Common.{◌≡◌, ℕ, ◌+◌, ◌<◌, ◌≤◌, Bool, true, false, ◌||◌, cond, nat_lt, nat_le, IsTrue, IsSome, Option, Some, None, List, [], ◌∷◌, ◌++◌, length, map, refl, sym, ap, ◌∙◌, subst, arith, ◌⊎◌, inl, inr}
+use Rattle.std.proofs.Common.{◌≡◌, ℕ, ◌≤◌, Bool, true, false, cond, nat_lt, IsTrue, IsSome, Option, Some, None, List, [], ◌∷◌, ◌++◌, length, refl, sym, ap, ◌∙◌, subst, arith, ◌⊎◌, inl, inr}
 use Rattle.std.proofs.lemmas.List.{append-nil}
-use Rattle.std.proofs.lemmas.Bool.{ltb-false, leb-false, or_parts}
+use Rattle.std.proofs.lemmas.Bool.{ltb-false}
 use Rattle.hv_base.proofs.ToldLemmas.{stays_same}
 use Rattle.hv_base.specs.Told.{Moves, StaysTold}
 use Rattle.hv_shelf.specs.Disk.{Store}
@@ -49,8 +49,17 @@ short-script script e =
 
 -- ---- the whole, from what each device tells
 
+-- where the store opened to a book, it tells behind the run
+abbrev LeavesStore : Option (List ℕ) → Option Store → Option Store → Type 0
+LeavesStore sink told told' =
+    (written : List ℕ) (store : Store) (book : List Entry) → sink ≡ Some written → told ≡ Some store → OpensTo book store → (now : Store) × (told' ≡ Some now)
+
+-- it is as it was
+leaves-same : (sink : Option (List ℕ)) (told : Option Store) → LeavesStore sink told told
+leaves-same sink told = λ written store book at_sink at_store opens. (store, at_store)
+
 pub Headline-by : (low high : ℕ) (words : List (List ℕ)) (source source' sink sink' : Option (List ℕ)) (told told' : Option Store) (status : ℕ)
-    → StaysTold source source' → StaysTold sink sink' → StaysTold told told'
+    → StaysTold source source' → StaysTold sink sink' → LeavesStore sink told told'
     → ((script left written now : List ℕ) (store store' : Store) (book : List Entry) → source ≡ Some script → source' ≡ Some left
     → sink ≡ Some written → sink' ≡ Some now → told ≡ Some store → told' ≡ Some store' → OpensTo book store
     → IsAfter low high words book status script left written now store store')
@@ -58,7 +67,7 @@ pub Headline-by : (low high : ℕ) (words : List (List ℕ)) (source source' sin
 Headline-by low high words source source' sink sink' told told' status read heard stays by = λ script written store book at_source at_sink at_store opens.
     let left = tells-still source source' script read at_source in
     let now = tells-still sink sink' written heard at_sink in
-    let after = tells-still told told' store stays at_store in
+    let after = stays written store book at_sink at_store opens in
     record {
       left = left.0;
       now = now.0;
@@ -193,7 +202,7 @@ pub Headline-words : (low high : ℕ) (words : List (List ℕ)) (source sink sin
     → command_of words ≡ None → StaysTold sink sink' → IsSaid 2 words_line sink sink' faults faults' status
     → Headline words (record { source = source; sink = sink; store = told }) (record { source = source; sink = sink'; store = told }) low high status
 Headline-words low high words source sink sink' told faults faults' status none heard said =
-    Headline-by low high words source source sink sink' told told status (stays_same source) heard (stays_same told)
+    Headline-by low high words source source sink sink' told told status (stays_same source) heard (leaves-same sink told)
     (λ script left written now store store' book at_source at_left at_sink at_now at_store at_after opens.
     after-line low high words book script left written now store store' status 2 words_line sink sink' faults faults' (inl (none, refl))
     (after-two low high words book script left written now store store') (one_content told store store' at_store at_after) at_sink at_now said)
@@ -202,7 +211,7 @@ pub Headline-unread : (low high : ℕ) (words : List (List ℕ)) (source source'
     → StaysTold source source' → status ≡ status_of_stop why → IsTrue (is_one_of (3 ∷ 7 ∷ []) (status_of_stop why))
     → Headline words (record { source = source; sink = sink; store = told }) (record { source = source'; sink = sink; store = told }) low high status
 Headline-unread low high words source source' sink told status why read e h =
-    Headline-by low high words source source' sink sink told told status read (stays_same sink) (stays_same told)
+    Headline-by low high words source source' sink sink told told status read (stays_same sink) (leaves-same sink told)
     (λ script left written now store store' book at_source at_left at_sink at_now at_store at_after opens.
     after-unread low high words book script left written now store store' status (three-or-seven why status h e)
     (record { wrote = one_content sink written now at_sink at_now; store_same = one_content told store store' at_store at_after }))
@@ -211,7 +220,7 @@ pub Headline-memory : (low high : ℕ) (words : List (List ℕ)) (source source'
     → StaysTold source source' → status ≡ 7
     → Headline words (record { source = source; sink = sink; store = told }) (record { source = source'; sink = sink; store = told }) low high status
 Headline-memory low high words source source' sink told status read e =
-    Headline-by low high words source source' sink sink told told status read (stays_same sink) (stays_same told)
+    Headline-by low high words source source' sink sink told told status read (stays_same sink) (leaves-same sink told)
     (λ script left written now store store' book at_source at_left at_sink at_now at_store at_after opens.
     after-memory low high words book script left written now store store' status e
     (record { wrote = one_content sink written now at_sink at_now; store_same = one_content told store store' at_store at_after }))
@@ -224,7 +233,7 @@ pub Headline-refused : (low high : ℕ) (words : List (List ℕ)) (source source
     → StaysTold source source' → StaysTold sink sink' → IsSaidOrNot 8 (script_line line) sink sink' faults faults' status
     → Headline words (record { source = source; sink = sink; store = told }) (record { source = source'; sink = sink'; store = told }) low high status
 Headline-refused low high words source source' sink sink' told faults faults' status line some refused read heard said =
-    Headline-by low high words source source' sink sink' told told status read heard (stays_same told)
+    Headline-by low high words source source' sink sink' told told status read heard (leaves-same sink told)
     (λ script left written now store store' book at_source at_left at_sink at_now at_store at_after opens.
     after-said low high words book script left written now store store' status 8 (script_line line) sink sink' faults faults'
     (inr (inl (some, (line, tells-here (λ s. refused_at s ≡ Some line) source script at_source refused, refl))))
@@ -237,13 +246,18 @@ is-whole bytes script left read fine =
     let is_script : bytes ≡ script = sym (read.taken ∙ ap (λ t. bytes ++ t) at_end ∙ append-nil bytes) in
     (is_script, record { unrefused = subst (λ (b : List ℕ). refused_at b ≡ None) is_script fine; at_end = at_end })
 
+serves-store : (status low high : ℕ) (actions : List Action) (sink sink' : Option (List ℕ)) (told told' : Option Store) → Serves status low high actions sink sink' told told'
+    → LeavesStore sink told told'
+serves-store status low high actions sink sink' told told' serves = λ written store book at_sink at_store opens.
+    let served = serves written store book at_sink at_store opens in
+    (served.store, served.store_tells)
+
 pub Headline-served : (low high : ℕ) (words : List (List ℕ)) (bytes given : List ℕ) (actions : List Action) (source source' sink sink' : Option (List ℕ)) (told told' : Option Store) (status : ℕ)
     → given ≡ bytes → Moves (TakesUpTo 16777217 bytes) source source' → refused_at given ≡ None → actions ≡ actions_of given
-    → StaysTold source source' → StaysTold sink sink' → StaysTold told told'
-    → Serves status low high actions sink sink' told told'
+    → StaysTold source source' → StaysTold sink sink' → Serves status low high actions sink sink' told told'
     → Headline words (record { source = source; sink = sink; store = told }) (record { source = source'; sink = sink'; store = told' }) low high status
-Headline-served low high words bytes given actions source source' sink sink' told told' status given_is moves fine same read heard stays serves =
-    Headline-by low high words source source' sink sink' told told' status read heard stays
+Headline-served low high words bytes given actions source source' sink sink' told told' status given_is moves fine same read heard serves =
+    Headline-by low high words source source' sink sink' told told' status read heard (serves-store status low high actions sink sink' told told' serves)
     (λ script left written now store store' book at_source at_left at_sink at_now at_store at_after opens.
     let takes : TakesUpTo 16777217 given script left =
     between (TakesUpTo 16777217 given) source source' script left at_source at_left

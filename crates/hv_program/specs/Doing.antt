@@ -1,22 +1,22 @@
 -- What the actions of a script do, one after another: how the book goes on by each, which statements are held behind it, and
 -- what is printed.
-use Rattle.std.specs.Prelude.{◌≡◌, ◌⊎◌, ℕ, ◌+◌, ◌<◌, Bool, true, false, ◌||◌, if◌then◌else◌, nat_eq, Option, Some, None, List, [], ◌∷◌, ◌++◌, length, codes, filter, Contains}
+use Rattle.std.specs.Prelude.{◌≡◌, ◌⊎◌, ℕ, ◌+◌, ◌<◌, Bool, true, false, ◌||◌, if◌then◌else◌, nat_eq, Option, Some, None, List, [], ◌∷◌, ◌++◌, length, codes, Contains}
 use Rattle.std.specs.Cmp.Lexicographic.{pointwise}
 use Rattle.hv_base.specs.declared.gate.Stage.{Stage}
-use Rattle.hv_base.specs.declared.ids.TxnId.{TxnId}
 use Rattle.hv_directives.specs.declared.actions.Action.{Action}
 use Rattle.hv_directives.specs.declared.actions.Action.TheVariants as action
-use Rattle.hv_directives.specs.declared.actions.Session.{Session}
 use Rattle.hv_directives.specs.declared.actions.Statement.{Statement}
 use Rattle.hv_ast.specs.declared.statement.Stmt.{Stmt}
 use Rattle.hv_built.specs.Running.{Runs, IsRefused}
 use Rattle.hv_history.specs.declared.entry.Entry.{Entry}
 use Rattle.hv_history.specs.declared.entry.Entry.TheVariants.{Opened}
 use Rattle.hv_history.specs.declared.entry.Cause.TheVariants as cause
-use Rattle.hv_history.specs.State.{state_of}
-use Rattle.hv_history.specs.Legal.{load, profile}
+use Rattle.hv_history.specs.State.{meaning, state_of}
+use Rattle.hv_history.specs.Legal.{Of, load, profile}
 use Rattle.hv_history.specs.Answers.{line, cause_text}
 use Rattle.hv_stands.specs.Running.{Asking, next_number, opening, AreOf}
+use Rattle.hv_next.specs.Order.{AllInOrder}
+use Rattle.hv_next.specs.Carrying.{IsAtHold}
 use Rattle.hv_ending.specs.Ending.{HasReplied}
 use Rattle.hv_session.specs.Faults.{IsFaultLine}
 use Rattle.hv_house.specs.Asking.{CanBegin}
@@ -71,7 +71,8 @@ pub record IsLineOf (reply wanted : List ℕ) (refused : Bool) : Type 0 where
 
 -- ---- one action
 
--- It went on to its end at once: as a transaction that started where it could, and ended before the place where it was to be held.
+-- It went on to its end at once: as a transaction that started where it could, whose entries come in the order of its way, and that ended
+-- before the place where it was to be held.
 pub record WentOn (start book before now : List Entry) (asking : Asking) (hold : Option Stage) (reply : List ℕ) (refused : Bool) : Type 0 where
   pub added : List Entry
   pub goes : now ≡ before ++ opening before asking ∷ added
@@ -81,6 +82,7 @@ pub record WentOn (start book before now : List Entry) (asking : Asking) (hold :
   pub of_it : AreOf (next_number before) added
   pub in_time : EndsBefore hold (next_number before) added
   pub is_answer : IsAnswerIn start book asking (next_number before) reply refused
+  pub in_order : AllInOrder (state_of before) (opening before asking ∷ added)
 
 abbrev pub RepliesAtOnce : List Entry → List Entry → List Entry → List Entry → Asking → Option Stage → List ℕ → Bool → Type 0
 RepliesAtOnce start book before now asking hold reply refused =
@@ -89,7 +91,8 @@ RepliesAtOnce start book before now asking hold reply refused =
     ⊎ ((now ≡ before) × (profile.entries < load (state_of before) + 2) × IsLineOf reply (cause_text None cause.Full) refused)
     ⊎ ((now ≡ before) × IsLineOf reply (cause_text None cause.Memory) refused)
 
--- it is held: its transaction is open, and nothing is printed
+-- It is held: its transaction is open, and nothing is printed. Its entries come in the order of its way, and none is left that comes before
+-- its hold.
 pub record IsHeldNow (start book before now : List Entry) (asking : Asking) (hold : Option Stage) : Type 0 where
   pub added : List Entry
   pub goes : now ≡ before ++ opening before asking ∷ added
@@ -99,6 +102,8 @@ pub record IsHeldNow (start book before now : List Entry) (asking : Asking) (hol
   pub at_hold : HoldsAt hold (next_number before) added
   pub own : length (state_of start).transactions < next_number before
   pub was_opened : Contains book (opening before asking)
+  pub in_order : AllInOrder (state_of before) (opening before asking ∷ added)
+  pub up_to_hold : Of (state_of now) (next_number before) (λ transaction. IsAtHold hold transaction.given (meaning transaction))
 
 pub record Replies (start book : List Entry) (before now : Standing) (asking : Asking) (hold : Option Stage) (output : List ℕ) (refused : Bool) : Type 0 where
   pub goes : RepliesAtOnce start book before.book now.book asking hold output refused
@@ -110,7 +115,7 @@ pub record IsPutOff (start book : List Entry) (before now : Standing) (asking : 
   pub nothing : output ≡ []
   pub accepted : refused ≡ false
 
--- a statement that was held went on to its end, by entries of its transaction alone
+-- a statement that was held went on to its end, by entries of its transaction alone, in the order of its way
 pub record GoesOnHeld (start book before now : List Entry) (txn : ℕ) (reply : List ℕ) (refused : Bool) : Type 0 where
   pub added : List Entry
   pub goes : now ≡ before ++ added
@@ -118,6 +123,7 @@ pub record GoesOnHeld (start book before now : List Entry) (txn : ℕ) (reply : 
   pub own : length (state_of start).transactions < txn
   pub ended : Option ℕ
   pub answered : HasReplied book txn reply refused ended
+  pub in_order : AllInOrder (state_of before) added
 
 -- the release of a session: its statement that waits goes on; where none does, nothing happens
 abbrev pub ReleasesOne : List Entry → List Entry → Standing → Standing → List ℕ → Option Waiting → List ℕ → Bool → Type 0

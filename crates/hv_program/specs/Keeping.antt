@@ -2,12 +2,12 @@
 use Rattle.std.specs.Prelude.{◌≡◌, ◌⊎◌, ℕ, ◌<◌, Bool, false, if◌then◌else◌, nat_eq, Option, Some, None, List, [], ◌∷◌, map}
 use Rattle.std.specs.Cmp.Lexicographic.{pointwise}
 use Rattle.std.specs.List.{AllByRecursion}
-use Rattle.hv_base.specs.Told.{Tells}
-use Rattle.hv_shelf.specs.Disk.{Store, Tree}
+use Rattle.hv_shelf.specs.Disk.{Store}
 use Rattle.hv_history.specs.declared.entry.Entry.{Entry}
 use Rattle.hv_history.specs.State.{state_of}
 use Rattle.hv_house.specs.declared.house.House.{House}
-use Rattle.hv_house.specs.House.{entries_of, IsFaithful}
+use Rattle.hv_house.specs.House.{entries_of}
+use Rattle.hv_telling.specs.Telling.{IsToldHouse}
 use Rattle.hv_session.specs.declared.paused.Paused.{Paused}
 use Rattle.hv_session.specs.Taking.{IsHeldBySome, IsTrulyHeld}
 use Rattle.hv_program.specs.declared.held.Held.{Held}
@@ -54,14 +54,9 @@ pub record AreHeld (book : List Entry) (helds : List Held) : Type 0 where
   pub apart : AreInOrder helds
   pub begun : (helds ≡ []) ⊎ ((state_of book).openings.only_lost ≡ false)
 
-abbrev pub IsTrulyHeldIn : List Entry → Tree → Held → Type 0
-IsTrulyHeldIn book files held = IsTrulyHeld book files held.paused
+abbrev pub IsTrulyHeldIn : List Entry → Held → Type 0
+IsTrulyHeldIn book held = IsTrulyHeld book held.paused
 
--- the store has the files of the book, and each that is held will end as it means
-pub record HasAllOf (book : List Entry) (helds : List Held) (store : Store) : Type 0 where
-  pub faithful : IsFaithful book store
-  pub truly : AllByRecursion (IsTrulyHeldIn book store.tree) helds
-
--- where the store tells
-abbrev pub IsShown : {D : Type 0} → (D → Option Store) → House D → List Held → Type 0
-IsShown told house helds = Tells (told house.shelf) (HasAllOf (entries_of house) helds)
+-- in a told house each that is held will end as it means
+abbrev pub AreTrulyHeld : {D : Type 0} → (D → Option Store) → House D → List Held → Type 0
+AreTrulyHeld told house helds = IsToldHouse told house → AllByRecursion (IsTrulyHeldIn (entries_of house)) helds

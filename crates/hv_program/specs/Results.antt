@@ -1,6 +1,6 @@
 -- What the actions of a script leave, in the book, in the files and in what was printed: where all were done, and
 -- where the run stopped at one of them.
-use Rattle.std.specs.Prelude.{◌≡◌, ◌⊎◌, ℕ, Bool, List, [], ◌∷◌, ◌++◌}
+use Rattle.std.specs.Prelude.{◌≡◌, ◌⊎◌, ℕ, Bool, List, ◌∷◌, ◌++◌}
 use Rattle.hv_base.specs.Sink.{GainsPart}
 use Rattle.hv_shelf.specs.Disk.{Store}
 use Rattle.hv_history.specs.declared.entry.Entry.{Entry}
@@ -12,7 +12,7 @@ use Rattle.hv_directives.specs.declared.actions.Action.{Action}
 use Rattle.hv_stands.specs.Files.{Stands}
 use Rattle.hv_house.specs.declared.boot.BootFault.TheVariants as fault
 use Rattle.hv_house.specs.Booting.{opening_of, IsCutOpening}
-use Rattle.hv_ending.specs.Ending.{OpensLater}
+use Rattle.hv_telling.specs.Telling.{OpensLater}
 use Rattle.hv_program.specs.Doing.{Standing, IsDone, AreDone}
 use Rattle.hv_program.specs.Own.{Grows}
 use Rattle.hv_program.specs.Running.{beginning, IsHalfway, AreFurther}

@@ -1,7 +1,7 @@
 -- What the actions of a script have done, one after another.
-use Rattle.std.specs.Prelude.{◌≡◌, ◌⊎◌, ℕ, ◌<◌, ◌≤◌, Bool, Option, Some, None, List, [], ◌∷◌, ◌++◌, length, option_map}
+use Rattle.std.specs.Prelude.{◌≡◌, ◌⊎◌, ℕ, ◌<◌, ◌≤◌, Bool, Option, Some, None, List, [], ◌∷◌, ◌++◌, length, option_map, IsSomeAnd}
 use Rattle.std.specs.List.{AllByRecursion}
-use Rattle.hv_base.specs.Told.{Tells, Moves}
+use Rattle.hv_base.specs.Told.{Moves}
 use Rattle.hv_base.specs.Sink.{Gains, GainsPart}
 use Rattle.hv_shelf.specs.Disk.{Store}
 use Rattle.hv_history.specs.declared.entry.Entry.{Entry}
@@ -15,7 +15,8 @@ use Rattle.hv_stands.specs.Running.{next_number, AreOf}
 use Rattle.hv_house.specs.declared.fault.HouseFault.{HouseFault}
 use Rattle.hv_house.specs.declared.fault.HouseFault.TheVariants as fault
 use Rattle.hv_house.specs.House.{BeginFits, beginning_of, IsFaithful, Leaves}
-use Rattle.hv_ending.specs.Ending.{IsNoEnd, OpensLater}
+use Rattle.hv_telling.specs.Telling.{OpensLater}
+use Rattle.hv_ending.specs.Ending.{IsNoEnd}
 use Rattle.hv_session.specs.Taking.{IsHold}
 use Rattle.hv_program.specs.declared.stop.Stop.{Stop}
 use Rattle.hv_program.specs.declared.stop.Stop.TheVariants as stop
@@ -160,6 +161,6 @@ HasAll book store = Reads book store.journal × IsFaithful book store
 -- the reasons for which a run stops, and what each leaves
 abbrev pub Halts : Stop → ℕ → ℕ → List Entry → List Entry → List Action → Option (List ℕ) → Option (List ℕ) → Option Store → Type 0
 Halts stop.Source low high start book actions sink sink' told = ⊥
-Halts stop.Sink low high start book actions sink sink' told = CutsOff low high start book actions sink sink' × Tells told (HasAll book)
-Halts stop.Store low high start book actions sink sink' told = StopsIn fault.Store told low high start book actions sink sink' × Tells told (OpensLater book)
-Halts stop.NoMemory low high start book actions sink sink' told = StopsIn fault.NoMemory told low high start book actions sink sink' × Tells told (OpensLater book)
+Halts stop.Sink low high start book actions sink sink' told = CutsOff low high start book actions sink sink' × IsSomeAnd told (HasAll book)
+Halts stop.Store low high start book actions sink sink' told = StopsIn fault.Store told low high start book actions sink sink' × IsSomeAnd told (OpensLater book)
+Halts stop.NoMemory low high start book actions sink sink' told = StopsIn fault.NoMemory told low high start book actions sink sink' × IsSomeAnd told (OpensLater book)

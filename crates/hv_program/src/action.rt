@@ -1,15 +1,14 @@
 ghost use Rattle.std.specs.Prelude.{◌≡◌, ◌≤◌, [], None, false, IfOk, IfErr};
-ghost use Rattle.hv_base.specs.Told.{Tells, Moves, StaysTold};
 ghost use Rattle.hv_directives.specs.declared.actions.Action.TheVariants as action;
 ghost use Rattle.hv_house.specs.Faults.{EndsRun, FileCause};
-ghost use Rattle.hv_house.specs.House.{entries_of, IsReady, Shows};
-ghost use Rattle.hv_history.specs.State.{state_of};
-ghost use Rattle.hv_stands.specs.Running.{next_number, KeepsGiven};
-ghost use Rattle.hv_ending.specs.Ending.{AddsOf, StillOpens};
+ghost use Rattle.hv_house.specs.House.{entries_of};
+ghost use Rattle.hv_stands.specs.Running.{next_number};
+ghost use Rattle.hv_telling.specs.Telling.{IsWhole, IsToldHouse, StillOpens};
+ghost use Rattle.hv_ending.specs.Ending.{AddsOf};
 ghost use Rattle.hv_session.specs.Taking.{asked_of, IsKeptIn, IsTakenAs};
 ghost use Rattle.hv_session.specs.Ways.{StopsTaken};
 ghost use Rattle.hv_program.specs.Doing.{asking_of, session_line};
-ghost use Rattle.hv_program.specs.Keeping.{standing_of, AreHeld, IsShown};
+ghost use Rattle.hv_program.specs.Keeping.{standing_of, AreHeld, AreTrulyHeld};
 ghost use Rattle.hv_program.specs.Running.{Acts, IsFine, IsShort, Stops};
 
 use crate::held::{Held, keep, let_go};
@@ -72,25 +71,18 @@ fn take<D: Shelf>(
     house: &mut House<D>,
     statement: &Statement,
 ) -> Result<Taken, HouseFault>
-    requires ready { IsReady D.told house.old }
+    requires whole { IsWhole D.told house.old }
     requires short { IsShort statement.now }
-    ensures ready { IfOk result (λ _. IsReady D.told house.new) }
+    ensures whole { IfOk result (λ _. IsWhole D.told house.new) }
     ensures added { IfOk result (λ _. AddsOf (next_number (entries_of house.old))
         (D.faults house.old.shelf) (D.faults house.new.shelf)
         (entries_of house.old) (entries_of house.new)) }
     ensures held { IfOk result (IsKeptIn (entries_of house.old) (entries_of house.new) (asking_of statement.now)) }
-    ensures shows { Shows D.told house.old (entries_of house.old)
-        → IfOk result (λ _. Shows D.told house.new (entries_of house.new)) }
-    ensures taken { Shows D.told house.old (entries_of house.old)
-        → IfOk result (λ taken. Tells (D.told house.new.shelf) (λ s. IsTakenAs
-        (entries_of house.old) (entries_of house.new) s.tree
-        (asking_of statement.now) statement.now.hold taken)) }
-    ensures keeps { Moves (KeepsGiven (state_of (entries_of house.old)).tables)
-        (D.told house.old.shelf) (D.told house.new.shelf) }
-    ensures tells { StaysTold (D.told house.old.shelf) (D.told house.new.shelf) }
+    ensures taken { IsToldHouse D.told house.old → IfOk result (IsTakenAs
+        (entries_of house.old) (entries_of house.new) (asking_of statement.now) statement.now.hold) }
+    ensures start { house.new.start ≡ house.old.start }
     ensures stopped { IfErr result (λ why. StopsTaken D.told (asking_of statement.now) why house.old house.new) }
-    ensures opens { Shows D.told house.old (entries_of house.old)
-        → IfErr result (λ _. StillOpens D.told house.new) }
+    ensures opens { IsToldHouse D.told house.old → IfErr result (λ _. StillOpens D.told house.new) }
     ensures ends { IfErr result EndsRun }
     ensures cause { FileCause (D.faults house.old.shelf) (D.faults house.new.shelf) result }
 {
@@ -107,23 +99,21 @@ fn run_statement<D: Shelf>(
     held: &mut Vec<Held>,
     statement: &Statement,
 ) -> Result<Reply, HouseFault>
-    requires ready { IsReady D.told house.old }
+    requires whole { IsWhole D.told house.old }
     requires held { AreHeld (entries_of house.old) held.old.items }
+    requires truly { AreTrulyHeld D.told house.old held.old.items }
     requires short { IsShort statement.now }
-    ensures ready { IfOk result (λ _. IsReady D.told house.new) }
+    ensures whole { IfOk result (λ _. IsWhole D.told house.new) }
     ensures held { IfOk result (λ _. AreHeld (entries_of house.new) held.new.items) }
-    ensures shows { IsShown D.told house.old held.old.items
-        → IfOk result (λ _. IsShown D.told house.new held.new.items) }
-    ensures acted { IsShown D.told house.old held.old.items
-        → IfOk result (λ reply. Tells (D.told house.new.shelf) (λ _. Acts
+    ensures truly { IfOk result (λ _. AreTrulyHeld D.told house.new held.new.items) }
+    ensures acted { IsToldHouse D.told house.old → IfOk result (λ reply. Acts
         (D.faults house.old.shelf) (D.faults house.new.shelf)
         (standing_of house.old held.old.items) (standing_of house.new held.new.items)
-        (action.Run statement.now) reply.text reply.refused)) }
-    ensures tells { StaysTold (D.told house.old.shelf) (D.told house.new.shelf) }
+        (action.Run statement.now) reply.text reply.refused) }
+    ensures start { house.new.start ≡ house.old.start }
     ensures stopped { IfErr result (λ why. Stops why (D.told house.new.shelf)
         (standing_of house.old held.old.items) (action.Run statement.now) (entries_of house.new)) }
-    ensures opens { IsShown D.told house.old held.old.items
-        → IfErr result (λ _. StillOpens D.told house.new) }
+    ensures opens { IsToldHouse D.told house.old → IfErr result (λ _. StillOpens D.told house.new) }
     ensures ends { IfErr result EndsRun }
     ensures cause { FileCause (D.faults house.old.shelf) (D.faults house.new.shelf) result }
 {
@@ -145,22 +135,20 @@ fn release<D: Shelf>(
     held: &mut Vec<Held>,
     session: &Session,
 ) -> Result<Reply, HouseFault>
-    requires ready { IsReady D.told house.old }
+    requires whole { IsWhole D.told house.old }
     requires held { AreHeld (entries_of house.old) held.old.items }
-    ensures ready { IfOk result (λ _. IsReady D.told house.new) }
+    requires truly { AreTrulyHeld D.told house.old held.old.items }
+    ensures whole { IfOk result (λ _. IsWhole D.told house.new) }
     ensures held { IfOk result (λ _. AreHeld (entries_of house.new) held.new.items) }
-    ensures shows { IsShown D.told house.old held.old.items
-        → IfOk result (λ _. IsShown D.told house.new held.new.items) }
-    ensures acted { IsShown D.told house.old held.old.items
-        → IfOk result (λ reply. Tells (D.told house.new.shelf) (λ _. Acts
+    ensures truly { IfOk result (λ _. AreTrulyHeld D.told house.new held.new.items) }
+    ensures acted { IsToldHouse D.told house.old → IfOk result (λ reply. Acts
         (D.faults house.old.shelf) (D.faults house.new.shelf)
         (standing_of house.old held.old.items) (standing_of house.new held.new.items)
-        (action.Release session.now) reply.text reply.refused)) }
-    ensures tells { StaysTold (D.told house.old.shelf) (D.told house.new.shelf) }
+        (action.Release session.now) reply.text reply.refused) }
+    ensures start { house.new.start ≡ house.old.start }
     ensures stopped { IfErr result (λ why. Stops why (D.told house.new.shelf)
         (standing_of house.old held.old.items) (action.Release session.now) (entries_of house.new)) }
-    ensures opens { IsShown D.told house.old held.old.items
-        → IfErr result (λ _. StillOpens D.told house.new) }
+    ensures opens { IsToldHouse D.told house.old → IfErr result (λ _. StillOpens D.told house.new) }
     ensures ends { IfErr result EndsRun }
     ensures cause { FileCause (D.faults house.old.shelf) (D.faults house.new.shelf) result }
 {
@@ -177,23 +165,21 @@ pub fn act<D: Shelf>(
     held: &mut Vec<Held>,
     action: &Action,
 ) -> Result<Reply, HouseFault>
-    requires ready { IsReady D.told house.old }
+    requires whole { IsWhole D.told house.old }
     requires held { AreHeld (entries_of house.old) held.old.items }
+    requires truly { AreTrulyHeld D.told house.old held.old.items }
     requires fine { IsFine action.now }
-    ensures ready { IfOk result (λ _. IsReady D.told house.new) }
+    ensures whole { IfOk result (λ _. IsWhole D.told house.new) }
     ensures held { IfOk result (λ _. AreHeld (entries_of house.new) held.new.items) }
-    ensures shows { IsShown D.told house.old held.old.items
-        → IfOk result (λ _. IsShown D.told house.new held.new.items) }
-    ensures acted { IsShown D.told house.old held.old.items
-        → IfOk result (λ reply. Tells (D.told house.new.shelf) (λ _. Acts
+    ensures truly { IfOk result (λ _. AreTrulyHeld D.told house.new held.new.items) }
+    ensures acted { IsToldHouse D.told house.old → IfOk result (λ reply. Acts
         (D.faults house.old.shelf) (D.faults house.new.shelf)
         (standing_of house.old held.old.items) (standing_of house.new held.new.items)
-        action.now reply.text reply.refused)) }
-    ensures tells { StaysTold (D.told house.old.shelf) (D.told house.new.shelf) }
+        action.now reply.text reply.refused) }
+    ensures start { house.new.start ≡ house.old.start }
     ensures stopped { IfErr result (λ why. Stops why (D.told house.new.shelf)
         (standing_of house.old held.old.items) action.now (entries_of house.new)) }
-    ensures opens { IsShown D.told house.old held.old.items
-        → IfErr result (λ _. StillOpens D.told house.new) }
+    ensures opens { IsToldHouse D.told house.old → IfErr result (λ _. StillOpens D.told house.new) }
     ensures ends { IfErr result EndsRun }
     ensures cause { FileCause (D.faults house.old.shelf) (D.faults house.new.shelf) result }
 {

@@ -4,7 +4,7 @@ ghost use Rattle.hv_history.specs.declared.entry.Entry.{Entry};
 ghost use Rattle.hv_directives.specs.declared.actions.Action.{Action};
 ghost use Rattle.hv_history.specs.State.{state_of};
 ghost use Rattle.hv_history.specs.Legal.{HasRoom, profile};
-ghost use Rattle.hv_ending.specs.Ending.{OpensLater};
+ghost use Rattle.hv_telling.specs.Telling.{OpensLater};
 ghost use Rattle.hv_program.specs.Results.{IsServed, IsCutOff, IsStopped, ReadsTo, ReadsFurther, StopsForMemory, StopsForStore};
 
 /// What a run leaves opens again, however it ended: to a legal book that begins with the book it was opened with, and with all that was

@@ -106,7 +106,6 @@ fn serve<O: Sink, D: Shelf + Drop>(
     ensures blames { BlamesOf result.status (O.faults sink.old) (O.faults sink.new)
         (D.faults shelf) (D.faults result.shelf) }
     ensures heard { StaysTold (O.written sink.old) (O.written sink.new) }
-    ensures tells { StaysTold (D.told shelf) (D.told result.shelf) }
 {
     match House::boot(alloc, shelf, LIMITS) {
         Ok(mut house) => {

@@ -1,7 +1,8 @@
-ghost use Rattle.std.specs.Prelude.{◌≤◌, [], ◌∷◌, IfOk, IfErr, IsTrue};
+ghost use Rattle.std.specs.Prelude.{◌≡◌, ◌≤◌, [], ◌∷◌, IfOk, IfErr, IsTrue};
 ghost use Rattle.std.specs.List.{AllByRecursion};
-ghost use Rattle.hv_base.specs.Told.{Tells, StaysTold};
-ghost use Rattle.hv_house.specs.House.{entries_of, IsReady, Shows};
+ghost use Rattle.hv_base.specs.Told.{StaysTold};
+ghost use Rattle.hv_house.specs.House.{entries_of};
+ghost use Rattle.hv_telling.specs.Telling.{IsWhole, IsToldHouse};
 ghost use Rattle.hv_program.specs.Refused.{is_one_of};
 ghost use Rattle.hv_program.specs.Running.{Halts, IsFine, PrintsAll};
 ghost use Rattle.hv_program.specs.Stops.{status_of_stop, Blames};
@@ -22,20 +23,16 @@ pub fn run<O: Sink, D: Shelf>(
     sink: &mut O,
     actions: &[Action],
 ) -> Result<bool, Stop>
-    requires ready { IsReady D.told house.old }
+    requires whole { IsWhole D.told house.old }
     requires fine { AllByRecursion IsFine actions.now }
-    ensures ready { IfOk result (λ _. IsReady D.told house.new) }
-    ensures shows { Shows D.told house.old (entries_of house.old)
-        → IfOk result (λ _. Shows D.told house.new (entries_of house.new)) }
-    ensures prints { Shows D.told house.old (entries_of house.old) → IfOk result (λ refused.
-        Tells (D.told house.old.shelf) (λ _. PrintsAll (D.faults house.old.shelf) (D.faults house.new.shelf)
-        (entries_of house.old) (entries_of house.new)
-        actions.now (O.written sink.old) (O.written sink.new) refused)) }
-    ensures halts { Shows D.told house.old (entries_of house.old) → IfErr result (λ stop.
-        Tells (D.told house.old.shelf) (λ _. Halts stop (D.faults house.old.shelf) (D.faults house.new.shelf)
-        (entries_of house.old) (entries_of house.new)
-        actions.now (O.written sink.old) (O.written sink.new) (D.told house.new.shelf))) }
-    ensures tells { StaysTold (D.told house.old.shelf) (D.told house.new.shelf) }
+    ensures whole { IfOk result (λ _. IsWhole D.told house.new) }
+    ensures prints { IsToldHouse D.told house.old → IfOk result (PrintsAll
+        (D.faults house.old.shelf) (D.faults house.new.shelf) (entries_of house.old) (entries_of house.new)
+        actions.now (O.written sink.old) (O.written sink.new)) }
+    ensures halts { IsToldHouse D.told house.old → IfErr result (λ stop. Halts stop
+        (D.faults house.old.shelf) (D.faults house.new.shelf) (entries_of house.old) (entries_of house.new)
+        actions.now (O.written sink.old) (O.written sink.new) (D.told house.new.shelf)) }
+    ensures start { house.new.start ≡ house.old.start }
     ensures heard { StaysTold (O.written sink.old) (O.written sink.new) }
     ensures later_store { D.faults house.old.shelf ≤ D.faults house.new.shelf }
     ensures later_sink { O.faults sink.old ≤ O.faults sink.new }

@@ -1,6 +1,6 @@
 -- A statement of a run in which no device failed and memory was found is taken up, held and released as by one thread.
 use Rattle.std.proofs.Common.{◌≡◌, ℕ, ◌+◌, ◌<◌, inl, inr, Option, Some, None, List, [], ◌∷◌, ◌++◌, refl, sym, ap, ◌∙◌, subst, append_assoc}
-use Rattle.std.specs.Prelude.{Bool, true, false, not, ◌||◌, is_none, is_some}
+use Rattle.std.specs.Prelude.{Bool, true, false, not, ◌||◌, is_none, is_some, IsSomeAnd}
 use Rattle.std.proofs.lemmas.Bool.{le-ltb, lt-ltb}
 use Rattle.hv_base.specs.declared.gate.Stage.{Stage}
 use Rattle.hv_base.specs.declared.gate.Stage.TheVariants as stage
@@ -33,7 +33,7 @@ use Rattle.hv_ending.specs.Ending.{EndsUncommitted}
 use Rattle.hv_session.specs.Taking.{EndsEarly, EndsBefore, HoldsAt}
 use Rattle.hv_program.specs.Doing.{Waiting, Standing, without, WentOn, RepliesAtOnce, Replies, IsPutOff, GoesOnHeld}
 use Rattle.hv_serial.specs.Serial.{tree_runs, text_runs, is_open_one, waits_if, stood, if_room, if_runs, taken_up, released}
-use Rattle.hv_serial.specs.History.{AddsSteadily, AddsInOrder, memory_line}
+use Rattle.hv_serial.specs.History.{AddsSteadily, memory_line}
 use Rattle.hv_serial.proofs.Actions.{AreOthers, IsSettled, IsThere, Stays, there-later, held-of, opened-in, opened-later, running-opened, next-others}
 
 -- ---- what a reply says: its transaction has ended
@@ -199,7 +199,7 @@ StaysIn book between = (txn : ℕ) (t : Transaction) → Stays txn t between →
 
 module _ (start book : List Entry) (before between : Standing) (asking : Asking) (hold : Option Stage) (stay : StaysIn book between)
     (settled : IsSettled before) (legal : IsLegal profile between.book)
-    (steady : AddsSteadily before.book between.book) (order : AddsInOrder before.book between.book) where
+    (steady : AddsSteadily before.book between.book) where
   abbrev txn : ℕ
   txn = next_number before.book
 
@@ -220,10 +220,7 @@ module _ (start book : List Entry) (before between : Standing) (asking : Asking)
     fresh : started_of (numbered (state_of first_book).transactions txn) ≡ false
     fresh = ap started_of (opened-in before.book asking)
 
-    ordered : AllInOrder (state_of first_book) added
-    ordered = subst (λ s. AllInOrder s added) (sym (one-behind before.book (opening before.book asking))) (order (opening before.book asking ∷ added) goes).1
-
-    module _ (whose : AreOf txn added) (comes : AreBefore hold txn first_book added) (none : due hold (state_of between.book) txn ≡ None) where
+    module _ (order : AllInOrder (state_of before.book) (opening before.book asking ∷ added)) (whose : AreOf txn added) (comes : AreBefore hold txn first_book added) (none : due hold (state_of between.book) txn ≡ None) where
       carried : carried_on hold txn first_book ≡ between.book
       carried =
           carries-on-by hold txn first_book added (record {
@@ -232,7 +229,7 @@ module _ (start book : List Entry) (before between : Standing) (asking : Asking)
             legal = subst (IsLegal profile) (sym split) legal;
             of_it = whose;
             steady = (steady (opening before.book asking ∷ added) goes).1;
-            in_order = ordered;
+            in_order = subst (λ s. AllInOrder s added) (sym (one-behind before.book (opening before.book asking))) order.1;
             before = comes;
             no_more = ap (λ xs. due hold (state_of xs) txn) split ∙ none;
           })
@@ -258,24 +255,23 @@ module _ (start book : List Entry) (before between : Standing) (asking : Asking)
       (went-answers start book before.book between.book asking hold reply refused w) in
       let none : due hold (state_of between.book) txn ≡ None = ended-due hold (state_of between.book) txn there.0 ended.0 there.1 ended.1 in
       let shut : is_open_one (numbered (state_of between.book).transactions txn) ≡ false = ap is_open_one there.1 ∙ ap is_none ended.1 in
-      stands w.added w.goes w.of_it (ends-before txn first_book (fresh w.added w.goes) hold w.added w.in_time (steady (opening before.book asking ∷ w.added) w.goes).1) none
+      stands w.added w.goes w.in_order w.of_it (ends-before txn first_book (fresh w.added w.goes) hold w.added w.in_time (steady (opening before.book asking ∷ w.added) w.goes).1) none
       (same ∙ sym (ap (λ b. waits_if b waiter before.waiting) shut))
 
   -- it is held
-  abbrev pub IsThereAtHold : Type 0
-  IsThereAtHold = (t : Transaction) → numbered (state_of between.book).transactions txn ≡ Some t → IsRunning t → IsAtHold hold t.given (meaning t)
-
-  pub put-off : (output : List ℕ) (refused : Bool) → IsPutOff start book before between asking hold output refused → IsThereAtHold → between ≡ taken_up before asking hold
-  put-off output refused w held =
+  pub put-off : (output : List ℕ) (refused : Bool) → IsPutOff start book before between asking hold output refused → between ≡ taken_up before asking hold
+  put-off output refused w =
       let added : List Entry = w.goes.added in
       let is : IsOpenIn (first_book ++ added) txn =
       holds-open first_book txn (opened asking.session asking.number asking.text) (opened-in before.book asking) refl refl hold added w.goes.at_hold in
       let at : numbered (state_of between.book).transactions txn ≡ Some is.t =
       sym (ap (λ xs. numbered (state_of xs).transactions txn) (split added w.goes.goes)) ∙ is.at in
       let runs : IsRunning is.t = record { unended = ap is_none is.unended; started = is.started } in
-      let none : due hold (state_of between.book) txn ≡ None = stays-at-hold hold (state_of between.book) txn is.t at runs (held is.t at runs) in
+      let held : IsAtHold hold is.t.given (meaning is.t) =
+      subst (λ (o : Option Transaction). IsSomeAnd o (λ t. IsAtHold hold t.given (meaning t))) at w.goes.up_to_hold in
+      let none : due hold (state_of between.book) txn ≡ None = stays-at-hold hold (state_of between.book) txn is.t at runs held in
       let open_ : is_open_one (numbered (state_of between.book).transactions txn) ≡ true = ap is_open_one at ∙ ap is_none is.unended in
-      stands added w.goes.goes (held-of hold txn added w.goes.at_hold) (holds-before txn first_book (fresh added w.goes.goes) hold added w.goes.at_hold) none
+      stands added w.goes.goes w.goes.in_order (held-of hold txn added w.goes.at_hold) (holds-before txn first_book (fresh added w.goes.goes) hold added w.goes.at_hold) none
       (w.waits ∙ sym (ap (λ b. waits_if b waiter before.waiting) open_))
 
   -- nothing was noted
@@ -307,10 +303,10 @@ module _ (start book : List Entry) (before between : Standing) (asking : Asking)
 -- ---- one that waits is released
 
 pub goes-on-held : (start book : List Entry) (before between : Standing) (name : List ℕ) (w : Waiting) (output : List ℕ) (refused : Bool)
-    → StaysIn book between → AreOthers w.txn between.waiting → IsThere before.book w → IsLegal profile between.book → AddsSteadily before.book between.book → AddsInOrder before.book between.book
+    → StaysIn book between → AreOthers w.txn between.waiting → IsThere before.book w → IsLegal profile between.book → AddsSteadily before.book between.book
     → GoesOnHeld start book before.book between.book w.txn output refused → between.waiting ≡ without name before.waiting
     → between ≡ released before name (Some w)
-goes-on-held start book before between name w output refused stay apart there legal steady order goes waits =
+goes-on-held start book before between name w output refused stay apart there legal steady goes waits =
     let later = there-later before.book between.book goes.added w.txn there.0 goes.goes there.1 in
     let ended = ended-there book w.txn later.0 output (stay w.txn later.0 (record { at = later.1; apart = apart }))
     (held-answers start book before.book between.book w.txn output refused goes) in
@@ -322,7 +318,7 @@ goes-on-held start book before between name w output refused stay apart there le
       legal = subst (IsLegal profile) goes.goes legal;
       of_it = goes.of_it;
       steady = steady goes.added goes.goes;
-      in_order = order goes.added goes.goes;
+      in_order = goes.in_order;
       before = all-before w.txn before.book goes.added;
       no_more = sym (ap (λ xs. due None (state_of xs) w.txn) goes.goes) ∙ none;
     }) in

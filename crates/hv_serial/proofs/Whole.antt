@@ -41,9 +41,7 @@ script-history low high book script left written now store refused all calm =
     serial-history (opening_of book) last (actions_of script) all.served.output refused all.served.are_done (record {
       legal = all.served.is_book.legal;
       steady = adds-steadily low high calm.unrisen (opening_of book) last.book all.served.is_book.grows calm.in_memory;
-      in_order = calm.in_order;
       in_memory = calm.replies;
-      up_to_holds = calm.up_to_holds;
     }) in
     record {
       has_book = subst (λ (s : Standing). HasBook s.book store) is all.served.has_book;

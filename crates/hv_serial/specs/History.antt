@@ -1,16 +1,11 @@
 -- What is proved of the serial history: where no device fails and memory is found, a run makes it.
-use Rattle.std.specs.Prelude.{◌≡◌, ℕ, Bool, Some, None, List, [], ◌∷◌, ◌++◌}
+use Rattle.std.specs.Prelude.{◌≡◌, ℕ, Bool, None, List, [], ◌∷◌, ◌++◌}
 use Rattle.hv_directives.specs.declared.actions.Action.{Action}
-use Rattle.hv_directives.specs.declared.actions.Action.TheVariants as action
 use Rattle.hv_history.specs.declared.entry.Entry.{Entry}
 use Rattle.hv_history.specs.declared.entry.Cause.TheVariants as cause
-use Rattle.hv_history.specs.declared.state.Transaction.{Transaction}
-use Rattle.hv_history.specs.State.{numbered, meaning, state_of}
-use Rattle.hv_history.specs.Legal.{IsLegal, IsRunning, profile}
+use Rattle.hv_history.specs.Legal.{IsLegal, profile}
 use Rattle.hv_history.specs.Answers.{cause_text}
-use Rattle.hv_stands.specs.Running.{next_number}
-use Rattle.hv_next.specs.Order.{AreSteady, AllInOrder}
-use Rattle.hv_next.specs.Carrying.{IsAtHold}
+use Rattle.hv_next.specs.Order.{AreSteady}
 use Rattle.hv_program.specs.Doing.{Standing, AreDone}
 use Rattle.hv_program.specs.Running.{beginning}
 use Rattle.hv_serial.specs.Serial.{serial}
@@ -18,10 +13,6 @@ use Rattle.hv_serial.specs.Serial.{serial}
 -- no entry that was added behind a book is an abort for want of memory or for a fault of the store
 abbrev pub AddsSteadily : List Entry → List Entry → Type 0
 AddsSteadily start book = (added : List Entry) → book ≡ start ++ added → AreSteady added
-
--- and they are in the order of each statement's way
-abbrev pub AddsInOrder : List Entry → List Entry → Type 0
-AddsInOrder start book = (added : List Entry) → book ≡ start ++ added → AllInOrder (state_of start) added
 
 -- no reply says that memory lacked
 abbrev pub memory_line : List ℕ
@@ -33,28 +24,12 @@ AreInMemory start book before now [] output refused done = Unit {0}
 AreInMemory start book before now (first ∷ more) output refused done =
     (done.1 ≡ memory_line → ⊥) × AreInMemory start book done.0 now more done.2 done.4 done.6
 
--- a statement that was taken up went on as far as its hold: where it is open, it is there
-abbrev pub IsUpToHold : Standing → Standing → Action → Type 0
-IsUpToHold before now (action.Announce session) = Unit {0}
-IsUpToHold before now (action.Run statement) =
-    (transaction : Transaction) → numbered (state_of now.book).transactions (next_number before.book) ≡ Some transaction → IsRunning transaction
-    → IsAtHold statement.hold transaction.given (meaning transaction)
-IsUpToHold before now (action.Release session) = Unit {0}
-
-abbrev pub AreUpToHolds : (start book : List Entry) (before now : Standing) (actions : List Action) (output : List ℕ) (refused : Bool)
-    → AreDone start book before now actions output refused → Type 0
-AreUpToHolds start book before now [] output refused done = Unit {0}
-AreUpToHolds start book before now (first ∷ more) output refused done =
-    IsUpToHold before done.0 first × AreUpToHolds start book done.0 now more done.2 done.4 done.6
-
 -- a run in which no device failed and memory was found
 pub record RanSteadily (start : List Entry) (now : Standing) (actions : List Action) (output : List ℕ) (refused : Bool)
     (done : AreDone start now.book (beginning start) now actions output refused) : Type 0 where
   pub legal : IsLegal profile now.book
   pub steady : AddsSteadily start now.book
-  pub in_order : AddsInOrder start now.book
   pub in_memory : AreInMemory start now.book (beginning start) now actions output refused done
-  pub up_to_holds : AreUpToHolds start now.book (beginning start) now actions output refused done
 
 abbrev pub SerialHistory : Type 0
 SerialHistory =

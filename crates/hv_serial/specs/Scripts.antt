@@ -12,7 +12,7 @@ use Rattle.hv_program.specs.Running.{beginning}
 use Rattle.hv_program.specs.Results.{HasBook}
 use Rattle.hv_program.specs.Headline.{IsAllDone}
 use Rattle.hv_serial.specs.Serial.{serial}
-use Rattle.hv_serial.specs.History.{AddsInOrder, AreInMemory, AreUpToHolds}
+use Rattle.hv_serial.specs.History.{AreInMemory}
 
 -- no transaction ended since memory lacked
 abbrev pub IsInMemory : Entry → Type 0
@@ -27,14 +27,11 @@ abbrev pub history_of : List Entry → List ℕ → Standing
 history_of book script = serial (beginning (opening_of book)) (actions_of script)
 
 -- In a run that did all its script the store's count of faults didn't rise, and memory was found, by its entries and by its replies.
--- Each statement's entries came in order, and it was held where it was to be.
 pub record IsUntroubled (low high : ℕ) (book : List Entry) (script left written now : List ℕ) (store : Store) (refused : Bool)
     (all : IsAllDone low high book script left written now store refused) : Type 0 where
   pub unrisen : high ≤ low
   pub in_memory : AddsInMemory (opening_of book) all.served.last.book
   pub replies : AreInMemory (opening_of book) all.served.last.book (beginning (opening_of book)) all.served.last (actions_of script) all.served.output refused all.served.are_done
-  pub in_order : AddsInOrder (opening_of book) all.served.last.book
-  pub up_to_holds : AreUpToHolds (opening_of book) all.served.last.book (beginning (opening_of book)) all.served.last (actions_of script) all.served.output refused all.served.are_done
 
 -- the store has the book of the serial history, behind which none waits
 pub record KeepsHistory (book : List Entry) (script : List ℕ) (store : Store) : Type 0 where

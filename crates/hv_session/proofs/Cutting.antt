@@ -1,7 +1,6 @@
 -- How a started statement is aborted, and where the run ends in its place.
-use Rattle.std.proofs.Common.{◌≡◌, ℕ, ◌<◌, ◌≤◌, true, Option, Some, None, List, [], ◌∷◌, ◌++◌, Result, Ok, Err, ◌⊎◌, inl, inr, length, take, refl, sym, ap, ◌∙◌, subst, arith, append-nil}
-use Rattle.std.specs.Prelude.{IsTrue, IsSomeAnd, MatchResult, IfOk, IfErr}
-use Rattle.std.specs.List.{AllByRecursion}
+use Rattle.std.proofs.Common.{◌≡◌, ℕ, ◌≤◌, Option, Some, None, List, [], ◌∷◌, ◌++◌, Result, Ok, Err, ◌⊎◌, inl, inr, take, refl, sym, ap, ◌∙◌, subst, arith, append-nil}
+use Rattle.std.specs.Prelude.{IsTrue, IsSomeAnd, IfOk}
 use Rattle.hv_base.specs.Refusals as refusals
 use Rattle.hv_base.specs.declared.refusal.Refusal.{Refusal}
 use Rattle.hv_base.specs.Told.{Tells, Moves, StaysTold}
@@ -16,26 +15,27 @@ use Rattle.hv_history.specs.declared.entry.Cause.{Cause}
 use Rattle.hv_history.specs.declared.entry.Cause.TheVariants as cause
 use Rattle.hv_history.specs.declared.entry.FilePlace.{FilePlace}
 use Rattle.hv_history.specs.declared.state.Transaction.{Transaction}
-use Rattle.hv_history.specs.State.{State, state_of, meaning}
+use Rattle.hv_history.specs.State.{state_of, meaning}
 use Rattle.hv_history.specs.Legal.{Of, is_open, IsRunning, Fits, IsTruthful, IsRefusedAs, IsLegalFrom, profile}
-use Rattle.hv_journal.specs.Appending.{Holds, HoldsMore, ReadsMore, KeepsTree}
+use Rattle.hv_journal.specs.Appending.{Holds, HoldsMore, KeepsTree}
 use Rattle.hv_stands.specs.Running.{Asking, meant, running, snapshot_at, IsUnderWay, KeepsGiven}
 use Rattle.hv_house.specs.declared.fault.HouseFault.{HouseFault}
 use Rattle.hv_house.specs.declared.fault.HouseFault.TheVariants as halts
 use Rattle.hv_house.specs.declared.fault.RowFault.{RowFault}
 use Rattle.hv_house.specs.declared.fault.RowFault.TheVariants as row_fault
 use Rattle.hv_house.specs.declared.house.House.{House}
-use Rattle.hv_house.specs.Faults.{FileCause, HasRisen, HasRisenReading, EndsRun, IsDamage}
-use Rattle.hv_house.specs.House.{entries_of, IsReady, IsAsked, IsFaithful, Leaves, Shows}
+use Rattle.hv_house.specs.Faults.{HasRisen, HasRisenReading, EndsRun, IsDamage}
+use Rattle.hv_house.specs.House.{entries_of, IsAsked, IsFaithful, Leaves, Shows}
 use Rattle.hv_ending.specs.declared.ready.Way.{Way}
 use Rattle.hv_ending.specs.declared.ready.Reply.{Reply}
-use Rattle.hv_ending.specs.Ending.{KeepsCount, IsUndamaged, IsAborted, HasStopped, aborting, HasReplied}
+use Rattle.hv_ending.specs.Ending.{KeepsCount, IsUndamaged, IsAborted, HasStopped, aborting}
 use Rattle.hv_ending.proofs.Opens.{held-opens}
 use Rattle.hv_session.proofs.Passing.{cause-from, same-files, asked-shows}
 use Rattle.hv_session.specs.Ways.{IsPart, IsTrueOf, ShowsAnd, CutsOff, IsCauseOfRows, IsAbortedFor, EndsFor, ComesTo, ComesTruly}
 use Rattle.hv_session.specs.declared.ends.Outcome.{Outcome}
 use Rattle.hv_session.specs.declared.ends.Outcome.TheVariants as outcome
 use Rattle.hv_session.specs.Taking.{EndsEarly, IsFinished}
+use Rattle.hv_session.proofs.Orders.{early-uncommitted, aborted-in-order}
 use Rattle.hv_session.proofs.Telling.{told-both, told-behind}
 
 -- ---- what fits and is true of a statement that is under way
@@ -274,6 +274,8 @@ module _ {D : Type 0} (told : D → Option Store) (faults : D → ℕ) (way : Wa
             of_it = (refl, tt);
             undamaged = (whole ends.aborted.why aborted.of ends.aborted.is_cause aborted.is none, tt);
             answered = ends.answered asking said [] (subst (λ (b : List Entry). IsUnderWay b asking way.txn.0 way.place said []) (sym same) under);
+            in_order = aborted-in-order (entries_of first) asking way.txn.0 way.place said [] under aborted.of
+                (early-uncommitted aborted.of (early ends.aborted.why aborted.of ends.aborted.is_cause aborted.is));
           };
         })
         (told now.shelf)

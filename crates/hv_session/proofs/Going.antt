@@ -1,13 +1,11 @@
 -- How a started statement goes on: what its parts come to, one behind another.
-use Rattle.std.proofs.Common.{◌≡◌, ℕ, ◌≤◌, Option, Some, None, List, [], ◌∷◌, ◌++◌, Result, Ok, Err, ◌⊎◌, inl, inr, take, refl, sym, ap, ◌∙◌, subst, arith, append_assoc, append-nil}
+use Rattle.std.proofs.Common.{◌≡◌, ℕ, ◌≤◌, Option, Some, None, List, [], ◌∷◌, ◌++◌, Result, Ok, Err, ◌⊎◌, inl, inr, take, refl, sym, ap, ◌∙◌, subst, append_assoc, append-nil}
 use Rattle.std.specs.Prelude.{IfOk, IfErr}
 use Rattle.std.specs.List.{AllByRecursion}
 use Rattle.hv_base.specs.Refusals as refusals
 use Rattle.hv_base.specs.declared.refusal.Refusal.{Refusal}
-use Rattle.hv_base.specs.declared.ids.TableId.{TableId}
-use Rattle.hv_base.specs.declared.ids.WriteId.{WriteId}
 use Rattle.hv_base.specs.Told.{Tells, Moves, StaysTold}
-use Rattle.hv_shelf.specs.Disk.{Store, Tree}
+use Rattle.hv_shelf.specs.Disk.{Store}
 use Rattle.hv_ast.specs.declared.statement.Stmt.{Stmt}
 use Rattle.hv_logic.specs.declared.meaning.Meaning.{Meaning}
 use Rattle.hv_logic.specs.declared.meaning.Meaning.TheVariants as meanings
@@ -17,7 +15,8 @@ use Rattle.hv_history.specs.declared.entry.Cause.TheVariants as cause
 use Rattle.hv_history.specs.State.{state_of}
 use Rattle.hv_history.specs.Legal.{IsTruthful}
 use Rattle.hv_journal.specs.Appending.{KeepsTree}
-use Rattle.hv_stands.specs.Running.{Asking, AreOf, IsOf, meant, IsUnderWay, KeepsGiven}
+use Rattle.hv_stands.specs.Running.{Asking, IsOf, meant, IsUnderWay, KeepsGiven}
+use Rattle.hv_next.specs.Order.{AllInOrder}
 use Rattle.hv_house.specs.declared.fault.HouseFault.{HouseFault}
 use Rattle.hv_house.specs.declared.house.House.{House}
 use Rattle.hv_house.specs.Faults.{FileCause, EndsRun}
@@ -27,12 +26,13 @@ use Rattle.hv_ending.specs.declared.ready.Ready.{Ready}
 use Rattle.hv_ending.specs.declared.ready.Reply.{Reply}
 use Rattle.hv_ending.specs.declared.ready.Prepared.{Prepared}
 use Rattle.hv_ending.specs.declared.ready.Prepared.TheVariants as prepared
-use Rattle.hv_ending.specs.Ending.{CanEnd, KeepsCount, IsUndamaged, EndsUncommitted, AddsNoneOrId, Prepares, Concludes, IsReadyToEnd, IsPreparedIn, IsTrulyReady, IsTrulyPrepared, MeansThis, EndsTruly, HasStopped, StillOpens, aborting, giving, HasReplied}
+use Rattle.hv_ending.specs.Ending.{CanEnd, KeepsCount, IsUndamaged, AddsNoneOrId, AddsAsked, Prepares, Concludes, IsTrulyReady, IsTrulyPrepared, MeansThis, EndsTruly, HasStopped, StillOpens, aborting, HasReplied}
 use Rattle.hv_session.specs.declared.ends.Outcome.{Outcome}
 use Rattle.hv_session.specs.declared.ends.Outcome.TheVariants as outcome
 use Rattle.hv_session.specs.Taking.{EndsEarly, IsFinished}
 use Rattle.hv_session.specs.Ways.{IsPart, IsTrueOf, ShowsAnd, CutsOff, ComesTo, ComesTruly, GoesToCommit, GoesTruly}
 use Rattle.hv_session.proofs.Books.{all-append, IsBegun}
+use Rattle.hv_session.proofs.Orders.{early-uncommitted, aborted-in-order, prepared-in-order, cut-in-order, concluded-in-order}
 use Rattle.hv_session.proofs.Telling.{told-map, told-both, told-behind}
 use Rattle.hv_session.proofs.Cutting.{refusal-true}
 use Rattle.hv_session.proofs.Passing.{HasPassed, same-files, passed-part, part-ok, asked-same, asked-shows, nothing-passed}
@@ -196,40 +196,88 @@ module _ {D : Type 0} (told : D → Option Store) (before between : House D) (wa
 
 -- by its conclusion
 module _ {D : Type 0} (told : D → Option Store) (txn low mid high : ℕ) (before between now : House D) where
-  pub concluded-truly : (ready : Ready) → Prepares txn low mid (entries_of before) (entries_of between) (prepared.Ready ready) → (result : Result Reply HouseFault)
+  -- where its end comes behind what was noted to prepare it
+  pub concluded-order : (asking : Asking) (place : ℕ) (said : Stmt) (meaning : Meaning) (ready : Ready) → IsUnderWay (entries_of before) asking txn place said []
+      → AddsAsked meaning (entries_of before) (entries_of between) → StaysTold (told before.shelf) (told between.shelf) → StaysTold (told between.shelf) (told now.shelf)
+      → Tells (told before.shelf) (λ _. meant (take place (entries_of before)) said ≡ Some meaning)
+      → Tells (told between.shelf) (λ s. IsTrulyReady (entries_of between) s.tree asking txn place said ready)
+      → (prepares : Prepares txn low mid (entries_of before) (entries_of between) (prepared.Ready ready)) (ends : Concludes txn mid high (entries_of between) (entries_of now))
+      → Tells (told now.shelf) (λ _. AllInOrder (state_of (entries_of before)) (prepares.added ++ ends.added))
+  concluded-order asking place said meaning ready under asks first then means is prepares ends =
+      let M : Store → Type 0 = λ _. meant (take place (entries_of before)) said ≡ Some meaning in
+      let O : Store → Type 0 = λ _. AllInOrder (state_of (entries_of before)) (prepares.added ++ ends.added) in
+      told-behind (λ _ _. Unit {0}) O O (λ x y step o. o) (told between.shelf) (told now.shelf) then
+      (told-both M (λ s. IsTrulyReady (entries_of between) s.tree asking txn place said ready) O
+      (λ s m r. concluded-in-order (entries_of before) (entries_of between) (entries_of now) asking txn place said low mid high meaning s.tree ready under m asks prepares r ends)
+      (told between.shelf) (told-behind (λ _ _. Unit {0}) M M (λ x y step m. m) (told before.shelf) (told between.shelf) first means) is)
+
+  pub concluded-truly : (ready : Ready) (prepares : Prepares txn low mid (entries_of before) (entries_of between) (prepared.Ready ready)) (result : Result Reply HouseFault)
       → IfOk result (λ _. Concludes txn mid high (entries_of between) (entries_of now))
       → IfOk result (λ _. Shows told now (entries_of now))
       → IfOk result (λ reply. Tells (told now.shelf) (λ _. HasReplied (entries_of now) txn reply.text reply.refused reply.ended))
+      → ((ends : Concludes txn mid high (entries_of between) (entries_of now))
+      → Tells (told now.shelf) (λ _. AllInOrder (state_of (entries_of before)) (prepares.added ++ ends.added)))
       → IfOk result (λ reply. ShowsAnd told now (λ _. IsFinished (entries_of before) (entries_of now) txn reply.text reply.refused reply.ended))
-  concluded-truly ready prepares (Err why) concludes shows answered = tt
-  concluded-truly ready prepares (Ok reply) concludes shows answered =
-      told-both (IsFaithful (entries_of now)) (λ _. HasReplied (entries_of now) txn reply.text reply.refused reply.ended)
+  concluded-truly ready prepares (Err why) concludes shows answered order = tt
+  concluded-truly ready prepares (Ok reply) concludes shows answered order =
+      let A : Store → Type 0 = λ _. HasReplied (entries_of now) txn reply.text reply.refused reply.ended in
+      let O : Store → Type 0 = λ _. AllInOrder (state_of (entries_of before)) (prepares.added ++ concludes.added) in
+      told-both (IsFaithful (entries_of now)) (λ s. A s × O s)
       (IsTrueOf (entries_of now) (λ _. IsFinished (entries_of before) (entries_of now) txn reply.text reply.refused reply.ended))
-      (λ s faithful answer. record {
+      (λ s faithful both. record {
         faithful = faithful;
         true_of = record {
           added = prepares.added ++ concludes.added;
           book = concludes.book ∙ ap (λ (b : List Entry). b ++ concludes.added) prepares.book ∙ append_assoc (entries_of before) prepares.added concludes.added;
           of_it = all-append (IsOf txn) prepares.added concludes.added prepares.of_it concludes.of_it;
           undamaged = all-append IsUndamaged prepares.added concludes.added prepares.undamaged concludes.undamaged;
-          answered = answer;
+          answered = both.0;
+          in_order = both.1;
         };
       })
-      (told now.shelf) shows answered
+      (told now.shelf) shows (told-both A O (λ s. A s × O s) (λ s a o. (a, o)) (told now.shelf) answered (order concludes))
 
 -- while it was prepared
 pub prepared-truly : {D : Type 0} (told : D → Option Store) (txn low high : ℕ) (before now : House D) (reply : Reply)
-    → Prepares txn low high (entries_of before) (entries_of now) (prepared.Ended reply) → Shows told now (entries_of now)
+    (prepares : Prepares txn low high (entries_of before) (entries_of now) (prepared.Ended reply)) → Shows told now (entries_of now)
     → Tells (told now.shelf) (λ _. HasReplied (entries_of now) txn reply.text reply.refused reply.ended)
+    → Tells (told now.shelf) (λ _. AllInOrder (state_of (entries_of before)) prepares.added)
     → ShowsAnd told now (λ _. IsFinished (entries_of before) (entries_of now) txn reply.text reply.refused reply.ended)
-prepared-truly told txn low high before now reply prepares shows answered =
-    told-both (IsFaithful (entries_of now)) (λ _. HasReplied (entries_of now) txn reply.text reply.refused reply.ended)
+prepared-truly told txn low high before now reply prepares shows answered order =
+    let A : Store → Type 0 = λ _. HasReplied (entries_of now) txn reply.text reply.refused reply.ended in
+    let O : Store → Type 0 = λ _. AllInOrder (state_of (entries_of before)) prepares.added in
+    told-both (IsFaithful (entries_of now)) (λ s. A s × O s)
     (IsTrueOf (entries_of now) (λ _. IsFinished (entries_of before) (entries_of now) txn reply.text reply.refused reply.ended))
-    (λ s faithful answer. record {
+    (λ s faithful both. record {
       faithful = faithful;
-      true_of = record { added = prepares.added; book = prepares.book; of_it = prepares.of_it; undamaged = prepares.undamaged; answered = answer };
+      true_of = record {
+        added = prepares.added;
+        book = prepares.book;
+        of_it = prepares.of_it;
+        undamaged = prepares.undamaged;
+        answered = both.0;
+        in_order = both.1;
+      };
     })
-    (told now.shelf) shows answered
+    (told now.shelf) shows (told-both A O (λ s. A s × O s) (λ s a o. (a, o)) (told now.shelf) answered order)
+
+-- what was noted meanwhile comes in order
+module _ {D : Type 0} (told : D → Option Store) (low high : ℕ) (before now : House D) (asking : Asking) (txn place : ℕ) (said : Stmt) (meaning : Meaning)
+    (under : IsUnderWay (entries_of before) asking txn place said []) (asks : AddsAsked meaning (entries_of before) (entries_of now))
+    (tells : StaysTold (told before.shelf) (told now.shelf)) (means : Tells (told before.shelf) (λ _. meant (take place (entries_of before)) said ≡ Some meaning)) where
+  pub prepared-order : (ready : Ready) (prepares : Prepares txn low high (entries_of before) (entries_of now) (prepared.Ready ready))
+      → Tells (told now.shelf) (λ _. AllInOrder (state_of (entries_of before)) prepares.added)
+  prepared-order ready prepares =
+      told-behind (λ _ _. Unit {0}) (λ _. meant (take place (entries_of before)) said ≡ Some meaning) (λ _. AllInOrder (state_of (entries_of before)) prepares.added)
+      (λ x y step m. prepared-in-order (entries_of before) asking txn place said under meaning m (entries_of now) prepares.added prepares.book asks prepares.shape)
+      (told before.shelf) (told now.shelf) tells means
+
+  pub cut-order : (reply : Reply) (prepares : Prepares txn low high (entries_of before) (entries_of now) (prepared.Ended reply))
+      → Tells (told now.shelf) (λ _. AllInOrder (state_of (entries_of before)) prepares.added)
+  cut-order reply prepares =
+      told-behind (λ _ _. Unit {0}) (λ _. meant (take place (entries_of before)) said ≡ Some meaning) (λ _. AllInOrder (state_of (entries_of before)) prepares.added)
+      (λ x y step m. cut-in-order (entries_of before) asking txn place said under meaning m (entries_of now) prepares.added prepares.book asks prepares.shape)
+      (told before.shelf) (told now.shelf) tells means
 
 -- ---- what was shown, and what is true of it
 
@@ -318,6 +366,8 @@ module _ {D : Type 0} (told : D → Option Store) (faults : D → ℕ) (way : Wa
           of_it = (refl, tt);
           undamaged = (refused-whole cuts.aborted.of cuts.aborted.is, tt);
           answered = cuts.answered asking said [] under;
+          in_order = aborted-in-order (entries_of before) asking way.txn.0 way.place said [] under cuts.aborted.of
+              (early-uncommitted cuts.aborted.of (refused-early cuts.aborted.of cuts.aborted.is));
         };
       })
       (told now.shelf) (cuts.shows truly shows)
@@ -378,13 +428,6 @@ module _ {D : Type 0} (told : D → Option Store) (faults : D → ℕ) (way : Wa
 
 -- ---- all but its end
 
-early-uncommitted : (why : Cause) → EndsEarly why → EndsUncommitted why
-early-uncommitted (cause.Refused number) early = tt
-early-uncommitted (cause.ReadFault count) early = tt
-early-uncommitted (cause.Damaged place) early = tt
-early-uncommitted cause.Memory early = tt
-early-uncommitted why early = absurd early
-
 pub ended-to-commit : (txn : ℕ) (before now : List Entry) (reply : Reply) → ComesTo txn before now (outcome.Ended reply) → GoesToCommit txn before now (prepared.Ended reply)
 ended-to-commit txn before now reply comes =
     record { added = aborting txn comes.0 ∷ []; book = comes.2; shape = ([], comes.0, inl refl, early-uncommitted comes.0 comes.1, refl) }
@@ -393,17 +436,25 @@ pub prepared-goes : (txn low high : ℕ) (before now : List Entry) (result : Res
 prepared-goes txn low high before now (Ok found) prepares = record { added = prepares.added; book = prepares.book; shape = prepares.shape }
 prepared-goes txn low high before now (Err why) prepares = tt
 
-pub prepared-goes-truly : {D : Type 0} (told : D → Option Store) (low high : ℕ) (before now : House D) (asking : Asking) (way : Way) (said : Stmt) (result : Result Prepared HouseFault)
+pub prepared-goes-truly : {D : Type 0} (told : D → Option Store) (low high : ℕ) (before now : House D) (asking : Asking) (way : Way) (said : Stmt) (meaning : Meaning)
+    → IsUnderWay (entries_of before) asking way.txn.0 way.place said [] → StaysTold (told before.shelf) (told now.shelf)
+    → Tells (told before.shelf) (λ _. meant (take way.place (entries_of before)) said ≡ Some meaning) → (result : Result Prepared HouseFault)
+    → IfOk result (λ _. AddsAsked meaning (entries_of before) (entries_of now))
     → IfOk result (Prepares way.txn.0 low high (entries_of before) (entries_of now)) → IfOk result (λ _. Shows told now (entries_of now))
     → IfOk result (λ found. Tells (told now.shelf) (λ s. IsTrulyPrepared (entries_of now) s.tree asking way.txn.0 way.place said found))
     → IfOk result (λ found. ShowsAnd told now (λ s. GoesTruly (entries_of before) (entries_of now) s.tree asking way said found))
-prepared-goes-truly told low high before now asking way said (Err why) prepares shows truly = tt
-prepared-goes-truly told low high before now asking way said (Ok (prepared.Ready ready)) prepares shows truly =
-    told-both (IsFaithful (entries_of now)) (λ s. IsTrulyPrepared (entries_of now) s.tree asking way.txn.0 way.place said (prepared.Ready ready))
+prepared-goes-truly told low high before now asking way said meaning under tells means (Err why) asks prepares shows truly = tt
+prepared-goes-truly told low high before now asking way said meaning under tells means (Ok (prepared.Ready ready)) asks prepares shows truly =
+    let P : Store → Type 0 = λ s. IsTrulyPrepared (entries_of now) s.tree asking way.txn.0 way.place said (prepared.Ready ready) in
+    let O : Store → Type 0 = λ _. AllInOrder (state_of (entries_of before)) prepares.added in
+    told-both (IsFaithful (entries_of now)) (λ s. P s × O s)
     (IsTrueOf (entries_of now) (λ s. GoesTruly (entries_of before) (entries_of now) s.tree asking way said (prepared.Ready ready)))
-    (λ s faithful is. record { faithful = faithful; true_of = is }) (told now.shelf) shows truly
-prepared-goes-truly told low high before now asking way said (Ok (prepared.Ended reply)) prepares shows truly =
+    (λ s faithful both. record { faithful = faithful; true_of = (both.0, (prepares.added, prepares.book, both.1)) }) (told now.shelf) shows
+    (told-both P O (λ s. P s × O s) (λ s p o. (p, o)) (told now.shelf) truly
+    (prepared-order told low high before now asking way.txn.0 way.place said meaning under asks tells means ready prepares))
+prepared-goes-truly told low high before now asking way said meaning under tells means (Ok (prepared.Ended reply)) asks prepares shows truly =
     prepared-truly told way.txn.0 low high before now reply prepares shows truly
+    (cut-order told low high before now asking way.txn.0 way.place said meaning under asks tells means reply prepares)
 
 -- the refusal is what it means, where that is told
 pub refusal-told : {D : Type 0} (told : D → Option Store) (house : House D) (way : Way) (asking : Asking) (said : Stmt) (why : Refusal) (number : ℕ) → number ≡ refusals.number why

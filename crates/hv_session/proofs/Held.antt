@@ -1,11 +1,14 @@
 -- A statement that is held goes on from its point, and what its parts say is what the whole says.
-use Rattle.std.proofs.Common.{◌≡◌, ℕ, Option, Some, List, [], ◌∷◌, ◌++◌, Result, Ok, Err, take, refl, sym, ap, ◌∙◌, subst}
+use Rattle.std.proofs.Common.{◌≡◌, ℕ, Option, Some, List, [], Result, Ok, Err, take, sym, ap, ◌∙◌, subst}
 use Rattle.std.specs.Prelude.{IfOk}
-use Rattle.hv_base.specs.Told.{Tells}
-use Rattle.hv_shelf.specs.Disk.{Store, Tree}
+use Rattle.hv_base.specs.Told.{Tells, StaysTold}
+use Rattle.hv_shelf.specs.Disk.{Store}
 use Rattle.hv_logic.specs.declared.meaning.Meaning.{Meaning}
 use Rattle.hv_history.specs.declared.entry.Entry.{Entry}
 use Rattle.hv_history.specs.declared.state.Transaction.{Transaction}
+use Rattle.hv_ast.specs.declared.statement.Stmt.{Stmt}
+use Rattle.hv_history.specs.State.{state_of}
+use Rattle.hv_next.specs.Order.{AllInOrder}
 use Rattle.hv_stands.specs.Running.{Asking, next_number, meant, running, snapshot_at, IsUnderWay}
 use Rattle.hv_stands.proofs.Numbers.{one_value}
 use Rattle.hv_house.specs.declared.fault.HouseFault.{HouseFault}
@@ -20,7 +23,8 @@ use Rattle.hv_session.specs.declared.paused.Point.TheVariants as point
 use Rattle.hv_session.specs.declared.paused.Paused.{Paused}
 use Rattle.hv_session.specs.Taking.{HasNone, CanEndAt, PointIsTrue, IsHeld, IsTrulyHeld, IsFinished}
 use Rattle.hv_session.specs.Ways.{IsPart, IsTaking, IsTrueOf, ShowsAnd}
-use Rattle.hv_session.proofs.Telling.{told-map, told-both}
+use Rattle.hv_session.proofs.Orders.{ready-in-order}
+use Rattle.hv_session.proofs.Telling.{told-map, told-both, told-behind}
 
 -- ---- what a whole says by its parts
 
@@ -127,16 +131,33 @@ module _ (book : List Entry) (asking : Asking) (paused : Paused) (held : IsHeld 
 
 -- ---- its conclusion
 
+pub held-order : {D : Type 0} (told : D → Option Store) (txn low high : ℕ) (before now : House D) (asking : Asking) (place : ℕ) (said : Stmt) (ready : Ready)
+    → StaysTold (told before.shelf) (told now.shelf) → Tells (told before.shelf) (λ s. IsTrulyReady (entries_of before) s.tree asking txn place said ready)
+    → (ends : Concludes txn low high (entries_of before) (entries_of now)) → Tells (told now.shelf) (λ _. AllInOrder (state_of (entries_of before)) ends.added)
+held-order told txn low high before now asking place said ready tells is ends =
+    told-behind (λ _ _. Unit {0}) (λ s. IsTrulyReady (entries_of before) s.tree asking txn place said ready) (λ _. AllInOrder (state_of (entries_of before)) ends.added)
+    (λ x y step r. ready-in-order (entries_of before) (entries_of now) asking txn place said low high x.tree ready r ends) (told before.shelf) (told now.shelf) tells is
+
 pub concluded-shows : {D : Type 0} (told : D → Option Store) (txn low high : ℕ) (before now : House D) (result : Result Reply HouseFault)
     → IfOk result (λ _. Concludes txn low high (entries_of before) (entries_of now)) → IfOk result (λ _. Shows told now (entries_of now))
     → IfOk result (λ reply. Tells (told now.shelf) (λ _. HasReplied (entries_of now) txn reply.text reply.refused reply.ended))
+    → ((ends : Concludes txn low high (entries_of before) (entries_of now)) → Tells (told now.shelf) (λ _. AllInOrder (state_of (entries_of before)) ends.added))
     → IfOk result (λ reply. ShowsAnd told now (λ _. IsFinished (entries_of before) (entries_of now) txn reply.text reply.refused reply.ended))
-concluded-shows told txn low high before now (Err why) concludes shows answered = tt
-concluded-shows told txn low high before now (Ok reply) concludes shows answered =
-    told-both (IsFaithful (entries_of now)) (λ _. HasReplied (entries_of now) txn reply.text reply.refused reply.ended)
+concluded-shows told txn low high before now (Err why) concludes shows answered order = tt
+concluded-shows told txn low high before now (Ok reply) concludes shows answered order =
+    let A : Store → Type 0 = λ _. HasReplied (entries_of now) txn reply.text reply.refused reply.ended in
+    let O : Store → Type 0 = λ _. AllInOrder (state_of (entries_of before)) concludes.added in
+    told-both (IsFaithful (entries_of now)) (λ s. A s × O s)
     (IsTrueOf (entries_of now) (λ _. IsFinished (entries_of before) (entries_of now) txn reply.text reply.refused reply.ended))
-    (λ s faithful answer. record {
+    (λ s faithful both. record {
       faithful = faithful;
-      true_of = record { added = concludes.added; book = concludes.book; of_it = concludes.of_it; undamaged = concludes.undamaged; answered = answer };
+      true_of = record {
+        added = concludes.added;
+        book = concludes.book;
+        of_it = concludes.of_it;
+        undamaged = concludes.undamaged;
+        answered = both.0;
+        in_order = both.1;
+      };
     })
-    (told now.shelf) shows answered
+    (told now.shelf) shows (told-both A O (λ s. A s × O s) (λ s a o. (a, o)) (told now.shelf) answered (order concludes))

@@ -1,31 +1,21 @@
 -- Where a started statement is held: what was noted until then, and what stands of it.
-use Rattle.std.proofs.Common.{◌≡◌, ℕ, Option, Some, None, List, [], ◌∷◌, ◌++◌, Result, Ok, Err, ◌⊎◌, inl, inr, take, refl, sym, ap, ◌∙◌, subst, append-nil}
-use Rattle.std.specs.Prelude.{IfOk}
-use Rattle.hv_base.specs.declared.gate.Stage.{Stage}
+use Rattle.std.proofs.Common.{◌≡◌, ℕ, Some, None, List, [], ◌∷◌, ◌++◌, inl, inr, refl, sym, ap, ◌∙◌, subst, append-nil}
 use Rattle.hv_base.specs.declared.gate.Stage.TheVariants as stage
-use Rattle.hv_base.specs.declared.ids.TableId.{TableId}
-use Rattle.hv_base.specs.declared.ids.WriteId.{WriteId}
-use Rattle.hv_shelf.specs.Disk.{Store, Tree}
+use Rattle.hv_shelf.specs.Disk.{Tree}
 use Rattle.hv_ast.specs.declared.statement.Stmt.{Stmt}
-use Rattle.hv_logic.specs.declared.meaning.Meaning.{Meaning}
 use Rattle.hv_history.specs.declared.entry.Entry.{Entry}
-use Rattle.hv_history.specs.declared.entry.Cause.{Cause}
-use Rattle.hv_stands.specs.Running.{Asking, meant, starting, IsUnderWay}
-use Rattle.hv_house.specs.declared.fault.HouseFault.{HouseFault}
-use Rattle.hv_house.specs.declared.house.House.{House}
-use Rattle.hv_house.specs.House.{entries_of, Shows}
+use Rattle.hv_stands.specs.Running.{Asking, starting, IsUnderWay}
 use Rattle.hv_ending.specs.declared.ready.Way.{Way}
 use Rattle.hv_ending.specs.declared.ready.Ready.{Ready}
 use Rattle.hv_ending.specs.declared.ready.Reply.{Reply}
 use Rattle.hv_ending.specs.declared.ready.Prepared.{Prepared}
 use Rattle.hv_ending.specs.declared.ready.Prepared.TheVariants as prepared
-use Rattle.hv_ending.specs.Ending.{AddsNoneOrId, AddsAbort, EndsUncommitted, IsPreparedIn, IsReadyToEnd, IsTrulyReady, aborting, giving}
+use Rattle.hv_ending.specs.Ending.{AddsNoneOrId, AddsAbort, IsPreparedIn, IsReadyToEnd, aborting}
 use Rattle.hv_session.specs.declared.ends.Outcome.{Outcome}
 use Rattle.hv_session.specs.declared.ends.Outcome.TheVariants as outcome
 use Rattle.hv_session.specs.declared.paused.Point.TheVariants as point
-use Rattle.hv_session.specs.declared.paused.Taken.{Taken}
 use Rattle.hv_session.specs.declared.paused.Taken.TheVariants as taken
-use Rattle.hv_session.specs.Taking.{EndsBefore, HoldsAt, IsHeld, IsTrulyHeld, IsFinished}
+use Rattle.hv_session.specs.Taking.{EndsBefore, HoldsAt, IsHeld}
 use Rattle.hv_session.specs.Ways.{ComesTo, ComesTruly, ComesUnrefused, GoesToCommit, GoesTruly, keep, held_meant, held_ready, GoesInTime, StandsHeld, StandsTruly}
 
 -- ---- at its Start
@@ -34,11 +24,12 @@ pub started-stands : (book : List Entry) (asking : Asking) (way : Way) (tree : S
 started-stands book asking way tree under = record { given = []; under_way = under; none = refl; can = tt; unrefused = tt }
 
 pub started-goes : (book : List Entry) (way : Way) (tree : Stmt) → GoesInTime (Some stage.Start) way.txn.0 book book (keep way tree point.Started)
-started-goes book way tree = record { added = []; book = sym (append-nil book); in_time = (refl, refl) }
+started-goes book way tree = record { added = []; book = sym (append-nil book); in_time = (refl, refl, tt) }
 
 pub started-truly : (book : List Entry) (asking : Asking) (way : Way) (tree : Stmt) (files : Tree) → IsUnderWay book asking way.txn.0 way.place tree []
     → StandsTruly book book files way.txn.0 (keep way tree point.Started)
-started-truly book asking way tree files under = record { asking = asking; held = started-stands book asking way tree under; truly = tt }
+started-truly book asking way tree files under =
+    (record { asking = asking; held = started-stands book asking way tree under; truly = tt }, ([], sym (append-nil book), tt))
 
 -- ---- at its end
 
@@ -49,7 +40,7 @@ ended-goes txn before now reply added book = record { added = added; book = book
 
 module _ (before now : List Entry) (way : Way) (tree : Stmt) where
   pub meant-goes : (found : Outcome) → ComesTo way.txn.0 before now found → GoesInTime (Some stage.Read) way.txn.0 before now (held_meant way tree found)
-  meant-goes (outcome.Means meaning) comes = record { added = []; book = comes.0 ∙ sym (append-nil before); in_time = (refl, refl) }
+  meant-goes (outcome.Means meaning) comes = record { added = []; book = comes.0 ∙ sym (append-nil before); in_time = (refl, refl, tt) }
   meant-goes (outcome.Ended reply) comes = record {
     added = aborting way.txn.0 comes.0 ∷ [];
     book = comes.2;
@@ -68,7 +59,7 @@ module _ (before now : List Entry) (way : Way) (tree : Stmt) where
   pub meant-truly : (asking : Asking) (files : Tree) (found : Outcome) → IsUnderWay before asking way.txn.0 way.place tree [] → ComesTo way.txn.0 before now found → ComesUnrefused found
       → ComesTruly before now way tree found → StandsTruly before now files way.txn.0 (held_meant way tree found)
   meant-truly asking files (outcome.Means meaning) under comes unrefused truly =
-      record { asking = asking; held = meant-stands asking (outcome.Means meaning) under comes unrefused; truly = truly }
+      (record { asking = asking; held = meant-stands asking (outcome.Means meaning) under comes unrefused; truly = truly }, ([], comes.0 ∙ sym (append-nil before), tt))
   meant-truly asking files (outcome.Ended reply) under comes unrefused truly = truly
 
   -- ---- before its end
@@ -86,7 +77,7 @@ module _ (before now : List Entry) (way : Way) (tree : Stmt) where
           inr (inr (ends.1, id.0, id.1, ends.3, ap (λ (es : List Entry). starting way.txn.0 ∷ es) (ends.4 ∙ ap (λ (es : List Entry). es ++ aborting way.txn.0 ends.1 ∷ []) id.2)))
 
   pub ready-goes : (found : Prepared) → GoesToCommit way.txn.0 before now found → GoesInTime (Some stage.Commit) way.txn.0 before now (held_ready way tree found)
-  ready-goes (prepared.Ready ready) goes = record { added = goes.added; book = goes.book; in_time = (refl, id-held goes.added goes.shape) }
+  ready-goes (prepared.Ready ready) goes = record { added = goes.added; book = goes.book; in_time = (refl, id-held goes.added goes.shape, tt) }
   ready-goes (prepared.Ended reply) goes = record { added = goes.added; book = goes.book; in_time = abort-held goes.added goes.shape }
 
   ready-held : (asking : Asking) (ready : Ready) → IsReadyToEnd now asking way.txn.0 way.place tree ready
@@ -100,5 +91,6 @@ module _ (before now : List Entry) (way : Way) (tree : Stmt) where
   pub ready-truly : (asking : Asking) (files : Tree) (found : Prepared) → GoesTruly before now files asking way tree found
       → StandsTruly before now files way.txn.0 (held_ready way tree found)
   unfolding ready-held
-  ready-truly asking files (prepared.Ready ready) truly = record { asking = asking; held = ready-held asking ready truly.to_end; truly = truly.truly }
+  ready-truly asking files (prepared.Ready ready) truly =
+      (record { asking = asking; held = ready-held asking ready truly.0.to_end; truly = truly.0.truly }, truly.1)
   ready-truly asking files (prepared.Ended reply) truly = truly

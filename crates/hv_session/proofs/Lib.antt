@@ -1,4 +1,5 @@
 mod Books
+mod Orders
 mod Shorts
 mod Telling
 mod Passing

@@ -1,19 +1,18 @@
 -- One part of a statement's way behind another.
-use Rattle.std.proofs.Common.{◌≡◌, ℕ, ◌+◌, ◌-◌, ◌^◌, ◌<◌, ◌≤◌, min, Option, Some, None, List, [], ◌∷◌, ◌++◌, Result, Ok, Err, inl, length, refl, sym, ap, ◌∙◌, subst, arith, append_assoc, append-nil}
+use Rattle.std.proofs.Common.{◌≡◌, ℕ, ◌<◌, ◌≤◌, Option, List, [], ◌++◌, Result, Ok, Err, inl, refl, sym, ap, ◌∙◌, subst, arith, append_assoc, append-nil}
 use Rattle.std.specs.Prelude.{IsErrAnd}
 use Rattle.std.specs.List.{AllByRecursion}
 use Rattle.std.specs.FinMap as tree
 use Rattle.hv_base.specs.Told.{Tells, Moves, StaysTold}
-use Rattle.hv_base.specs.Faults.{Rose, one_more}
+use Rattle.hv_base.specs.Faults.{Rose}
 use Rattle.hv_base.proofs.ToldLemmas.{Moves-then, Moves-weaken, Moves-same, stays_stays, stays_by}
-use Rattle.hv_shelf.specs.declared.place.Place.{Place}
 use Rattle.hv_shelf.specs.Disk.{Store}
 use Rattle.hv_history.specs.declared.entry.Entry.{Entry}
 use Rattle.hv_history.specs.declared.state.Table.{Table}
-use Rattle.hv_history.specs.State.{State, state_of, after}
+use Rattle.hv_history.specs.State.{State, state_of}
 use Rattle.hv_history.specs.Legal.{IsLegalFrom, profile}
-use Rattle.hv_journal.specs.Appending.{Holds, KeepsTree}
-use Rattle.hv_stands.specs.Running.{Asking, next_number, IsOf, AreOf, IsGiven, KeepsGiven}
+use Rattle.hv_journal.specs.Appending.{KeepsTree}
+use Rattle.hv_stands.specs.Running.{Asking, next_number, IsOf, AreOf, KeepsGiven}
 use Rattle.hv_stands.specs.Statements.{AllFitting}
 use Rattle.hv_stands.proofs.StatementFiles.{earlier-ids-kept}
 use Rattle.hv_house.specs.declared.fault.HouseFault.{HouseFault}
@@ -21,9 +20,9 @@ use Rattle.hv_house.specs.declared.fault.HouseFault.TheVariants as fault
 use Rattle.hv_house.specs.declared.fault.RowFault.{RowFault}
 use Rattle.hv_house.specs.declared.fault.RowFault.TheVariants as row_fault
 use Rattle.hv_house.specs.declared.house.House.{House}
-use Rattle.hv_house.specs.Faults.{FileCause, ReadCause, HasRisen, HasRisenReading, EndsRun}
+use Rattle.hv_house.specs.Faults.{FileCause, ReadCause, HasRisen, HasRisenReading}
 use Rattle.hv_house.specs.House.{entries_of, IsReady, IsAsked, IsFaithful, Shows}
-use Rattle.hv_ending.specs.Ending.{AddsOf, KeepsCount, IsNoEnd, HasStopped}
+use Rattle.hv_ending.specs.Ending.{KeepsCount, IsNoEnd, HasStopped}
 use Rattle.hv_ending.proofs.Opens.{held-opens}
 use Rattle.hv_session.specs.Ways.{IsDone, IsPart, IsTaking, IsTrueOf, ShowsAnd}
 use Rattle.hv_session.proofs.Telling.{told-map}

@@ -4,7 +4,6 @@ use Rattle.hv_base.specs.Told.{Tells, Moves, StaysTold}
 use Rattle.hv_base.specs.declared.gate.Stage.{Stage}
 use Rattle.hv_shelf.specs.Disk.{Store, Tree}
 use Rattle.hv_ast.specs.declared.statement.Stmt.{Stmt}
-use Rattle.hv_logic.specs.declared.meaning.Meaning.{Meaning}
 use Rattle.hv_history.specs.declared.entry.Entry.{Entry}
 use Rattle.hv_history.specs.declared.entry.Cause.{Cause}
 use Rattle.hv_history.specs.declared.entry.Cause.TheVariants as cause
@@ -12,6 +11,7 @@ use Rattle.hv_history.specs.State.{state_of}
 use Rattle.hv_history.specs.Legal.{IsTruthful, load, profile}
 use Rattle.hv_journal.specs.Appending.{KeepsTree}
 use Rattle.hv_stands.specs.Running.{Asking, next_number, starting, meant, IsWaiting, IsUnderWay, KeepsGiven}
+use Rattle.hv_next.specs.Order.{AllInOrder}
 use Rattle.hv_house.specs.declared.fault.HouseFault.{HouseFault}
 use Rattle.hv_house.specs.declared.fault.HouseFault.TheVariants as fault
 use Rattle.hv_house.specs.declared.fault.RowFault.{RowFault}
@@ -21,19 +21,17 @@ use Rattle.hv_house.specs.Faults.{FileCause, EndsRun, HasRisenReading}
 use Rattle.hv_house.specs.House.{entries_of, IsReady, IsFaithful, Shows, Leaves, BeginFits, beginning_of}
 use Rattle.hv_house.specs.Asking.{holder_against}
 use Rattle.hv_ending.specs.declared.ready.Way.{Way}
-use Rattle.hv_ending.specs.declared.ready.Ready.{Ready}
 use Rattle.hv_ending.specs.declared.ready.Reply.{Reply}
 use Rattle.hv_ending.specs.declared.ready.Prepared.{Prepared}
 use Rattle.hv_ending.specs.declared.ready.Prepared.TheVariants as prepared
-use Rattle.hv_ending.specs.Ending.{AddsOf, CanEnd, HasStopped, StillOpens, IsAborted, PreparesBy, IsPreparedIn, IsTrulyPrepared, aborting, HasReplied}
+use Rattle.hv_ending.specs.Ending.{AddsOf, CanEnd, HasStopped, StillOpens, IsAborted, PreparesBy, IsTrulyPrepared, aborting, HasReplied}
 use Rattle.hv_session.specs.declared.ends.Outcome.{Outcome}
 use Rattle.hv_session.specs.declared.ends.Outcome.TheVariants as outcome
 use Rattle.hv_session.specs.declared.paused.Point.{Point}
 use Rattle.hv_session.specs.declared.paused.Point.TheVariants as point
-use Rattle.hv_session.specs.declared.paused.Paused.{Paused}
 use Rattle.hv_session.specs.declared.paused.Taken.{Taken}
 use Rattle.hv_session.specs.declared.paused.Taken.TheVariants as taken
-use Rattle.hv_session.specs.Taking.{EndsEarly, EndsBefore, HoldsAt, IsHold, IsHeld, IsTrulyHeld, IsReplied, IsFinished, IsUnrefused}
+use Rattle.hv_session.specs.Taking.{EndsEarly, EndsBefore, HoldsAt, IsHold, IsAtPlace, IsHeld, IsTrulyHeld, IsReplied, IsFinished, IsUnrefused}
 
 -- ---- whatever is told
 
@@ -134,8 +132,13 @@ pub record GoesToCommit (txn : ℕ) (before now : List Entry) (found : Prepared)
   pub book : now ≡ before ++ added
   pub shape : PreparesBy txn found added
 
+-- what was added comes in the order of its way
+abbrev pub AddsInOrder : List Entry → List Entry → Type 0
+AddsInOrder before now = (added : List Entry) × (now ≡ before ++ added) × AllInOrder (state_of before) added
+
 abbrev pub GoesTruly : List Entry → List Entry → Tree → Asking → Way → Stmt → Prepared → Type 0
-GoesTruly before now files asking way said (prepared.Ready ready) = IsTrulyPrepared now files asking way.txn.0 way.place said (prepared.Ready ready)
+GoesTruly before now files asking way said (prepared.Ready ready) =
+    IsTrulyPrepared now files asking way.txn.0 way.place said (prepared.Ready ready) × AddsInOrder before now
 GoesTruly before now files asking way said (prepared.Ended reply) = IsFinished before now way.txn.0 reply.text reply.refused reply.ended
 
 -- ---- where it is held
@@ -154,7 +157,7 @@ held_ready way tree (prepared.Ended reply) = taken.Replied reply
 -- it came to the place where it was to be held, or ended before that
 abbrev pub IsInTime : Option Stage → ℕ → List Entry → Taken → Type 0
 IsInTime hold txn added (taken.Replied reply) = EndsBefore hold txn (starting txn ∷ added)
-IsInTime hold txn added (taken.Kept paused) = (paused.txn.0 ≡ txn) × HoldsAt hold txn (starting txn ∷ added)
+IsInTime hold txn added (taken.Kept paused) = (paused.txn.0 ≡ txn) × HoldsAt hold txn (starting txn ∷ added) × IsAtPlace hold paused.point
 
 pub record GoesInTime (hold : Option Stage) (txn : ℕ) (before now : List Entry) (way : Taken) : Type 0 where
   pub added : List Entry
@@ -168,7 +171,7 @@ StandsHeld now asking (taken.Kept paused) = IsHeld now asking paused
 
 abbrev pub StandsTruly : List Entry → List Entry → Tree → ℕ → Taken → Type 0
 StandsTruly before now files txn (taken.Replied reply) = IsFinished before now txn reply.text reply.refused reply.ended
-StandsTruly before now files txn (taken.Kept paused) = IsTrulyHeld now files paused
+StandsTruly before now files txn (taken.Kept paused) = IsTrulyHeld now files paused × AddsInOrder before now
 
 -- ---- the parts of a statement that is taken up
 

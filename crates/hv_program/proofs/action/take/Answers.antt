@@ -1,14 +1,12 @@
 use Rattle.std.proofs.Common.{◌≤◌, ℕ, Option, IfOk, IfErr, List, length, sym, ap, subst}
-use Rattle.hv_base.specs.Told.{Tells}
 use Rattle.hv_base.specs.declared.gate.Stage.{Stage}
 use Rattle.hv_stands.specs.Running.{Asking}
 use Rattle.hv_house.specs.House.{entries_of}
 use Rattle.hv_session.specs.Taking.{asked_of, IsHold, IsKeptIn, IsTakenAs}
 use Rattle.hv_session.specs.Ways.{StopsTaken}
 use Rattle.hv_program.specs.Doing.{asking_of}
-use Rattle.hv_ending.proofs.Opens.{held-opens}
-use Rattle.hv_program.proofs.Acting.{err-always}
-use Rattle.hv_program.proofs.Unasked.{still-adds, lacking-taken, still-keeps, still-stops}
+use Rattle.hv_program.proofs.Acting.{opens-first}
+use Rattle.hv_program.proofs.Unasked.{still-adds, lacking-taken, still-stops}
 use Rattle.hv_program.proofs.action.take.Goals as goal
 
 pub take_up-requires-clause-short : goal.take_up-requires-clause-short
@@ -25,12 +23,10 @@ returns-in-Ok-clause-held g c =
     subst (λ (a : Asking). IfOk c.take_up.result (IsKeptIn (entries_of c.args.house.now) (entries_of c.take_up.new.house) a)) c.in-Ok.ensures.asked c.take_up.ensures.held
 
 pub returns-in-Ok-clause-taken : goal.returns-in-Ok-clause-taken
-returns-in-Ok-clause-taken g c = λ shows.
-    subst (λ (a : Asking). IfOk c.take_up.result (λ taken. Tells (g.D.Shelf.told c.take_up.new.house.shelf)
-    (λ s. IsTakenAs (entries_of c.args.house.now) (entries_of c.take_up.new.house) s.tree a c.args.statement.now.hold taken))) c.in-Ok.ensures.asked
-    (subst (λ (h : Option Stage). IfOk c.take_up.result (λ taken. Tells (g.D.Shelf.told c.take_up.new.house.shelf)
-    (λ s. IsTakenAs (entries_of c.args.house.now) (entries_of c.take_up.new.house) s.tree (asked_of c.in-Ok.asking) h taken))) c.in-Ok.ensures.hold
-    (c.take_up.ensures.taken shows))
+returns-in-Ok-clause-taken g c = λ is.
+    subst (λ (a : Asking). IfOk c.take_up.result (IsTakenAs (entries_of c.args.house.now) (entries_of c.take_up.new.house) a c.args.statement.now.hold)) c.in-Ok.ensures.asked
+    (subst (λ (h : Option Stage). IfOk c.take_up.result (IsTakenAs (entries_of c.args.house.now) (entries_of c.take_up.new.house) (asked_of c.in-Ok.asking) h)) c.in-Ok.ensures.hold
+    (c.take_up.ensures.taken is))
 
 pub returns-in-Ok-clause-stopped : goal.returns-in-Ok-clause-stopped
 returns-in-Ok-clause-stopped g c =
@@ -40,20 +36,13 @@ pub returns-in_ok-memory_reply-in-Err-clause-added : goal.returns-in_ok-memory_r
 returns-in_ok-memory_reply-in-Err-clause-added g c = still-adds _ _ _ (entries_of c.args.house.now)
 
 pub returns-in_ok-memory_reply-in-Err-clause-taken : goal.returns-in_ok-memory_reply-in-Err-clause-taken
-returns-in_ok-memory_reply-in-Err-clause-taken g c = λ shows.
-    lacking-taken (g.D.Shelf.told c.args.house.now.shelf) (entries_of c.args.house.now) (asking_of c.args.statement.now) c.args.statement.now.hold
+returns-in_ok-memory_reply-in-Err-clause-taken g c = λ is.
+    lacking-taken (entries_of c.args.house.now) (asking_of c.args.statement.now) c.args.statement.now.hold
     c.in_ok-memory_reply-in-Err.field-0 c.in_ok-memory_reply-in-Err.ensures.line
-
-pub returns-in_ok-memory_reply-in-Err-clause-keeps : goal.returns-in_ok-memory_reply-in-Err-clause-keeps
-returns-in_ok-memory_reply-in-Err-clause-keeps g c = still-keeps (g.D.Shelf.told c.args.house.now.shelf) (entries_of c.args.house.now)
-
-pub returns-in_err-memory_reply-in-Err-clause-keeps : goal.returns-in_err-memory_reply-in-Err-clause-keeps
-returns-in_err-memory_reply-in-Err-clause-keeps g c = still-keeps (g.D.Shelf.told c.args.house.now.shelf) (entries_of c.args.house.now)
 
 pub returns-in_err-memory_reply-in-Err-clause-stopped : goal.returns-in_err-memory_reply-in-Err-clause-stopped
 returns-in_err-memory_reply-in-Err-clause-stopped g c =
-    still-stops g.D.Shelf.told c.args.house.now (asking_of c.args.statement.now) c.from_residual.result c.from_residual.ensures.1 c.requires.ready.kept.reads
+    still-stops g.D.Shelf.told c.args.house.now (asking_of c.args.statement.now) c.from_residual.result c.from_residual.ensures.1 c.requires.whole.ready.kept.reads
 
 pub returns-in_err-memory_reply-in-Err-clause-opens : goal.returns-in_err-memory_reply-in-Err-clause-opens
-returns-in_err-memory_reply-in-Err-clause-opens g c = λ shows.
-    err-always c.from_residual.result _ (held-opens (entries_of c.args.house.now) (g.D.Shelf.told c.args.house.now.shelf) c.requires.ready.kept.reads shows)
+returns-in_err-memory_reply-in-Err-clause-opens g c = opens-first g.D.Shelf.told c.args.house.now c.from_residual.result c.requires.whole

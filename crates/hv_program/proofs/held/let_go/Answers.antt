@@ -1,4 +1,4 @@
-use Rattle.std.proofs.Common.{sym, arith, ap, length}
+use Rattle.std.proofs.Common.{arith, ap, length}
 use Rattle.hv_program.proofs.HeldLists.{found-at, left-at}
 use Rattle.hv_program.proofs.held.let_go.Goals as goal
 

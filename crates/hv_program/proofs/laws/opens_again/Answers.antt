@@ -1,11 +1,5 @@
 use Rattle.hv_program.specs.Results.{ReadsTo, ReadsFurther}
 use Rattle.hv_program.proofs.Ends.{done-opens, cut-opens, stopped-opens, failed-opens, lacked-opens}
-use Rattle.hv_program.proofs.Acting.{number-found}
-use Rattle.hv_program.proofs.Turns.{Prints-all}
-use Rattle.hv_program.proofs.Whole.{Headline-by}
-use Rattle.hv_program.proofs.Refusing.{said-line}
-use Rattle.hv_program.proofs.Blaming.{completes}
-use Rattle.hv_program.proofs.Fine.{fine-actions}
 use Rattle.hv_program.proofs.laws.opens_again.Goals as goal
 
 pub returns-clause-done : goal.returns-clause-done

@@ -42,7 +42,7 @@ returns-in-Ok-read_actions g c =
     let causes = causes-served _ _ _ c.serve.ensures.opened.only c.serve.ensures.blames in
     record {
       headline = Headline-served _ _ _ c.in-Ok.bytes.items c.deref.result.now c.as_slice.result.now _ _ _ _ _ _ _ c.deref.ensures.value c.in-Ok.ensures.taken
-          c.in-Ok-read_actions.ensures.read.0 (c.as_slice.ensures ∙ c.in-Ok-read_actions.ensures.read.1) c.in-Ok.ensures.tells c.serve.ensures.heard c.serve.ensures.tells c.serve.ensures.served;
+          c.in-Ok-read_actions.ensures.read.0 (c.as_slice.ensures ∙ c.in-Ok-read_actions.ensures.read.1) c.in-Ok.ensures.tells c.serve.ensures.heard c.serve.ensures.served;
       refused = refused;
       faults = causes;
       complete = completes _ _ _ _ _ _ _ _ refused causes;

@@ -1,5 +1,4 @@
 use Rattle.std.proofs.Common.{sym, subst}
-use Rattle.hv_house.specs.House.{entries_of}
 use Rattle.hv_session.specs.Ways.{IsOnWay}
 use Rattle.hv_session.proofs.Passing.{asked-same, part-residual}
 use Rattle.hv_session.proofs.Cutting.{ended-part, halted-part, ended-comes, ended-truly}

@@ -2,7 +2,7 @@ use Rattle.std.proofs.Common.{subst, Err}
 use Rattle.hv_house.specs.House.{entries_of}
 use Rattle.hv_ending.specs.Ending.{Prepares, IsPreparedIn}
 use Rattle.hv_session.proofs.Passing.{part-behind, part-ok, part-residual}
-use Rattle.hv_session.proofs.Going.{prepared-part, concluded-part, ready-passed, prepared-known, concluded-truly, prepared-truly, told-prepared, told-prepared-ended}
+use Rattle.hv_session.proofs.Going.{prepared-part, concluded-part, ready-passed, prepared-known, concluded-order, concluded-truly, prepared-truly, cut-order, told-prepared, told-prepared-ended}
 use Rattle.hv_session.proofs.ends.end_as.Goals as goal
 
 pub conclude-requires-clause-way : goal.conclude-requires-clause-way
@@ -32,11 +32,14 @@ returns-in-Ready-clause-truly g c = λ asking said under means shows.
     let shown = c.in_ok-ready.ensures.shows asking said under means shows in
     let ready = told-prepared g.D.Shelf.told c.prepare.new.house asking c.args.way said c.in_ok-ready.field-0 c.in-Ready.ready c.in-Ready.is
     (c.in_ok-ready.ensures.truly asking said under means shows) in
+    let prepares = subst (λ found. Prepares c.args.way.txn.0 (g.D.Shelf.faults c.args.house.now.shelf) (g.D.Shelf.faults c.prepare.new.house.shelf)
+    (entries_of c.args.house.now) (entries_of c.prepare.new.house) found) c.in-Ready.is c.in_ok-ready.ensures.prepares in
     concluded-truly g.D.Shelf.told c.args.way.txn.0 (g.D.Shelf.faults c.args.house.now.shelf) (g.D.Shelf.faults c.prepare.new.house.shelf) (g.D.Shelf.faults c.conclude.new.house.shelf)
-    c.args.house.now c.prepare.new.house c.conclude.new.house c.in-Ready.ready
-    (subst (λ found. Prepares c.args.way.txn.0 (g.D.Shelf.faults c.args.house.now.shelf) (g.D.Shelf.faults c.prepare.new.house.shelf) (entries_of c.args.house.now) (entries_of c.prepare.new.house) found)
-    c.in-Ready.is c.in_ok-ready.ensures.prepares)
+    c.args.house.now c.prepare.new.house c.conclude.new.house c.in-Ready.ready prepares
     c.conclude.result c.conclude.ensures.added (c.conclude.ensures.shows asking said ready shown) (c.conclude.ensures.answered asking said ready shown)
+    (concluded-order g.D.Shelf.told c.args.way.txn.0 (g.D.Shelf.faults c.args.house.now.shelf) (g.D.Shelf.faults c.prepare.new.house.shelf) (g.D.Shelf.faults c.conclude.new.house.shelf)
+    c.args.house.now c.prepare.new.house c.conclude.new.house asking c.args.way.place said c.args.meaning c.in-Ready.ready under c.in_ok-ready.ensures.asked
+    c.in_ok-ready.ensures.tells c.conclude.ensures.tells means ready prepares)
 
 pub returns-in-Ended-clause-part : goal.returns-in-Ended-clause-part
 returns-in-Ended-clause-part g c =
@@ -46,11 +49,14 @@ returns-in-Ended-clause-part g c =
 
 pub returns-in-Ended-clause-truly : goal.returns-in-Ended-clause-truly
 returns-in-Ended-clause-truly g c = λ asking said under means shows.
+    let prepares = subst (λ found. Prepares c.args.way.txn.0 (g.D.Shelf.faults c.args.house.now.shelf) (g.D.Shelf.faults c.prepare.new.house.shelf)
+    (entries_of c.args.house.now) (entries_of c.prepare.new.house) found) c.in-Ended.is c.in_ok-ready.ensures.prepares in
     prepared-truly g.D.Shelf.told c.args.way.txn.0 (g.D.Shelf.faults c.args.house.now.shelf) (g.D.Shelf.faults c.prepare.new.house.shelf) c.args.house.now c.prepare.new.house c.in-Ended.reply
-    (subst (λ found. Prepares c.args.way.txn.0 (g.D.Shelf.faults c.args.house.now.shelf) (g.D.Shelf.faults c.prepare.new.house.shelf) (entries_of c.args.house.now) (entries_of c.prepare.new.house) found)
-    c.in-Ended.is c.in_ok-ready.ensures.prepares)
+    prepares
     (c.in_ok-ready.ensures.shows asking said under means shows)
     (told-prepared-ended g.D.Shelf.told c.prepare.new.house asking c.args.way said c.in_ok-ready.field-0 c.in-Ended.reply c.in-Ended.is (c.in_ok-ready.ensures.truly asking said under means shows))
+    (cut-order g.D.Shelf.told (g.D.Shelf.faults c.args.house.now.shelf) (g.D.Shelf.faults c.prepare.new.house.shelf) c.args.house.now c.prepare.new.house asking c.args.way.txn.0
+    c.args.way.place said c.args.meaning under c.in_ok-ready.ensures.asked c.in_ok-ready.ensures.tells means c.in-Ended.reply prepares)
 
 pub returns-in_err-ready-clause-part : goal.returns-in_err-ready-clause-part
 returns-in_err-ready-clause-part g c =

@@ -1,6 +1,3 @@
-use Rattle.std.proofs.Common.{sym, ap, ◌∙◌, subst, Some, None, Option}
-use Rattle.hv_base.specs.Refusals as refusals
-use Rattle.hv_history.specs.declared.entry.Cause.TheVariants as cause
 use Rattle.hv_house.specs.House.{entries_of}
 use Rattle.hv_session.proofs.Shorts.{short_refused}
 use Rattle.hv_session.proofs.Passing.{part-residual}

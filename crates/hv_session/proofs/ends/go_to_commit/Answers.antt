@@ -50,7 +50,8 @@ returns-in-Means-clause-truly g c = λ asking under shows.
     (λ b found. ShowsAnd g.D.Shelf.told c.prepare.new.house (λ s. GoesTruly b (entries_of c.prepare.new.house) s.tree asking c.args.way c.args.tree.now found))
     c.prepare.result
     asking
-    (λ asks means shown. prepared-goes-truly g.D.Shelf.told _ _ c.come_to.new.house c.prepare.new.house asking c.args.way c.args.tree.now c.prepare.result c.prepare.ensures.prepares
+    (λ asks means shown. prepared-goes-truly g.D.Shelf.told _ _ c.come_to.new.house c.prepare.new.house asking c.args.way c.args.tree.now c.in-Means.meaning asks
+    c.prepare.ensures.tells means c.prepare.result c.prepare.ensures.asked c.prepare.ensures.prepares
     (c.prepare.ensures.shows asking c.args.tree.now asks means shown) (c.prepare.ensures.truly asking c.args.tree.now asks means shown))
     under (c.in_ok-meaning.ensures.truly asking under shows)
 

@@ -1,4 +1,4 @@
-use Rattle.std.proofs.Common.{sym, ap, ◌∙◌, subst, refl, Ok, Err}
+use Rattle.std.proofs.Common.{refl, Ok, Err}
 use Rattle.hv_house.specs.House.{entries_of, beginning_of}
 use Rattle.hv_stands.specs.Running.{next_number}
 use Rattle.hv_session.specs.Taking.{asked_of}

@@ -2,7 +2,7 @@ use Rattle.std.proofs.Common.{refl}
 use Rattle.hv_house.specs.House.{entries_of}
 use Rattle.hv_session.specs.Taking.{IsFinished}
 use Rattle.hv_session.proofs.Going.{concluded-part}
-use Rattle.hv_session.proofs.Held.{part-ready, part-added, shown-ok, truth-ok, started-under, meant-under, meant-can, ready-to-end, meant-told, ready-told, meant-known, ready-known, concluded-shows}
+use Rattle.hv_session.proofs.Held.{part-ready, part-added, shown-ok, truth-ok, started-under, meant-under, meant-can, ready-to-end, meant-told, ready-told, meant-known, ready-known, held-order, concluded-shows}
 use Rattle.hv_session.proofs.statement.finish.Goals as goal
 
 -- ---- it has just started
@@ -122,7 +122,8 @@ returns-in-Ready-clause-finished g c = λ shows truly.
     let is = ready-told (entries_of c.args.house.now) held.0 c.args.paused held.1 c.in-Ready.ready c.in-Ready.is (g.D.Shelf.told c.args.house.now.shelf) truly in
     truth-ok g.D.Shelf.told c.conclude.new.house (λ reply s. IsFinished (entries_of c.args.house.now) (entries_of c.conclude.new.house) c.args.paused.txn.0 reply.text reply.refused reply.ended) c.conclude.result
     (concluded-shows g.D.Shelf.told _ _ _ c.args.house.now c.conclude.new.house c.conclude.result c.conclude.ensures.added
-    (c.conclude.ensures.shows held.0 c.args.paused.tree is shows) (c.conclude.ensures.answered held.0 c.args.paused.tree is shows))
+    (c.conclude.ensures.shows held.0 c.args.paused.tree is shows) (c.conclude.ensures.answered held.0 c.args.paused.tree is shows)
+    (held-order g.D.Shelf.told _ _ _ c.args.house.now c.conclude.new.house held.0 c.args.paused.place c.args.paused.tree c.in-Ready.ready c.conclude.ensures.tells is))
 
 pub returns-in-Ready-clause-keeps : goal.returns-in-Ready-clause-keeps
 returns-in-Ready-clause-keeps g c =
