@@ -1,31 +1,20 @@
 -- Where a started statement is held: what was noted until then, and what stands of it.
-use Rattle.std.proofs.Common.{◌≡◌, ℕ, Option, Some, None, List, [], ◌∷◌, ◌++◌, Result, Ok, Err, ◌⊎◌, inl, inr, take, refl, sym, ap, ◌∙◌, subst, append-nil}
-use Rattle.std.specs.Prelude.{IfOk}
-use Rattle.hv_base.specs.declared.gate.Stage.{Stage}
+use Rattle.std.proofs.Common.{◌≡◌, ℕ, Some, None, List, [], ◌∷◌, ◌++◌, inl, inr, refl, sym, ap, ◌∙◌, subst, append-nil}
 use Rattle.hv_base.specs.declared.gate.Stage.TheVariants as stage
-use Rattle.hv_base.specs.declared.ids.TableId.{TableId}
-use Rattle.hv_base.specs.declared.ids.WriteId.{WriteId}
-use Rattle.hv_shelf.specs.Disk.{Store, Tree}
 use Rattle.hv_ast.specs.declared.statement.Stmt.{Stmt}
-use Rattle.hv_logic.specs.declared.meaning.Meaning.{Meaning}
 use Rattle.hv_history.specs.declared.entry.Entry.{Entry}
-use Rattle.hv_history.specs.declared.entry.Cause.{Cause}
-use Rattle.hv_stands.specs.Running.{Asking, meant, starting, IsUnderWay}
-use Rattle.hv_house.specs.declared.fault.HouseFault.{HouseFault}
-use Rattle.hv_house.specs.declared.house.House.{House}
-use Rattle.hv_house.specs.House.{entries_of, Shows}
+use Rattle.hv_stands.specs.Running.{Asking, starting, IsUnderWay}
 use Rattle.hv_ending.specs.declared.ready.Way.{Way}
 use Rattle.hv_ending.specs.declared.ready.Ready.{Ready}
 use Rattle.hv_ending.specs.declared.ready.Reply.{Reply}
 use Rattle.hv_ending.specs.declared.ready.Prepared.{Prepared}
 use Rattle.hv_ending.specs.declared.ready.Prepared.TheVariants as prepared
-use Rattle.hv_ending.specs.Ending.{AddsNoneOrId, AddsAbort, EndsUncommitted, IsPreparedIn, IsReadyToEnd, IsTrulyReady, aborting, giving}
+use Rattle.hv_ending.specs.Ending.{AddsNoneOrId, AddsAbort, IsPreparedIn, IsReadyToEnd, aborting}
 use Rattle.hv_session.specs.declared.ends.Outcome.{Outcome}
 use Rattle.hv_session.specs.declared.ends.Outcome.TheVariants as outcome
 use Rattle.hv_session.specs.declared.paused.Point.TheVariants as point
-use Rattle.hv_session.specs.declared.paused.Taken.{Taken}
 use Rattle.hv_session.specs.declared.paused.Taken.TheVariants as taken
-use Rattle.hv_session.specs.Taking.{EndsBefore, HoldsAt, IsHeld, IsTrulyHeld, IsFinished}
+use Rattle.hv_session.specs.Taking.{EndsBefore, HoldsAt, IsHeld}
 use Rattle.hv_session.specs.Ways.{ComesTo, ComesTruly, ComesUnrefused, GoesToCommit, GoesTruly, keep, held_meant, held_ready, GoesInTime, StandsHeld, StandsTruly}
 
 -- ---- at its Start
@@ -36,9 +25,9 @@ started-stands book asking way tree under = record { given = []; under_way = und
 pub started-goes : (book : List Entry) (way : Way) (tree : Stmt) → GoesInTime (Some stage.Start) way.txn.0 book book (keep way tree point.Started)
 started-goes book way tree = record { added = []; book = sym (append-nil book); in_time = (refl, refl) }
 
-pub started-truly : (book : List Entry) (asking : Asking) (way : Way) (tree : Stmt) (files : Tree) → IsUnderWay book asking way.txn.0 way.place tree []
-    → StandsTruly book book files way.txn.0 (keep way tree point.Started)
-started-truly book asking way tree files under = record { asking = asking; held = started-stands book asking way tree under; truly = tt }
+pub started-truly : (book : List Entry) (asking : Asking) (way : Way) (tree : Stmt) → IsUnderWay book asking way.txn.0 way.place tree []
+    → StandsTruly book book way.txn.0 (keep way tree point.Started)
+started-truly book asking way tree under = record { asking = asking; held = started-stands book asking way tree under; truly = tt }
 
 -- ---- at its end
 
@@ -65,11 +54,11 @@ module _ (before now : List Entry) (way : Way) (tree : Stmt) where
       record { given = []; under_way = meant-under asking comes.0 under; none = refl; can = comes.1; unrefused = unrefused }
   meant-stands asking (outcome.Ended reply) under comes unrefused = tt
 
-  pub meant-truly : (asking : Asking) (files : Tree) (found : Outcome) → IsUnderWay before asking way.txn.0 way.place tree [] → ComesTo way.txn.0 before now found → ComesUnrefused found
-      → ComesTruly before now way tree found → StandsTruly before now files way.txn.0 (held_meant way tree found)
-  meant-truly asking files (outcome.Means meaning) under comes unrefused truly =
+  pub meant-truly : (asking : Asking) (found : Outcome) → IsUnderWay before asking way.txn.0 way.place tree [] → ComesTo way.txn.0 before now found → ComesUnrefused found
+      → ComesTruly before now way tree found → StandsTruly before now way.txn.0 (held_meant way tree found)
+  meant-truly asking (outcome.Means meaning) under comes unrefused truly =
       record { asking = asking; held = meant-stands asking (outcome.Means meaning) under comes unrefused; truly = truly }
-  meant-truly asking files (outcome.Ended reply) under comes unrefused truly = truly
+  meant-truly asking (outcome.Ended reply) under comes unrefused truly = truly
 
   -- ---- before its end
 
@@ -97,8 +86,7 @@ module _ (before now : List Entry) (way : Way) (tree : Stmt) where
   ready-stands asking (prepared.Ready ready) stands = ready-held asking ready stands
   ready-stands asking (prepared.Ended reply) stands = tt
 
-  pub ready-truly : (asking : Asking) (files : Tree) (found : Prepared) → GoesTruly before now files asking way tree found
-      → StandsTruly before now files way.txn.0 (held_ready way tree found)
+  pub ready-truly : (asking : Asking) (found : Prepared) → GoesTruly before now asking way tree found → StandsTruly before now way.txn.0 (held_ready way tree found)
   unfolding ready-held
-  ready-truly asking files (prepared.Ready ready) truly = record { asking = asking; held = ready-held asking ready truly.to_end; truly = truly.truly }
-  ready-truly asking files (prepared.Ended reply) truly = truly
+  ready-truly asking (prepared.Ready ready) truly = record { asking = asking; held = ready-held asking ready truly.to_end; truly = truly.truly }
+  ready-truly asking (prepared.Ended reply) truly = truly

@@ -1,9 +1,9 @@
 mod Books
 mod Shorts
-mod Telling
 mod Passing
 mod Again
 mod SeenTables
+mod Looked
 mod Cutting
 mod Going
 mod Keeping

@@ -1,13 +1,11 @@
 -- How a statement is taken up, held and ended, beside others that are open: what is added to the book, and what is replied.
 -- Source: Hive Transactions (snapshots, locks, first committer wins); where a statement may be held is this project's profile.
-use Rattle.std.specs.Prelude.{◌≡◌, ◌⊎◌, ℕ, ◌+◌, ◌<◌, ◌≤◌, Bool, true, false, Option, Some, None, List, [], ◌∷◌, ◌++◌, length, take}
+use Rattle.std.specs.Prelude.{◌≡◌, ◌⊎◌, ℕ, ◌+◌, ◌<◌, Bool, true, Option, Some, None, List, [], ◌∷◌, ◌++◌, take}
 use Rattle.std.specs.List.{AllByRecursion}
-use Rattle.hv_base.specs.Told.{Tells}
 use Rattle.hv_base.specs.declared.gate.Stage.{Stage}
 use Rattle.hv_base.specs.declared.gate.Stage.TheVariants as stage
 use Rattle.hv_base.specs.declared.ids.TableId.{TableId}
 use Rattle.hv_base.specs.declared.ids.WriteId.{WriteId}
-use Rattle.hv_shelf.specs.Disk.{Store, Tree}
 use Rattle.hv_ast.specs.declared.statement.Stmt.{Stmt}
 use Rattle.hv_built.specs.Running.{Runs}
 use Rattle.hv_logic.specs.declared.meaning.Meaning.{Meaning}
@@ -17,9 +15,9 @@ use Rattle.hv_history.specs.declared.entry.Entry.TheVariants as entry
 use Rattle.hv_history.specs.declared.entry.Cause.{Cause}
 use Rattle.hv_history.specs.declared.entry.Cause.TheVariants as cause
 use Rattle.hv_history.specs.State.{state_of}
-use Rattle.hv_history.specs.Legal.{TouchesAreMeant, IsMake, HasRoom, IsLegalFrom, load, profile}
-use Rattle.hv_history.specs.Answers.{committed_text, ok_line, cause_text}
-use Rattle.hv_stands.specs.Running.{Asking, next_number, opening, starting, AreOf, meant, IsUnderWay, HasPut}
+use Rattle.hv_history.specs.Legal.{load, profile}
+use Rattle.hv_history.specs.Answers.{cause_text}
+use Rattle.hv_stands.specs.Running.{Asking, next_number, opening, starting, AreOf, meant, IsUnderWay}
 use Rattle.hv_ending.specs.Ending.{IsUndamaged, EndsUncommitted, CanEnd, EndCanBeNoted, EndIsTrue, aborting, HasReplied}
 use Rattle.hv_house.specs.Asking.{holder_against, CanBegin}
 use Rattle.hv_session.specs.Faults.{IsFaultLine}
@@ -139,17 +137,18 @@ pub record IsHeld (book : List Entry) (asking : Asking) (paused : Paused) : Type
 abbrev pub IsHeldBySome : List Entry → Paused → Type 0
 IsHeldBySome book paused = (asking : Asking) × IsHeld book asking paused
 
-abbrev pub PointIsTrue : Tree → Option Meaning → List (ℕ × ℕ) → Point → Type 0
-PointIsTrue files meaning given point.Started = Unit {0}
-PointIsTrue files meaning given (point.Meant found) = meaning ≡ Some found
-PointIsTrue files meaning given (point.Ready ready) = EndIsTrue files meaning given ready.end ready.text
+abbrev pub PointIsTrue : Option Meaning → List (ℕ × ℕ) → Point → Type 0
+PointIsTrue meaning given point.Started = Unit {0}
+PointIsTrue meaning given (point.Meant found) = meaning ≡ Some found
+PointIsTrue meaning given (point.Ready ready) = EndIsTrue meaning given ready.end ready.text
 
-pub record IsTrulyHeld (book : List Entry) (files : Tree) (paused : Paused) : Type 0 where
+-- and, in a told house, it has come to what its text means
+pub record IsTrulyHeld (book : List Entry) (paused : Paused) : Type 0 where
   pub asking : Asking
   pub held : IsHeld book asking paused
-  pub truly : PointIsTrue files (meant (take paused.place book) paused.tree) held.given paused.point
+  pub truly : PointIsTrue (meant (take paused.place book) paused.tree) held.given paused.point
 
--- ---- what a statement that was taken up comes to, over a book of which all is told
+-- ---- what a statement that was taken up comes to, in a told house
 
 -- It went through the book as a transaction, whose answer is the reply. It started at once where it could.
 pub record WentThrough (before now : List Entry) (asking : Asking) (hold : Option Stage) (reply : List ℕ) (refused : Bool) (ended : Option ℕ) : Type 0 where
@@ -191,18 +190,18 @@ IsReplied before now asking hold reply refused ended =
     ⊎ IsFull before now reply refused ended ⊎ LacksMemory before now reply refused ended
 
 -- it is held, with its transaction open
-pub record IsKept (before now : List Entry) (files : Tree) (asking : Asking) (hold : Option Stage) (paused : Paused) : Type 0 where
+pub record IsKept (before now : List Entry) (asking : Asking) (hold : Option Stage) (paused : Paused) : Type 0 where
   pub added : List Entry
   pub book : now ≡ before ++ opening before asking ∷ added
   pub txn_is : paused.txn.0 ≡ next_number before
   pub runs : Runs asking.text paused.tree
   pub can : CanBegin profile before paused.tree
   pub at_hold : HoldsAt hold (next_number before) added
-  pub truly : IsTrulyHeld now files paused
+  pub truly : IsTrulyHeld now paused
 
-abbrev pub IsTakenAs : List Entry → List Entry → Tree → Asking → Option Stage → Taken → Type 0
-IsTakenAs before now files asking hold (taken.Replied reply) = IsReplied before now asking hold reply.text reply.refused reply.ended
-IsTakenAs before now files asking hold (taken.Kept paused) = IsKept before now files asking hold paused
+abbrev pub IsTakenAs : List Entry → List Entry → Asking → Option Stage → Taken → Type 0
+IsTakenAs before now asking hold (taken.Replied reply) = IsReplied before now asking hold reply.text reply.refused reply.ended
+IsTakenAs before now asking hold (taken.Kept paused) = IsKept before now asking hold paused
 
 -- what stands of one that is held whatever is told
 abbrev pub IsKeptIn : List Entry → List Entry → Asking → Taken → Type 0
