@@ -92,6 +92,7 @@ module _ {D : Type 0} (told : D → Option Store) (faults : D → ℕ) (way : Wa
     stands = λ asking said under. tt;
     truly = λ asking said under means. ended-answered reply ends asking said under;
     last = names-last (entries_of before) (entries_of now) (aborting way.txn.0 ends.why) reply ends.done.book ends.done.ended_is;
+    asked = record { added = aborting way.txn.0 ends.why ∷ []; book = ends.done.book; asked = (tt, tt) };
   }
 
   -- ---- the run has stopped
@@ -104,6 +105,7 @@ module _ {D : Type 0} (told : D → Option Store) (faults : D → ℕ) (way : Wa
     stands = λ asking said under. tt;
     truly = λ asking said under means. tt;
     last = tt;
+    asked = tt;
   }
 
   -- ---- by its reply, or the run has stopped
@@ -169,6 +171,7 @@ module _ {D : Type 0} (told : D → Option Store) (faults : D → ℕ) (way : Wa
         truly = ready-true (meant (take way.place (entries_of now)) said) (ap (λ (b : List Entry). meant (take way.place b) said) same ∙ means) truly;
       };
       last = tt;
+      asked = record { added = []; book = same ∙ sym (append-nil (entries_of before)); asked = tt };
     }
 
   pub made-preparation : (last : End) (text : List ℕ) (result : Result Prepared HouseFault) → EndCanBeNoted (entries_of before) way.txn.0 [] last

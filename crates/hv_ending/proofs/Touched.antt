@@ -81,7 +81,7 @@ module _ (info : TableInfo) (effect : Effect) where
   touched-one (touch ∷ ts) of_it some write =
       ap (λ b. b || is_touched ts (info.table.0, write)) (eq-eqb touch.table.0 info.table.0 of_it.0)
 
-  some-touched : 0 < changes_in effect → touches_of info effect ≡ [] → ⊥
+  pub some-touched : 0 < changes_in effect → touches_of info effect ≡ [] → ⊥
   some-touched some none =
       let rows = (touches-are-of-rows info effect).none none in
       let inserts : length effect.inserts ≡ 0 = ap length rows.0 in

@@ -228,6 +228,7 @@ module _ {D : Type 0} (told : D → Option Store) (faults : D → ℕ) (way : Wa
               (ap (λ (b : List Entry). meant (take way.place b) said) same_with ∙ means-still old_book asking way.txn.0 way.place said [] under (noted ∷ []) ∙ means);
         };
         last = tt;
+        asked = record { added = noted ∷ []; book = same_with; asked = ((refl, some), tt) };
       }
 
     -- ---- or it has ended
@@ -260,6 +261,11 @@ module _ {D : Type 0} (told : D → Option Store) (faults : D → ℕ) (way : Wa
             (as-replied (with_id ++ ending ∷ []) way.txn.0 _ _ _ reply ends.done.text_is ends.done.refusal ended_is
             (abort-answered with_id asking way.txn.0 way.place said ids (under_with asking said under) ends.why ends.uncommitted));
         last = names-last with_id (entries_of now) ending reply same_ended ended_is;
+        asked = record {
+          added = noted ∷ ending ∷ [];
+          book = same_ended ∙ append_assoc old_book (noted ∷ []) (ending ∷ []);
+          asked = ((refl, some), (tt, tt));
+        };
       }
 
     pub given-preparation : (result : Result Prepared HouseFault) → Writing told faults way.txn.0 info effect write.0 wrote text mid now result

@@ -26,7 +26,7 @@ use Rattle.hv_history.specs.State.{state_of, numbered, given_in}
 use Rattle.hv_history.specs.Legal.{TouchesAreMeant, IsMake, IsLegalFrom, AllFit, Rise, is_touched, profile}
 use Rattle.hv_history.specs.Answers.{committed_text, ok_line}
 use Rattle.hv_stands.specs.Files.{place_of_file}
-use Rattle.hv_stands.specs.Laws.{HasFile}
+use Rattle.hv_stands.specs.Laws.{HasFile, changes_in}
 use Rattle.hv_stands.specs.Running.{Asking, AreOf, meant, IsUnderWay, HasAnswered}
 use Rattle.hv_house.specs.declared.fault.HouseFault.{HouseFault}
 use Rattle.hv_house.specs.declared.house.House.{House}
@@ -194,6 +194,21 @@ AddsNoneOrId txn added = (added ≡ []) ⊎ ((table : TableId) × (write : Write
 abbrev pub AddsAbort : ℕ → List Entry → Type 0
 AddsAbort txn added =
     (first : List Entry) × (why : Cause) × AddsNoneOrId txn first × EndsUncommitted why × (added ≡ first ++ aborting txn why ∷ [])
+
+-- a write id is asked for by a change of rows, in its table
+abbrev pub IsOfRows : TableId → Meaning → Type 0
+IsOfRows table (Change info effect) = (table ≡ info.table) × (0 < changes_in effect)
+IsOfRows table meaning = ⊥
+
+abbrev pub IsAskedBy : Meaning → Entry → Type 0
+IsAskedBy meaning (entry.Given txn table write) = IsOfRows table meaning
+IsAskedBy meaning event = Unit {0}
+
+-- what was added asks for no write id but that of such a change
+pub record AddsAsked (meaning : Meaning) (before now : List Entry) : Type 0 where
+  pub added : List Entry
+  pub book : now ≡ before ++ added
+  pub asked : AllByRecursion (IsAskedBy meaning) added
 
 -- it was aborted for this cause, or since memory lacked for that
 pub record IsAborted (txn : ℕ) (why : Cause) (before now : List Entry) : Type 0 where

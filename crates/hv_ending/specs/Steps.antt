@@ -34,7 +34,7 @@ use Rattle.hv_ending.specs.declared.ready.Prepared.{Prepared}
 use Rattle.hv_ending.specs.declared.ready.Prepared.TheVariants as prepared
 use Rattle.hv_ending.specs.declared.ready.PutFiles.{PutFiles}
 use Rattle.hv_ending.specs.declared.ready.Ready.{Ready}
-use Rattle.hv_ending.specs.Ending.{KeepsCount, IsUndamaged, aborting, EndsUncommitted, Prepares, Concludes, IsPreparedIn, IsTrulyPrepared, IsTrulyReady, NamesLast, EndedNamesLast, HasStopped, HasReplied, places_of_files}
+use Rattle.hv_ending.specs.Ending.{KeepsCount, IsUndamaged, aborting, EndsUncommitted, AddsAsked, Prepares, Concludes, IsPreparedIn, IsTrulyPrepared, IsTrulyReady, NamesLast, EndedNamesLast, HasStopped, HasReplied, places_of_files}
 
 -- ---- whatever comes of a call
 
@@ -186,6 +186,7 @@ pub record Preparation {D : Type 0} (told : D → Option Store) (faults : D → 
       → meant (take way.place (entries_of before)) said ≡ Some meaning
       → IfOk result (IsTrulyPrepared (entries_of now) asking way.txn.0 way.place said)
   pub last : IfOk result (EndedNamesLast (entries_of now))
+  pub asked : IfOk result (λ _. AddsAsked meaning (entries_of before) (entries_of now))
 
 pub record Conclusion {D : Type 0} (told : D → Option Store) (faults : D → ℕ) (way : Way) (ready : Ready) (before now : House D) (result : Result Reply HouseFault) : Type 0 where
   pub goes : Goes told faults way.txn.0 before now result

@@ -21,7 +21,7 @@ ghost use Rattle.hv_telling.specs.Telling.{IsToldHouse, IsWhole, StaysWhole, Sti
 ghost use Rattle.hv_ending.specs.declared.ready.End.TheVariants as last;
 ghost use Rattle.hv_ending.specs.declared.ready.Prepared.TheVariants as found;
 ghost use Rattle.hv_house.specs.declared.fault.HouseFault.TheVariants as house_fault;
-ghost use Rattle.hv_ending.specs.Ending.{giving, aborting, CanChange, CanEnd, Prepares, IsPreparedIn, IsTrulyPrepared, EndedNamesLast, HasStopped, idle_end};
+ghost use Rattle.hv_ending.specs.Ending.{giving, aborting, CanChange, CanEnd, AddsAsked, Prepares, IsPreparedIn, IsTrulyPrepared, EndedNamesLast, HasStopped, idle_end};
 ghost use Rattle.hv_ending.specs.Putting.{IsMeantChange, IsPutOff};
 ghost use Rattle.hv_ending.specs.Steps.{ended, Goes, IsMadeReady, IsWithdrawn, IsNextOf, BreaksOff, Writing, Preparation};
 
@@ -429,6 +429,7 @@ pub fn prepare<D: Shelf>(
         → IfErr result (λ _. StillOpens D.told house.new) }
     ensures ends { IfErr result EndsRun }
     ensures cause { FileCause (D.faults house.old.shelf) (D.faults house.new.shelf) result }
+    ensures asked { IfOk result (λ _. AddsAsked meaning (entries_of house.old) (entries_of house.new)) }
 {
     prepare_meaning(alloc, house, way, meaning)
 }

@@ -1,5 +1,5 @@
 -- How a statement is opened: with its Start, or with its abort; and what it comes to from there.
-use Rattle.std.proofs.Common.{◌≡◌, ℕ, ◌+◌, ◌<◌, ◌≤◌, true, false, Option, Some, None, List, [], ◌∷◌, ◌++◌, Result, Ok, Err, ◌⊎◌, inl, inr, length, refl, sym, ap, ◌∙◌, subst, arith, append_assoc, append-nil}
+use Rattle.std.proofs.Common.{◌≡◌, ℕ, ◌+◌, ◌<◌, ◌≤◌, true, false, Option, Some, None, List, [], ◌∷◌, ◌++◌, Result, Ok, Err, ◌⊎◌, inl, inr, length, take, refl, sym, ap, ◌∙◌, subst, arith, append_assoc, append-nil}
 use Rattle.std.specs.Prelude.{Bool, nat_lt, IfOk, IfErr, IsTrue, IsFalse, IsSomeAnd, ◌↔◌}
 use Rattle.std.proofs.lemmas.Bool.{false≢true}
 use Rattle.std.proofs.lemmas.Bool.Decides.{nat_tests}
@@ -11,8 +11,6 @@ use Rattle.hv_base.specs.declared.ids.TxnId.{TxnId}
 use Rattle.hv_shelf.specs.Disk.{Store}
 use Rattle.hv_ast.specs.declared.statement.Stmt.{Stmt}
 use Rattle.hv_locks.specs.declared.table.Lock.{Lock}
-use Rattle.hv_grammar.specs.Texts.{tree_of}
-use Rattle.hv_logic.specs.Names.{names_in}
 use Rattle.hv_built.specs.Running.{Runs}
 use Rattle.hv_history.specs.declared.entry.Entry.{Entry}
 use Rattle.hv_history.specs.declared.entry.Entry.TheVariants as entry
@@ -22,8 +20,10 @@ use Rattle.hv_history.specs.declared.state.Transaction.{Transaction}
 use Rattle.hv_history.specs.Book.{tree_of_entry}
 use Rattle.hv_history.specs.Answers.{cause_text}
 use Rattle.hv_history.specs.State.{state_of, opened, meaning}
-use Rattle.hv_history.specs.Legal.{Fits, FullFits, BlockedFits, IsTruthful, Of, is_started, NeedsId, first_holder, locks_of, locks_of_tree, load, profile}
-use Rattle.hv_stands.specs.Running.{Asking, next_number, opening, starting, IsOf, AreOf, IsWaiting, IsUnderWay}
+use Rattle.hv_history.specs.Legal.{Fits, FullFits, BlockedFits, IsTruthful, Of, is_started, NeedsId, first_holder, load, profile}
+use Rattle.hv_stands.specs.Running.{meant, Asking, next_number, opening, starting, IsOf, AreOf, IsWaiting, IsUnderWay}
+use Rattle.hv_next.specs.Order.{AllInOrder}
+use Rattle.hv_next.specs.Carrying.{IsAtHold}
 use Rattle.hv_stands.proofs.Begun.{opens, begins}
 use Rattle.hv_house.specs.declared.fault.HouseFault.{HouseFault}
 use Rattle.hv_house.specs.declared.fault.HouseFault.TheVariants as fault
@@ -37,12 +37,14 @@ use Rattle.hv_telling.specs.Telling.{IsToldHouse, IsWhole, StaysWhole, StillOpen
 use Rattle.hv_ending.specs.declared.ready.Reply.{Reply}
 use Rattle.hv_ending.specs.Ending.{KeepsCount, IsUndamaged, EndsUncommitted, IsAborted, HasStopped, aborting, HasReplied}
 use Rattle.hv_session.proofs.Shorts.{short_blocked, short_full}
+use Rattle.hv_session.specs.declared.paused.Paused.{Paused}
 use Rattle.hv_session.specs.declared.paused.Taken.{Taken}
 use Rattle.hv_session.specs.declared.paused.Taken.TheVariants as taken
 use Rattle.hv_session.specs.Lines.{IsLine, IsFullLine, IsTextLine}
-use Rattle.hv_session.specs.Taking.{IsWhyNot, EndsBefore, IsHold, IsKeptIn, IsTakenAs}
+use Rattle.hv_session.specs.Taking.{IsAtPlace, IsTrulyHeld, IsWhyNot, EndsBefore, IsHold, IsKeptIn, IsTakenAs}
 use Rattle.hv_session.specs.Ways.{IsPart, IsTaking, StopsAtBeginning, GoesInTime, StandsHeld, StandsTruly, IsTurnedAway, hindrance_of, LacksRoom, AbortsOpened}
 use Rattle.hv_session.proofs.Books.{IsBegun}
+use Rattle.hv_session.proofs.Orders.{at-its-hold, opened-in-order, begun-in-order, of-waiting, locks-are, hindered-in-order}
 use Rattle.hv_session.proofs.Passing.{HasPassed, part-taking, passed-part, nothing-passed}
 
 -- ---- what was noted of a statement that begins
@@ -109,14 +111,14 @@ module _ {D : Type 0} (told : D → Option Store) (faults : D → ℕ) (before n
       → (IsToldHouse told before → StillOpens told now) → EndsRun why → FileCause {T = T} (faults before.shelf) (faults now.shelf) (Err why)
       → IfOk result (λ reply. (why ≡ fault.NoMemory) × IsLine (cause_text None cause.Memory) reply) → IfErr result (λ failed. failed ≡ why)
       → IsPart told faults its_number before now result
-  unopened-part event why (Ok reply) of_it fits halted stays start opens ends cause memory failed =
+  unopened-part event why (Ok reply) of_it fits halted stays start reopens ends cause memory failed =
       unopened-ok (event ∷ []) why reply halted stays start cause.later memory.0
-  unopened-part {T = T} event why (Err other) of_it fits halted stays start opens ends cause memory failed =
+  unopened-part {T = T} event why (Err other) of_it fits halted stays start reopens ends cause memory failed =
       subst (λ (w : HouseFault). IsPart {T = Reply} told faults its_number before now (Err w)) (sym failed) (record {
         done = tt;
         start = start;
         stopped = halted-stopped told before now its_number event why halted of_it fits;
-        opens = opens;
+        opens = reopens;
         ends = ends;
         cause = record { later = cause.later; failed = cause.failed };
       })
@@ -126,14 +128,14 @@ module _ {D : Type 0} (told : D → Option Store) (faults : D → ℕ) (before n
       → (IsToldHouse told before → StillOpens told now) → EndsRun why → FileCause {T = T} (faults before.shelf) (faults now.shelf) (Err why)
       → IfOk result (λ reply. (why ≡ fault.NoMemory) × IsLine (cause_text None cause.Memory) reply) → IfErr result (λ failed. failed ≡ why)
       → IsTaking told faults asking before now result
-  unbegun-taking asking why (Ok reply) fits halted stays start opens ends cause memory failed =
+  unbegun-taking asking why (Ok reply) fits halted stays start reopens ends cause memory failed =
       part-taking told faults asking before now (Ok reply) (unopened-ok (beginning_of (entries_of before) asking) why reply halted stays start cause.later memory.0)
-  unbegun-taking {T = T} asking why (Err other) fits halted stays start opens ends cause memory failed =
+  unbegun-taking {T = T} asking why (Err other) fits halted stays start reopens ends cause memory failed =
       subst (λ (w : HouseFault). IsTaking {T = Reply} told faults asking before now (Err w)) (sym failed) (record {
         done = tt;
         start = start;
         stopped = inr (halted-beginning told before now asking why halted fits);
-        opens = opens;
+        opens = reopens;
         ends = ends;
         cause = record { later = cause.later; failed = cause.failed };
       })
@@ -158,6 +160,14 @@ module _ (first before now : List Entry) (asking : Asking) (book : before ≡ fi
   same-added : (xs ys : List Entry) → now ≡ before ++ xs → now ≡ before ++ ys → xs ≡ ys
   same-added xs ys x y = append_cancel_left before xs ys (sym x ∙ y)
 
+  kept-up : (hold : Option Stage) (paused : Paused) → paused.txn.0 ≡ next_number first → IsAtPlace hold paused.point → IsTrulyHeld now paused
+      → Of (state_of now) (next_number first) (λ (t : Transaction). IsAtHold hold t.given (meaning t))
+  kept-up hold paused txn_is place truly =
+      let held = truly.held in
+      subst (λ (n : ℕ). Of (state_of now) n (λ (t : Transaction). IsAtHold hold t.given (meaning t))) txn_is
+      (subst (λ (o : Option Transaction). IsSomeAnd o (λ (t : Transaction). IsAtHold hold t.given (meaning t))) (sym held.under_way.here)
+      (at-its-hold hold paused.point (meant (take paused.place now) paused.tree) held.given place held.unrefused truly.truly))
+
   pub goes-taken : (hold : Option Stage) (tree : Stmt) (way : Taken) → Runs asking.text tree → CanBegin profile first tree → StandsHeld now asking way
       → GoesInTime hold (next_number first) before now way
       → StandsTruly before now (next_number first) way → IsTakenAs first now asking hold way
@@ -171,6 +181,7 @@ module _ (first before now : List Entry) (asking : Asking) (book : before ≡ fi
     in_time = subst (λ (es : List Entry). EndsBefore hold (next_number first) (starting (next_number first) ∷ es)) (same-added goes.added truly.added goes.book truly.book) goes.in_time;
     undamaged = (tt, truly.undamaged);
     answered = truly.answered;
+    in_order = begun-in-order first asking truly.added (subst (λ (b : List Entry). AllInOrder (state_of b) truly.added) book truly.in_order);
   })
   goes-taken hold tree (taken.Kept paused) runs can stands goes truly = record {
     added = starting (next_number first) ∷ goes.added;
@@ -179,7 +190,11 @@ module _ (first before now : List Entry) (asking : Asking) (book : before ≡ fi
     runs = stands.under_way.runs;
     can = subst (CanBegin profile first) (one-tree asking.text tree paused.tree runs stands.under_way.runs) can;
     at_hold = goes.in_time.1;
-    truly = truly;
+    truly = truly.0;
+    in_order = begun-in-order first asking goes.added
+        (subst (λ (b : List Entry). AllInOrder (state_of b) goes.added) book
+        (subst (AllInOrder (state_of before)) (same-added truly.1.0 goes.added truly.1.1 goes.book) truly.1.2));
+    up_to_hold = kept-up hold paused goes.in_time.0 goes.in_time.2 truly.0;
   }
 
   pub goes-kept : (hold : Option Stage) (way : Taken) → GoesInTime hold (next_number first) before now way → StandsHeld now asking way → IsKeptIn first now asking way
@@ -245,6 +260,10 @@ module _ (first before now : List Entry) (asking : Asking) (book : before ≡ fi
         in_time = never-started hold aborted.of is;
         undamaged = (hindrance-whole (holder_against first tree) aborted.of why, tt);
         answered = answered;
+        in_order = opened-in-order first asking (aborting (next_number first) aborted.of ∷ [])
+            (hindered-in-order (first ++ opening first asking ∷ []) asking (next_number first) tree (opens first asking tree runs)
+            (holder_against (first ++ opening first asking ∷ []) tree) refl aborted.of
+            (subst (λ (b : List Entry). (aborted.of ≡ hindrance_of (holder_against b tree)) ⊎ (aborted.of ≡ cause.Memory)) book aborted.is));
       })
 
 pub full-away : (book : List Entry) (asking : Asking) (reply : Reply) → profile.entries < load (state_of book) + 2 → IsFullLine reply → IsTurnedAway book book asking reply
@@ -262,28 +281,21 @@ lacks-room book asking tree runs unfit = by (nat_lt profile.entries (load (state
 
 -- ---- an opened statement is aborted
 
-abbrev waiting_here : Asking → Transaction
-waiting_here asking = opened asking.session asking.number asking.text
-
 module _ (book : List Entry) (asking : Asking) (txn : ℕ) (said : Stmt) (waits : IsWaiting book asking txn said) where
-  of-waiting : (P : Transaction → Type 0) → P (waiting_here asking) → Of (state_of book) txn P
-  of-waiting P p = subst (λ (o : Option Transaction). IsSomeAnd o P) (sym waits.here) p
-
-  -- the lock set of a text is what its tree names
-  locks-are : locks_of (waiting_here asking) ≡ names_in said
-  locks-are = append-nil (locks_of_tree (tree_of asking.text)) ∙ ap locks_of_tree waits.runs.read
+  here-waits : (P : Transaction → Type 0) → P (opened asking.session asking.number asking.text) → Of (state_of book) txn P
+  here-waits P p = of-waiting book asking txn said waits P p
 
   pub hindrance-fits : LacksRoom book said → (holder : Option ℕ) → holder_against book said ≡ holder → Fits profile (state_of book) (aborting txn (hindrance_of holder))
-  hindrance-fits lacks None here = of-waiting (FullFits profile (state_of book)) (record { unended = refl; full = lacks here })
+  hindrance-fits lacks None here = here-waits (FullFits profile (state_of book)) (record { unended = refl; full = lacks here })
   hindrance-fits lacks (Some holder) here =
-      of-waiting (BlockedFits (state_of book) holder) (record {
+      here-waits (BlockedFits (state_of book) holder) (record {
         waiting = record { unended = refl; unstarted = refl };
-        held = ap (λ (locks : List Lock). first_holder locks 1 (state_of book).transactions) locks-are ∙ here;
+        held = ap (λ (locks : List Lock). first_holder locks 1 (state_of book).transactions) (locks-are book asking txn said waits) ∙ here;
       })
 
   pub hindrance-true : (holder : Option ℕ) → IsTruthful (state_of book) (aborting txn (hindrance_of holder))
-  hindrance-true (Some holder) = of-waiting (λ (t : Transaction). Unit {0}) tt
-  hindrance-true None = of-waiting (λ (t : Transaction). IsFalse (is_started t) ⊎ NeedsId t.given (meaning t)) (inl refl)
+  hindrance-true (Some holder) = here-waits (λ (t : Transaction). Unit {0}) tt
+  hindrance-true None = here-waits (λ (t : Transaction). IsFalse (is_started t) ⊎ NeedsId t.given (meaning t)) (inl refl)
 
 pub hindrance-small : (txn : TxnId) (holder : Option ℕ) → IsSmall (aborting txn.0 (hindrance_of holder))
 hindrance-small txn (Some holder) = short_blocked txn (record { 0 = holder })
@@ -308,7 +320,7 @@ module _ (holder : Option ℕ) {D : Type 0} (told : D → Option Store) (faults 
       → IfErr result (λ failed. HasStopped told txn failed before now) → (IsToldHouse told before → IfErr result (λ _. StillOpens told now))
       → IfErr result EndsRun → FileCause (faults before.shelf) (faults now.shelf) result
       → IsPart told faults txn before now result
-  aborted-part (Ok reply) whole aborted start stopped opens ends cause = record {
+  aborted-part (Ok reply) whole aborted start stopped reopens ends cause = record {
     done = record {
       whole = whole;
       added = record {
@@ -324,8 +336,8 @@ module _ (holder : Option ℕ) {D : Type 0} (told : D → Option Store) (faults 
     ends = tt;
     cause = cause;
   }
-  aborted-part (Err failed) whole aborted start stopped opens ends cause =
-      record { done = tt; start = start; stopped = stopped; opens = opens; ends = ends; cause = cause }
+  aborted-part (Err failed) whole aborted start stopped reopens ends cause =
+      record { done = tt; start = start; stopped = stopped; opens = reopens; ends = ends; cause = cause }
 
 -- ---- behind its Opened it is turned away
 

@@ -30,6 +30,7 @@ use Rattle.hv_ending.specs.declared.ready.Reply.{Reply}
 use Rattle.hv_ending.specs.Ending.{KeepsCount, IsUndamaged, IsAborted, HasStopped, aborting}
 use Rattle.hv_telling.proofs.Told.{told-stays}
 use Rattle.hv_session.proofs.Passing.{cause-from}
+use Rattle.hv_session.proofs.Orders.{early-uncommitted, aborted-in-order}
 use Rattle.hv_session.specs.Ways.{IsPart, CutsOff, IsCauseOfRows, IsAbortedFor, EndsFor, ComesTo, ComesTruly}
 use Rattle.hv_session.specs.declared.ends.Outcome.{Outcome}
 use Rattle.hv_session.specs.declared.ends.Outcome.TheVariants as outcome
@@ -241,4 +242,6 @@ module _ {D : Type 0} (told : D → Option Store) (faults : D → ℕ) (way : Wa
           of_it = (refl, tt);
           undamaged = (whole ends.aborted.why aborted.of ends.aborted.is_cause aborted.is undamaged, tt);
           answered = ends.answered asking said [] (subst (λ (b : List Entry). IsUnderWay b asking way.txn.0 way.place said []) (sym same) under);
+          in_order = aborted-in-order (entries_of first) asking way.txn.0 way.place said [] under aborted.of
+              (early-uncommitted aborted.of (early ends.aborted.why aborted.of ends.aborted.is_cause aborted.is));
         }

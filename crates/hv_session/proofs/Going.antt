@@ -14,6 +14,7 @@ use Rattle.hv_history.specs.declared.entry.Cause.TheVariants as cause
 use Rattle.hv_history.specs.State.{state_of}
 use Rattle.hv_history.specs.Legal.{IsTruthful}
 use Rattle.hv_stands.specs.Running.{Asking, IsOf, meant, IsUnderWay}
+use Rattle.hv_next.specs.Order.{AllInOrder}
 use Rattle.hv_house.specs.declared.fault.HouseFault.{HouseFault}
 use Rattle.hv_house.specs.declared.house.House.{House}
 use Rattle.hv_house.specs.Faults.{FileCause, EndsRun}
@@ -24,7 +25,7 @@ use Rattle.hv_ending.specs.declared.ready.Ready.{Ready}
 use Rattle.hv_ending.specs.declared.ready.Reply.{Reply}
 use Rattle.hv_ending.specs.declared.ready.Prepared.{Prepared}
 use Rattle.hv_ending.specs.declared.ready.Prepared.TheVariants as prepared
-use Rattle.hv_ending.specs.Ending.{CanEnd, KeepsCount, IsUndamaged, EndsUncommitted, AddsNoneOrId, Prepares, Concludes, IsTrulyReady, IsTrulyPrepared, HasStopped, aborting, HasReplied}
+use Rattle.hv_ending.specs.Ending.{AddsAsked, CanEnd, KeepsCount, IsUndamaged, AddsNoneOrId, Prepares, Concludes, IsTrulyReady, IsTrulyPrepared, HasStopped, aborting, HasReplied}
 use Rattle.hv_telling.proofs.Told.{told-stays}
 use Rattle.hv_session.specs.declared.ends.Outcome.{Outcome}
 use Rattle.hv_session.specs.declared.ends.Outcome.TheVariants as outcome
@@ -32,6 +33,7 @@ use Rattle.hv_session.specs.Taking.{EndsEarly, IsFinished}
 use Rattle.hv_session.specs.Ways.{IsPart, IsOnWayAs, CutsOff, ComesTo, ComesTruly, GoesToCommit, GoesTruly}
 use Rattle.hv_session.proofs.Books.{all-append, IsBegun}
 use Rattle.hv_session.proofs.Cutting.{refusal-true}
+use Rattle.hv_session.proofs.Orders.{early-uncommitted, aborted-in-order, prepared-in-order, cut-in-order}
 use Rattle.hv_session.proofs.Passing.{HasPassed, nothing-passed}
 
 -- ---- it means something over what was seen
@@ -119,24 +121,32 @@ module _ (now : List Entry) (asking : Asking) (way : Way) (said : Stmt) (found :
 -- ---- it has ended
 
 -- by its conclusion
-pub concluded-truly : (txn low mid high : ℕ) (before between now : List Entry) (ready : Ready) → Prepares txn low mid before between (prepared.Ready ready) → (result : Result Reply HouseFault)
+pub concluded-truly : (txn low mid high : ℕ) (before between now : List Entry) (ready : Ready) (prepares : Prepares txn low mid before between (prepared.Ready ready)) (result : Result Reply HouseFault)
     → IfOk result (λ _. Concludes txn mid high between now)
     → IfOk result (λ reply. HasReplied now txn reply.text reply.refused reply.ended)
+    → ((ends : Concludes txn mid high between now) → AllInOrder (state_of before) (prepares.added ++ ends.added))
     → IfOk result (λ reply. IsFinished before now txn reply.text reply.refused reply.ended)
-concluded-truly txn low mid high before between now ready prepares (Err why) concludes answered = tt
-concluded-truly txn low mid high before between now ready prepares (Ok reply) concludes answered = record {
+concluded-truly txn low mid high before between now ready prepares (Err why) concludes answered order = tt
+concluded-truly txn low mid high before between now ready prepares (Ok reply) concludes answered order = record {
   added = prepares.added ++ concludes.added;
   book = concludes.book ∙ ap (λ (b : List Entry). b ++ concludes.added) prepares.book ∙ append_assoc before prepares.added concludes.added;
   of_it = all-append (IsOf txn) prepares.added concludes.added prepares.of_it concludes.of_it;
   undamaged = all-append IsUndamaged prepares.added concludes.added prepares.undamaged concludes.undamaged;
   answered = answered;
+  in_order = order concludes;
 }
 
 -- while it was prepared
-pub prepared-truly : (txn low high : ℕ) (before now : List Entry) (reply : Reply) → Prepares txn low high before now (prepared.Ended reply)
-    → HasReplied now txn reply.text reply.refused reply.ended → IsFinished before now txn reply.text reply.refused reply.ended
-prepared-truly txn low high before now reply prepares answered =
-    record { added = prepares.added; book = prepares.book; of_it = prepares.of_it; undamaged = prepares.undamaged; answered = answered }
+pub prepared-truly : (txn low high : ℕ) (before now : List Entry) (reply : Reply) (prepares : Prepares txn low high before now (prepared.Ended reply))
+    → HasReplied now txn reply.text reply.refused reply.ended → AllInOrder (state_of before) prepares.added → IsFinished before now txn reply.text reply.refused reply.ended
+prepared-truly txn low high before now reply prepares answered order = record {
+  added = prepares.added;
+  book = prepares.book;
+  of_it = prepares.of_it;
+  undamaged = prepares.undamaged;
+  answered = answered;
+  in_order = order;
+}
 
 -- ---- a refusal that ends at once
 
@@ -195,6 +205,8 @@ module _ {D : Type 0} (told : D → Option Store) (faults : D → ℕ) (way : Wa
     of_it = (refl, tt);
     undamaged = (refused-whole cuts.aborted.of cuts.aborted.is, tt);
     answered = cuts.answered asking said [] under;
+    in_order = aborted-in-order (entries_of before) asking way.txn.0 way.place said [] under cuts.aborted.of
+        (early-uncommitted cuts.aborted.of (refused-early cuts.aborted.of cuts.aborted.is));
   }
 
 -- the refusal is what it means
@@ -247,13 +259,6 @@ module _ {D : Type 0} (told : D → Option Store) (faults : D → ℕ) (way : Wa
 
 -- ---- all but its end
 
-early-uncommitted : (why : Cause) → EndsEarly why → EndsUncommitted why
-early-uncommitted (cause.Refused number) early = tt
-early-uncommitted (cause.ReadFault count) early = tt
-early-uncommitted (cause.Damaged place) early = tt
-early-uncommitted cause.Memory early = tt
-early-uncommitted why early = absurd early
-
 pub ended-to-commit : (txn : ℕ) (before now : List Entry) (reply : Reply) → ComesTo txn before now (outcome.Ended reply) → GoesToCommit txn before now (prepared.Ended reply)
 ended-to-commit txn before now reply comes =
     record { added = aborting txn comes.0 ∷ []; book = comes.2; shape = ([], comes.0, inl refl, early-uncommitted comes.0 comes.1, refl) }
@@ -262,9 +267,13 @@ pub prepared-goes : (txn low high : ℕ) (before now : List Entry) (result : Res
 prepared-goes txn low high before now (Ok found) prepares = record { added = prepares.added; book = prepares.book; shape = prepares.shape }
 prepared-goes txn low high before now (Err why) prepares = tt
 
-pub prepared-goes-truly : (low high : ℕ) (before now : List Entry) (asking : Asking) (way : Way) (said : Stmt) (result : Result Prepared HouseFault)
+pub prepared-goes-truly : (low high : ℕ) (before now : List Entry) (asking : Asking) (way : Way) (said : Stmt) (meaning : Meaning) → IsUnderWay before asking way.txn.0 way.place said []
+    → meant (take way.place before) said ≡ Some meaning → (result : Result Prepared HouseFault) → IfOk result (λ _. AddsAsked meaning before now)
     → IfOk result (Prepares way.txn.0 low high before now) → IfOk result (IsTrulyPrepared now asking way.txn.0 way.place said)
     → IfOk result (GoesTruly before now asking way said)
-prepared-goes-truly low high before now asking way said (Err why) prepares truly = tt
-prepared-goes-truly low high before now asking way said (Ok (prepared.Ready ready)) prepares truly = truly
-prepared-goes-truly low high before now asking way said (Ok (prepared.Ended reply)) prepares truly = prepared-truly way.txn.0 low high before now reply prepares truly
+prepared-goes-truly low high before now asking way said meaning under means (Err why) asks prepares truly = tt
+prepared-goes-truly low high before now asking way said meaning under means (Ok (prepared.Ready ready)) asks prepares truly =
+    (truly, (prepares.added, prepares.book, prepared-in-order before asking way.txn.0 way.place said under meaning means now prepares.added prepares.book asks prepares.shape))
+prepared-goes-truly low high before now asking way said meaning under means (Ok (prepared.Ended reply)) asks prepares truly =
+    prepared-truly way.txn.0 low high before now reply prepares truly
+    (cut-in-order before asking way.txn.0 way.place said under meaning means now prepares.added prepares.book asks prepares.shape)

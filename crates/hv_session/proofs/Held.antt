@@ -6,6 +6,8 @@ use Rattle.hv_logic.specs.declared.meaning.Meaning.{Meaning}
 use Rattle.hv_history.specs.declared.entry.Entry.{Entry}
 use Rattle.hv_history.specs.declared.state.Transaction.{Transaction}
 use Rattle.hv_stands.specs.Running.{Asking, next_number, meant, running, snapshot_at, IsUnderWay}
+use Rattle.hv_next.specs.Order.{AllInOrder}
+use Rattle.hv_history.specs.State.{state_of}
 use Rattle.hv_stands.proofs.Numbers.{one_value}
 use Rattle.hv_house.specs.declared.fault.HouseFault.{HouseFault}
 use Rattle.hv_house.specs.declared.house.House.{House}
@@ -83,7 +85,14 @@ module _ (book : List Entry) (asking : Asking) (paused : Paused) (held : IsHeld 
 
 pub concluded-finished : (txn low high : ℕ) (before now : List Entry) (result : Result Reply HouseFault)
     → IfOk result (λ _. Concludes txn low high before now) → IfOk result (λ reply. HasReplied now txn reply.text reply.refused reply.ended)
+    → ((ends : Concludes txn low high before now) → AllInOrder (state_of before) ends.added)
     → IfOk result (λ reply. IsFinished before now txn reply.text reply.refused reply.ended)
-concluded-finished txn low high before now (Err why) concludes answered = tt
-concluded-finished txn low high before now (Ok reply) concludes answered =
-    record { added = concludes.added; book = concludes.book; of_it = concludes.of_it; undamaged = concludes.undamaged; answered = answered }
+concluded-finished txn low high before now (Err why) concludes answered order = tt
+concluded-finished txn low high before now (Ok reply) concludes answered order = record {
+  added = concludes.added;
+  book = concludes.book;
+  of_it = concludes.of_it;
+  undamaged = concludes.undamaged;
+  answered = answered;
+  in_order = order concludes;
+}

@@ -23,11 +23,12 @@ pub started-stands : (book : List Entry) (asking : Asking) (way : Way) (tree : S
 started-stands book asking way tree under = record { given = []; under_way = under; none = refl; can = tt; unrefused = tt }
 
 pub started-goes : (book : List Entry) (way : Way) (tree : Stmt) → GoesInTime (Some stage.Start) way.txn.0 book book (keep way tree point.Started)
-started-goes book way tree = record { added = []; book = sym (append-nil book); in_time = (refl, refl) }
+started-goes book way tree = record { added = []; book = sym (append-nil book); in_time = (refl, refl, tt) }
 
 pub started-truly : (book : List Entry) (asking : Asking) (way : Way) (tree : Stmt) → IsUnderWay book asking way.txn.0 way.place tree []
     → StandsTruly book book way.txn.0 (keep way tree point.Started)
-started-truly book asking way tree under = record { asking = asking; held = started-stands book asking way tree under; truly = tt }
+started-truly book asking way tree under =
+    (record { asking = asking; held = started-stands book asking way tree under; truly = tt }, ([], sym (append-nil book), tt))
 
 -- ---- at its end
 
@@ -38,7 +39,7 @@ ended-goes txn before now reply added book = record { added = added; book = book
 
 module _ (before now : List Entry) (way : Way) (tree : Stmt) where
   pub meant-goes : (found : Outcome) → ComesTo way.txn.0 before now found → GoesInTime (Some stage.Read) way.txn.0 before now (held_meant way tree found)
-  meant-goes (outcome.Means meaning) comes = record { added = []; book = comes.0 ∙ sym (append-nil before); in_time = (refl, refl) }
+  meant-goes (outcome.Means meaning) comes = record { added = []; book = comes.0 ∙ sym (append-nil before); in_time = (refl, refl, tt) }
   meant-goes (outcome.Ended reply) comes = record {
     added = aborting way.txn.0 comes.0 ∷ [];
     book = comes.2;
@@ -57,7 +58,7 @@ module _ (before now : List Entry) (way : Way) (tree : Stmt) where
   pub meant-truly : (asking : Asking) (found : Outcome) → IsUnderWay before asking way.txn.0 way.place tree [] → ComesTo way.txn.0 before now found → ComesUnrefused found
       → ComesTruly before now way tree found → StandsTruly before now way.txn.0 (held_meant way tree found)
   meant-truly asking (outcome.Means meaning) under comes unrefused truly =
-      record { asking = asking; held = meant-stands asking (outcome.Means meaning) under comes unrefused; truly = truly }
+      (record { asking = asking; held = meant-stands asking (outcome.Means meaning) under comes unrefused; truly = truly }, ([], comes.0 ∙ sym (append-nil before), tt))
   meant-truly asking (outcome.Ended reply) under comes unrefused truly = truly
 
   -- ---- before its end
@@ -75,7 +76,7 @@ module _ (before now : List Entry) (way : Way) (tree : Stmt) where
           inr (inr (ends.1, id.0, id.1, ends.3, ap (λ (es : List Entry). starting way.txn.0 ∷ es) (ends.4 ∙ ap (λ (es : List Entry). es ++ aborting way.txn.0 ends.1 ∷ []) id.2)))
 
   pub ready-goes : (found : Prepared) → GoesToCommit way.txn.0 before now found → GoesInTime (Some stage.Commit) way.txn.0 before now (held_ready way tree found)
-  ready-goes (prepared.Ready ready) goes = record { added = goes.added; book = goes.book; in_time = (refl, id-held goes.added goes.shape) }
+  ready-goes (prepared.Ready ready) goes = record { added = goes.added; book = goes.book; in_time = (refl, id-held goes.added goes.shape, tt) }
   ready-goes (prepared.Ended reply) goes = record { added = goes.added; book = goes.book; in_time = abort-held goes.added goes.shape }
 
   ready-held : (asking : Asking) (ready : Ready) → IsReadyToEnd now asking way.txn.0 way.place tree ready
@@ -88,5 +89,5 @@ module _ (before now : List Entry) (way : Way) (tree : Stmt) where
 
   pub ready-truly : (asking : Asking) (found : Prepared) → GoesTruly before now asking way tree found → StandsTruly before now way.txn.0 (held_ready way tree found)
   unfolding ready-held
-  ready-truly asking (prepared.Ready ready) truly = record { asking = asking; held = ready-held asking ready truly.to_end; truly = truly.truly }
+  ready-truly asking (prepared.Ready ready) truly = (record { asking = asking; held = ready-held asking ready truly.0.to_end; truly = truly.0.truly }, truly.1)
   ready-truly asking (prepared.Ended reply) truly = truly

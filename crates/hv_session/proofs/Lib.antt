@@ -4,6 +4,7 @@ mod Passing
 mod Again
 mod SeenTables
 mod Looked
+mod Orders
 mod Cutting
 mod Going
 mod Keeping

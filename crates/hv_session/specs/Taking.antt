@@ -14,10 +14,12 @@ use Rattle.hv_history.specs.declared.entry.Entry.{Entry}
 use Rattle.hv_history.specs.declared.entry.Entry.TheVariants as entry
 use Rattle.hv_history.specs.declared.entry.Cause.{Cause}
 use Rattle.hv_history.specs.declared.entry.Cause.TheVariants as cause
-use Rattle.hv_history.specs.State.{state_of}
-use Rattle.hv_history.specs.Legal.{load, profile}
+use Rattle.hv_history.specs.State.{meaning, state_of}
+use Rattle.hv_history.specs.Legal.{Of, load, profile}
 use Rattle.hv_history.specs.Answers.{cause_text}
 use Rattle.hv_stands.specs.Running.{Asking, next_number, opening, starting, AreOf, meant, IsUnderWay}
+use Rattle.hv_next.specs.Order.{AllInOrder}
+use Rattle.hv_next.specs.Carrying.{IsAtHold}
 use Rattle.hv_ending.specs.Ending.{IsUndamaged, EndsUncommitted, CanEnd, EndCanBeNoted, EndIsTrue, aborting, HasReplied}
 use Rattle.hv_house.specs.Asking.{holder_against, CanBegin}
 use Rattle.hv_session.specs.Faults.{IsFaultLine}
@@ -107,6 +109,13 @@ IsHold (Some other) = ⊥
 
 -- ---- a statement that is held
 
+-- where it was to be held, there it is
+abbrev pub IsAtPlace : Option Stage → Point → Type 0
+IsAtPlace (Some stage.Start) point.Started = Unit {0}
+IsAtPlace (Some stage.Read) (point.Meant meaning) = Unit {0}
+IsAtPlace (Some stage.Commit) (point.Ready ready) = Unit {0}
+IsAtPlace hold other = ⊥
+
 -- its transaction is under way; before its commit it has no write id
 abbrev pub HasNone : Point → List (ℕ × ℕ) → Type 0
 HasNone (point.Ready ready) given = Unit {0}
@@ -150,7 +159,8 @@ pub record IsTrulyHeld (book : List Entry) (paused : Paused) : Type 0 where
 
 -- ---- what a statement that was taken up comes to, in a told house
 
--- It went through the book as a transaction, whose answer is the reply. It started at once where it could.
+-- It went through the book as a transaction, whose answer is the reply. It started at once where it could, and its entries come in the
+-- order of its way.
 pub record WentThrough (before now : List Entry) (asking : Asking) (hold : Option Stage) (reply : List ℕ) (refused : Bool) (ended : Option ℕ) : Type 0 where
   pub added : List Entry
   pub book : now ≡ before ++ opening before asking ∷ added
@@ -161,6 +171,7 @@ pub record WentThrough (before now : List Entry) (asking : Asking) (hold : Optio
   pub in_time : EndsBefore hold (next_number before) added
   pub undamaged : AllByRecursion IsUndamaged added
   pub answered : HasReplied now (next_number before) reply refused ended
+  pub in_order : AllInOrder (state_of before) (opening before asking ∷ added)
 
 -- its text is refused: nothing was noted, and the reply is its fault's line
 pub record IsNoStatement (before now : List Entry) (text reply : List ℕ) (refused : Bool) (ended : Option ℕ) : Type 0 where
@@ -189,7 +200,7 @@ IsReplied before now asking hold reply refused ended =
     WentThrough before now asking hold reply refused ended ⊎ IsNoStatement before now asking.text reply refused ended
     ⊎ IsFull before now reply refused ended ⊎ LacksMemory before now reply refused ended
 
--- it is held, with its transaction open
+-- it is held, with its transaction open: nothing is left of it that comes before its hold
 pub record IsKept (before now : List Entry) (asking : Asking) (hold : Option Stage) (paused : Paused) : Type 0 where
   pub added : List Entry
   pub book : now ≡ before ++ opening before asking ∷ added
@@ -198,6 +209,8 @@ pub record IsKept (before now : List Entry) (asking : Asking) (hold : Option Sta
   pub can : CanBegin profile before paused.tree
   pub at_hold : HoldsAt hold (next_number before) added
   pub truly : IsTrulyHeld now paused
+  pub in_order : AllInOrder (state_of before) (opening before asking ∷ added)
+  pub up_to_hold : Of (state_of now) (next_number before) (λ transaction. IsAtHold hold transaction.given (meaning transaction))
 
 abbrev pub IsTakenAs : List Entry → List Entry → Asking → Option Stage → Taken → Type 0
 IsTakenAs before now asking hold (taken.Replied reply) = IsReplied before now asking hold reply.text reply.refused reply.ended
@@ -208,10 +221,11 @@ abbrev pub IsKeptIn : List Entry → List Entry → Asking → Taken → Type 0
 IsKeptIn before now asking (taken.Replied reply) = Unit {0}
 IsKeptIn before now asking (taken.Kept paused) = (paused.txn.0 ≡ next_number before) × IsHeld now asking paused
 
--- a started statement went on to its end, by entries of it alone, none of which says that a file is damaged
+-- a started statement went on to its end, by entries of it alone, in order, none of which says that a file is damaged
 pub record IsFinished (before now : List Entry) (txn : ℕ) (reply : List ℕ) (refused : Bool) (ended : Option ℕ) : Type 0 where
   pub added : List Entry
   pub book : now ≡ before ++ added
   pub of_it : AreOf txn added
   pub undamaged : AllByRecursion IsUndamaged added
   pub answered : HasReplied now txn reply refused ended
+  pub in_order : AllInOrder (state_of before) added

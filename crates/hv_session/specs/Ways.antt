@@ -10,6 +10,7 @@ use Rattle.hv_history.specs.declared.entry.Cause.TheVariants as cause
 use Rattle.hv_history.specs.State.{state_of}
 use Rattle.hv_history.specs.Legal.{load, profile}
 use Rattle.hv_stands.specs.Running.{Asking, next_number, starting, meant, IsWaiting, IsUnderWay}
+use Rattle.hv_next.specs.Order.{AllInOrder}
 use Rattle.hv_house.specs.declared.fault.HouseFault.{HouseFault}
 use Rattle.hv_house.specs.declared.fault.HouseFault.TheVariants as fault
 use Rattle.hv_house.specs.declared.fault.RowFault.{RowFault}
@@ -30,7 +31,7 @@ use Rattle.hv_session.specs.declared.paused.Point.{Point}
 use Rattle.hv_session.specs.declared.paused.Point.TheVariants as point
 use Rattle.hv_session.specs.declared.paused.Taken.{Taken}
 use Rattle.hv_session.specs.declared.paused.Taken.TheVariants as taken
-use Rattle.hv_session.specs.Taking.{EndsEarly, EndsBefore, HoldsAt, IsHold, IsHeld, IsTrulyHeld, IsReplied, IsFinished, IsUnrefused}
+use Rattle.hv_session.specs.Taking.{EndsEarly, EndsBefore, HoldsAt, IsHold, IsAtPlace, IsHeld, IsTrulyHeld, IsReplied, IsFinished, IsUnrefused}
 
 -- ---- whatever is told
 
@@ -120,8 +121,13 @@ pub record GoesToCommit (txn : ℕ) (before now : List Entry) (found : Prepared)
   pub book : now ≡ before ++ added
   pub shape : PreparesBy txn found added
 
+-- what was added comes in the order of its way
+abbrev pub AddsInOrder : List Entry → List Entry → Type 0
+AddsInOrder before now = (added : List Entry) × (now ≡ before ++ added) × AllInOrder (state_of before) added
+
 abbrev pub GoesTruly : List Entry → List Entry → Asking → Way → Stmt → Prepared → Type 0
-GoesTruly before now asking way said (prepared.Ready ready) = IsTrulyPrepared now asking way.txn.0 way.place said (prepared.Ready ready)
+GoesTruly before now asking way said (prepared.Ready ready) =
+    IsTrulyPrepared now asking way.txn.0 way.place said (prepared.Ready ready) × AddsInOrder before now
 GoesTruly before now asking way said (prepared.Ended reply) = IsFinished before now way.txn.0 reply.text reply.refused reply.ended
 
 -- ---- where it is held
@@ -140,7 +146,7 @@ held_ready way tree (prepared.Ended reply) = taken.Replied reply
 -- it came to the place where it was to be held, or ended before that
 abbrev pub IsInTime : Option Stage → ℕ → List Entry → Taken → Type 0
 IsInTime hold txn added (taken.Replied reply) = EndsBefore hold txn (starting txn ∷ added)
-IsInTime hold txn added (taken.Kept paused) = (paused.txn.0 ≡ txn) × HoldsAt hold txn (starting txn ∷ added)
+IsInTime hold txn added (taken.Kept paused) = (paused.txn.0 ≡ txn) × HoldsAt hold txn (starting txn ∷ added) × IsAtPlace hold paused.point
 
 pub record GoesInTime (hold : Option Stage) (txn : ℕ) (before now : List Entry) (way : Taken) : Type 0 where
   pub added : List Entry
@@ -154,7 +160,7 @@ StandsHeld now asking (taken.Kept paused) = IsHeld now asking paused
 
 abbrev pub StandsTruly : List Entry → List Entry → ℕ → Taken → Type 0
 StandsTruly before now txn (taken.Replied reply) = IsFinished before now txn reply.text reply.refused reply.ended
-StandsTruly before now txn (taken.Kept paused) = IsTrulyHeld now paused
+StandsTruly before now txn (taken.Kept paused) = IsTrulyHeld now paused × AddsInOrder before now
 
 -- ---- the parts of a statement that is taken up
 

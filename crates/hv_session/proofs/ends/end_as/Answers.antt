@@ -3,6 +3,7 @@ use Rattle.hv_house.specs.House.{entries_of}
 use Rattle.hv_ending.specs.Ending.{Prepares, IsPreparedIn}
 use Rattle.hv_telling.proofs.Told.{told-stays}
 use Rattle.hv_session.proofs.Passing.{part-behind, part-ok, part-residual}
+use Rattle.hv_session.proofs.Orders.{concluded-in-order, cut-in-order}
 use Rattle.hv_session.proofs.Going.{prepared-part, concluded-part, ready-passed, concluded-truly, prepared-truly, prepared-ready, prepared-ended}
 use Rattle.hv_session.proofs.ends.end_as.Goals as goal
 
@@ -32,11 +33,16 @@ returns-in-Ready-clause-part g c =
 
 pub returns-in-Ready-clause-truly : goal.returns-in-Ready-clause-truly
 returns-in-Ready-clause-truly g c = λ is.
+    let on = c.requires.way in
+    let prepares = subst (λ found. Prepares c.args.way.txn.0 (g.D.Shelf.faults c.args.house.now.shelf) (g.D.Shelf.faults c.prepare.new.house.shelf)
+    (entries_of c.args.house.now) (entries_of c.prepare.new.house) found) c.in-Ready.is c.in_ok-ready.ensures.prepares in
+    let ready = prepared-ready (entries_of c.prepare.new.house) on.1.0 c.args.way on.0 c.in_ok-ready.field-0 c.in-Ready.ready c.in-Ready.is (c.in_ok-ready.ensures.truly on.1.0 on.0 on.1.1 is) in
     concluded-truly c.args.way.txn.0 (g.D.Shelf.faults c.args.house.now.shelf) (g.D.Shelf.faults c.prepare.new.house.shelf) (g.D.Shelf.faults c.conclude.new.house.shelf)
-    (entries_of c.args.house.now) (entries_of c.prepare.new.house) (entries_of c.conclude.new.house) c.in-Ready.ready
-    (subst (λ found. Prepares c.args.way.txn.0 (g.D.Shelf.faults c.args.house.now.shelf) (g.D.Shelf.faults c.prepare.new.house.shelf) (entries_of c.args.house.now) (entries_of c.prepare.new.house) found)
-    c.in-Ready.is c.in_ok-ready.ensures.prepares)
+    (entries_of c.args.house.now) (entries_of c.prepare.new.house) (entries_of c.conclude.new.house) c.in-Ready.ready prepares
     c.conclude.result c.conclude.ensures.added (c.conclude.ensures.answered (told-stays g.D.Shelf.told c.args.house.now c.prepare.new.house c.in_ok-ready.ensures.start is))
+    (concluded-in-order (entries_of c.args.house.now) (entries_of c.prepare.new.house) (entries_of c.conclude.new.house) on.1.0 c.args.way.txn.0 c.args.way.place on.0
+    (g.D.Shelf.faults c.args.house.now.shelf) (g.D.Shelf.faults c.prepare.new.house.shelf) (g.D.Shelf.faults c.conclude.new.house.shelf) c.args.meaning c.in-Ready.ready on.1.1 (on.2 is)
+    c.in_ok-ready.ensures.asked prepares ready)
 
 pub returns-in-Ended-clause-part : goal.returns-in-Ended-clause-part
 returns-in-Ended-clause-part g c =
@@ -47,10 +53,13 @@ returns-in-Ended-clause-part g c =
 pub returns-in-Ended-clause-truly : goal.returns-in-Ended-clause-truly
 returns-in-Ended-clause-truly g c = λ is.
     let on = c.requires.way in
+    let prepares = subst (λ found. Prepares c.args.way.txn.0 (g.D.Shelf.faults c.args.house.now.shelf) (g.D.Shelf.faults c.prepare.new.house.shelf)
+    (entries_of c.args.house.now) (entries_of c.prepare.new.house) found) c.in-Ended.is c.in_ok-ready.ensures.prepares in
     prepared-truly c.args.way.txn.0 (g.D.Shelf.faults c.args.house.now.shelf) (g.D.Shelf.faults c.prepare.new.house.shelf) (entries_of c.args.house.now) (entries_of c.prepare.new.house) c.in-Ended.reply
-    (subst (λ found. Prepares c.args.way.txn.0 (g.D.Shelf.faults c.args.house.now.shelf) (g.D.Shelf.faults c.prepare.new.house.shelf) (entries_of c.args.house.now) (entries_of c.prepare.new.house) found)
-    c.in-Ended.is c.in_ok-ready.ensures.prepares)
+    prepares
     (prepared-ended (entries_of c.prepare.new.house) on.1.0 c.args.way on.0 c.in_ok-ready.field-0 c.in-Ended.reply c.in-Ended.is (c.in_ok-ready.ensures.truly on.1.0 on.0 on.1.1 is))
+    (cut-in-order (entries_of c.args.house.now) on.1.0 c.args.way.txn.0 c.args.way.place on.0 on.1.1 c.args.meaning (on.2 is) (entries_of c.prepare.new.house) prepares.added prepares.book
+    c.in_ok-ready.ensures.asked prepares.shape)
 
 pub returns-in_err-ready-clause-part : goal.returns-in_err-ready-clause-part
 returns-in_err-ready-clause-part g c =

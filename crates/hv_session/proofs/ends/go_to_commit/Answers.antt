@@ -4,7 +4,7 @@ use Rattle.hv_house.specs.House.{entries_of}
 use Rattle.hv_telling.proofs.Told.{told-stays}
 use Rattle.hv_session.specs.Ways.{GoesToCommit, GoesTruly}
 use Rattle.hv_session.proofs.Passing.{part-behind, part-ok, part-residual}
-use Rattle.hv_session.proofs.Going.{prepared-part, comes-same, comes-can, comes-under, comes-as, comes-passed, comes-ended, truly-ended, ended-to-commit, prepared-goes, prepared-goes-truly}
+use Rattle.hv_session.proofs.Going.{prepared-part, comes-same, comes-can, comes-under, comes-means, comes-as, comes-passed, comes-ended, truly-ended, ended-to-commit, prepared-goes, prepared-goes-truly}
 use Rattle.hv_session.proofs.ends.go_to_commit.Goals as goal
 
 pub prepare-requires-clause-whole : goal.prepare-requires-clause-whole
@@ -41,7 +41,11 @@ pub returns-in-Means-clause-truly : goal.returns-in-Means-clause-truly
 returns-in-Means-clause-truly g c = λ asking under is.
     subst (λ b. IfOk c.prepare.result (GoesTruly b (entries_of c.prepare.new.house) asking c.args.way c.args.tree.now))
     (comes-same g.D.Shelf.told g.D.Shelf.faults c.args.way c.args.house.now c.come_to.new.house c.args.tree.now c.in_ok-meaning.field-0 c.in-Means.meaning c.in-Means.is c.in_ok-meaning.ensures.comes)
-    (prepared-goes-truly _ _ (entries_of c.come_to.new.house) (entries_of c.prepare.new.house) asking c.args.way c.args.tree.now c.prepare.result c.prepare.ensures.prepares
+    (prepared-goes-truly _ _ (entries_of c.come_to.new.house) (entries_of c.prepare.new.house) asking c.args.way c.args.tree.now c.in-Means.meaning
+    (comes-under g.D.Shelf.told g.D.Shelf.faults c.args.way c.args.house.now c.come_to.new.house c.args.tree.now c.in_ok-meaning.field-0 c.in-Means.meaning c.in-Means.is c.in_ok-meaning.ensures.comes asking under)
+    (comes-means g.D.Shelf.told g.D.Shelf.faults c.args.way c.args.house.now c.come_to.new.house c.args.tree.now c.in_ok-meaning.field-0 c.in-Means.meaning c.in-Means.is c.in_ok-meaning.ensures.comes
+    (c.in_ok-meaning.ensures.truly is))
+    c.prepare.result c.prepare.ensures.asked c.prepare.ensures.prepares
     (c.prepare.ensures.truly asking c.args.tree.now
     (comes-under g.D.Shelf.told g.D.Shelf.faults c.args.way c.args.house.now c.come_to.new.house c.args.tree.now c.in_ok-meaning.field-0 c.in-Means.meaning c.in-Means.is c.in_ok-meaning.ensures.comes asking under)
     (told-stays g.D.Shelf.told c.args.house.now c.come_to.new.house c.in_ok-meaning.ensures.part.start is)))

@@ -1,4 +1,5 @@
 use Rattle.hv_house.specs.House.{entries_of}
+use Rattle.hv_session.proofs.Orders.{ready-in-order}
 use Rattle.hv_session.proofs.Going.{concluded-part}
 use Rattle.hv_session.proofs.Held.{part-whole, part-added, started-under, meant-under, meant-can, meant-true, ready-to-end, ready-true, concluded-finished}
 use Rattle.hv_session.proofs.statement.finish.Goals as goal
@@ -85,4 +86,7 @@ returns-in-Ready-clause-added g c =
 
 pub returns-in-Ready-clause-finished : goal.returns-in-Ready-clause-finished
 returns-in-Ready-clause-finished g c = λ is.
+    let held = c.requires.held in
     concluded-finished _ _ _ (entries_of c.args.house.now) (entries_of c.conclude.new.house) c.conclude.result c.conclude.ensures.added (c.conclude.ensures.answered is)
+    (ready-in-order (entries_of c.args.house.now) (entries_of c.conclude.new.house) held.0 c.args.paused.txn.0 c.args.paused.place c.args.paused.tree _ _ c.in-Ready.ready
+    (ready-true (entries_of c.args.house.now) held.0 c.args.paused held.1 c.in-Ready.ready c.in-Ready.is (c.requires.truly is)))
