@@ -11,8 +11,6 @@ use Rattle.hv_base.specs.declared.ids.TxnId.{TxnId}
 use Rattle.hv_shelf.specs.Disk.{Store}
 use Rattle.hv_ast.specs.declared.statement.Stmt.{Stmt}
 use Rattle.hv_locks.specs.declared.table.Lock.{Lock}
-use Rattle.hv_grammar.specs.Texts.{tree_of}
-use Rattle.hv_logic.specs.Names.{names_in}
 use Rattle.hv_built.specs.Running.{Runs}
 use Rattle.hv_history.specs.declared.entry.Entry.{Entry}
 use Rattle.hv_history.specs.declared.entry.Entry.TheVariants as entry
@@ -22,7 +20,7 @@ use Rattle.hv_history.specs.declared.state.Transaction.{Transaction}
 use Rattle.hv_history.specs.Book.{tree_of_entry}
 use Rattle.hv_history.specs.Answers.{cause_text}
 use Rattle.hv_history.specs.State.{state_of, opened, meaning}
-use Rattle.hv_history.specs.Legal.{Fits, FullFits, BlockedFits, IsTruthful, Of, is_started, NeedsId, first_holder, locks_of, locks_of_tree, load, profile}
+use Rattle.hv_history.specs.Legal.{Fits, FullFits, BlockedFits, IsTruthful, Of, is_started, NeedsId, first_holder, load, profile}
 use Rattle.hv_stands.specs.Running.{meant, Asking, next_number, opening, starting, IsOf, AreOf, IsWaiting, IsUnderWay}
 use Rattle.hv_next.specs.Order.{AllInOrder}
 use Rattle.hv_next.specs.Carrying.{IsAtHold}
@@ -36,7 +34,6 @@ use Rattle.hv_house.specs.Asking.{CanBegin, holder_against}
 use Rattle.hv_house.proofs.Beginning.{load-behind-opened, holder-behind-opened}
 use Rattle.hv_house.specs.Steps.{IsMarked}
 use Rattle.hv_telling.specs.Telling.{IsToldHouse, IsWhole, StaysWhole, StillOpens}
-use Rattle.hv_ending.specs.declared.ready.Way.{Way}
 use Rattle.hv_ending.specs.declared.ready.Reply.{Reply}
 use Rattle.hv_ending.specs.Ending.{KeepsCount, IsUndamaged, EndsUncommitted, IsAborted, HasStopped, aborting, HasReplied}
 use Rattle.hv_session.proofs.Shorts.{short_blocked, short_full}
@@ -44,7 +41,7 @@ use Rattle.hv_session.specs.declared.paused.Paused.{Paused}
 use Rattle.hv_session.specs.declared.paused.Taken.{Taken}
 use Rattle.hv_session.specs.declared.paused.Taken.TheVariants as taken
 use Rattle.hv_session.specs.Lines.{IsLine, IsFullLine, IsTextLine}
-use Rattle.hv_session.specs.Taking.{IsAtPlace, IsTrulyHeld, IsWhyNot, EndsBefore, IsHold, IsHeld, IsFinished, IsReplied, IsKeptIn, IsTakenAs}
+use Rattle.hv_session.specs.Taking.{IsAtPlace, IsTrulyHeld, IsWhyNot, EndsBefore, IsHold, IsKeptIn, IsTakenAs}
 use Rattle.hv_session.specs.Ways.{IsPart, IsTaking, StopsAtBeginning, GoesInTime, StandsHeld, StandsTruly, IsTurnedAway, hindrance_of, LacksRoom, AbortsOpened}
 use Rattle.hv_session.proofs.Books.{IsBegun}
 use Rattle.hv_session.proofs.Orders.{at-its-hold, opened-in-order, begun-in-order, of-waiting, locks-are, hindered-in-order}
@@ -114,14 +111,14 @@ module _ {D : Type 0} (told : D → Option Store) (faults : D → ℕ) (before n
       → (IsToldHouse told before → StillOpens told now) → EndsRun why → FileCause {T = T} (faults before.shelf) (faults now.shelf) (Err why)
       → IfOk result (λ reply. (why ≡ fault.NoMemory) × IsLine (cause_text None cause.Memory) reply) → IfErr result (λ failed. failed ≡ why)
       → IsPart told faults its_number before now result
-  unopened-part event why (Ok reply) of_it fits halted stays start opens ends cause memory failed =
+  unopened-part event why (Ok reply) of_it fits halted stays start reopens ends cause memory failed =
       unopened-ok (event ∷ []) why reply halted stays start cause.later memory.0
-  unopened-part {T = T} event why (Err other) of_it fits halted stays start opens ends cause memory failed =
+  unopened-part {T = T} event why (Err other) of_it fits halted stays start reopens ends cause memory failed =
       subst (λ (w : HouseFault). IsPart {T = Reply} told faults its_number before now (Err w)) (sym failed) (record {
         done = tt;
         start = start;
         stopped = halted-stopped told before now its_number event why halted of_it fits;
-        opens = opens;
+        opens = reopens;
         ends = ends;
         cause = record { later = cause.later; failed = cause.failed };
       })
@@ -131,14 +128,14 @@ module _ {D : Type 0} (told : D → Option Store) (faults : D → ℕ) (before n
       → (IsToldHouse told before → StillOpens told now) → EndsRun why → FileCause {T = T} (faults before.shelf) (faults now.shelf) (Err why)
       → IfOk result (λ reply. (why ≡ fault.NoMemory) × IsLine (cause_text None cause.Memory) reply) → IfErr result (λ failed. failed ≡ why)
       → IsTaking told faults asking before now result
-  unbegun-taking asking why (Ok reply) fits halted stays start opens ends cause memory failed =
+  unbegun-taking asking why (Ok reply) fits halted stays start reopens ends cause memory failed =
       part-taking told faults asking before now (Ok reply) (unopened-ok (beginning_of (entries_of before) asking) why reply halted stays start cause.later memory.0)
-  unbegun-taking {T = T} asking why (Err other) fits halted stays start opens ends cause memory failed =
+  unbegun-taking {T = T} asking why (Err other) fits halted stays start reopens ends cause memory failed =
       subst (λ (w : HouseFault). IsTaking {T = Reply} told faults asking before now (Err w)) (sym failed) (record {
         done = tt;
         start = start;
         stopped = inr (halted-beginning told before now asking why halted fits);
-        opens = opens;
+        opens = reopens;
         ends = ends;
         cause = record { later = cause.later; failed = cause.failed };
       })
@@ -323,7 +320,7 @@ module _ (holder : Option ℕ) {D : Type 0} (told : D → Option Store) (faults 
       → IfErr result (λ failed. HasStopped told txn failed before now) → (IsToldHouse told before → IfErr result (λ _. StillOpens told now))
       → IfErr result EndsRun → FileCause (faults before.shelf) (faults now.shelf) result
       → IsPart told faults txn before now result
-  aborted-part (Ok reply) whole aborted start stopped opens ends cause = record {
+  aborted-part (Ok reply) whole aborted start stopped reopens ends cause = record {
     done = record {
       whole = whole;
       added = record {
@@ -339,8 +336,8 @@ module _ (holder : Option ℕ) {D : Type 0} (told : D → Option Store) (faults 
     ends = tt;
     cause = cause;
   }
-  aborted-part (Err failed) whole aborted start stopped opens ends cause =
-      record { done = tt; start = start; stopped = stopped; opens = opens; ends = ends; cause = cause }
+  aborted-part (Err failed) whole aborted start stopped reopens ends cause =
+      record { done = tt; start = start; stopped = stopped; opens = reopens; ends = ends; cause = cause }
 
 -- ---- behind its Opened it is turned away
 

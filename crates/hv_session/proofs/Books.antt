@@ -1,14 +1,12 @@
 -- Entries that follow a book: those of one statement that begin it, and books that fit and are legal.
-use Rattle.std.proofs.Common.{◌≡◌, ℕ, ◌<◌, ◌≤◌, List, [], ◌∷◌, ◌++◌, length, fold, Some, refl, sym, ap, ◌∙◌, subst, arith}
+use Rattle.std.proofs.Common.{◌≡◌, ℕ, ◌≤◌, List, [], ◌∷◌, ◌++◌, fold, arith}
 use Rattle.std.specs.List.{AllByRecursion}
 use Rattle.std.proofs.lemmas.List.Sums.{fold-append}
 use Rattle.hv_history.specs.declared.entry.Entry.{Entry}
 use Rattle.hv_history.specs.declared.entry.Entry.TheVariants as entry
-use Rattle.hv_history.specs.declared.entry.Cause.{Cause}
 use Rattle.hv_history.specs.declared.entry.Cause.TheVariants as cause
 use Rattle.hv_history.specs.State.{State, after, state_of, nothing_yet}
 use Rattle.hv_history.specs.Legal.{AllFit, AllTruthful, IsTruthful, IsLegalFrom, profile}
-use Rattle.hv_stands.specs.Running.{IsOf}
 use Rattle.hv_stands.specs.Statements.{AllFitting}
 use Rattle.hv_ending.specs.Ending.{KeepsCount, IsNoEnd}
 

@@ -1,7 +1,6 @@
 -- How a started statement is aborted, and where the run ends in its place.
-use Rattle.std.proofs.Common.{◌≡◌, ℕ, ◌<◌, ◌≤◌, true, Option, Some, None, List, [], ◌∷◌, ◌++◌, Result, Ok, Err, ◌⊎◌, inl, inr, length, take, refl, sym, ap, ◌∙◌, subst, arith, append-nil}
-use Rattle.std.specs.Prelude.{IsTrue, IsSomeAnd, MatchResult, IfOk, IfErr}
-use Rattle.std.specs.List.{AllByRecursion}
+use Rattle.std.proofs.Common.{◌≡◌, ℕ, ◌≤◌, Option, Some, None, List, [], ◌∷◌, ◌++◌, Result, Ok, Err, ◌⊎◌, inl, inr, take, refl, sym, ap, ◌∙◌, subst, arith, append-nil}
+use Rattle.std.specs.Prelude.{IsTrue, IsSomeAnd, IfOk}
 use Rattle.hv_base.specs.Refusals as refusals
 use Rattle.hv_base.specs.declared.refusal.Refusal.{Refusal}
 use Rattle.hv_base.specs.Faults.{Rose}
@@ -14,7 +13,7 @@ use Rattle.hv_history.specs.declared.entry.Cause.{Cause}
 use Rattle.hv_history.specs.declared.entry.Cause.TheVariants as cause
 use Rattle.hv_history.specs.declared.entry.FilePlace.{FilePlace}
 use Rattle.hv_history.specs.declared.state.Transaction.{Transaction}
-use Rattle.hv_history.specs.State.{State, state_of, meaning}
+use Rattle.hv_history.specs.State.{state_of, meaning}
 use Rattle.hv_history.specs.Legal.{Of, is_open, IsRunning, Fits, IsTruthful, IsRefusedAs, IsLegalFrom, profile}
 use Rattle.hv_journal.specs.Appending.{Holds, HoldsMore}
 use Rattle.hv_stands.specs.Running.{Asking, meant, running, snapshot_at, IsUnderWay}
@@ -23,12 +22,12 @@ use Rattle.hv_house.specs.declared.fault.HouseFault.TheVariants as halts
 use Rattle.hv_house.specs.declared.fault.RowFault.{RowFault}
 use Rattle.hv_house.specs.declared.fault.RowFault.TheVariants as row_fault
 use Rattle.hv_house.specs.declared.house.House.{House}
-use Rattle.hv_house.specs.Faults.{FileCause, HasRisen, HasRisenReading, EndsRun, IsDamage}
+use Rattle.hv_house.specs.Faults.{HasRisen, HasRisenReading, EndsRun, IsDamage}
 use Rattle.hv_house.specs.House.{entries_of, Leaves}
 use Rattle.hv_telling.specs.Telling.{IsToldHouse, StillOpens}
 use Rattle.hv_ending.specs.declared.ready.Way.{Way}
 use Rattle.hv_ending.specs.declared.ready.Reply.{Reply}
-use Rattle.hv_ending.specs.Ending.{KeepsCount, IsUndamaged, IsAborted, HasStopped, aborting, HasReplied}
+use Rattle.hv_ending.specs.Ending.{KeepsCount, IsUndamaged, IsAborted, HasStopped, aborting}
 use Rattle.hv_telling.proofs.Told.{told-stays}
 use Rattle.hv_session.proofs.Passing.{cause-from}
 use Rattle.hv_session.proofs.Orders.{early-uncommitted, aborted-in-order}

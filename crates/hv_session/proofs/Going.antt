@@ -1,11 +1,9 @@
 -- How a started statement goes on: what its parts come to, one behind another.
-use Rattle.std.proofs.Common.{◌≡◌, ℕ, ◌≤◌, Option, Some, List, [], ◌∷◌, ◌++◌, Result, Ok, Err, ◌⊎◌, inl, inr, take, refl, sym, ap, ◌∙◌, subst, arith, append_assoc}
+use Rattle.std.proofs.Common.{◌≡◌, ℕ, ◌≤◌, Option, Some, List, [], ◌∷◌, ◌++◌, Result, Ok, Err, ◌⊎◌, inl, inr, take, refl, sym, ap, ◌∙◌, subst, append_assoc}
 use Rattle.std.specs.Prelude.{IfOk, IfErr}
 use Rattle.std.specs.List.{AllByRecursion}
 use Rattle.hv_base.specs.Refusals as refusals
 use Rattle.hv_base.specs.declared.refusal.Refusal.{Refusal}
-use Rattle.hv_base.specs.declared.ids.TableId.{TableId}
-use Rattle.hv_base.specs.declared.ids.WriteId.{WriteId}
 use Rattle.hv_shelf.specs.Disk.{Store}
 use Rattle.hv_ast.specs.declared.statement.Stmt.{Stmt}
 use Rattle.hv_logic.specs.declared.meaning.Meaning.{Meaning}
@@ -15,7 +13,7 @@ use Rattle.hv_history.specs.declared.entry.Cause.{Cause}
 use Rattle.hv_history.specs.declared.entry.Cause.TheVariants as cause
 use Rattle.hv_history.specs.State.{state_of}
 use Rattle.hv_history.specs.Legal.{IsTruthful}
-use Rattle.hv_stands.specs.Running.{Asking, AreOf, IsOf, meant, IsUnderWay}
+use Rattle.hv_stands.specs.Running.{Asking, IsOf, meant, IsUnderWay}
 use Rattle.hv_next.specs.Order.{AllInOrder}
 use Rattle.hv_house.specs.declared.fault.HouseFault.{HouseFault}
 use Rattle.hv_house.specs.declared.house.House.{House}
@@ -27,7 +25,7 @@ use Rattle.hv_ending.specs.declared.ready.Ready.{Ready}
 use Rattle.hv_ending.specs.declared.ready.Reply.{Reply}
 use Rattle.hv_ending.specs.declared.ready.Prepared.{Prepared}
 use Rattle.hv_ending.specs.declared.ready.Prepared.TheVariants as prepared
-use Rattle.hv_ending.specs.Ending.{AddsAsked, CanEnd, KeepsCount, IsUndamaged, EndsUncommitted, AddsNoneOrId, Prepares, Concludes, IsReadyToEnd, IsPreparedIn, IsTrulyReady, IsTrulyPrepared, HasStopped, aborting, giving, HasReplied}
+use Rattle.hv_ending.specs.Ending.{AddsAsked, CanEnd, KeepsCount, IsUndamaged, AddsNoneOrId, Prepares, Concludes, IsTrulyReady, IsTrulyPrepared, HasStopped, aborting, HasReplied}
 use Rattle.hv_telling.proofs.Told.{told-stays}
 use Rattle.hv_session.specs.declared.ends.Outcome.{Outcome}
 use Rattle.hv_session.specs.declared.ends.Outcome.TheVariants as outcome

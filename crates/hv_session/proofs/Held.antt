@@ -1,5 +1,5 @@
 -- A statement that is held goes on from its point, and what its parts say is what the whole says.
-use Rattle.std.proofs.Common.{◌≡◌, ℕ, Option, Some, List, [], ◌∷◌, ◌++◌, Result, Ok, Err, take, refl, sym, ap, ◌∙◌, subst}
+use Rattle.std.proofs.Common.{◌≡◌, ℕ, Option, Some, List, [], Result, Ok, Err, take, sym, ap, ◌∙◌, subst}
 use Rattle.std.specs.Prelude.{IfOk}
 use Rattle.hv_shelf.specs.Disk.{Store}
 use Rattle.hv_logic.specs.declared.meaning.Meaning.{Meaning}

@@ -1,27 +1,20 @@
 -- Where a started statement is held: what was noted until then, and what stands of it.
-use Rattle.std.proofs.Common.{◌≡◌, ℕ, Option, Some, None, List, [], ◌∷◌, ◌++◌, Result, Ok, Err, ◌⊎◌, inl, inr, take, refl, sym, ap, ◌∙◌, subst, append-nil}
-use Rattle.std.specs.Prelude.{IfOk}
-use Rattle.hv_base.specs.declared.gate.Stage.{Stage}
+use Rattle.std.proofs.Common.{◌≡◌, ℕ, Some, None, List, [], ◌∷◌, ◌++◌, inl, inr, refl, sym, ap, ◌∙◌, subst, append-nil}
 use Rattle.hv_base.specs.declared.gate.Stage.TheVariants as stage
-use Rattle.hv_base.specs.declared.ids.TableId.{TableId}
-use Rattle.hv_base.specs.declared.ids.WriteId.{WriteId}
 use Rattle.hv_ast.specs.declared.statement.Stmt.{Stmt}
-use Rattle.hv_logic.specs.declared.meaning.Meaning.{Meaning}
 use Rattle.hv_history.specs.declared.entry.Entry.{Entry}
-use Rattle.hv_history.specs.declared.entry.Cause.{Cause}
-use Rattle.hv_stands.specs.Running.{Asking, meant, starting, IsUnderWay}
+use Rattle.hv_stands.specs.Running.{Asking, starting, IsUnderWay}
 use Rattle.hv_ending.specs.declared.ready.Way.{Way}
 use Rattle.hv_ending.specs.declared.ready.Ready.{Ready}
 use Rattle.hv_ending.specs.declared.ready.Reply.{Reply}
 use Rattle.hv_ending.specs.declared.ready.Prepared.{Prepared}
 use Rattle.hv_ending.specs.declared.ready.Prepared.TheVariants as prepared
-use Rattle.hv_ending.specs.Ending.{AddsNoneOrId, AddsAbort, EndsUncommitted, IsPreparedIn, IsReadyToEnd, IsTrulyReady, aborting, giving}
+use Rattle.hv_ending.specs.Ending.{AddsNoneOrId, AddsAbort, IsPreparedIn, IsReadyToEnd, aborting}
 use Rattle.hv_session.specs.declared.ends.Outcome.{Outcome}
 use Rattle.hv_session.specs.declared.ends.Outcome.TheVariants as outcome
 use Rattle.hv_session.specs.declared.paused.Point.TheVariants as point
-use Rattle.hv_session.specs.declared.paused.Taken.{Taken}
 use Rattle.hv_session.specs.declared.paused.Taken.TheVariants as taken
-use Rattle.hv_session.specs.Taking.{EndsBefore, HoldsAt, IsHeld, IsTrulyHeld, IsFinished}
+use Rattle.hv_session.specs.Taking.{EndsBefore, HoldsAt, IsHeld}
 use Rattle.hv_session.specs.Ways.{ComesTo, ComesTruly, ComesUnrefused, GoesToCommit, GoesTruly, keep, held_meant, held_ready, GoesInTime, StandsHeld, StandsTruly}
 
 -- ---- at its Start

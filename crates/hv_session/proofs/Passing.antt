@@ -1,11 +1,11 @@
 -- One part of a statement's way behind another.
-use Rattle.std.proofs.Common.{◌≡◌, ℕ, ◌+◌, ◌-◌, ◌^◌, ◌<◌, ◌≤◌, min, Option, Some, None, List, [], ◌∷◌, ◌++◌, Result, Ok, Err, inl, length, refl, sym, ap, ◌∙◌, subst, arith, append_assoc, append-nil}
+use Rattle.std.proofs.Common.{◌≡◌, ℕ, ◌<◌, ◌≤◌, Option, List, [], ◌++◌, Result, Ok, Err, inl, refl, sym, ap, ◌∙◌, subst, arith, append_assoc, append-nil}
 use Rattle.std.specs.Prelude.{IsErrAnd}
 use Rattle.std.specs.List.{AllByRecursion}
-use Rattle.hv_base.specs.Faults.{Rose, one_more}
+use Rattle.hv_base.specs.Faults.{Rose}
 use Rattle.hv_shelf.specs.Disk.{Store}
 use Rattle.hv_history.specs.declared.entry.Entry.{Entry}
-use Rattle.hv_history.specs.State.{State, state_of, after}
+use Rattle.hv_history.specs.State.{State, state_of}
 use Rattle.hv_history.specs.Legal.{IsLegalFrom, profile}
 use Rattle.hv_stands.specs.Running.{Asking, next_number, IsOf, AreOf}
 use Rattle.hv_stands.specs.Statements.{AllFitting}
@@ -14,12 +14,12 @@ use Rattle.hv_house.specs.declared.fault.HouseFault.TheVariants as fault
 use Rattle.hv_house.specs.declared.fault.RowFault.{RowFault}
 use Rattle.hv_house.specs.declared.fault.RowFault.TheVariants as row_fault
 use Rattle.hv_house.specs.declared.house.House.{House}
-use Rattle.hv_house.specs.Faults.{FileCause, ReadCause, HasRisen, HasRisenReading, EndsRun}
+use Rattle.hv_house.specs.Faults.{FileCause, ReadCause, HasRisen, HasRisenReading}
 use Rattle.hv_house.specs.House.{entries_of}
 use Rattle.hv_telling.specs.Telling.{IsWhole}
 use Rattle.hv_telling.proofs.Told.{told-stays}
 use Rattle.hv_telling.proofs.Opens.{whole-opens}
-use Rattle.hv_ending.specs.Ending.{AddsOf, KeepsCount, IsNoEnd, HasStopped}
+use Rattle.hv_ending.specs.Ending.{KeepsCount, IsNoEnd, HasStopped}
 use Rattle.hv_session.specs.Ways.{IsDone, IsPart, IsTaking}
 use Rattle.hv_session.proofs.Books.{all-append, all-map, IsBegun, begun-counts, begun-unended, begun-legal, counts-from, legal-from, state-behind}
 

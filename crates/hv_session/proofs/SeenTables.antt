@@ -3,7 +3,7 @@ use Rattle.std.proofs.Common.{◌≡◌, ℕ, ◌+◌, ◌<◌, Bool, true, fals
 use Rattle.std.proofs.lemmas.List.{take_more, map-append}
 use Rattle.std.specs.Prelude.{Result, Ok, Err, IsErrAnd, IfErr}
 use Rattle.std.specs.Option.{option_to_list}
-use Rattle.std.specs.List.{flat_map, AllByRecursion}
+use Rattle.std.specs.List.{flat_map}
 use Rattle.hv_base.specs.declared.ids.TxnId.{TxnId}
 use Rattle.hv_base.specs.Told.{Tells}
 use Rattle.hv_locks.specs.declared.table.Lock.{Lock}
@@ -21,7 +21,7 @@ use Rattle.hv_meaning.specs.Meaning.{info_of, meaning_in}
 use Rattle.hv_meaning.specs.Laws.{MeansSomething, reads_rows}
 use Rattle.hv_history.specs.declared.entry.Entry.{Entry}
 use Rattle.hv_history.specs.declared.state.Table.{Table}
-use Rattle.hv_history.specs.State.{State, state_of, numbered, content_of, seen_tables}
+use Rattle.hv_history.specs.State.{State, state_of, content_of, seen_tables}
 use Rattle.hv_history.specs.Legal.{profile, IsLegal}
 use Rattle.hv_dirs.specs.Names.{write_end}
 use Rattle.hv_stands.specs.Files.{Stands}

@@ -1,6 +1,6 @@
 -- How a statement is taken up, held and ended, beside others that are open: what is added to the book, and what is replied.
 -- Source: Hive Transactions (snapshots, locks, first committer wins); where a statement may be held is this project's profile.
-use Rattle.std.specs.Prelude.{◌≡◌, ◌⊎◌, ℕ, ◌+◌, ◌<◌, ◌≤◌, Bool, true, false, Option, Some, None, List, [], ◌∷◌, ◌++◌, length, take}
+use Rattle.std.specs.Prelude.{◌≡◌, ◌⊎◌, ℕ, ◌+◌, ◌<◌, Bool, true, Option, Some, None, List, [], ◌∷◌, ◌++◌, take}
 use Rattle.std.specs.List.{AllByRecursion}
 use Rattle.hv_base.specs.declared.gate.Stage.{Stage}
 use Rattle.hv_base.specs.declared.gate.Stage.TheVariants as stage
@@ -15,8 +15,8 @@ use Rattle.hv_history.specs.declared.entry.Entry.TheVariants as entry
 use Rattle.hv_history.specs.declared.entry.Cause.{Cause}
 use Rattle.hv_history.specs.declared.entry.Cause.TheVariants as cause
 use Rattle.hv_history.specs.State.{meaning, state_of}
-use Rattle.hv_history.specs.Legal.{Of, TouchesAreMeant, IsMake, HasRoom, IsLegalFrom, load, profile}
-use Rattle.hv_history.specs.Answers.{committed_text, ok_line, cause_text}
+use Rattle.hv_history.specs.Legal.{Of, load, profile}
+use Rattle.hv_history.specs.Answers.{cause_text}
 use Rattle.hv_stands.specs.Running.{Asking, next_number, opening, starting, AreOf, meant, IsUnderWay}
 use Rattle.hv_next.specs.Order.{AllInOrder}
 use Rattle.hv_next.specs.Carrying.{IsAtHold}

@@ -21,16 +21,14 @@ use Rattle.hv_house.specs.House.{entries_of, Leaves, BeginFits, beginning_of}
 use Rattle.hv_house.specs.Asking.{holder_against}
 use Rattle.hv_telling.specs.Telling.{IsWhole, IsToldHouse, StillOpens}
 use Rattle.hv_ending.specs.declared.ready.Way.{Way}
-use Rattle.hv_ending.specs.declared.ready.Ready.{Ready}
 use Rattle.hv_ending.specs.declared.ready.Reply.{Reply}
 use Rattle.hv_ending.specs.declared.ready.Prepared.{Prepared}
 use Rattle.hv_ending.specs.declared.ready.Prepared.TheVariants as prepared
-use Rattle.hv_ending.specs.Ending.{AddsOf, CanEnd, HasStopped, IsAborted, PreparesBy, IsPreparedIn, IsTrulyPrepared, aborting, HasReplied}
+use Rattle.hv_ending.specs.Ending.{AddsOf, CanEnd, HasStopped, IsAborted, PreparesBy, IsTrulyPrepared, aborting, HasReplied}
 use Rattle.hv_session.specs.declared.ends.Outcome.{Outcome}
 use Rattle.hv_session.specs.declared.ends.Outcome.TheVariants as outcome
 use Rattle.hv_session.specs.declared.paused.Point.{Point}
 use Rattle.hv_session.specs.declared.paused.Point.TheVariants as point
-use Rattle.hv_session.specs.declared.paused.Paused.{Paused}
 use Rattle.hv_session.specs.declared.paused.Taken.{Taken}
 use Rattle.hv_session.specs.declared.paused.Taken.TheVariants as taken
 use Rattle.hv_session.specs.Taking.{EndsEarly, EndsBefore, HoldsAt, IsHold, IsAtPlace, IsHeld, IsTrulyHeld, IsReplied, IsFinished, IsUnrefused}

@@ -1,4 +1,4 @@
-use Rattle.std.proofs.Common.{sym, subst, None}
+use Rattle.std.proofs.Common.{sym, subst}
 use Rattle.hv_house.specs.House.{entries_of}
 use Rattle.hv_session.specs.Ways.{GoesInTime}
 use Rattle.hv_session.specs.declared.paused.Taken.TheVariants.{Replied}

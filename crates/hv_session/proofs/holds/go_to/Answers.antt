@@ -1,5 +1,4 @@
-use Rattle.std.proofs.Common.{sym, subst, refl, Ok, Some}
-use Rattle.hv_base.specs.declared.gate.Stage.TheVariants as stage
+use Rattle.std.proofs.Common.{sym, subst, Some}
 use Rattle.hv_house.specs.House.{entries_of}
 use Rattle.hv_session.specs.Ways.{GoesInTime, StandsHeld, StandsTruly, keep}
 use Rattle.hv_session.specs.declared.paused.Point.TheVariants as point
