@@ -113,11 +113,7 @@ module _ (before now : List TrailItem) (front : IsFront before now) where
       more = has.front.more ++ front.more;
       is = front.is ∙ ap (λ (trail : List TrailItem). trail ++ front.more) has.front.is ∙ append_assoc has.then_ has.front.more front.more;
     };
-    asking = has.asking;
-    place = has.place;
-    said = has.said;
-    under_way = has.under_way;
-    means_it = has.means_it;
+    was = has.was;
   }
 
   pub file-lasts : (by : TxnId) (place : Place) (file : OutFile) → IsFileMeant before by place file → IsFileMeant now by place file

@@ -1,9 +1,13 @@
 -- What was under way at a front of the trail is under way while it is open, with the write ids that it had or more.
-use Rattle.std.proofs.Common.{◌≡◌, ℕ, zero, suc, Option, Some, None, List, [], ◌∷◌, ◌++◌, take, fold, refl, sym, ap, ◌∙◌, subst, append-nil, append_assoc, arith}
+use Rattle.std.proofs.Common.{◌≡◌, ℕ, ◌+◌, zero, suc, Option, Some, None, List, [], ◌∷◌, ◌++◌, take, fold, refl, sym, ap, ◌∙◌, subst, append-nil, append_assoc, arith, length, map}
 use Rattle.std.specs.Prelude.{IsSomeAnd}
 use Rattle.std.proofs.lemmas.List.{length-append, take-append-le}
 use Rattle.std.proofs.lemmas.List.Sums.{fold-append}
+use Rattle.std.proofs.Math.Seq.{take-append_seam}
 use Rattle.hv_base.specs.declared.ids.TxnId.{TxnId}
+use Rattle.hv_base.specs.declared.ids.TableId.{TableId}
+use Rattle.hv_base.specs.declared.ids.WriteId.{WriteId}
+use Rattle.hv_built.specs.Running.{Runs}
 use Rattle.hv_ast.specs.declared.statement.Stmt.{Stmt}
 use Rattle.hv_logic.specs.declared.meaning.Meaning.{Meaning}
 use Rattle.hv_history.specs.declared.entry.Entry.{Entry}
@@ -14,12 +18,15 @@ use Rattle.hv_history.specs.declared.state.Ending.{Ending}
 use Rattle.hv_history.specs.declared.state.Ending.TheVariants.{Committed, Aborted, Made, Dropped}
 use Rattle.hv_history.specs.State.{State, nothing_yet, numbered, changed, while_open, unless_ended, started, given_id, did, committed, ended, opened, acted, after, state_of}
 use Rattle.hv_history.proofs.LastingLaws.{kept-more, kept-changed}
-use Rattle.hv_stands.specs.Running.{Asking, meant, snapshot_at, running, IsUnderWay}
+use Rattle.hv_stands.specs.Running.{Asking, next_number, opening, starting, IsWaiting, meant, snapshot_at, running, IsUnderWay}
 use Rattle.hv_stands.proofs.Behind.{front-stays}
+use Rattle.hv_stands.proofs.Begun.{starts, begins, ids-given}
 use Rattle.hv_trail.specs.declared.trail.TrailItem.{TrailItem}
+use Rattle.hv_trail.specs.declared.trail.TrailItem.TheVariants.{Noted}
+use Rattle.hv_trail.specs.Steps.{begun}
 use Rattle.hv_trail.specs.Trail.{book_of, state_at}
 use Rattle.hv_trail.proofs.LastingLaws.{book-append}
-use Rattle.hv_acts.specs.Meant.{HasMeant}
+use Rattle.hv_acts.specs.Meant.{MeansNow, HasMeant}
 
 module _ (asking : Asking) (means : Meaning) (snapshot : Snapshot) (given : List (ℕ × ℕ)) where
   abbrev on_way : List (ℕ × ℕ) → Transaction
@@ -107,8 +114,8 @@ module _ (book more : List Entry) (asking : Asking) (txn place : ℕ) (said : St
   abbrev snapshot : Snapshot
   snapshot = snapshot_at book place
 
-  begins : GoesOn asking means snapshot given (running asking (meant (take place book) said) snapshot given)
-  begins = record {
+  goes-first : GoesOn asking means snapshot given (running asking (meant (take place book) said) snapshot given)
+  goes-first = record {
     more = [];
     is = λ e. ap (λ (m : Option Meaning). running asking m snapshot given) means_it ∙ ap (running asking (Some means) snapshot) (sym (append-nil given));
   }
@@ -120,7 +127,7 @@ module _ (book more : List Entry) (asking : Asking) (txn place : ℕ) (said : St
   goes t here =
       of-this asking means snapshot given (numbered (state_of (book ++ more)).transactions txn) t here
       (subst (λ (s : State). IsSomeAnd (numbered s.transactions txn) (GoesOn asking means snapshot given)) (sym (fold-append after nothing_yet book more))
-      (entries-go asking means snapshot given more (state_of book) txn (running asking (meant (take place book) said) snapshot given) way.here begins))
+      (entries-go asking means snapshot given more (state_of book) txn (running asking (meant (take place book) said) snapshot given) way.here goes-first))
 
   way-still : (t : Transaction) → numbered (state_of (book ++ more)).transactions txn ≡ Some t → t.ending ≡ None
       → (ids : List (ℕ × ℕ)) × IsUnderWay (book ++ more) asking txn place said (given ++ ids)
@@ -150,15 +157,70 @@ pub on-way : (trail : List TrailItem) (txn : TxnId) (given : List (ℕ × ℕ)) 
 on-way trail txn given means t has here unended =
     let books : book_of trail ≡ book_of has.then_ ++ book_of has.front.more = ap book_of has.front.is ∙ book-append has.then_ has.front.more in
     let still =
-    way-still (book_of has.then_) (book_of has.front.more) has.asking txn.0 has.place has.said given means has.under_way has.means_it t
+    way-still (book_of has.then_) (book_of has.front.more) has.was.asking txn.0 has.was.place has.was.said given means has.was.under_way has.was.means_it t
     (subst (λ (book : List Entry). numbered (state_of book).transactions txn.0 ≡ Some t) books here) unended in
     record {
-      asking = has.asking;
-      place = has.place;
-      said = has.said;
+      asking = has.was.asking;
+      place = has.was.place;
+      said = has.was.said;
       ids = still.0;
-      under_way = subst (λ (book : List Entry). IsUnderWay book has.asking txn.0 has.place has.said (given ++ still.0)) (sym books) still.1;
+      under_way = subst (λ (book : List Entry). IsUnderWay book has.was.asking txn.0 has.was.place has.was.said (given ++ still.0)) (sym books) still.1;
       means_it =
-          subst (λ (book : List Entry). meant (take has.place book) has.said ≡ Some means) (sym books)
-          (meant-still (book_of has.then_) (book_of has.front.more) has.asking txn.0 has.place has.said given means has.under_way has.means_it);
+          subst (λ (book : List Entry). meant (take has.was.place book) has.was.said ≡ Some means) (sym books)
+          (meant-still (book_of has.then_) (book_of has.front.more) has.was.asking txn.0 has.was.place has.was.said given means has.was.under_way has.was.means_it);
+    }
+
+-- ---- how it comes to be
+
+pub started-means : (trail : List TrailItem) (asking : Asking) (txn : TxnId) (said : Stmt) (means : Meaning) → IsWaiting (book_of trail) asking txn.0 said
+    → meant (book_of trail) said ≡ Some means → MeansNow (trail ++ Noted (entry.Start txn 0) ∷ []) txn [] means
+started-means trail asking txn said means waiting is =
+    let event : Entry = entry.Start txn 0 in
+    let books : book_of (trail ++ Noted event ∷ []) ≡ book_of trail ++ event ∷ [] = book-append trail (Noted event ∷ []) in
+    record {
+      asking = asking;
+      place = length (book_of trail);
+      said = said;
+      under_way =
+          subst (λ (book : List Entry). IsUnderWay book asking txn.0 (length (book_of trail)) said []) (sym books) (starts (book_of trail) asking txn.0 said waiting);
+      means_it =
+          ap (λ (book : List Entry). meant (take (length (book_of trail)) book) said) books
+          ∙ ap (λ (front : List Entry). meant front said) (take-append_seam (book_of trail) (event ∷ [])) ∙ is;
+    }
+
+pub given-means : (trail : List TrailItem) (txn : TxnId) (table : TableId) (write : WriteId) (given : List (ℕ × ℕ)) (means : Meaning) → MeansNow trail txn given means
+    → MeansNow (trail ++ Noted (entry.Given txn table write) ∷ []) txn (given ++ (table.0, write.0) ∷ []) means
+given-means trail txn table write given means now =
+    let event : Entry = entry.Given txn table write in
+    let books : book_of (trail ++ Noted event ∷ []) ≡ book_of trail ++ event ∷ [] = book-append trail (Noted event ∷ []) in
+    record {
+      asking = now.asking;
+      place = now.place;
+      said = now.said;
+      under_way =
+          subst (λ (book : List Entry). IsUnderWay book now.asking txn.0 now.place now.said (given ++ (table.0, write.0) ∷ [])) (sym books)
+          (ids-given (book_of trail) now.asking txn.0 now.place now.said given table write now.under_way);
+      means_it =
+          subst (λ (book : List Entry). meant (take now.place book) now.said ≡ Some means) (sym books)
+          (meant-still (book_of trail) (event ∷ []) now.asking txn.0 now.place now.said given means now.under_way now.means_it);
+    }
+
+pub begun-means : (trail : List TrailItem) (asking : Asking) (said : Stmt) (means : Meaning) → Runs asking.text said
+    → meant (book_of trail ++ opening (book_of trail) asking ∷ []) said ≡ Some means
+    → MeansNow (trail ++ map Noted (begun (record { 0 = next_number (book_of trail) }) asking.session asking.number asking.text)) (record { 0 = next_number (book_of trail) }) [] means
+begun-means trail asking said means runs is =
+    let book : List Entry = book_of trail in
+    let event : Entry = opening book asking in
+    let next : Entry = starting (next_number book) in
+    let books : book_of (trail ++ Noted event ∷ Noted next ∷ []) ≡ book ++ event ∷ next ∷ [] = book-append trail (Noted event ∷ Noted next ∷ []) in
+    record {
+      asking = asking;
+      place = length book + 1;
+      said = said;
+      under_way =
+          subst (λ (b : List Entry). IsUnderWay b asking (next_number book) (length book + 1) said []) (sym books) (begins book asking said runs);
+      means_it =
+          ap (λ (b : List Entry). meant (take (length book + 1) b) said) (books ∙ sym (append_assoc book (event ∷ []) (next ∷ [])))
+          ∙ ap (λ n. meant (take n ((book ++ event ∷ []) ++ next ∷ [])) said) (sym (length-append book (event ∷ [])))
+          ∙ ap (λ (front : List Entry). meant front said) (take-append_seam (book ++ event ∷ []) (next ∷ [])) ∙ is;
     }

@@ -7,7 +7,6 @@ use Rattle.hv_base.specs.declared.ids.TxnId.{TxnId}
 use Rattle.hv_base.specs.declared.ids.TableId.{TableId}
 use Rattle.hv_base.specs.declared.ids.Touch.{Touch}
 use Rattle.hv_shelf.specs.declared.place.Place.{Place}
-use Rattle.hv_ast.specs.declared.statement.Stmt.{Stmt}
 use Rattle.hv_logic.specs.declared.meaning.Meaning.{Meaning}
 use Rattle.hv_logic.specs.declared.meaning.Meaning.TheVariants.{Change, Make}
 use Rattle.hv_route.specs.declared.files.OutFile.{OutFile}
@@ -20,7 +19,7 @@ use Rattle.hv_history.specs.declared.state.Ending.{Ending}
 use Rattle.hv_history.specs.declared.state.Transaction.{Transaction}
 use Rattle.hv_history.specs.State.{numbered, meaning}
 use Rattle.hv_history.specs.Legal.{IsRunning, CommitFits, is_touched, IsTruthful, TouchesAreMeant, IsMake, ConflictIsTrue, IsFirstConflict, place_of_snapshot}
-use Rattle.hv_stands.specs.Running.{Asking, meant, snapshot_at, running, IsUnderWay}
+use Rattle.hv_stands.specs.Running.{meant, snapshot_at, running, IsUnderWay}
 use Rattle.hv_trail.specs.declared.trail.TrailItem.{TrailItem}
 use Rattle.hv_trail.specs.Trail.{book_of, state_at}
 use Rattle.hv_trail.specs.Kept.{trail_of}
@@ -30,7 +29,7 @@ use Rattle.hv_telling.specs.Telling.{IsTrueNow, IsMeantFile}
 use Rattle.hv_acts.specs.Answers.{EntryFits}
 use Rattle.hv_acts.specs.Putting.{Runs}
 use Rattle.hv_acts.specs.Committing.{IsConflict}
-use Rattle.hv_acts.specs.Meant.{HasMeant, HasAtMost, IsFileMeant, IsCommitMeant, IsMakeMeant}
+use Rattle.hv_acts.specs.Meant.{MeansNow, HasMeant, HasAtMost, IsFileMeant, IsCommitMeant, IsMakeMeant}
 use Rattle.hv_acts.proofs.Steps.{book-is}
 use Rattle.hv_acts.proofs.Meant.{IsOnWay, on-way}
 
@@ -63,14 +62,7 @@ module _ (trail : List TrailItem) (txn : TxnId) (runs : Runs trail txn) where
       on-way trail txn given means here.t has here.here here.unended
 
   -- and has just its write ids
-  record IsJust (given : List (ℕ × ℕ)) (means : Meaning) : Type 0 where
-    asking : Asking
-    place : ℕ
-    said : Stmt
-    under_way : IsUnderWay (book_of trail) asking txn.0 place said given
-    means_it : meant (take place (book_of trail)) said ≡ Some means
-
-  just-by : (given ids : List (ℕ × ℕ)) (means : Meaning) (t : Transaction) (on : IsOnWay (book_of trail) txn given means t) → on.ids ≡ ids → ids ≡ [] → IsJust given means
+  just-by : (given ids : List (ℕ × ℕ)) (means : Meaning) (t : Transaction) (on : IsOnWay (book_of trail) txn given means t) → on.ids ≡ ids → ids ≡ [] → MeansNow trail txn given means
   just-by given ids means t on same none = record {
     asking = on.asking;
     place = on.place;
@@ -86,7 +78,7 @@ module _ (trail : List TrailItem) (txn : TxnId) (runs : Runs trail txn) where
   none-longer (x ∷ ids) short = let never : length (x ∷ ids) ≡ 0 = omega (arith, short) in cc
 
   -- no more than it was given
-  just-given : (given : List (ℕ × ℕ)) (means : Meaning) → HasMeant trail txn given means → HasAtMost trail txn (length given) → IsJust given means
+  pub just-given : (given : List (ℕ × ℕ)) (means : Meaning) → HasMeant trail txn given means → HasAtMost trail txn (length given) → MeansNow trail txn given means
   just-given given means has most =
       let on = way given means has in
       let count : length (given_at (numbered (state_at trail).transactions txn.0)) ≡ length given + length on.ids =
@@ -114,7 +106,7 @@ module _ (trail : List TrailItem) (txn : TxnId) (runs : Runs trail txn) where
   -- ---- an entry
 
   -- what is true of what it means is true of what its transaction means
-  meaning-here : (given : List (ℕ × ℕ)) (means : Meaning) (P : Option Meaning → Type 0) → IsJust given means → P (Some means)
+  meaning-here : (given : List (ℕ × ℕ)) (means : Meaning) (P : Option Meaning → Type 0) → MeansNow trail txn given means → P (Some means)
       → IsSomeAnd (numbered (state_at trail).transactions txn.0) (λ (t : Transaction). P (meaning t))
   meaning-here given means P just is =
       subst (λ (o : Option Transaction). IsSomeAnd o (λ (t : Transaction). P (meaning t))) (sym just.under_way.here) (subst P (sym just.means_it) is)
@@ -131,7 +123,7 @@ module _ (trail : List TrailItem) (txn : TxnId) (runs : Runs trail txn) where
   unused [] wrote none used = refl
   unused (x ∷ ids) wrote none used = let never : is_touched [] x ≡ true = ap (λ (ts : List Touch). is_touched ts x) (sym none) ∙ used.0 in cc
 
-  just-none : (wrote : List Touch) (means : Meaning) → HasMeant trail txn [] means → wrote ≡ [] → EntryFits trail (entry.Commit txn wrote) → IsJust [] means
+  just-none : (wrote : List Touch) (means : Meaning) → HasMeant trail txn [] means → wrote ≡ [] → EntryFits trail (entry.Commit txn wrote) → MeansNow trail txn [] means
   just-none wrote means has none fits =
       let on = way [] means has in
       let fit = subst (λ (o : Option Transaction). IsSomeAnd o (CommitFits (state_at trail) wrote)) on.under_way.here fits in

@@ -31,15 +31,19 @@ use Rattle.hv_house.specs.Steps.{AreWritten}
 
 -- ---- what it means
 
--- At a front of the trail its statement was under way with these write ids, and meant this.
-pub record HasMeant (trail : List TrailItem) (txn : TxnId) (given : List (ℕ × ℕ)) (means : Meaning) : Type 0 where
-  pub then_ : List TrailItem
-  pub front : IsFront then_ trail
+-- its statement is under way with these write ids, and means this
+pub record MeansNow (trail : List TrailItem) (txn : TxnId) (given : List (ℕ × ℕ)) (means : Meaning) : Type 0 where
   pub asking : Asking
   pub place : ℕ
   pub said : Stmt
-  pub under_way : IsUnderWay (book_of then_) asking txn.0 place said given
-  pub means_it : meant (take place (book_of then_)) said ≡ Some means
+  pub under_way : IsUnderWay (book_of trail) asking txn.0 place said given
+  pub means_it : meant (take place (book_of trail)) said ≡ Some means
+
+-- that was so at a front of the trail
+pub record HasMeant (trail : List TrailItem) (txn : TxnId) (given : List (ℕ × ℕ)) (means : Meaning) : Type 0 where
+  pub then_ : List TrailItem
+  pub front : IsFront then_ trail
+  pub was : MeansNow then_ txn given means
 
 -- What others might have changed, and is tested in the hold: so many write ids it has at most, while it is open.
 abbrev pub HasAtMost : List TrailItem → TxnId → ℕ → Type 0

@@ -23,7 +23,7 @@ pub use fault::{ActFault, BeginFault};
 pub use finding::FindTable;
 pub use getting::GetFile;
 pub use giving::GiveId;
-pub use laws::what_is_asked_lasts;
+pub use laws::{what_is_asked_lasts, what_was_meant_is_meant};
 pub use listing::ListTable;
 pub use making::MakeTable;
 pub use opening::{Begin, Begun};
