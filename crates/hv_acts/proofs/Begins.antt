@@ -1,5 +1,5 @@
 -- A statement that is begun by an act.
-use Rattle.std.proofs.Common.{◌≡◌, ℕ, ◌+◌, false, Option, Some, None, Ok, Err, List, length, refl, sym, ap, ◌∙◌, subst}
+use Rattle.std.proofs.Common.{◌≡◌, ℕ, ◌+◌, Option, Some, None, Ok, Err, List, length, refl, sym, ap, ◌∙◌, subst}
 use Rattle.hv_base.specs.declared.ids.TxnId.{TxnId}
 use Rattle.hv_ast.specs.declared.statement.Stmt.{Stmt}
 use Rattle.hv_shelf.specs.Disk.{Store}
@@ -11,17 +11,17 @@ use Rattle.hv_trail.specs.Kept.{trail_of}
 use Rattle.hv_trail.specs.Steps.{Begin, Done, Step}
 use Rattle.hv_house.specs.declared.fault.HouseFault.{HouseFault}
 use Rattle.hv_house.specs.declared.house.House.{House}
-use Rattle.hv_house.specs.House.{entries_of, IsReady, StaysReady}
-use Rattle.hv_house.specs.Faults.{EndsRun}
+use Rattle.hv_house.specs.House.{entries_of}
 use Rattle.hv_locks.specs.declared.table.LockState.{LockState}
 use Rattle.hv_locks.specs.declared.table.LockState.TheVariants.{Granted, Waiting}
 use Rattle.hv_house.specs.Asking.{holder_against, lock_state, CanBegin}
 use Rattle.hv_house.specs.Steps.{seen_of, fault_outcome}
+use Rattle.hv_telling.specs.Telling.{IsToldHouse, IsWhole, StaysWhole, StillOpens}
 use Rattle.hv_acts.specs.declared.opening.Begun.{Begun}
 use Rattle.hv_acts.specs.declared.fault.BeginFault.{BeginFault}
 use Rattle.hv_acts.specs.declared.fault.BeginFault.TheVariants as hindered
 use Rattle.hv_acts.specs.Beginning.{IsHindered, HasBegun, BeginStep}
-use Rattle.hv_acts.proofs.Steps.{book-is, asked, keeps-noted}
+use Rattle.hv_acts.proofs.Steps.{book-is, asked, whole-keeps, keeps-behind}
 
 -- ---- what stands in its way
 
@@ -46,33 +46,34 @@ held-free house tree state is free =
     ap (λ (book : List Entry). holder_against book tree) (book-is house) ∙ free-of (holder_against (entries_of house) tree) state is free
 
 module _ {D : Type 0} (told : D → Option Store) (faults : D → ℕ) (session : List ℕ) (number : ℕ) (text : List ℕ) (tree : Stmt) where
-  pub begin-done : (start : Begun) (before now : House D) → IsReady told before → IsReady told now → CanBegin profile (entries_of before) tree
+  pub begin-done : (start : Begun) (before now : House D) → IsWhole told before → IsWhole told now → CanBegin profile (entries_of before) tree
       → start.txn.0 ≡ next_number (entries_of before) → start.place ≡ length (entries_of before) + 1
       → Step told faults (Begin (record { 0 = next_number (entries_of before) }) session number text) Done (seen_of before) (seen_of now)
       → BeginStep told faults session number text tree before now (Ok start)
-  begin-done start before now was ready can txn place step = record {
-    keeps = λ still. ready;
+  begin-done start before now was whole can txn place step = record {
+    keeps = whole-keeps told now whole;
     step = subst (λ (book : List Entry). Step told faults (Begin (record { 0 = next_number book }) session number text) Done (seen_of before) (seen_of now))
         (sym (book-is before)) step;
-    answers = subst (λ (book : List Entry). HasBegun book tree start) (sym (book-is before)) (record { fit = was.fit; can = can; txn_is = txn; place_is = place });
+    answers = subst (λ (book : List Entry). HasBegun book tree start) (sym (book-is before)) (record { fit = was.ready.fit; can = can; txn_is = txn; place_is = place });
   }
 
-  pub begin-failed : (why : HouseFault) (before now : House D) → before.trail.closed ≡ false → StaysReady told why now → EndsRun why
+  pub begin-failed : (why : HouseFault) (before now : House D) → IsWhole told before → StaysWhole told why now → (IsToldHouse told before → StillOpens told now)
+      → now.start ≡ before.start
       → Step told faults (Begin (record { 0 = next_number (entries_of before) }) session number text) (fault_outcome why) (seen_of before) (seen_of now)
       → BeginStep told faults session number text tree before now (Err (hindered.House why))
-  begin-failed why before now running stays ends step = record {
-    keeps = keeps-noted told before now running why stays ends step.closed;
+  begin-failed why before now was stays opens start step = record {
+    keeps = keeps-behind told before now why was stays opens start step.closed;
     step = subst (λ (book : List Entry). Step told faults (Begin (record { 0 = next_number book }) session number text) (fault_outcome why) (seen_of before) (seen_of now))
         (sym (book-is before)) step;
     answers = tt;
   }
 
-  pub begin-hindered : (why : BeginFault) (house : House D) → IsReady told house → IsHindered (trail_of house.trail) tree why → (CanBegin profile (entries_of house) tree → ⊥)
+  pub begin-hindered : (why : BeginFault) (house : House D) → IsWhole told house → IsHindered (trail_of house.trail) tree why → (CanBegin profile (entries_of house) tree → ⊥)
       → BeginStep told faults session number text tree house house (Err why)
-  begin-hindered (hindered.Held by) house ready is not = record { keeps = λ still. ready; step = asked told faults (seen_of house); answers = is }
-  begin-hindered (hindered.Full entries) house ready is not = record {
-    keeps = λ still. ready;
+  begin-hindered (hindered.Held by) house whole is not = record { keeps = whole-keeps told house whole; step = asked told faults (seen_of house); answers = is }
+  begin-hindered (hindered.Full entries) house whole is not = record {
+    keeps = whole-keeps told house whole;
     step = asked told faults (seen_of house);
     answers = (is.0, is.1, λ room. not (subst (λ (book : List Entry). CanBegin profile book tree) (book-is house) (room, is.1)));
   }
-  begin-hindered (hindered.House why) house ready is not = absurd is
+  begin-hindered (hindered.House why) house whole is not = absurd is

@@ -1,5 +1,5 @@
 -- A transaction that is committed by an act, or aborted since a commit conflicts with it.
-use Rattle.std.proofs.Common.{◌≡◌, inl, inr, ℕ, false, Option, Some, None, Err, List, refl, sym, ◌∙◌, subst}
+use Rattle.std.proofs.Common.{◌≡◌, inl, inr, ℕ, Bool, true, false, append-nil, arith, Option, Some, None, Ok, Err, List, length, refl, sym, ◌∙◌, subst}
 use Rattle.std.specs.Prelude.{IsSomeAnd}
 use Rattle.hv_base.specs.Told.{Moves}
 use Rattle.hv_base.specs.declared.ids.TxnId.{TxnId}
@@ -17,23 +17,27 @@ use Rattle.hv_conflicts.proofs.ClashLemmas.{clash-fits}
 use Rattle.hv_conflicts.specs.declared.meeting.Clash.{Clash}
 use Rattle.hv_conflicts.specs.Clashes.{IsClash}
 use Rattle.hv_trail.specs.declared.trail.Reader.TheVariants.{Txn}
-use Rattle.hv_trail.specs.Trail.{state_at, broken}
+use Rattle.hv_trail.specs.declared.trail.TrailItem.{TrailItem}
+use Rattle.hv_trail.specs.Trail.{book_of, state_at, broken}
 use Rattle.hv_trail.specs.Kept.{trail_of}
-use Rattle.hv_trail.specs.Steps.{Note, Commit, HouseSeen, Step}
+use Rattle.hv_trail.specs.Steps.{Note, Commit, Done, Closed, HouseSeen, Step}
 use Rattle.hv_house.specs.declared.fault.HouseFault.{HouseFault}
 use Rattle.hv_house.specs.declared.fault.HouseFault.TheVariants as fault
 use Rattle.hv_house.specs.declared.house.House.{House}
-use Rattle.hv_house.specs.House.{entries_of, IsReady, IsSmall, StaysReady}
-use Rattle.hv_house.specs.Faults.{EndsRun}
+use Rattle.hv_house.specs.House.{entries_of, IsSmall}
 use Rattle.hv_house.specs.Steps.{seen_of, fault_outcome, IsPutWhole, CanCommit}
+use Rattle.hv_telling.specs.Telling.{IsToldHouse, IsWhole, StaysWhole, StillOpens}
 use Rattle.hv_acts.specs.declared.committing.Shared.{Shared}
 use Rattle.hv_acts.specs.declared.fault.ActFault.{ActFault}
 use Rattle.hv_acts.specs.declared.fault.ActFault.TheVariants as act
 use Rattle.hv_acts.specs.Answers.{act_outcome, call_behind, IsLate, EntryFits, EntryStep}
 use Rattle.hv_acts.specs.Putting.{Runs}
-use Rattle.hv_acts.specs.Committing.{WasPut, WasPutWhole, IsSharedBy, CommitStep}
-use Rattle.hv_acts.proofs.Steps.{book-is, keeps-noted}
+use Rattle.hv_acts.specs.declared.committing.Committed.TheVariants as committed
+use Rattle.hv_acts.specs.Committing.{WasPut, WasPutWhole, CommitsAlone, IsSharedBy, IsConflict, CommitStep}
+use Rattle.hv_acts.specs.Meant.{HasAtMost, RunsWith}
+use Rattle.hv_acts.proofs.Steps.{book-is, moves-same, or-false, asked, whole-keeps, keeps-behind}
 use Rattle.hv_acts.proofs.Notes.{why-of, asked-late}
+use Rattle.hv_acts.proofs.Makes.{why-both}
 use Rattle.hv_acts.proofs.Puts.{holds-id}
 
 -- ---- what it rests on
@@ -91,6 +95,11 @@ fits-shared house txn wrote clash shared runs is by =
     subst (λ (t : TableId). EntryFits (trail_of house.trail) (entry.Abort txn (cause.Conflict clash.by t shared.partition))) (sym by.table)
     (subst (λ (p : List ℕ). EntryFits (trail_of house.trail) (entry.Abort txn (cause.Conflict clash.by is.touch.table p))) (sym by.partition)
     (conflict-at (state_at (trail_of house.trail)) txn wrote clash (numbered (state_at (trail_of house.trail)).transactions txn.0) refl runs is))
+
+-- what both share is what its change shares
+pub conflict-of : (trail : List TrailItem) (txn : TxnId) (wrote : List Touch) (clash : Clash) (shared : Shared) → (is : IsClash (state_at trail) txn.0 wrote clash)
+    → IsSharedBy is.touch shared → IsConflict trail txn wrote clash.by shared.table shared.partition
+conflict-of trail txn wrote clash shared is by = record { clash = clash; is = is; by_is = refl; table_is = by.table; partition_is = by.partition }
 
 pub clash-trail : {D : Type 0} (house : House D) (txn : TxnId) (entries : List Entry) (xs ys : List Touch) (clash : Clash) → entries ≡ entries_of house → xs ≡ ys
     → IsClash (state_of entries) txn.0 xs clash → IsClash (state_at (trail_of house.trail)) txn.0 ys clash
@@ -181,23 +190,83 @@ module _ {D : Type 0} (told : D → Option Store) (faults : D → ℕ) (txn : Tx
   commit-failed why before now s = record {
     keeps = s.keeps;
     step = commit-behind told faults txn wrote (seen_of before) (seen_of now) why s.step;
-    answers = s.answers;
+    answers = why-both (trail_of before.trail) txn _ _ why s.answers;
   }
 
-  pub commit-late : (why : ActFault) (house : House D) → IsReady told house → IsLate (trail_of house.trail) txn why
-      → (EntryFits (trail_of house.trail) (entry.Commit txn wrote) → ⊥) → CommitStep told faults txn wrote house house (Err why)
-  commit-late why house ready late not = record {
-    keeps = λ still. ready;
+  pub commit-done : (at : ℕ) (before now : House D) → at ≡ length (book_of (trail_of before.trail)) → broken (Txn txn) (trail_of before.trail) ≡ None
+      → HasAtMost (trail_of before.trail) txn 1 → EntryStep {T = Unit {0}} told faults txn (entry.Commit txn wrote) before now (Ok tt)
+      → CommitStep told faults txn wrote before now (Ok (committed.Done at))
+  commit-done at before now place unbroken most s = record {
+    keeps = s.keeps;
+    step = record {
+      may = tt;
+      trail = s.step.trail;
+      store = s.step.store;
+      closed = s.step.closed;
+      shut_out = λ shut. let never : Done ≡ Closed = s.step.shut_out shut in cc;
+      locks = s.step.locks;
+      counts = s.step.counts;
+      rest = s.step.rest;
+    };
+    answers = record { place = place; unbroken = unbroken; fits = (s.answers.0, most) };
+  }
+
+  pub commit-broken : (put : Bool) (count : ℕ) (house : House D) → IsWhole told house → broken (Txn txn) (trail_of house.trail) ≡ Some (put, count)
+      → CommitStep told faults txn wrote house house (Err (act.Broken put count))
+  commit-broken put count house whole is = record { keeps = whole-keeps told house whole; step = asked told faults (seen_of house); answers = is }
+
+  -- memory lacked before the call
+  pub commit-lacks : (house : House D) → IsWhole told house → CommitStep told faults txn wrote house house (Err (act.House fault.NoMemory))
+  commit-lacks house whole = record {
+    keeps = whole-keeps told house whole;
+    step = record {
+      may = tt;
+      trail = sym (append-nil (trail_of house.trail));
+      store = moves-same (told house.shelf) _ (λ s. record { tree_is = refl; reads = λ is. is });
+      closed = or-false house.trail.closed;
+      shut_out = λ shut. let never : true ≡ false = sym shut ∙ whole.ready.kept.running in cc;
+      locks = refl;
+      counts = omega arith;
+      rest = record { start = refl; opened = refl; limits = refl };
+    };
+    answers = tt;
+  }
+
+  pub commit-late : (why : ActFault) (house : House D) → IsWhole told house → IsLate (trail_of house.trail) txn why
+      → (RunsWith (trail_of house.trail) txn 1 → ⊥) → CommitStep told faults txn wrote house house (Err why)
+  commit-late why house whole late not = record {
+    keeps = whole-keeps told house whole;
     step = asked-late told faults (seen_of house) (trail_of house.trail) txn (Commit txn wrote) why late;
-    answers = why-of (trail_of house.trail) txn (EntryFits (trail_of house.trail) (entry.Commit txn wrote)) why late not;
+    answers = why-of (trail_of house.trail) txn (CommitsAlone (trail_of house.trail) txn wrote) why late
+        (λ fits. not (commit-runs house txn wrote fits.0, fits.1));
   }
 
-  pub conflict-failed : (by : TxnId) (table : TableId) (partition : List ℕ) (why : HouseFault) (before now : House D) → before.trail.closed ≡ false
-      → StaysReady told why now → EndsRun why
+  pub conflict-failed : (by : TxnId) (table : TableId) (partition : List ℕ) (why : HouseFault) (before now : House D) → IsWhole told before
+      → StaysWhole told why now → (IsToldHouse told before → StillOpens told now) → now.start ≡ before.start
       → Step told faults (Note (entry.Abort txn (cause.Conflict by table partition))) (fault_outcome why) (seen_of before) (seen_of now)
       → CommitStep told faults txn wrote before now (Err (act.House why))
-  conflict-failed by table partition why before now running stays ends s = record {
-    keeps = keeps-noted told before now running why stays ends s.closed;
+  conflict-failed by table partition why before now was stays opens start s = record {
+    keeps = keeps-behind told before now why was stays opens start s.closed;
     step = conflict-fails told faults txn wrote (seen_of before) (seen_of now) by table partition why s;
     answers = tt;
   }
+
+  pub conflict-done : (at : ℕ) (by : TxnId) (table : TableId) (partition copy : List ℕ) (before now : House D) → IsWhole told now → copy ≡ partition
+      → at ≡ length (book_of (trail_of before.trail)) → IsConflict (trail_of before.trail) txn wrote by table partition
+      → Step told faults (Note (entry.Abort txn (cause.Conflict by table partition))) Done (seen_of before) (seen_of now)
+      → CommitStep told faults txn wrote before now (Ok (committed.Conflict at by table copy))
+  conflict-done at by table partition copy before now whole same place is s =
+      subst (λ (p : List ℕ). CommitStep told faults txn wrote before now (Ok (committed.Conflict at by table p))) (sym same) (record {
+        keeps = whole-keeps told now whole;
+        step = record {
+          may = tt;
+          trail = s.trail;
+          store = s.store;
+          closed = s.closed;
+          shut_out = λ shut. let never : Done ≡ Closed = s.shut_out shut in cc;
+          locks = s.locks;
+          counts = s.counts;
+          rest = s.rest;
+        };
+        answers = (place, is);
+      })

@@ -4,6 +4,9 @@ pub mod Notes
 pub mod Puts
 pub mod Begins
 pub mod Opens
+pub mod Meant
+pub mod Truths
+pub mod Makes
 pub mod Commits
 pub mod Lasting
 pub mod Readings

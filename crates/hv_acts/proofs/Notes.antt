@@ -11,21 +11,23 @@ use Rattle.hv_shelf.specs.Disk.{Store}
 use Rattle.hv_history.specs.declared.entry.Entry.{Entry}
 use Rattle.hv_history.specs.declared.state.Table.{Table}
 use Rattle.hv_history.specs.State.{state_of, numbered}
-use Rattle.hv_history.specs.Legal.{Of, Fits, FullFits, profile}
+use Rattle.hv_history.specs.Legal.{Of, Fits, FullFits, BlockedFits, profile}
 use Rattle.hv_meta.specs.declared.facts.TxnState.{TxnState}
 use Rattle.hv_meta.specs.declared.facts.TxnState.TheVariants as standings
 use Rattle.hv_meta.specs.States.{state_in}
 use Rattle.hv_trail.specs.declared.trail.TrailItem.{TrailItem}
-use Rattle.hv_trail.specs.Trail.{state_at}
+use Rattle.hv_trail.specs.Trail.{book_of, state_at}
 use Rattle.hv_trail.specs.Kept.{trail_of}
 use Rattle.hv_trail.specs.Steps.{Call, Note, Done, HouseSeen, Step}
 use Rattle.hv_house.specs.declared.house.House.{House}
-use Rattle.hv_house.specs.House.{entries_of, IsReady}
-use Rattle.hv_house.specs.Steps.{seen_of}
+use Rattle.hv_house.specs.declared.fault.HouseFault.{HouseFault}
+use Rattle.hv_house.specs.House.{entries_of}
+use Rattle.hv_house.specs.Steps.{seen_of, fault_outcome}
+use Rattle.hv_telling.specs.Telling.{IsToldHouse, IsWhole, StaysWhole, StillOpens}
 use Rattle.hv_acts.specs.declared.fault.ActFault.{ActFault}
 use Rattle.hv_acts.specs.declared.fault.ActFault.TheVariants as act
 use Rattle.hv_acts.specs.Answers.{act_outcome, call_behind, IsLate, IsWhy, HasNotEnded, id_behind, next_id, next_table, EntryFits, EntryStep}
-use Rattle.hv_acts.proofs.Steps.{book-is, asked}
+use Rattle.hv_acts.proofs.Steps.{book-is, asked, whole-keeps, keeps-behind}
 
 -- ---- why it was refused
 
@@ -119,14 +121,28 @@ pub fits-book : {D : Type 0} (house : House D) (event : Entry) → EntryFits (tr
 fits-book house event = subst (λ (book : List Entry). Fits profile (state_of book) event) (book-is house)
 
 module _ {D : Type 0} (told : D → Option Store) (faults : D → ℕ) (txn : TxnId) (event : Entry) where
-  pub step-done : {T : Type 0} (x : T) (before now : House D) → IsReady told now → Step told faults (Note event) Done (seen_of before) (seen_of now)
+  pub step-done : {T : Type 0} (x : T) (before now : House D) → IsWhole told now → Step told faults (Note event) Done (seen_of before) (seen_of now)
       → EntryFits (trail_of before.trail) event → EntryStep told faults txn event before now (Ok x)
-  step-done x before now ready step fits = record { keeps = λ still. ready; step = step; answers = (fits, tt) }
+  step-done x before now whole step fits = record { keeps = whole-keeps told now whole; step = step; answers = (fits, tt) }
 
-  pub step-late : {T : Type 0} (why : ActFault) (house : House D) → IsReady told house → IsLate (trail_of house.trail) txn why → (EntryFits (trail_of house.trail) event → ⊥)
+  pub step-late : {T : Type 0} (why : ActFault) (house : House D) → IsWhole told house → IsLate (trail_of house.trail) txn why → (EntryFits (trail_of house.trail) event → ⊥)
       → EntryStep {T = T} told faults txn event house house (Err why)
-  step-late why house ready late not = record {
-    keeps = λ still. ready;
+  step-late why house whole late not = record {
+    keeps = whole-keeps told house whole;
     step = asked-late told faults (seen_of house) (trail_of house.trail) txn (Note event) why late;
     answers = why-of (trail_of house.trail) txn (EntryFits (trail_of house.trail) event) why late not;
   }
+
+  pub step-failed : {T : Type 0} (why : HouseFault) (before now : House D) → IsWhole told before → StaysWhole told why now
+      → (IsToldHouse told before → StillOpens told now) → now.start ≡ before.start
+      → Step told faults (Note event) (fault_outcome why) (seen_of before) (seen_of now) → EntryStep {T = T} told faults txn event before now (Err (act.House why))
+  step-failed why before now was stays opens start step = record { keeps = keeps-behind told before now why was stays opens start step.closed; step = step; answers = tt }
+
+  -- a test refused it
+  pub step-full : {T : Type 0} (entries : ℕ) (house : House D) → IsWhole told house → entries ≡ length (book_of (trail_of house.trail))
+      → Of (state_at (trail_of house.trail)) txn.0 (FullFits profile (state_at (trail_of house.trail))) → EntryStep {T = T} told faults txn event house house (Err (act.Full entries))
+  step-full entries house whole count full = record { keeps = whole-keeps told house whole; step = asked told faults (seen_of house); answers = (count, full) }
+
+  pub step-held : {T : Type 0} (by : TxnId) (house : House D) → IsWhole told house → Of (state_at (trail_of house.trail)) txn.0 (BlockedFits (state_at (trail_of house.trail)) by.0)
+      → EntryStep {T = T} told faults txn event house house (Err (act.Held by))
+  step-held by house whole held = record { keeps = whole-keeps told house whole; step = asked told faults (seen_of house); answers = held }

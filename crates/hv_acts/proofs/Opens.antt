@@ -1,7 +1,6 @@
 -- A transaction that an act opens, and what its Start waits for.
-use Rattle.std.proofs.Common.{◌≡◌, ℕ, ◌+◌, ◌<◌, ◌↔◌, Bool, true, false, Option, Some, None, Ok, Err, IsTrue, List, length, IsErrOf, true≢false, eqb-true, eq-eqb, refl, sym, ap, ◌∙◌, subst, arith}
-use Rattle.std.specs.Prelude.{nat_lt, ◌==◌, ◌&&◌, IsSomeAnd}
-use Rattle.std.proofs.lemmas.Bool.Decides.{nat_tests}
+use Rattle.std.proofs.Common.{◌≡◌, ℕ, ◌↔◌, true, false, Option, Some, None, Ok, Err, IsTrue, List, length, true≢false, eqb-true, eq-eqb, refl, sym, ap, ◌∙◌, subst}
+use Rattle.std.specs.Prelude.{◌==◌, ◌&&◌, IsSomeAnd}
 use Rattle.hv_base.specs.declared.ids.TxnId.{TxnId}
 use Rattle.hv_shelf.specs.Disk.{Store}
 use Rattle.hv_ast.specs.declared.statement.Stmt.{Stmt}
@@ -10,25 +9,25 @@ use Rattle.hv_book.specs.Briefs.{tree_in}
 use Rattle.hv_fits.specs.Texts.{TextsRun}
 use Rattle.hv_fits.proofs.LockLemmas.{texts-run, no-text, blocked-law}
 use Rattle.hv_history.specs.declared.entry.Entry.{Entry}
+use Rattle.hv_history.specs.declared.entry.Entry.TheVariants as entry
 use Rattle.hv_history.specs.declared.state.Transaction.{Transaction}
 use Rattle.hv_history.specs.State.{State, state_of, numbered}
-use Rattle.hv_history.specs.Legal.{Of, IsWaiting, BlockedFits, HasRoom, first_holder, load, profile}
-use Rattle.hv_stands.specs.Running.{next_number, opening}
+use Rattle.hv_history.specs.Legal.{Of, Fits, IsWaiting, BlockedFits, HasRoom, first_holder, profile}
+use Rattle.hv_built.specs.Running.{Runs}
+use Rattle.hv_stands.specs.Running.{next_number}
+use Rattle.hv_trail.specs.Trail.{book_of}
 use Rattle.hv_trail.specs.Kept.{trail_of}
 use Rattle.hv_trail.specs.Steps.{Note, Done, Step}
 use Rattle.hv_house.specs.declared.fault.HouseFault.{HouseFault}
-use Rattle.hv_house.specs.declared.calls.EntryFault.{EntryFault}
-use Rattle.hv_house.specs.declared.calls.EntryFault.TheVariants as refusal
 use Rattle.hv_house.specs.declared.house.House.{House}
-use Rattle.hv_house.specs.House.{entries_of, IsReady, StaysReady}
-use Rattle.hv_house.specs.Faults.{EndsRun}
+use Rattle.hv_house.specs.House.{entries_of, IsReady}
 use Rattle.hv_locks.specs.declared.table.LockState.TheVariants.{Granted, Waiting}
 use Rattle.hv_house.specs.Asking.{holder_against, lock_state}
-use Rattle.hv_house.specs.Calls.{LacksRoom, EntryStepWithin}
+use Rattle.hv_telling.specs.Telling.{IsToldHouse, IsWhole, StaysWhole, StillOpens}
 use Rattle.hv_house.specs.Steps.{seen_of, fault_outcome}
 use Rattle.hv_acts.specs.declared.fault.ActFault.TheVariants as act
-use Rattle.hv_acts.specs.Waiting.{next_txn, IsHeld, OpenStep}
-use Rattle.hv_acts.proofs.Steps.{book-is, asked, keeps-noted}
+use Rattle.hv_acts.specs.Waiting.{next_txn, next_opened, IsHeld, OpenStep}
+use Rattle.hv_acts.proofs.Steps.{book-is, asked, whole-keeps, keeps-behind}
 
 -- ---- what a Start waits for
 
@@ -104,79 +103,54 @@ module _ {D : Type 0} (told : D → Option Store) (house : House D) (ready : IsR
       let both : Granted ≡ Waiting by = granted ∙ ap lock_state found in
       cc
 
--- ---- room
+-- ---- its number
 
-room-for : (s : State) (more : ℕ) → (profile.entries < load s + more → ⊥) → HasRoom profile s more
-room-for s more none = by (nat_lt profile.entries (load s + more)) refl
-  where
-    by : (b : Bool) → nat_lt profile.entries (load s + more) ≡ b → HasRoom profile s more
-    by true is = absurd (none (grind (arith, nat_tests, is)))
-    by false is = grind (arith, nat_tests, is)
-
--- one that was opened had room
-had-room : (txn : TxnId) (book : List Entry) → ((k : ℕ) → IsErrOf (Ok txn) (refusal.Full k) ↔ LacksRoom profile book 2 k) → HasRoom profile (state_of book) 2
-had-room txn book full = room-for (state_of book) 2 (λ lacks. let never : Ok txn ≡ Err (refusal.Full (length book)) = (full (length book)).1 (record { count = refl; full = lacks }) in cc)
-
--- its number
 pub next-of : {D : Type 0} (house : House D) (txn : TxnId) → txn.0 ≡ next_number (entries_of house) → txn ≡ next_txn (trail_of house.trail)
 next-of house txn is = λ i. record { 0 = (is ∙ ap next_number (sym (book-is house))) i }
 
 -- ---- its step
 
-module _ {D : Type 0} (told : D → Option Store) (faults : D → ℕ) (session : List ℕ) (number : ℕ) (text : List ℕ) where
-  abbrev asked-for : List Entry → Entry
-  asked-for book = opening book (record { session = session; number = number; text = text })
+module _ {D : Type 0} (told : D → Option Store) (faults : D → ℕ) (session : List ℕ) (number : ℕ) (text : List ℕ) (txn : TxnId) where
+  abbrev event : Entry
+  event = entry.Opened txn session number text
 
-  pub open-done : (txn : TxnId) (before now : House D) → IsReady told now → txn.0 ≡ next_number (entries_of before)
-      → ((k : ℕ) → IsErrOf (Ok txn) (refusal.Full k) ↔ LacksRoom profile (entries_of before) 2 k)
-      → Step told faults (Note (asked-for (entries_of before))) Done (seen_of before) (seen_of now)
-      → OpenStep told faults session number text before now (Ok txn)
-  open-done txn before now ready next full step = record {
-    keeps = λ still. ready;
-    step = subst (λ (book : List Entry). Step told faults (Note (asked-for book)) Done (seen_of before) (seen_of now)) (sym (book-is before)) step;
+  -- it is the next one's
+  event-is : (house : House D) → txn.0 ≡ next_number (entries_of house) → event ≡ next_opened (trail_of house.trail) session number text
+  event-is house next = λ i. entry.Opened (next-of house txn next i) session number text
+
+  pub open-done : (before now : House D) → IsWhole told now → txn.0 ≡ next_number (entries_of before) → Fits profile (state_of (entries_of before)) event
+      → Step told faults (Note event) Done (seen_of before) (seen_of now) → OpenStep told faults session number text before now (Ok txn)
+  open-done before now whole next fits step = record {
+    keeps = whole-keeps told now whole;
+    step = subst (λ (e : Entry). Step told faults (Note e) Done (seen_of before) (seen_of now)) (event-is before next) step;
     answers = (
-      subst (λ (book : List Entry). HasRoom profile (state_of book) 2) (sym (book-is before)) (had-room txn (entries_of before) full),
+      subst (λ (book : List Entry). HasRoom profile (state_of book) 2) (sym (book-is before)) fits.room,
       next-of before txn next,
     );
   }
 
-  open-full : (entries : ℕ) (house now : House D) → now ≡ house → IsReady told house → LacksRoom profile (entries_of house) 2 entries
-      → OpenStep told faults session number text house now (Err (act.Full entries))
-  open-full entries house now same ready lacks =
-      subst (λ (next : House D). OpenStep told faults session number text house next (Err (act.Full entries))) (sym same)
-      (record {
-        keeps = λ still. ready;
-        step = asked told faults (seen_of house);
-        answers = (
-          lacks.count ∙ ap length (sym (book-is house)),
-          λ room. let here : HasRoom profile (state_of (entries_of house)) 2 = subst (λ (book : List Entry). HasRoom profile (state_of book) 2) (book-is house) room in
-              omega (arith, here, lacks.full),
-        );
-      })
-
-  open-failed : (why : HouseFault) (before now : House D) → before.trail.closed ≡ false → StaysReady told why now → EndsRun why
-      → Step told faults (Note (asked-for (entries_of before))) (fault_outcome why) (seen_of before) (seen_of now)
-      → OpenStep told faults session number text before now (Err (act.House why))
-  open-failed why before now running stays ends step = record {
-    keeps = keeps-noted told before now running why stays ends step.closed;
-    step = subst (λ (book : List Entry). Step told faults (Note (asked-for book)) (fault_outcome why) (seen_of before) (seen_of now)) (sym (book-is before)) step;
-    answers = tt;
+  pub open-full : (tree : Stmt) (entries : ℕ) (house : House D) → IsWhole told house → Runs text tree → txn.0 ≡ next_number (entries_of house)
+      → entries ≡ length (book_of (trail_of house.trail)) → (Fits profile (state_of (entries_of house)) event → ⊥)
+      → OpenStep told faults session number text house house (Err (act.Full entries))
+  open-full tree entries house whole runs next count not = record {
+    keeps = whole-keeps told house whole;
+    step = asked told faults (seen_of house);
+    answers = (
+      count,
+      λ room. not (record {
+        next = next;
+        statement = (tree, runs);
+        room = subst (λ (book : List Entry). HasRoom profile (state_of book) 2) (book-is house) room;
+      }),
+    );
   }
 
-  -- by what the house's call answered
-  pub full-answered : (why : EntryFault) (entries : ℕ) (house now : House D) → why ≡ refusal.Full entries → IsReady told house
-      → EntryStepWithin {T = TxnId} profile told faults (asked-for (entries_of house)) house now (Err why)
-      → ((k : ℕ) → IsErrOf {T = TxnId} (Err why) (refusal.Full k) ↔ LacksRoom profile (entries_of house) 2 k)
-      → OpenStep told faults session number text house now (Err (act.Full entries))
-  full-answered why entries house now is ready step full =
-      let refused : EntryStepWithin {T = TxnId} profile told faults (asked-for (entries_of house)) house now (Err (refusal.Full entries)) =
-      subst (λ (w : EntryFault). EntryStepWithin {T = TxnId} profile told faults (asked-for (entries_of house)) house now (Err w)) is step in
-      open-full entries house now refused.halted ready ((full entries).0 (ap Err is))
-
-  pub house-answered : (why : EntryFault) (fault : HouseFault) (house now : House D) → why ≡ refusal.House fault → IsReady told house
-      → EntryStepWithin {T = TxnId} profile told faults (asked-for (entries_of house)) house now (Err why)
-      → OpenStep told faults session number text house now (Err (act.House fault))
-  house-answered why fault house now is ready step =
-      let failed : EntryStepWithin {T = TxnId} profile told faults (asked-for (entries_of house)) house now (Err (refusal.House fault)) =
-      subst (λ (w : EntryFault). EntryStepWithin {T = TxnId} profile told faults (asked-for (entries_of house)) house now (Err w)) is step in
-      open-failed fault house now ready.kept.running failed.stays failed.ends failed.step
+  pub open-failed : (why : HouseFault) (before now : House D) → IsWhole told before → txn.0 ≡ next_number (entries_of before) → StaysWhole told why now
+      → (IsToldHouse told before → StillOpens told now) → now.start ≡ before.start
+      → Step told faults (Note event) (fault_outcome why) (seen_of before) (seen_of now)
+      → OpenStep told faults session number text before now (Err (act.House why))
+  open-failed why before now was next stays opens start step = record {
+    keeps = keeps-behind told before now why was stays opens start step.closed;
+    step = subst (λ (e : Entry). Step told faults (Note e) (fault_outcome why) (seen_of before) (seen_of now)) (event-is before next) step;
+    answers = tt;
+  }

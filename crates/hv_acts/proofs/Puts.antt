@@ -1,10 +1,12 @@
 -- A file that is put by an act.
-use Rattle.std.proofs.Common.{◌≡◌, ℕ, Bool, false, Option, Some, None, IsTrue, Ok, Err, List, sym, subst}
+use Rattle.std.proofs.Common.{◌≡◌, ℕ, ◌≤◌, ◌↔◌, Bool, false, Option, Some, None, IsTrue, Ok, Err, List, length, sym, ap, ◌∙◌, subst}
 use Rattle.std.specs.Prelude.{IsSomeAnd}
 use Rattle.hv_base.specs.declared.ids.TxnId.{TxnId}
 use Rattle.hv_shelf.specs.declared.place.Place.{Place}
 use Rattle.hv_shelf.specs.Disk.{Store}
 use Rattle.hv_route.specs.declared.files.OutFile.{OutFile}
+use Rattle.hv_book.specs.declared.notes.Held.{Held}
+use Rattle.hv_book.specs.Briefs.{held_by, given_at}
 use Rattle.hv_history.specs.declared.entry.Entry.{Entry}
 use Rattle.hv_history.specs.declared.state.Transaction.{Transaction}
 use Rattle.hv_history.specs.State.{state_of, numbered}
@@ -16,12 +18,16 @@ use Rattle.hv_trail.specs.Kept.{trail_of}
 use Rattle.hv_trail.specs.Lasting.{IsGiven}
 use Rattle.hv_trail.specs.Steps.{Put, Done, Step}
 use Rattle.hv_house.specs.declared.house.House.{House}
-use Rattle.hv_house.specs.House.{entries_of, IsReady}
-use Rattle.hv_house.specs.Steps.{seen_of, HoldsId, IsOwnFile}
+use Rattle.hv_house.specs.declared.fault.HouseFault.{HouseFault}
+use Rattle.hv_house.specs.House.{entries_of}
+use Rattle.hv_house.specs.Steps.{seen_of, fault_outcome, HoldsId, IsOwnFile}
+use Rattle.hv_telling.specs.Telling.{IsToldHouse, IsWhole, StaysWhole, StillOpens}
 use Rattle.hv_acts.specs.declared.fault.ActFault.{ActFault}
+use Rattle.hv_acts.specs.declared.fault.ActFault.TheVariants as act
 use Rattle.hv_acts.specs.Answers.{IsLate}
 use Rattle.hv_acts.specs.Putting.{HasIdFor, Runs, FileStep}
-use Rattle.hv_acts.proofs.Steps.{book-is}
+use Rattle.hv_acts.specs.Meant.{RunsWith}
+use Rattle.hv_acts.proofs.Steps.{book-is, whole-keeps, keeps-behind}
 use Rattle.hv_acts.proofs.Notes.{why-of, asked-late, no-true}
 
 -- ---- its own file
@@ -44,6 +50,20 @@ pub not-running : {D : Type 0} (house : House D) (txn : TxnId) (entries : List E
 not-running house txn entries b are tests is runs =
     no-true b is (tests (subst (λ (book : List Entry). Of (state_of book) txn.0 IsRunning) (sym are) (runs-book house txn runs)))
 
+-- so many write ids at most
+module _ {D : Type 0} (house : House D) (txn : TxnId) (entries : List Entry) (are : entries ≡ entries_of house) where
+  pub runs-both : (held : List Held) (most : ℕ) (b : Bool) → held_by txn.0 held ≡ given_at (numbered (state_of entries).transactions txn.0)
+      → Of (state_of entries) txn.0 IsRunning → IsTrue b ↔ length (held_by txn.0 held) ≤ most → IsTrue b ↔ RunsWith (trail_of house.trail) txn most
+  runs-both held most b is runs tests =
+      let same : length (held_by txn.0 held) ≡ length (given_at (numbered (state_at (trail_of house.trail)).transactions txn.0)) =
+      ap length is ∙ ap (λ (book : List Entry). length (given_at (numbered (state_of book).transactions txn.0))) (are ∙ sym (book-is house)) in (
+        λ true_. (runs-of house txn entries are runs, subst (λ n. n ≤ most) same (tests.0 true_)),
+        λ both. tests.1 (subst (λ n. n ≤ most) (sym same) both.1),
+      )
+
+  pub runs-not : (most : ℕ) (b : Bool) → (Of (state_of entries) txn.0 IsRunning → IsTrue b) → b ≡ false → IsTrue b ↔ RunsWith (trail_of house.trail) txn most
+  runs-not most b tests is = (λ true_. absurd (no-true b is true_), λ both. absurd (not-running house txn entries b are tests is both.0))
+
 pub holds-id : {D : Type 0} (house : House D) (txn : TxnId) (table write : ℕ) → Runs (trail_of house.trail) txn
     → IsSomeAnd (numbered (state_at (trail_of house.trail)).transactions txn.0) (IsGiven table write) → HoldsId (entries_of house) txn.0 table write
 holds-id house txn table write runs given =
@@ -62,14 +82,19 @@ own-file house by place file has runs = record {
 -- ---- its step
 
 module _ {D : Type 0} (told : D → Option Store) (faults : D → ℕ) (by : TxnId) (place : Place) (file : OutFile) where
-  pub file-done : (before now : House D) → Runs (trail_of before.trail) by → IsReady told now → IsEncoded file
+  pub file-done : (before now : House D) → RunsWith (trail_of before.trail) by 1 → IsWhole told now → IsEncoded file
       → Step told faults (Put (Txn by) place (bytes_of file)) Done (seen_of before) (seen_of now) → FileStep told faults by place file before now (Ok tt)
-  file-done before now runs ready encoded step = record { keeps = λ still. ready; step = step; answers = (runs, encoded) }
+  file-done before now runs whole encoded step = record { keeps = whole-keeps told now whole; step = step; answers = (runs, encoded) }
 
-  pub file-late : (why : ActFault) (house : House D) → IsReady told house → IsLate (trail_of house.trail) by why → (Runs (trail_of house.trail) by → ⊥)
+  pub file-late : (why : ActFault) (house : House D) → IsWhole told house → IsLate (trail_of house.trail) by why → (RunsWith (trail_of house.trail) by 1 → ⊥)
       → FileStep told faults by place file house house (Err why)
-  file-late why house ready late not = record {
-    keeps = λ still. ready;
+  file-late why house whole late not = record {
+    keeps = whole-keeps told house whole;
     step = asked-late told faults (seen_of house) (trail_of house.trail) by (Put (Txn by) place (bytes_of file)) why late;
-    answers = why-of (trail_of house.trail) by (Runs (trail_of house.trail) by) why late not;
+    answers = why-of (trail_of house.trail) by (RunsWith (trail_of house.trail) by 1) why late not;
   }
+
+  pub file-failed : (why : HouseFault) (before now : House D) → IsWhole told before → StaysWhole told why now → (IsToldHouse told before → StillOpens told now)
+      → now.start ≡ before.start → Step told faults (Put (Txn by) place (bytes_of file)) (fault_outcome why) (seen_of before) (seen_of now)
+      → FileStep told faults by place file before now (Err (act.House why))
+  file-failed why before now was stays opens start step = record { keeps = keeps-behind told before now why was stays opens start step.closed; step = step; answers = tt }

@@ -2,7 +2,9 @@
 use Rattle.std.proofs.Common.{◌≡◌, ℕ, ◌+◌, ◌<◌, ◌≤◌, Bool, true, false, Option, Some, None, List, ◌++◌, length, take, option_map, refl, sym, ap, ◌∙◌, subst, arith}
 use Rattle.std.proofs.lemmas.List.{length-append, take-append-le}
 use Rattle.std.proofs.Math.Seq.{take-length}
+use Rattle.std.specs.Prelude.{IsSomeAnd}
 use Rattle.std.specs.FinMap as tree
+use Rattle.hv_base.specs.Told.{Tells}
 use Rattle.std.specs.List.{AllByRecursion}
 use Rattle.hv_shelf.specs.Disk.{Tree, Store, places_of}
 use Rattle.hv_logic.specs.declared.catalog.TableInfo.{TableInfo}
@@ -34,13 +36,15 @@ use Rattle.hv_tables.proofs.TakenFiles.{place-there, there-place}
 use Rattle.hv_tables.proofs.Shown.{Shows, taken-file}
 use Rattle.hv_tables.proofs.StoredRows.{shows}
 use Rattle.hv_trail.specs.declared.trail.TrailItem.{TrailItem}
-use Rattle.hv_trail.specs.Trail.{book_of}
+use Rattle.hv_trail.specs.Trail.{book_of, state_at}
+use Rattle.hv_trail.specs.Steps.{HouseSeen}
 use Rattle.hv_trail.proofs.LastingLaws.{book-append}
 use Rattle.hv_house.specs.declared.listing.Listing.{Listing}
 use Rattle.hv_house.specs.Listing.{info_in, AreTaken}
 use Rattle.hv_house.specs.Seeing.{ids_in}
 use Rattle.hv_house.proofs.Past.{says-committed}
-use Rattle.hv_acts.specs.Reading.{HasPlace, state_then, HasFittingBook, info_then, IsThere, ReadsOn, HasListed, StandsStill, AllStandStill, AreSameFiles, IsGotStill, AllGotStill}
+use Rattle.hv_telling.specs.Telling.{IsTold}
+use Rattle.hv_acts.specs.Reading.{HasPlace, state_then, HasFittingBook, info_then, IsThere, FilesStand, ReadsOn, HasListed, StandsStill, AllStandStill, AreSameFiles, ReadsOnTold, IsGotStill, AllGotStill}
 
 -- ---- a place of the book
 
@@ -200,20 +204,94 @@ module _ (before now : List TrailItem) (files files' : Tree) (place : ℕ) (tabl
       as-are xs ys us vs p q same =
           subst (λ (zs : List DirFile). AreSameFiles zs ys) (sym p) (subst (λ (zs : List DirFile). AreSameFiles us zs) (sym q) same)
 
--- ---- what was listed, and is got later
+-- ---- over a told house
 
-got-still : (store store' : Store) (trail' : List TrailItem) (file : DirFile) → StandsStill store.tree store'.tree file → IsGotStill store store' trail' file
-got-still store store' trail' file still = record {
-  got = λ found has. still.stood ∙ sym still.stands ∙ has.bytes;
-  never_missed = λ has. let never : Some still.bytes ≡ None = sym still.stands ∙ has.none in cc;
-}
+in-both : {A : Type 0} (o p : Option A) (P Q : A → Type 0) (R : A → A → Type 0) → IsSomeAnd o P → IsSomeAnd p Q → ((x y : A) → o ≡ Some x → p ≡ Some y → P x → Q y → R x y)
+    → IsSomeAnd o (λ x. IsSomeAnd p (R x))
+in-both None p P Q R is also f = absurd is
+in-both (Some x) None P Q R is also f = absurd also
+in-both (Some x) (Some y) P Q R is also f = f x y refl refl is also
 
-pub all-got : (before now : List TrailItem) (store store' : Store) (place : ℕ) (table : Table) (on : ReadsOn before now store.tree store'.tree place table) (listing : Listing)
-    → HasListed (Some store) before place table.info.table listing
-    → AllGotStill store store' now listing.inserts.items × AllGotStill store store' now listing.deletes.items
-all-got before now store store' place table on listing has =
-    let taken = subst (λ (list : WriteIds). AreTaken table.info.table list store.tree listing.inserts.items listing.deletes.items) has.list has.files in
-    let stand = all-stand before now store.tree store'.tree place table on listing.inserts.items listing.deletes.items taken in (
-      λ file h. got-still store store' now file (stand.0 file h),
-      λ file h. got-still store store' now file (stand.1 file h),
-    )
+told-at : (o : Option Store) (s : Store) (P : Store → Type 0) → o ≡ Some s → Tells o P → P s
+told-at o s P is tells = subst (λ (p : Option Store). Tells p P) is tells
+
+module _ {D : Type 0} (told : D → Option Store) (before now : HouseSeen D) (place : ℕ) (table : Table) (on : ReadsOnTold told before now place table) where
+  told-now : IsTold told now.start
+  told-now = subst (IsTold told) (sym on.start) on.is_told
+
+  -- the files of both books stand
+  reads-on : (s t : Store) → HasFittingBook now.trail → Stands (state_at before.trail) s.tree → Stands (state_at now.trail) t.tree
+      → ReadsOn before.trail now.trail s.tree t.tree place table
+  reads-on s t book stood stand = record { front = on.front; has = on.has; book = book; stood = stood; stand = stand; here = on.here }
+
+  taken-at : (listing : Listing) (s : Store) → told before.shelf ≡ Some s → HasListed told before place table.info.table listing
+      → AreTaken table.info.table (ids_in (state_then before.trail place) table.info.table.0) s.tree listing.inserts.items listing.deletes.items
+  taken-at listing s at has =
+      subst (λ (list : WriteIds). AreTaken table.info.table list s.tree listing.inserts.items listing.deletes.items) has.list
+      (told-at (told before.shelf) s (λ t. AreTaken table.info.table listing.list t.tree listing.inserts.items listing.deletes.items) at has.files)
+
+  -- what was listed stands still, of either kind
+  abbrev BothStand : Listing → Store → Store → Type 0
+  BothStand listing s t = AllStandStill s.tree t.tree listing.inserts.items × AllStandStill s.tree t.tree listing.deletes.items
+
+  listed-stand : (listing : Listing) → HasListed told before place table.info.table listing → HasFittingBook now.trail → FilesStand told now
+      → IsSomeAnd (told before.shelf) (λ s. IsSomeAnd (told now.shelf) (BothStand listing s))
+  listed-stand listing has book stand =
+      in-both (told before.shelf) (told now.shelf) _ _ (BothStand listing) (has.stand on.is_told) (stand told-now)
+      (λ s t at then_ stood stands. all-stand before.trail now.trail s.tree t.tree place table (reads-on s t book stood stands)
+      listing.inserts.items listing.deletes.items (taken-at listing s at has))
+
+  -- a file that is got later
+  file-got : (file : DirFile) (o p : Option Store) (found : List ℕ) → IsSomeAnd o (λ s. IsSomeAnd p (λ t. StandsStill s.tree t.tree file))
+      → Tells p (λ t. tree.get t.tree file.place ≡ Some found) → IsSomeAnd o (λ s. tree.get s.tree file.place ≡ Some found)
+  file-got file None p found still bytes = absurd still
+  file-got file (Some s) None found still bytes = absurd still
+  file-got file (Some s) (Some t) found still bytes = still.stood ∙ sym still.stands ∙ bytes
+
+  file-there : (file : DirFile) (o p : Option Store) → IsSomeAnd o (λ s. IsSomeAnd p (λ t. StandsStill s.tree t.tree file))
+      → Tells p (λ t. tree.get t.tree file.place ≡ None) → ⊥
+  file-there file None p still none = absurd still
+  file-there file (Some s) None still none = absurd still
+  file-there file (Some s) (Some t) still none = let never : Some still.bytes ≡ None = sym still.stands ∙ none in cc
+
+  one-still : (file : DirFile) (o p : Option Store) (P : Store → Store → Type 0) → ((s t : Store) → P s t → StandsStill s.tree t.tree file)
+      → IsSomeAnd o (λ s. IsSomeAnd p (P s)) → IsSomeAnd o (λ s. IsSomeAnd p (λ t. StandsStill s.tree t.tree file))
+  one-still file None p P f still = absurd still
+  one-still file (Some s) None P f still = absurd still
+  one-still file (Some s) (Some t) P f still = f s t still
+
+  got-still : (listing : Listing) (file : DirFile) → HasListed told before place table.info.table listing
+      → ((s t : Store) → BothStand listing s t → StandsStill s.tree t.tree file) → IsGotStill told before now file
+  got-still listing file has one = record {
+    got = λ found is. file-got file (told before.shelf) (told now.shelf) found
+        (one-still file (told before.shelf) (told now.shelf) (BothStand listing) one (listed-stand listing has is.book is.stand)) is.bytes;
+    never_missed = λ is. file-there file (told before.shelf) (told now.shelf)
+        (one-still file (told before.shelf) (told now.shelf) (BothStand listing) one (listed-stand listing has is.book is.stand)) is.none;
+  }
+
+  pub all-got : (listing : Listing) → HasListed told before place table.info.table listing
+      → AllGotStill told before now listing.inserts.items × AllGotStill told before now listing.deletes.items
+  all-got listing has = (
+    λ file h. got-still listing file has (λ s t both. both.0 file h),
+    λ file h. got-still listing file has (λ s t both. both.1 file h),
+  )
+
+  -- ---- what is listed again
+
+  abbrev BothSame : Listing → Listing → Type 0
+  BothSame listing listing' = AreSameFiles listing.inserts.items listing'.inserts.items × AreSameFiles listing.deletes.items listing'.deletes.items
+
+  of-some : (o p : Option Store) (P : Type 0) → IsSomeAnd o (λ s. IsSomeAnd p (λ t. P)) → P
+  of-some None p P is = absurd is
+  of-some (Some s) None P is = absurd is
+  of-some (Some s) (Some t) P is = is
+
+  pub listed-again : (listing listing' : Listing) → HasListed told before place table.info.table listing → HasListed told now place table.info.table listing'
+      → BothSame listing listing'
+  listed-again listing listing' has has' =
+      of-some (told before.shelf) (told now.shelf) (BothSame listing listing')
+      (in-both (told before.shelf) (told now.shelf) _ _ (λ s t. BothSame listing listing') (has.stand on.is_told) (has'.stand told-now)
+      (λ s t at then_ stood stands. all-same before.trail now.trail s.tree t.tree place table (reads-on s t has'.book stood stands)
+      listing.inserts.items listing.deletes.items listing'.inserts.items listing'.deletes.items (taken-at listing s at has)
+      (subst (λ (list : WriteIds). AreTaken table.info.table list t.tree listing'.inserts.items listing'.deletes.items) has'.list
+      (told-at (told now.shelf) t (λ u. AreTaken table.info.table listing'.list u.tree listing'.inserts.items listing'.deletes.items) then_ has'.files))))

@@ -1,19 +1,23 @@
 -- Steps that change nothing: where a test refused the act, and where the house is closed.
-use Rattle.std.proofs.Common.{arith, ◌≡◌, ℕ, Bool, true, false, Option, Some, None, [], ◌++◌, refl, sym, ap, ◌∙◌, append-nil, true≢false}
+use Rattle.std.proofs.Common.{arith, ◌≡◌, inl, ℕ, Bool, true, false, Option, Some, None, List, [], ◌++◌, refl, sym, ap, ◌∙◌, append-nil, true≢false}
 use Rattle.std.specs.Prelude.{◌||◌}
 use Rattle.hv_base.specs.Told.{Moves}
+use Rattle.hv_base.specs.declared.ids.TxnId.{TxnId}
 use Rattle.hv_shelf.specs.Disk.{Store}
+use Rattle.hv_history.specs.declared.entry.Entry.{Entry}
 use Rattle.hv_trail.specs.Trail.{book_of}
 use Rattle.hv_trail.specs.Kept.{trail_of}
-use Rattle.hv_trail.specs.Steps.{HouseSeen, Call, Ask, Closed, Refused, gains, shuts, locks_after, MayEnd, Changes, IsShutOut, Step}
+use Rattle.hv_trail.specs.Steps.{HouseSeen, Call, Outcome, Note, Begin, Ask, Closed, Refused, gains, shuts, locks_after, MayEnd, Changes, IsShutOut, Step}
 use Rattle.hv_trail.proofs.KeptLaws.{trail-book}
 use Rattle.hv_house.specs.declared.fault.HouseFault.{HouseFault}
 use Rattle.hv_house.specs.declared.fault.HouseFault.TheVariants as fault
 use Rattle.hv_house.specs.declared.house.House.{House}
-use Rattle.hv_house.specs.House.{entries_of, StaysReady}
-use Rattle.hv_house.specs.Faults.{EndsRun}
-use Rattle.hv_house.specs.Steps.{fault_outcome}
-use Rattle.hv_house.specs.Housed.{IsReadyOrClosed}
+use Rattle.hv_house.specs.House.{entries_of}
+use Rattle.hv_house.specs.Steps.{seen_of, fault_outcome}
+use Rattle.hv_telling.specs.Telling.{IsToldHouse, IsWhole, StaysWhole, StillOpens}
+use Rattle.hv_telling.proofs.Told.{told-stays}
+use Rattle.hv_telling.proofs.Opens.{whole-opens}
+use Rattle.hv_acts.specs.Told.{IsWholeOrClosed}
 
 -- the book of a house is that of its trail
 pub book-is : {D : Type 0} (house : House D) → book_of (trail_of house.trail) ≡ entries_of house
@@ -53,15 +57,33 @@ module _ {D : Type 0} (told : D → Option Store) (faults : D → ℕ) (seen : H
     rest = record { start = refl; opened = refl; limits = refl };
   }
 
+  pub shut-note : (event : Entry) → seen.closed ≡ true → Step told faults (Note event) Closed seen seen
+  shut-note event closed = shut (Note event) tt refl (λ s. record { tree_is = refl; reads = λ is. inl is }) refl refl closed
+
+  pub shut-begin : (txn : TxnId) (session : List ℕ) (number : ℕ) (text : List ℕ) → seen.closed ≡ true → Step told faults (Begin txn session number text) Closed seen seen
+  shut-begin txn session number text closed = shut (Begin txn session number text) tt refl (λ s. record { tree_is = refl; reads = λ is. inl is }) refl refl closed
+
 -- ---- between two calls
 
 -- what closed the house is no readiness
 pub shut-closed : (before now : Bool) → before ≡ false → now ≡ before || true → now ≡ false → ⊥
 shut-closed before now running closed still = true≢false (sym (closed ∙ ap (λ b. b || true) running) ∙ still)
 
-module _ {D : Type 0} (told : D → Option Store) (before now : House D) (running : before.trail.closed ≡ false) where
-  pub keeps-noted : (why : HouseFault) → StaysReady told why now → EndsRun why → now.trail.closed ≡ before.trail.closed || shuts (fault_outcome why)
-      → IsReadyOrClosed told now
-  keeps-noted fault.Store stays ends closed = λ still. absurd (shut-closed before.trail.closed now.trail.closed running closed still)
-  keeps-noted fault.NoMemory stays ends closed = λ still. stays.ready refl
-  keeps-noted (fault.Failed count) stays ends closed = absurd ends
+module _ {D : Type 0} (told : D → Option Store) where
+  pub whole-keeps : (house : House D) → IsWhole told house → IsWholeOrClosed told house
+  whole-keeps house whole = record { whole = λ still. whole; opens = whole-opens told house whole }
+
+  -- behind a fault of a call on it
+  pub keeps-behind : (before now : House D) (why : HouseFault) → IsWhole told before → StaysWhole told why now → (IsToldHouse told before → StillOpens told now)
+      → now.start ≡ before.start → now.trail.closed ≡ before.trail.closed || shuts (fault_outcome why) → IsWholeOrClosed told now
+  keeps-behind before now fault.Store was stays opens start closed = record {
+    whole = λ still. absurd (shut-closed before.trail.closed now.trail.closed was.ready.kept.running closed still);
+    opens = λ is. opens (told-stays told now before (sym start) is);
+  }
+  keeps-behind before now fault.NoMemory was stays opens start closed = whole-keeps now stays
+  keeps-behind before now (fault.Failed count) was stays opens start closed = whole-keeps now stays
+
+-- what a step says of what the house was opened over
+pub same-start : {D : Type 0} (told : D → Option Store) (faults : D → ℕ) (call : Call) (outcome : Outcome) (before now : House D)
+    → Step told faults call outcome (seen_of before) (seen_of now) → now.start ≡ before.start
+same-start told faults call outcome before now step = λ i. record { marker = before.start.marker; value = step.rest.start i }

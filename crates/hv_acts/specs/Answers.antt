@@ -22,7 +22,7 @@ use Rattle.hv_trail.specs.Kept.{trail_of}
 use Rattle.hv_trail.specs.Steps.{Call, Note, Ask, Outcome, Done, Refused, Step}
 use Rattle.hv_house.specs.declared.house.House.{House}
 use Rattle.hv_house.specs.Steps.{seen_of, fault_outcome}
-use Rattle.hv_house.specs.Housed.{IsReadyOrClosed}
+use Rattle.hv_acts.specs.Told.{IsWholeOrClosed}
 use Rattle.hv_acts.specs.declared.fault.ActFault.{ActFault}
 use Rattle.hv_acts.specs.declared.fault.ActFault.TheVariants as act
 
@@ -93,7 +93,7 @@ EntryFits trail event = Fits profile (state_at trail) event
 
 -- all that is promised of an entry of this transaction that was to be noted
 pub record EntryStep {D T : Type 0} (told : D → Option Store) (faults : D → ℕ) (txn : TxnId) (event : Entry) (before now : House D) (result : Result T ActFault) : Type 0 where
-  pub keeps : IsReadyOrClosed told now
+  pub keeps : IsWholeOrClosed told now
   pub step : Step told faults (answer_call (Note event) result) (answer_outcome result) (seen_of before) (seen_of now)
   pub answers : Answers (trail_of before.trail) txn (EntryFits (trail_of before.trail) event) (λ x. Unit {0}) result
 

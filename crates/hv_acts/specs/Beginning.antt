@@ -14,7 +14,7 @@ use Rattle.hv_trail.specs.Kept.{trail_of}
 use Rattle.hv_trail.specs.Steps.{Call, Begin, Ask, Outcome, Done, Refused, Step, begun}
 use Rattle.hv_house.specs.declared.house.House.{House}
 use Rattle.hv_house.specs.Steps.{seen_of, fault_outcome}
-use Rattle.hv_house.specs.Housed.{IsReadyOrClosed}
+use Rattle.hv_acts.specs.Told.{IsWholeOrClosed}
 use Rattle.hv_house.specs.Asking.{holder_against, CanBegin}
 use Rattle.hv_acts.specs.declared.opening.Begun.{Begun}
 use Rattle.hv_acts.specs.declared.fault.BeginFault.{BeginFault}
@@ -72,6 +72,6 @@ BeginAnswers trail tree (Err why) = IsBeginWhy (book_of trail) tree why
 -- all that is promised of a statement that was to begin
 pub record BeginStep {D : Type 0} (told : D → Option Store) (faults : D → ℕ) (session : List ℕ) (number : ℕ) (text : List ℕ) (tree : Stmt) (before now : House D)
     (result : Result Begun BeginFault) : Type 0 where
-  pub keeps : IsReadyOrClosed told now
+  pub keeps : IsWholeOrClosed told now
   pub step : Step told faults (begin_call (trail_of before.trail) session number text result) (begin_outcome result) (seen_of before) (seen_of now)
   pub answers : BeginAnswers (trail_of before.trail) tree result

@@ -22,7 +22,8 @@ use Rattle.hv_trail.specs.Lasting.{Has, IsGiven}
 use Rattle.hv_trail.specs.Steps.{Commit, Outcome, Done, Conflict, Step}
 use Rattle.hv_house.specs.declared.house.House.{House}
 use Rattle.hv_house.specs.Steps.{seen_of, AreWritten}
-use Rattle.hv_house.specs.Housed.{IsReadyOrClosed}
+use Rattle.hv_acts.specs.Told.{IsWholeOrClosed}
+use Rattle.hv_acts.specs.Meant.{HasAtMost}
 use Rattle.hv_acts.specs.declared.committing.Committed.{Committed}
 use Rattle.hv_acts.specs.declared.committing.Committed.TheVariants as committed
 use Rattle.hv_acts.specs.declared.committing.Shared.{Shared}
@@ -72,21 +73,25 @@ pub record IsConflict (trail : List TrailItem) (txn : TxnId) (wrote : List Touch
 
 -- ---- what is answered
 
+-- the commit fits, and its transaction has no second write id
+abbrev pub CommitsAlone : List TrailItem → TxnId → List Touch → Type 0
+CommitsAlone trail txn wrote = EntryFits trail (entry.Commit txn wrote) × HasAtMost trail txn 1
+
 -- it committed by the next entry: no call on files had failed for it, and the commit fits
 pub record HasCommitted (trail : List TrailItem) (txn : TxnId) (wrote : List Touch) (at : ℕ) : Type 0 where
   pub place : at ≡ length (book_of trail)
   pub unbroken : broken (Txn txn) trail ≡ None
-  pub fits : EntryFits trail (entry.Commit txn wrote)
+  pub fits : CommitsAlone trail txn wrote
 
 abbrev pub CommitAnswers : List TrailItem → TxnId → List Touch → Result Committed ActFault → Type 0
 CommitAnswers trail txn wrote (Ok (committed.Done at)) = HasCommitted trail txn wrote at
 CommitAnswers trail txn wrote (Ok (committed.Conflict at by table partition)) =
     (at ≡ length (book_of trail)) × IsConflict trail txn wrote by table partition
-CommitAnswers trail txn wrote (Err why) = IsWhy trail txn (EntryFits trail (entry.Commit txn wrote)) why
+CommitAnswers trail txn wrote (Err why) = IsWhy trail txn (CommitsAlone trail txn wrote) why
 
 -- all that is promised of a transaction that was to commit
 pub record CommitStep {D : Type 0} (told : D → Option Store) (faults : D → ℕ) (txn : TxnId) (wrote : List Touch) (before now : House D)
     (result : Result Committed ActFault) : Type 0 where
-  pub keeps : IsReadyOrClosed told now
+  pub keeps : IsWholeOrClosed told now
   pub step : Step told faults (answer_call (Commit txn wrote) result) (commit_outcome result) (seen_of before) (seen_of now)
   pub answers : CommitAnswers (trail_of before.trail) txn wrote result

@@ -1,6 +1,9 @@
 pub mod Answers
 pub mod Beginning
 pub mod Committing
+pub mod Making
+pub mod Meant
 pub mod Putting
 pub mod Reading
+pub mod Told
 pub mod Waiting

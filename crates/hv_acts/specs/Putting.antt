@@ -19,7 +19,8 @@ use Rattle.hv_house.specs.declared.house.House.{House}
 use Rattle.hv_house.specs.declared.fault.HouseFault.{HouseFault}
 use Rattle.hv_house.specs.declared.fault.HouseFault.TheVariants as fault
 use Rattle.hv_house.specs.Steps.{seen_of}
-use Rattle.hv_house.specs.Housed.{IsReadyOrClosed}
+use Rattle.hv_acts.specs.Told.{IsWholeOrClosed}
+use Rattle.hv_acts.specs.Meant.{RunsWith}
 use Rattle.hv_acts.specs.declared.fault.ActFault.{ActFault}
 use Rattle.hv_acts.specs.declared.fault.ActFault.TheVariants as act
 use Rattle.hv_acts.specs.Answers.{answer_call, answer_outcome, Answers}
@@ -56,6 +57,6 @@ adds_file by place (Err why) = adds_fault by why
 -- all that is promised of a file that this transaction was to put
 pub record FileStep {D : Type 0} (told : D → Option Store) (faults : D → ℕ) (by : TxnId) (place : Place) (file : OutFile) (before now : House D)
     (result : Result (Unit {0}) ActFault) : Type 0 where
-  pub keeps : IsReadyOrClosed told now
+  pub keeps : IsWholeOrClosed told now
   pub step : Step told faults (answer_call (Put (Txn by) place (bytes_of file)) result) (answer_outcome result) (seen_of before) (seen_of now)
-  pub answers : Answers (trail_of before.trail) by (Runs (trail_of before.trail) by) (λ done. IsEncoded file) result
+  pub answers : Answers (trail_of before.trail) by (RunsWith (trail_of before.trail) by 1) (λ done. IsEncoded file) result

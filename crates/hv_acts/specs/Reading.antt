@@ -1,5 +1,5 @@
 -- What acts that read ask and answer: the table of a name, the files of a table that are taken, and the bytes of one.
-use Rattle.std.specs.Prelude.{◌≡◌, ℕ, ◌≤◌, Bool, true, false, Option, Some, None, List, [], length, take, Result, Ok, Err}
+use Rattle.std.specs.Prelude.{◌≡◌, ℕ, ◌≤◌, Bool, true, false, Option, Some, None, IsSomeAnd, List, [], length, take, Result, Ok, Err}
 use Rattle.std.specs.Option.{option_map}
 use Rattle.std.specs.Global.{Vec}
 use Rattle.std.specs.FinMap as tree
@@ -30,7 +30,8 @@ use Rattle.hv_house.specs.House.{book_limit}
 use Rattle.hv_house.specs.Seeing.{ids_in}
 use Rattle.hv_house.specs.Steps.{seen_of, broken_by}
 use Rattle.hv_house.specs.Listing.{info_in, AreTaken, get_outcome}
-use Rattle.hv_house.specs.Housed.{IsReadyOrClosed}
+use Rattle.hv_acts.specs.Told.{IsWholeOrClosed}
+use Rattle.hv_telling.specs.Telling.{IsTold}
 use Rattle.hv_acts.specs.declared.fault.ActFault.{ActFault}
 use Rattle.hv_acts.specs.declared.fault.ActFault.TheVariants as act
 use Rattle.hv_acts.specs.Answers.{answer_outcome}
@@ -90,11 +91,16 @@ pub record FindStep {D : Type 0} (told : D → Option Store) (faults : D → ℕ
 
 -- ---- the files of a table
 
+-- where the house is told its store tells, and the files of its book stand there
+abbrev pub FilesStand : {D : Type 0} → (D → Option Store) → HouseSeen D → Type 0
+FilesStand told house = IsTold told house.start → IsSomeAnd (told house.shelf) (λ s. Stands (state_at house.trail) s.tree)
+
 -- the files that a reader takes of those that stand, under the list that the table had at the place
-pub record HasListed (told : Option Store) (trail : List TrailItem) (place : ℕ) (table : TableId) (listing : Listing) : Type 0 where
-  pub book : HasFittingBook trail
-  pub list : listing.list ≡ ids_in (state_then trail place) table.0
-  pub files : Tells told (λ s. AreTaken table listing.list s.tree listing.inserts.items listing.deletes.items)
+pub record HasListed {D : Type 0} (told : D → Option Store) (house : HouseSeen D) (place : ℕ) (table : TableId) (listing : Listing) : Type 0 where
+  pub book : HasFittingBook house.trail
+  pub list : listing.list ≡ ids_in (state_then house.trail place) table.0
+  pub files : Tells (told house.shelf) (λ s. AreTaken table listing.list s.tree listing.inserts.items listing.deletes.items)
+  pub stand : FilesStand told house
 
 -- no test refused it, but the house
 abbrev pub IsOfHouse : ActFault → Type 0
@@ -106,7 +112,7 @@ IsOfHouse act.Unfit = ⊥
 IsOfHouse (act.House why) = Unit {0}
 
 abbrev pub ListAnswers : {D : Type 0} → (D → Option Store) → HouseSeen D → ℕ → TableId → Result Listing ActFault → Type 0
-ListAnswers told house place table (Ok listing) = HasListed (told house.shelf) house.trail place table listing
+ListAnswers told house place table (Ok listing) = HasListed told house place table listing
 ListAnswers told house place table (Err why) = IsOfHouse why
 
 -- the mark of a read that failed
@@ -125,7 +131,7 @@ adds_listing by (Err why) = adds_read by why
 -- all that is promised of files that were to be listed for this transaction
 pub record ListStep {D : Type 0} (told : D → Option Store) (faults : D → ℕ) (by : TxnId) (place : ℕ) (table : TableId) (before now : House D)
     (result : Result Listing ActFault) : Type 0 where
-  pub keeps : IsReadyOrClosed told now
+  pub keeps : IsWholeOrClosed told now
   pub step : Step told faults (Read (Some (Txn by))) (answer_outcome result) (seen_of before) (seen_of now)
   pub answers : ListAnswers told (seen_of before) place table result
 
@@ -136,25 +142,29 @@ pub record IsMadeAt (told : Option Store) (trail : List TrailItem) (place : Plac
   pub stands : Tells told (λ s. Stands (state_at trail) s.tree)
   pub made : made_at (state_at trail).tables place ≡ Some bytes
 
--- just these bytes stand there
-pub record HasGot (told : Option Store) (trail : List TrailItem) (place : Place) (found : List ℕ) : Type 0 where
-  pub book : HasFittingBook trail
-  pub bytes : Tells told (λ s. tree.get s.tree place ≡ Some found)
-  pub made : (bytes : List ℕ) → IsMadeAt told trail place bytes → Tells told (λ s. found ≡ bytes)
+-- Just these bytes stand there. Where the house is told they are those that the book makes there, where it makes some.
+pub record HasGot {D : Type 0} (told : D → Option Store) (house : HouseSeen D) (place : Place) (found : List ℕ) : Type 0 where
+  pub book : HasFittingBook house.trail
+  pub bytes : Tells (told house.shelf) (λ s. tree.get s.tree place ≡ Some found)
+  pub made : (bytes : List ℕ) → IsMadeAt (told house.shelf) house.trail place bytes → Tells (told house.shelf) (λ s. found ≡ bytes)
+  pub stand : FilesStand told house
+  pub truly : IsTold told house.start → (bytes : List ℕ) → made_at (state_at house.trail).tables place ≡ Some bytes → found ≡ bytes
 
--- nothing stands there
-pub record HasMissed (told : Option Store) (trail : List TrailItem) (place : Place) : Type 0 where
-  pub book : HasFittingBook trail
-  pub none : Tells told (λ s. tree.get s.tree place ≡ None)
-  pub unmade : (bytes : List ℕ) → IsMadeAt told trail place bytes → Tells told (λ s. ⊥)
+-- Nothing stands there. Where the house is told the book makes nothing there.
+pub record HasMissed {D : Type 0} (told : D → Option Store) (house : HouseSeen D) (place : Place) : Type 0 where
+  pub book : HasFittingBook house.trail
+  pub none : Tells (told house.shelf) (λ s. tree.get s.tree place ≡ None)
+  pub unmade : (bytes : List ℕ) → IsMadeAt (told house.shelf) house.trail place bytes → Tells (told house.shelf) (λ s. ⊥)
+  pub stand : FilesStand told house
+  pub truly : IsTold told house.start → made_at (state_at house.trail).tables place ≡ None
 
-abbrev pub IsGetWhy : Option Store → List TrailItem → Place → GetFault → Type 0
-IsGetWhy told trail place get_fault.NotFound = HasMissed told trail place
-IsGetWhy told trail place (get_fault.House why) = Unit {0}
+abbrev pub IsGetWhy : {D : Type 0} → (D → Option Store) → HouseSeen D → Place → GetFault → Type 0
+IsGetWhy told house place get_fault.NotFound = HasMissed told house place
+IsGetWhy told house place (get_fault.House why) = Unit {0}
 
 abbrev pub GetAnswers : {D : Type 0} → (D → Option Store) → HouseSeen D → Place → Result (Vec ℕ) GetFault → Type 0
-GetAnswers told house place (Ok bytes) = HasGot (told house.shelf) house.trail place bytes.items
-GetAnswers told house place (Err why) = IsGetWhy (told house.shelf) house.trail place why
+GetAnswers told house place (Ok bytes) = HasGot told house place bytes.items
+GetAnswers told house place (Err why) = IsGetWhy told house place why
 
 abbrev pub adds_missed : TxnId → GetFault → List TrailItem
 adds_missed by get_fault.NotFound = []
@@ -167,7 +177,7 @@ adds_getting by (Err why) = adds_missed by why
 -- all that is promised of a file that was to be got for this transaction
 pub record GetStep {D : Type 0} (told : D → Option Store) (faults : D → ℕ) (by : TxnId) (place : Place) (before now : House D)
     (result : Result (Vec ℕ) GetFault) : Type 0 where
-  pub keeps : IsReadyOrClosed told now
+  pub keeps : IsWholeOrClosed told now
   pub step : Step told faults (Read (Some (Txn by))) (get_outcome result) (seen_of before) (seen_of now)
   pub answers : GetAnswers told (seen_of before) place result
 
@@ -197,10 +207,21 @@ pub record AreSameFiles (taken taken' : List DirFile) : Type 0 where
   pub still : (file : DirFile) → IsIn file taken → IsIn file taken'
   pub no_more : (file : DirFile) → IsIn file taken' → IsIn file taken
 
--- Where it is got later, it is there, with the bytes that it had.
-pub record IsGotStill (store store' : Store) (trail' : List TrailItem) (file : DirFile) : Type 0 where
-  pub got : (found : List ℕ) → HasGot (Some store') trail' file.place found → tree.get store.tree file.place ≡ Some found
-  pub never_missed : HasMissed (Some store') trail' file.place → ⊥
+-- ---- one reading over several acts on a told house
 
-abbrev pub AllGotStill : Store → Store → List TrailItem → List DirFile → Type 0
-AllGotStill store store' trail' taken = (file : DirFile) → IsIn file taken → IsGotStill store store' trail' file
+-- A reader of a table at a place of the book sees it twice, and others act between: what it saw goes on, over the same told house;
+-- and the table was there at the place.
+pub record ReadsOnTold {D : Type 0} (told : D → Option Store) (before now : HouseSeen D) (place : ℕ) (table : Table) : Type 0 where
+  pub is_told : IsTold told before.start
+  pub start : now.start ≡ before.start
+  pub front : IsFront before.trail now.trail
+  pub has : HasPlace before.trail place
+  pub here : numbered (state_then before.trail place).tables table.info.table.0 ≡ Some table
+
+-- Where it is got later, it is there, with the bytes that it had.
+pub record IsGotStill {D : Type 0} (told : D → Option Store) (before now : HouseSeen D) (file : DirFile) : Type 0 where
+  pub got : (found : List ℕ) → HasGot told now file.place found → IsSomeAnd (told before.shelf) (λ s. tree.get s.tree file.place ≡ Some found)
+  pub never_missed : HasMissed told now file.place → ⊥
+
+abbrev pub AllGotStill : {D : Type 0} → (D → Option Store) → HouseSeen D → HouseSeen D → List DirFile → Type 0
+AllGotStill told before now taken = (file : DirFile) → IsIn file taken → IsGotStill told before now file

@@ -12,7 +12,7 @@ use Rattle.hv_trail.specs.Kept.{trail_of}
 use Rattle.hv_trail.specs.Steps.{Note, Step}
 use Rattle.hv_house.specs.declared.house.House.{House}
 use Rattle.hv_house.specs.Steps.{seen_of}
-use Rattle.hv_house.specs.Housed.{IsReadyOrClosed}
+use Rattle.hv_acts.specs.Told.{IsWholeOrClosed}
 use Rattle.hv_acts.specs.declared.fault.ActFault.{ActFault}
 use Rattle.hv_acts.specs.declared.fault.ActFault.TheVariants as act
 use Rattle.hv_acts.specs.Answers.{answer_call, answer_outcome, EntryFits, Answers}
@@ -38,7 +38,7 @@ OpenAnswers trail (Err why) = IsOpenWhy trail why
 -- all that is promised of a transaction that was to be opened
 pub record OpenStep {D : Type 0} (told : D → Option Store) (faults : D → ℕ) (session : List ℕ) (number : ℕ) (text : List ℕ) (before now : House D)
     (result : Result TxnId ActFault) : Type 0 where
-  pub keeps : IsReadyOrClosed told now
+  pub keeps : IsWholeOrClosed told now
   pub step : Step told faults (answer_call (Note (next_opened (trail_of before.trail) session number text)) result) (answer_outcome result) (seen_of before) (seen_of now)
   pub answers : OpenAnswers (trail_of before.trail) result
 

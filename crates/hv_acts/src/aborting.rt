@@ -2,11 +2,14 @@ ghost use Rattle.std.specs.Prelude.{◌≡◌, IfOk, length};
 ghost use Rattle.hv_history.specs.declared.entry.Entry.TheVariants as entry;
 ghost use Rattle.hv_trail.specs.Trail.{book_of};
 ghost use Rattle.hv_trail.specs.Kept.{trail_of};
-ghost use Rattle.hv_house.specs.House.{IsReady, IsSmall};
+ghost use Rattle.hv_house.specs.House.{IsSmall};
+ghost use Rattle.hv_telling.specs.Telling.{IsToldHouse, IsWhole};
+ghost use Rattle.hv_acts.specs.Meant.{IsCauseTrue};
 ghost use Rattle.hv_acts.specs.Answers.{HasItsMark, EntryStep};
 
 use crate::fault::ActFault;
 use crate::noting::{next_place, note_fitting};
+use crate::told::ToldHouse;
 use hv_actor::Act;
 use hv_base::TxnId;
 use hv_history::{Cause, Entry};
@@ -22,9 +25,10 @@ pub struct AbortFor {
 }
 
 fn abort_for<D: Shelf>(house: &mut House<D>, txn: TxnId, cause: Cause) -> Result<u64, ActFault>
-    requires ready { IsReady D.told house.old }
+    requires whole { IsWhole D.told house.old }
     requires small { IsSmall (entry.Abort txn cause) }
     requires marked { HasItsMark (trail_of house.old.trail) txn cause }
+    requires truly { IsToldHouse D.told house.old → IsCauseTrue (trail_of house.old.trail) txn cause }
     ensures noted { EntryStep D.told D.faults txn (entry.Abort txn cause) house.old house.new result }
     ensures place { IfOk result (λ place. place ≡ length (book_of (trail_of house.old.trail))) }
 {
@@ -35,17 +39,20 @@ fn abort_for<D: Shelf>(house: &mut House<D>, txn: TxnId, cause: Cause) -> Result
     }
 }
 
-impl<D: Shelf + Drop> Act<D, House<D>> for AbortFor {
+impl<D: Shelf + Drop> Act<D, ToldHouse<D>> for AbortFor {
     ghost use Rattle.std.specs.Prelude.{◌≡◌, ℕ, length};
     ghost use Rattle.hv_history.specs.declared.entry.Entry.TheVariants as entry;
     ghost use Rattle.hv_trail.specs.Trail.{book_of};
     ghost use Rattle.hv_trail.specs.Steps.{Note};
     ghost use Rattle.hv_house.specs.House.{IsSmall};
+    ghost use Rattle.hv_telling.specs.Telling.{IsTold};
+    ghost use Rattle.hv_acts.specs.Meant.{IsCauseTrue};
     ghost use Rattle.hv_acts.specs.Answers.{HasItsMark, answer_call, answer_outcome, adds_entry, EntryFits, Answers};
 
     type Answer = Result<u64, ActFault>;
 
-    ghost can = { λ act house. IsSmall (entry.Abort act.txn act.cause) × HasItsMark house.trail act.txn act.cause };
+    ghost can = { λ act house. IsSmall (entry.Abort act.txn act.cause) × HasItsMark house.trail act.txn act.cause
+        × (IsTold D.told house.start → IsCauseTrue house.trail act.txn act.cause) };
 
     ghost call = { λ act house answer. answer_call (Note (entry.Abort act.txn act.cause)) answer };
 
@@ -57,11 +64,11 @@ impl<D: Shelf + Drop> Act<D, House<D>> for AbortFor {
         (EntryFits house.trail (entry.Abort act.txn act.cause))
         (λ (place : ℕ). place ≡ length (book_of house.trail)) answer };
 
-    fn act(self, _alloc: Global, house: &mut House<D>) -> Result<u64, ActFault> {
-        if house.is_closed() {
+    fn act(self, _alloc: Global, house: &mut ToldHouse<D>) -> Result<u64, ActFault> {
+        if house.house.is_closed() {
             Err(ActFault::House(HouseFault::Store))
         } else {
-            abort_for(house, self.txn, self.cause)
+            abort_for(&mut house.house, self.txn, self.cause)
         }
     }
 }

@@ -7,20 +7,23 @@ ghost use Rattle.hv_conflicts.specs.Clashes.{IsClash};
 ghost use Rattle.hv_trail.specs.declared.trail.Reader.TheVariants.{Txn};
 ghost use Rattle.hv_trail.specs.Trail.{state_at, broken};
 ghost use Rattle.hv_trail.specs.Kept.{trail_of};
-ghost use Rattle.hv_house.specs.House.{IsReady, IsSmall};
+ghost use Rattle.hv_house.specs.House.{IsSmall};
+ghost use Rattle.hv_telling.specs.Telling.{IsToldHouse, IsWhole};
+ghost use Rattle.hv_acts.specs.Meant.{HasAtMost, IsCommitMeant, IsCauseTrue};
 ghost use Rattle.hv_acts.specs.Answers.{EntryFits};
 ghost use Rattle.hv_acts.specs.Putting.{Runs};
 ghost use Rattle.hv_acts.specs.Committing.{IsSharedBy, IsConflict, WasPut, CommitStep};
 
 use crate::fault::ActFault;
-use crate::noting::{late, next_place, note_fitting};
+use crate::noting::{late, next_place, note_fitting, runs_with};
+use crate::told::ToldHouse;
 use hv_actor::Act;
 use hv_base::{Duplicate, List, NoMemory, TableId, Text, Touch, TxnId};
 use hv_conflicts::{Clash, clash};
 use hv_history::{Cause, Entry};
 use hv_house::{House, HouseFault};
-use hv_meta::is_running;
 use hv_shelf::Shelf;
+use hv_telling::note;
 use std::alloc::Global;
 
 /// Commits a transaction with what it wrote, whose files it has put; or aborts it, where a commit conflicts with it.
@@ -76,11 +79,13 @@ fn note_conflict<D: Shelf>(
     by: TxnId,
     shared: Shared,
 ) -> Result<Committed, ActFault>
-    requires ready { IsReady D.told house.old }
+    requires whole { IsWhole D.told house.old }
     requires small { IsSmall (entry.Abort txn (cause.Conflict by shared.table shared.partition)) }
     requires fits { EntryFits (trail_of house.old.trail)
         (entry.Abort txn (cause.Conflict by shared.table shared.partition)) }
     requires copy { shared.copy ≡ shared.partition }
+    requires truly { IsToldHouse D.told house.old → IsCauseTrue (trail_of house.old.trail) txn
+        (cause.Conflict by shared.table shared.partition) }
     ensures committed { (wrote : List Touch)
         → IsConflict (trail_of house.old.trail) txn wrote by shared.table shared.partition
         → CommitStep D.told D.faults txn wrote house.old house.new result }
@@ -96,7 +101,7 @@ fn note_conflict<D: Shelf>(
         table,
         partition,
     };
-    match house.note(Entry::Abort { txn, cause }, None) {
+    match note(house, Entry::Abort { txn, cause }, None) {
         Ok(()) => Ok(Committed::Conflict {
             at,
             by,
@@ -115,10 +120,11 @@ fn end_by_conflict<D: Shelf>(
     found: Clash,
     wrote: &[Touch],
 ) -> Result<Committed, ActFault>
-    requires ready { IsReady D.told house.old }
+    requires whole { IsWhole D.told house.old }
     requires running { Runs (trail_of house.old.trail) txn }
     requires small { IsSmall (entry.Commit txn wrote.now) }
     requires clash { IsClash (state_at (trail_of house.old.trail)) txn.0 wrote.now found }
+    requires truly { IsToldHouse D.told house.old → IsCommitMeant (trail_of house.old.trail) txn wrote.now }
     ensures committed { CommitStep D.told D.faults txn wrote.now house.old house.new result }
 {
     match shared_at(alloc, found, wrote) {
@@ -133,11 +139,13 @@ fn end_by_commit<D: Shelf>(
     txn: TxnId,
     wrote: List<Touch>,
 ) -> Result<Committed, ActFault>
-    requires ready { IsReady D.told house.old }
+    requires whole { IsWhole D.told house.old }
     requires running { Runs (trail_of house.old.trail) txn }
     requires small { IsSmall (entry.Commit txn wrote) }
     requires put { WasPut (trail_of house.old.trail) txn wrote }
+    requires truly { IsToldHouse D.told house.old → IsCommitMeant (trail_of house.old.trail) txn wrote }
     requires unbroken { broken (Txn txn) (trail_of house.old.trail) ≡ None }
+    requires most { HasAtMost (trail_of house.old.trail) txn 1 }
     ensures committed { CommitStep D.told D.faults txn wrote house.old house.new result }
 {
     let at = next_place(house);
@@ -154,11 +162,13 @@ fn end_running<D: Shelf>(
     txn: TxnId,
     wrote: List<Touch>,
 ) -> Result<Committed, ActFault>
-    requires ready { IsReady D.told house.old }
+    requires whole { IsWhole D.told house.old }
     requires running { Runs (trail_of house.old.trail) txn }
     requires small { IsSmall (entry.Commit txn wrote) }
     requires put { WasPut (trail_of house.old.trail) txn wrote }
+    requires truly { IsToldHouse D.told house.old → IsCommitMeant (trail_of house.old.trail) txn wrote }
     requires unbroken { broken (Txn txn) (trail_of house.old.trail) ≡ None }
+    requires most { HasAtMost (trail_of house.old.trail) txn 1 }
     ensures committed { CommitStep D.told D.faults txn wrote house.old house.new result }
 {
     match clash(house.book(), txn, wrote.as_slice()) {
@@ -173,12 +183,13 @@ fn commit_writes<D: Shelf>(
     txn: TxnId,
     wrote: List<Touch>,
 ) -> Result<Committed, ActFault>
-    requires ready { IsReady D.told house.old }
+    requires whole { IsWhole D.told house.old }
     requires small { IsSmall (entry.Commit txn wrote) }
     requires put { WasPut (trail_of house.old.trail) txn wrote }
+    requires truly { IsToldHouse D.told house.old → IsCommitMeant (trail_of house.old.trail) txn wrote }
     ensures committed { CommitStep D.told D.faults txn wrote house.old house.new result }
 {
-    if !is_running(house.book(), txn) {
+    if !runs_with(house, txn, 1) {
         return Err(late(house, txn));
     }
     match house.broken(txn) {
@@ -187,16 +198,19 @@ fn commit_writes<D: Shelf>(
     }
 }
 
-impl<D: Shelf + Drop> Act<D, House<D>> for CommitWrites {
+impl<D: Shelf + Drop> Act<D, ToldHouse<D>> for CommitWrites {
     ghost use Rattle.hv_history.specs.declared.entry.Entry.TheVariants as entry;
     ghost use Rattle.hv_trail.specs.Steps.{Commit};
     ghost use Rattle.hv_house.specs.House.{IsSmall};
+    ghost use Rattle.hv_telling.specs.Telling.{IsTold};
+    ghost use Rattle.hv_acts.specs.Meant.{IsCommitMeant};
     ghost use Rattle.hv_acts.specs.Answers.{answer_call};
     ghost use Rattle.hv_acts.specs.Committing.{WasPut, commit_outcome, adds_commit, CommitAnswers};
 
     type Answer = Result<Committed, ActFault>;
 
-    ghost can = { λ act house. IsSmall (entry.Commit act.txn act.wrote) × WasPut house.trail act.txn act.wrote };
+    ghost can = { λ act house. IsSmall (entry.Commit act.txn act.wrote) × WasPut house.trail act.txn act.wrote
+        × (IsTold D.told house.start → IsCommitMeant house.trail act.txn act.wrote) };
 
     ghost call = { λ act house answer. answer_call (Commit act.txn act.wrote) answer };
 
@@ -206,11 +220,11 @@ impl<D: Shelf + Drop> Act<D, House<D>> for CommitWrites {
 
     ghost does = { λ act house answer. CommitAnswers house.trail act.txn act.wrote answer };
 
-    fn act(self, alloc: Global, house: &mut House<D>) -> Result<Committed, ActFault> {
-        if house.is_closed() {
+    fn act(self, alloc: Global, house: &mut ToldHouse<D>) -> Result<Committed, ActFault> {
+        if house.house.is_closed() {
             Err(ActFault::House(HouseFault::Store))
         } else {
-            commit_writes(alloc, house, self.txn, self.wrote)
+            commit_writes(alloc, &mut house.house, self.txn, self.wrote)
         }
     }
 }

@@ -2,6 +2,7 @@ ghost use Rattle.hv_house.specs.House.{IsReady};
 ghost use Rattle.hv_acts.specs.Reading.{FindStep};
 
 use crate::fault::ActFault;
+use crate::told::ToldHouse;
 use hv_actor::Act;
 use hv_base::{NoMemory, Text};
 use hv_house::{House, HouseFault};
@@ -31,7 +32,7 @@ fn find_table<D: Shelf>(
     }
 }
 
-impl<'a, D: Shelf + Drop> Act<D, House<D>> for FindTable<'a> {
+impl<'a, D: Shelf + Drop> Act<D, ToldHouse<D>> for FindTable<'a> {
     ghost use Rattle.std.specs.Prelude.{[]};
     ghost use Rattle.hv_trail.specs.Steps.{Ask};
     ghost use Rattle.hv_acts.specs.Answers.{answer_outcome};
@@ -49,11 +50,11 @@ impl<'a, D: Shelf + Drop> Act<D, House<D>> for FindTable<'a> {
 
     ghost does = { λ act house answer. FindAnswers house act.place act.name.now answer };
 
-    fn act(self, alloc: Global, house: &mut House<D>) -> Result<Option<TableInfo>, ActFault> {
-        if house.is_closed() {
+    fn act(self, alloc: Global, house: &mut ToldHouse<D>) -> Result<Option<TableInfo>, ActFault> {
+        if house.house.is_closed() {
             Err(ActFault::House(HouseFault::Store))
         } else {
-            find_table(alloc, house, self.place, self.name)
+            find_table(alloc, &house.house, self.place, self.name)
         }
     }
 }

@@ -1,6 +1,7 @@
-ghost use Rattle.hv_house.specs.House.{IsReady};
+ghost use Rattle.hv_telling.specs.Telling.{IsWhole};
 ghost use Rattle.hv_acts.specs.Reading.{GetStep};
 
+use crate::told::ToldHouse;
 use hv_actor::Act;
 use hv_base::TxnId;
 use hv_house::{GetFault, House, HouseFault};
@@ -20,13 +21,13 @@ fn get_file<D: Shelf>(
     by: TxnId,
     place: &Place,
 ) -> Result<Vec<u8>, GetFault>
-    requires ready { IsReady D.told house.old }
+    requires whole { IsWhole D.told house.old }
     ensures got { GetStep D.told D.faults by place.now house.old house.new result }
 {
     house.get(alloc, by, place)
 }
 
-impl<'a, D: Shelf + Drop> Act<D, House<D>> for GetFile<'a> {
+impl<'a, D: Shelf + Drop> Act<D, ToldHouse<D>> for GetFile<'a> {
     ghost use Rattle.std.specs.Prelude.{Some};
     ghost use Rattle.hv_trail.specs.declared.trail.Reader.TheVariants.{Txn};
     ghost use Rattle.hv_trail.specs.Steps.{Read};
@@ -45,11 +46,11 @@ impl<'a, D: Shelf + Drop> Act<D, House<D>> for GetFile<'a> {
 
     ghost does = { λ act house answer. GetAnswers D.told house act.place.now answer };
 
-    fn act(self, alloc: Global, house: &mut House<D>) -> Result<Vec<u8>, GetFault> {
-        if house.is_closed() {
+    fn act(self, alloc: Global, house: &mut ToldHouse<D>) -> Result<Vec<u8>, GetFault> {
+        if house.house.is_closed() {
             Err(GetFault::House(HouseFault::Store))
         } else {
-            get_file(alloc, house, self.by, self.place)
+            get_file(alloc, &mut house.house, self.by, self.place)
         }
     }
 }

@@ -1,11 +1,12 @@
 ghost use Rattle.std.specs.Prelude.{◌≡◌, IfOk};
 ghost use Rattle.hv_history.specs.declared.entry.Entry.TheVariants as entry;
 ghost use Rattle.hv_trail.specs.Kept.{trail_of};
-ghost use Rattle.hv_house.specs.House.{IsReady};
+ghost use Rattle.hv_telling.specs.Telling.{IsWhole};
 ghost use Rattle.hv_acts.specs.Answers.{next_id, EntryStep};
 
 use crate::fault::ActFault;
 use crate::noting::{is_full, next_place, note_fitting};
+use crate::told::ToldHouse;
 use hv_actor::Act;
 use hv_base::{TableId, TxnId, WriteId};
 use hv_history::Entry;
@@ -32,7 +33,7 @@ fn next_id<D: Shelf>(house: &House<D>, table: TableId) -> WriteId
 
 #[tactic(auto, using(crate::proofs::Shorts::short_given))]
 fn give_id<D: Shelf>(house: &mut House<D>, txn: TxnId, table: TableId) -> Result<WriteId, ActFault>
-    requires ready { IsReady D.told house.old }
+    requires whole { IsWhole D.told house.old }
     ensures noted { EntryStep D.told D.faults txn
         (entry.Given txn table (next_id (trail_of house.old.trail) table)) house.old house.new result }
     ensures next { IfOk result (λ write. write ≡ next_id (trail_of house.old.trail) table) }
@@ -48,7 +49,7 @@ fn give_id<D: Shelf>(house: &mut House<D>, txn: TxnId, table: TableId) -> Result
     }
 }
 
-impl<D: Shelf + Drop> Act<D, House<D>> for GiveId {
+impl<D: Shelf + Drop> Act<D, ToldHouse<D>> for GiveId {
     ghost use Rattle.std.specs.Prelude.{◌≡◌};
     ghost use Rattle.hv_base.specs.declared.ids.WriteId.{WriteId};
     ghost use Rattle.hv_history.specs.declared.entry.Entry.TheVariants as entry;
@@ -71,11 +72,11 @@ impl<D: Shelf + Drop> Act<D, House<D>> for GiveId {
         (Fits profile (state_at house.trail) (entry.Given act.txn act.table (next_id house.trail act.table)))
         (λ (write : WriteId). write ≡ next_id house.trail act.table) answer };
 
-    fn act(self, _alloc: Global, house: &mut House<D>) -> Result<WriteId, ActFault> {
-        if house.is_closed() {
+    fn act(self, _alloc: Global, house: &mut ToldHouse<D>) -> Result<WriteId, ActFault> {
+        if house.house.is_closed() {
             Err(ActFault::House(HouseFault::Store))
         } else {
-            give_id(house, self.txn, self.table)
+            give_id(&mut house.house, self.txn, self.table)
         }
     }
 }

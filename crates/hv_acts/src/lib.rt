@@ -15,6 +15,7 @@ mod opening;
 mod putting;
 mod reading;
 mod starting;
+mod told;
 
 pub use aborting::AbortFor;
 pub use committing::{CommitWrites, Committed};
@@ -22,10 +23,13 @@ pub use fault::{ActFault, BeginFault};
 pub use finding::FindTable;
 pub use getting::GetFile;
 pub use giving::GiveId;
-pub use laws::what_is_asked_lasts;
+pub use laws::{what_is_asked_lasts, what_was_meant_is_meant};
 pub use listing::ListTable;
 pub use making::MakeTable;
 pub use opening::{Begin, Begun};
 pub use putting::PutFile;
-pub use reading::{places_last, what_was_found_is_there, what_was_listed_stands};
+pub use reading::{
+    places_last, what_was_found_is_there, what_was_listed_is_got, what_was_listed_stands,
+};
 pub use starting::{OpenTransaction, StartTransaction};
+pub use told::ToldHouse;

@@ -1,7 +1,8 @@
-ghost use Rattle.hv_house.specs.House.{IsReady};
+ghost use Rattle.hv_telling.specs.Telling.{IsWhole};
 ghost use Rattle.hv_acts.specs.Reading.{ListStep};
 
 use crate::fault::ActFault;
+use crate::told::ToldHouse;
 use hv_actor::Act;
 use hv_base::{TableId, TxnId};
 use hv_house::{House, HouseFault, Listing};
@@ -23,7 +24,7 @@ fn list_table<D: Shelf>(
     place: u64,
     table: TableId,
 ) -> Result<Listing, ActFault>
-    requires ready { IsReady D.told house.old }
+    requires whole { IsWhole D.told house.old }
     ensures listed { ListStep D.told D.faults by place table house.old house.new result }
 {
     match house.list(alloc, by, place, table) {
@@ -32,7 +33,7 @@ fn list_table<D: Shelf>(
     }
 }
 
-impl<D: Shelf + Drop> Act<D, House<D>> for ListTable {
+impl<D: Shelf + Drop> Act<D, ToldHouse<D>> for ListTable {
     ghost use Rattle.std.specs.Prelude.{Some};
     ghost use Rattle.hv_trail.specs.declared.trail.Reader.TheVariants.{Txn};
     ghost use Rattle.hv_trail.specs.Steps.{Read};
@@ -51,11 +52,11 @@ impl<D: Shelf + Drop> Act<D, House<D>> for ListTable {
 
     ghost does = { λ act house answer. ListAnswers D.told house act.place act.table answer };
 
-    fn act(self, alloc: Global, house: &mut House<D>) -> Result<Listing, ActFault> {
-        if house.is_closed() {
+    fn act(self, alloc: Global, house: &mut ToldHouse<D>) -> Result<Listing, ActFault> {
+        if house.house.is_closed() {
             Err(ActFault::House(HouseFault::Store))
         } else {
-            list_table(alloc, house, self.by, self.place, self.table)
+            list_table(alloc, &mut house.house, self.by, self.place, self.table)
         }
     }
 }

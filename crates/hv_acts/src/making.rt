@@ -1,11 +1,13 @@
 ghost use Rattle.std.specs.Prelude.{◌≡◌, IfOk};
-ghost use Rattle.hv_history.specs.declared.entry.Entry.TheVariants as entry;
 ghost use Rattle.hv_trail.specs.Kept.{trail_of};
-ghost use Rattle.hv_house.specs.House.{IsReady};
-ghost use Rattle.hv_acts.specs.Answers.{next_table, EntryStep};
+ghost use Rattle.hv_telling.specs.Telling.{IsToldHouse, IsWhole};
+ghost use Rattle.hv_acts.specs.Meant.{IsMakeMeant};
+ghost use Rattle.hv_acts.specs.Making.{MakeStep};
+ghost use Rattle.hv_acts.specs.Answers.{next_table};
 
 use crate::fault::ActFault;
-use crate::noting::note_fitting;
+use crate::noting::{late, note_fitting, runs_with};
+use crate::told::ToldHouse;
 use hv_actor::Act;
 use hv_base::{TableId, TxnId};
 use hv_history::Entry;
@@ -28,11 +30,14 @@ fn next_table<D: Shelf>(house: &House<D>) -> TableId
 
 #[tactic(auto, using(crate::proofs::Shorts::short_create))]
 fn make_table<D: Shelf>(house: &mut House<D>, txn: TxnId) -> Result<TableId, ActFault>
-    requires ready { IsReady D.told house.old }
-    ensures noted { EntryStep D.told D.faults txn
-        (entry.Create txn (next_table (trail_of house.old.trail))) house.old house.new result }
+    requires whole { IsWhole D.told house.old }
+    requires truly { IsToldHouse D.told house.old → IsMakeMeant (trail_of house.old.trail) txn }
+    ensures made { MakeStep D.told D.faults txn house.old house.new result }
     ensures next { IfOk result (λ table. table ≡ next_table (trail_of house.old.trail)) }
 {
+    if !runs_with(house, txn, 0) {
+        return Err(late(house, txn));
+    }
     let table = next_table(house);
     match note_fitting(house, txn, Entry::Create { txn, table }) {
         Ok(()) => Ok(table),
@@ -40,16 +45,19 @@ fn make_table<D: Shelf>(house: &mut House<D>, txn: TxnId) -> Result<TableId, Act
     }
 }
 
-impl<D: Shelf + Drop> Act<D, House<D>> for MakeTable {
+impl<D: Shelf + Drop> Act<D, ToldHouse<D>> for MakeTable {
     ghost use Rattle.std.specs.Prelude.{◌≡◌};
     ghost use Rattle.hv_base.specs.declared.ids.TableId.{TableId};
     ghost use Rattle.hv_history.specs.declared.entry.Entry.TheVariants as entry;
     ghost use Rattle.hv_trail.specs.Steps.{Note};
-    ghost use Rattle.hv_acts.specs.Answers.{next_table, answer_call, answer_outcome, adds_entry, EntryFits, Answers};
+    ghost use Rattle.hv_acts.specs.Answers.{next_table, answer_call, answer_outcome, adds_entry, Answers};
+    ghost use Rattle.hv_telling.specs.Telling.{IsTold};
+    ghost use Rattle.hv_acts.specs.Meant.{IsMakeMeant};
+    ghost use Rattle.hv_acts.specs.Making.{MakeFits};
 
     type Answer = Result<TableId, ActFault>;
 
-    ghost can = { λ act house. Unit {0} };
+    ghost can = { λ act house. IsTold D.told house.start → IsMakeMeant house.trail act.txn };
 
     ghost call = { λ act house answer. answer_call (Note (entry.Create act.txn (next_table house.trail))) answer };
 
@@ -58,14 +66,14 @@ impl<D: Shelf + Drop> Act<D, House<D>> for MakeTable {
     ghost adds = { λ act answer. adds_entry (entry.Create act.txn) answer };
 
     ghost does = { λ act house answer. Answers house.trail act.txn
-        (EntryFits house.trail (entry.Create act.txn (next_table house.trail)))
+        (MakeFits house.trail act.txn)
         (λ (table : TableId). table ≡ next_table house.trail) answer };
 
-    fn act(self, _alloc: Global, house: &mut House<D>) -> Result<TableId, ActFault> {
-        if house.is_closed() {
+    fn act(self, _alloc: Global, house: &mut ToldHouse<D>) -> Result<TableId, ActFault> {
+        if house.house.is_closed() {
             Err(ActFault::House(HouseFault::Store))
         } else {
-            make_table(house, self.txn)
+            make_table(&mut house.house, self.txn)
         }
     }
 }

@@ -2,16 +2,19 @@ ghost use Rattle.std.specs.Prelude.{◌≡◌, ◌≤◌, length};
 ghost use Rattle.hv_built.specs.Running.{Runs};
 ghost use Rattle.hv_trail.specs.Kept.{trail_of};
 ghost use Rattle.hv_house.specs.House.{IsReady};
+ghost use Rattle.hv_telling.specs.Telling.{IsWhole};
 ghost use Rattle.hv_acts.specs.Beginning.{IsHindered, BeginStep};
 
 use crate::fault::BeginFault;
 use crate::noting::next_place;
+use crate::told::ToldHouse;
 use hv_actor::Act;
 use hv_ast::{Stmt, discard};
 use hv_base::{Text, TxnId};
 use hv_house::{House, HouseFault};
 use hv_locks::LockState;
 use hv_shelf::Shelf;
+use hv_telling::begin;
 use std::alloc::Global;
 
 /// Opens a statement and starts it, where no lock is held against it and there is room. `tree` is that of its text.
@@ -50,7 +53,7 @@ fn begin_free<D: Shelf>(
     text: Text,
     tree: Stmt,
 ) -> Result<Begun, BeginFault>
-    requires ready { IsReady D.told house.old }
+    requires whole { IsWhole D.told house.old }
     requires runs { Runs text tree }
     requires short { length text ≤ 32768 }
     requires named { length session ≤ 32 }
@@ -61,13 +64,13 @@ fn begin_free<D: Shelf>(
         discard(tree);
         return Err(why);
     }
-    match house.begin(session, number, text, tree) {
+    match begin(house, session, number, text, tree) {
         Ok((txn, place)) => Ok(Begun { txn, place }),
         Err(fault) => Err(BeginFault::House(fault)),
     }
 }
 
-impl<D: Shelf + Drop> Act<D, House<D>> for Begin {
+impl<D: Shelf + Drop> Act<D, ToldHouse<D>> for Begin {
     ghost use Rattle.std.specs.Prelude.{◌≤◌, length};
     ghost use Rattle.hv_built.specs.Running.{Runs};
     ghost use Rattle.hv_acts.specs.Beginning.{begin_call, begin_outcome, adds_beginning, BeginAnswers};
@@ -84,12 +87,18 @@ impl<D: Shelf + Drop> Act<D, House<D>> for Begin {
 
     ghost does = { λ act house answer. BeginAnswers house.trail act.tree answer };
 
-    fn act(self, _alloc: Global, house: &mut House<D>) -> Result<Begun, BeginFault> {
-        if house.is_closed() {
+    fn act(self, _alloc: Global, house: &mut ToldHouse<D>) -> Result<Begun, BeginFault> {
+        if house.house.is_closed() {
             discard(self.tree);
             Err(BeginFault::House(HouseFault::Store))
         } else {
-            begin_free(house, self.session, self.number, self.text, self.tree)
+            begin_free(
+                &mut house.house,
+                self.session,
+                self.number,
+                self.text,
+                self.tree,
+            )
         }
     }
 }

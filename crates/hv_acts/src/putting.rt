@@ -1,16 +1,18 @@
 ghost use Rattle.hv_tables.specs.Putting.{CanPut};
 ghost use Rattle.hv_trail.specs.Kept.{trail_of};
-ghost use Rattle.hv_house.specs.House.{IsReady};
+ghost use Rattle.hv_telling.specs.Telling.{IsToldHouse, IsWhole};
+ghost use Rattle.hv_acts.specs.Meant.{IsFileMeant};
 ghost use Rattle.hv_acts.specs.Putting.{HasIdFor, FileStep};
 
 use crate::fault::ActFault;
-use crate::noting::late;
+use crate::noting::{late, runs_with};
+use crate::told::ToldHouse;
 use hv_actor::Act;
 use hv_base::TxnId;
 use hv_house::{House, HouseFault};
-use hv_meta::is_running;
 use hv_route::OutFile;
 use hv_shelf::{Place, Shelf};
+use hv_telling::put;
 use std::alloc::Global;
 
 /// Puts a file of a change at its place, under a write id that its transaction was given.
@@ -28,30 +30,34 @@ fn put_running<D: Shelf>(
     place: Place,
     file: &OutFile,
 ) -> Result<(), ActFault>
-    requires ready { IsReady D.told house.old }
+    requires whole { IsWhole D.told house.old }
     requires can { CanPut file.now }
     requires given { HasIdFor (trail_of house.old.trail) by place file.now }
+    requires truly { IsToldHouse D.told house.old → IsFileMeant (trail_of house.old.trail) by place file.now }
     ensures put { FileStep D.told D.faults by place file.now house.old house.new result }
 {
-    if !is_running(house.book(), by) {
+    if !runs_with(house, by, 1) {
         return Err(late(house, by));
     }
-    match house.put(alloc, by, place, file) {
+    match put(alloc, house, by, place, file) {
         Ok(()) => Ok(()),
         Err(fault) => Err(ActFault::House(fault)),
     }
 }
 
-impl<'a, D: Shelf + Drop> Act<D, House<D>> for PutFile<'a> {
+impl<'a, D: Shelf + Drop> Act<D, ToldHouse<D>> for PutFile<'a> {
     ghost use Rattle.hv_tables.specs.Putting.{CanPut, IsEncoded, bytes_of};
     ghost use Rattle.hv_trail.specs.declared.trail.Reader.TheVariants.{Txn};
     ghost use Rattle.hv_trail.specs.Steps.{Put};
     ghost use Rattle.hv_acts.specs.Answers.{answer_call, answer_outcome, Answers};
-    ghost use Rattle.hv_acts.specs.Putting.{HasIdFor, adds_file, Runs};
+    ghost use Rattle.hv_telling.specs.Telling.{IsTold};
+    ghost use Rattle.hv_acts.specs.Putting.{HasIdFor, adds_file};
+    ghost use Rattle.hv_acts.specs.Meant.{RunsWith, IsFileMeant};
 
     type Answer = Result<(), ActFault>;
 
-    ghost can = { λ act house. CanPut act.file.now × HasIdFor house.trail act.by act.place act.file.now };
+    ghost can = { λ act house. CanPut act.file.now × HasIdFor house.trail act.by act.place act.file.now
+        × (IsTold D.told house.start → IsFileMeant house.trail act.by act.place act.file.now) };
 
     ghost call = { λ act house answer. answer_call (Put (Txn act.by) act.place (bytes_of act.file.now)) answer };
 
@@ -59,14 +65,14 @@ impl<'a, D: Shelf + Drop> Act<D, House<D>> for PutFile<'a> {
 
     ghost adds = { λ act answer. adds_file act.by act.place answer };
 
-    ghost does = { λ act house answer. Answers house.trail act.by (Runs house.trail act.by)
+    ghost does = { λ act house answer. Answers house.trail act.by (RunsWith house.trail act.by 1)
         (λ done. IsEncoded act.file.now) answer };
 
-    fn act(self, alloc: Global, house: &mut House<D>) -> Result<(), ActFault> {
-        if house.is_closed() {
+    fn act(self, alloc: Global, house: &mut ToldHouse<D>) -> Result<(), ActFault> {
+        if house.house.is_closed() {
             Err(ActFault::House(HouseFault::Store))
         } else {
-            put_running(alloc, house, self.by, self.place, self.file)
+            put_running(alloc, &mut house.house, self.by, self.place, self.file)
         }
     }
 }

@@ -6,18 +6,21 @@ ghost use Rattle.hv_history.specs.declared.entry.Entry.TheVariants as entry;
 ghost use Rattle.hv_trail.specs.Trail.{book_of};
 ghost use Rattle.hv_trail.specs.Kept.{trail_of};
 ghost use Rattle.hv_house.specs.House.{IsReady};
+ghost use Rattle.hv_telling.specs.Telling.{IsWhole};
 ghost use Rattle.hv_acts.specs.Answers.{EntryStep};
 ghost use Rattle.hv_acts.specs.Waiting.{next_txn, IsHeld, TellsHolder, OpenStep};
 
 use crate::fault::ActFault;
-use crate::noting::{is_full, next_place, note_fitting};
+use crate::noting::{is_full, let_go, next_place, note_fitting};
+use crate::told::ToldHouse;
 use hv_actor::Act;
 use hv_ast::{Stmt, discard};
 use hv_base::{Text, TxnId};
 use hv_history::{Cause, Entry};
-use hv_house::{EntryFault, House, HouseFault};
+use hv_house::{House, HouseFault};
 use hv_locks::LockState;
 use hv_shelf::Shelf;
+use hv_telling::note;
 use std::alloc::Global;
 
 /// Opens a transaction for a statement, where there is room for its Opened and its end, and answers its number. It waits
@@ -44,18 +47,29 @@ fn open_transaction<D: Shelf>(
     text: Text,
     tree: Stmt,
 ) -> Result<TxnId, ActFault>
-    requires ready { IsReady D.told house.old }
+    requires whole { IsWhole D.told house.old }
     requires runs { Runs text tree }
     requires short { length text ≤ 32768 }
     requires named { length session ≤ 32 }
     ensures opened { OpenStep D.told D.faults session number text house.old house.new result }
     ensures next { IfOk result (λ txn. txn ≡ next_txn (trail_of house.old.trail)) }
 {
-    match house.open_txn(session, number, text, tree) {
-        Ok(txn) => Ok(txn),
-        Err(EntryFault::Full { entries }) => Err(ActFault::Full { entries }),
-        Err(EntryFault::House(fault)) => Err(ActFault::House(fault)),
-        Err(EntryFault::NotOpen { .. }) => unreachable!(),
+    let txn = house.next_txn();
+    let entry = Entry::Opened {
+        txn,
+        session,
+        number,
+        text,
+    };
+    if !house.fits(&entry, Some(&tree)) {
+        let entries = next_place(house);
+        discard(tree);
+        let_go(entry);
+        return Err(ActFault::Full { entries });
+    }
+    match note(house, entry, Some(tree)) {
+        Ok(()) => Ok(txn),
+        Err(fault) => Err(ActFault::House(fault)),
     }
 }
 
@@ -81,7 +95,7 @@ fn holder<D: Shelf>(house: &House<D>, txn: TxnId) -> Option<TxnId>
 }
 
 fn start_transaction<D: Shelf>(house: &mut House<D>, txn: TxnId) -> Result<u64, ActFault>
-    requires ready { IsReady D.told house.old }
+    requires whole { IsWhole D.told house.old }
     ensures noted { EntryStep D.told D.faults txn (entry.Start txn 0) house.old house.new result }
     ensures place { IfOk result (λ place. place ≡ length (book_of (trail_of house.old.trail))) }
     ensures held { (by : TxnId) → IsHeld (trail_of house.old.trail) txn by → TellsHolder by result }
@@ -99,7 +113,7 @@ fn start_transaction<D: Shelf>(house: &mut House<D>, txn: TxnId) -> Result<u64, 
     }
 }
 
-impl<D: Shelf + Drop> Act<D, House<D>> for OpenTransaction {
+impl<D: Shelf + Drop> Act<D, ToldHouse<D>> for OpenTransaction {
     ghost use Rattle.std.specs.Prelude.{◌≤◌, length};
     ghost use Rattle.hv_base.specs.declared.ids.TxnId.{TxnId};
     ghost use Rattle.hv_built.specs.Running.{Runs};
@@ -120,17 +134,23 @@ impl<D: Shelf + Drop> Act<D, House<D>> for OpenTransaction {
 
     ghost does = { λ act house answer. OpenAnswers house.trail answer };
 
-    fn act(self, _alloc: Global, house: &mut House<D>) -> Result<TxnId, ActFault> {
-        if house.is_closed() {
+    fn act(self, _alloc: Global, house: &mut ToldHouse<D>) -> Result<TxnId, ActFault> {
+        if house.house.is_closed() {
             discard(self.tree);
             Err(ActFault::House(HouseFault::Store))
         } else {
-            open_transaction(house, self.session, self.number, self.text, self.tree)
+            open_transaction(
+                &mut house.house,
+                self.session,
+                self.number,
+                self.text,
+                self.tree,
+            )
         }
     }
 }
 
-impl<D: Shelf + Drop> Act<D, House<D>> for StartTransaction {
+impl<D: Shelf + Drop> Act<D, ToldHouse<D>> for StartTransaction {
     ghost use Rattle.std.specs.Prelude.{ℕ};
     ghost use Rattle.hv_history.specs.declared.entry.Entry.TheVariants as entry;
     ghost use Rattle.hv_trail.specs.Steps.{Note};
@@ -149,11 +169,11 @@ impl<D: Shelf + Drop> Act<D, House<D>> for StartTransaction {
 
     ghost does = { λ act house answer. StartAnswers house.trail act.txn answer };
 
-    fn act(self, _alloc: Global, house: &mut House<D>) -> Result<u64, ActFault> {
-        if house.is_closed() {
+    fn act(self, _alloc: Global, house: &mut ToldHouse<D>) -> Result<u64, ActFault> {
+        if house.house.is_closed() {
             Err(ActFault::House(HouseFault::Store))
         } else {
-            start_transaction(house, self.txn)
+            start_transaction(&mut house.house, self.txn)
         }
     }
 }

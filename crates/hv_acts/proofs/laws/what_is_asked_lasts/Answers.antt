@@ -1,4 +1,4 @@
-use Rattle.hv_acts.proofs.Lasting.{mark-lasts, id-lasts, put-lasts}
+use Rattle.hv_acts.proofs.Lasting.{mark-lasts, id-lasts, put-lasts, file-lasts, commit-lasts, make-lasts, cause-lasts}
 use Rattle.hv_acts.proofs.laws.what_is_asked_lasts.Goals as goal
 
 pub returns : goal.returns
@@ -6,4 +6,8 @@ returns c = record {
   mark = λ before now txn cause front. mark-lasts before now front txn cause;
   id = λ before now by place file front. id-lasts before now front by place file;
   put = λ before now txn wrote front. put-lasts before now front txn wrote;
+  file = λ before now by place file front. file-lasts before now front by place file;
+  commit = λ before now txn wrote front. commit-lasts before now front txn wrote;
+  make = λ before now txn front. make-lasts before now front txn;
+  cause = λ before now txn cause front. cause-lasts before now front txn cause;
 }

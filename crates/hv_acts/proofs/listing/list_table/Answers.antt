@@ -4,13 +4,13 @@ use Rattle.hv_acts.proofs.listing.list_table.Goals as goal
 pub returns-in-Ok : goal.returns-in-Ok
 returns-in-Ok g c = record {
   listed =
-      list-done g.D.Shelf.told g.D.Shelf.faults c.args.by c.args.place c.args.table c.in-Ok.listing c.args.house.now c.list.new.self c.requires.ready c.in-Ok.ensures.ready
+      list-done g.D.Shelf.told g.D.Shelf.faults c.args.by c.args.place c.args.table c.in-Ok.listing c.args.house.now c.list.new.self c.requires.whole c.in-Ok.ensures.ready
       c.in-Ok.ensures.list c.in-Ok.ensures.files c.in-Ok.ensures.step;
 }
 
 pub returns-in-Err : goal.returns-in-Err
 returns-in-Err g c = record {
   listed =
-      list-failed g.D.Shelf.told g.D.Shelf.faults c.args.by c.args.place c.args.table c.in-Err.fault c.args.house.now c.list.new.self c.requires.ready c.in-Err.ensures.stays
+      list-failed g.D.Shelf.told g.D.Shelf.faults c.args.by c.args.place c.args.table c.in-Err.fault c.args.house.now c.list.new.self c.requires.whole c.in-Err.ensures.stays
       c.in-Err.ensures.step;
 }

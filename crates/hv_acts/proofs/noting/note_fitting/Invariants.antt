@@ -3,6 +3,3 @@ use Rattle.hv_acts.proofs.noting.note_fitting.Given as goal
 
 abbrev pub ghost-fits : goal.ghost-fits
 ghost-fits g a = profile
-
-abbrev pub ghost-note : goal.ghost-note
-ghost-note g a = profile

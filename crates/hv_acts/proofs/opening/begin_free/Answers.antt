@@ -1,4 +1,3 @@
-use Rattle.std.proofs.Common.{rules}
 use Rattle.hv_acts.proofs.Notes.{no-true}
 use Rattle.hv_acts.proofs.Begins.{begin-done, begin-failed, begin-hindered}
 use Rattle.hv_acts.proofs.opening.begin_free.Goals as goal
@@ -6,25 +5,24 @@ use Rattle.hv_acts.proofs.opening.begin_free.Goals as goal
 pub returns-then-not-can_begin : goal.returns-then-not-can_begin
 returns-then-not-can_begin g c = record {
   begun =
-      begin-hindered g.D.Shelf.told g.D.Shelf.faults c.args.session c.args.number c.args.text c.args.tree c.hindrance-why.result c.args.house.now c.requires.ready
+      begin-hindered g.D.Shelf.told g.D.Shelf.faults c.args.session c.args.number c.args.text c.args.tree c.hindrance-why.result c.args.house.now c.requires.whole
       c.hindrance-why.ensures.hindered (λ can. no-true c.can_begin.result c.if-not-can_begin.true (c.can_begin.ensures.can.1 can));
 }
 
-pub begin-requires : goal.begin-requires
-begin-requires g c κs within =
-    let fits = c.can_begin.ensures.fits c.if-not-can_begin.false (record { session = c.args.session; number = c.args.number; text = c.args.text }) c.requires.runs in
-    (search rules, (c.requires.ready, (c.requires.runs, (c.requires.short, (c.requires.named, fits)))))
+pub begin-requires-clause-fits : goal.begin-requires-clause-fits
+begin-requires-clause-fits g c =
+    c.can_begin.ensures.fits c.if-not-can_begin.false (record { session = c.args.session; number = c.args.number; text = c.args.text }) c.requires.runs
 
 pub returns-in-Ok : goal.returns-in-Ok
 returns-in-Ok g c = record {
   begun =
-      begin-done g.D.Shelf.told g.D.Shelf.faults c.args.session c.args.number c.args.text c.args.tree _ c.args.house.now c.begin.new.self c.requires.ready
-      c.in-Ok.ensures.ready (c.can_begin.ensures.can.0 c.if-not-can_begin.false) c.in-Ok.ensures.txn c.in-Ok.ensures.place c.in-Ok.ensures.step;
+      begin-done g.D.Shelf.told g.D.Shelf.faults c.args.session c.args.number c.args.text c.args.tree _ c.args.house.now c.begin.new.house c.requires.whole
+      c.in-Ok.ensures.whole (c.can_begin.ensures.can.0 c.if-not-can_begin.false) c.in-Ok.ensures.txn c.in-Ok.ensures.place c.in-Ok.ensures.step;
 }
 
 pub returns-in-Err : goal.returns-in-Err
 returns-in-Err g c = record {
   begun =
-      begin-failed g.D.Shelf.told g.D.Shelf.faults c.args.session c.args.number c.args.text c.args.tree c.in-Err.fault c.args.house.now c.begin.new.self
-      c.requires.ready.kept.running c.in-Err.ensures.stays c.in-Err.ensures.ends c.in-Err.ensures.step;
+      begin-failed g.D.Shelf.told g.D.Shelf.faults c.args.session c.args.number c.args.text c.args.tree c.in-Err.fault c.args.house.now c.begin.new.house
+      c.requires.whole c.in-Err.ensures.stays c.in-Err.ensures.opens c.in-Err.ensures.start c.in-Err.ensures.step;
 }

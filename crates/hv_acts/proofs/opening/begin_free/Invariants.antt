@@ -3,6 +3,3 @@ use Rattle.hv_acts.proofs.opening.begin_free.Given as goal
 
 abbrev pub ghost-can_begin : goal.ghost-can_begin
 ghost-can_begin g a = profile
-
-abbrev pub ghost-begin : goal.ghost-begin
-ghost-begin g a = profile

@@ -1,26 +1,36 @@
-use Rattle.std.proofs.Common.{rules}
-use Rattle.hv_acts.proofs.Puts.{runs-of, not-running, own-file, file-done, file-late}
+use Rattle.hv_trail.specs.Kept.{trail_of}
+use Rattle.hv_acts.proofs.Notes.{no-true}
+use Rattle.hv_acts.proofs.Puts.{own-file, file-done, file-late, file-failed}
+use Rattle.hv_acts.proofs.Truths.{file-true, file-house}
 use Rattle.hv_acts.proofs.putting.put_running.Goals as goal
 
-pub returns-then-not-is_running : goal.returns-then-not-is_running
-returns-then-not-is_running g c = record {
+pub returns-then-not-runs_with : goal.returns-then-not-runs_with
+returns-then-not-runs_with g c = record {
   put =
-      file-late g.D.Shelf.told g.D.Shelf.faults c.args.by c.args.place c.args.file.now c.late.result c.args.house.now c.requires.ready c.late.ensures.late
-      (not-running c.args.house.now c.args.by c.book.result.now.entries c.is_running.result c.book.ensures.entries c.is_running.ensures.running.1 c.if-not-is_running.true);
+      file-late g.D.Shelf.told g.D.Shelf.faults c.args.by c.args.place c.args.file.now c.late.result c.args.house.now c.requires.whole c.late.ensures.late
+      (λ runs. no-true c.runs_with.result c.if-not-runs_with.true (c.runs_with.ensures.runs.1 runs));
 }
 
-pub put-requires : goal.put-requires
-put-requires g c κs within =
-    let own =
-    own-file c.args.house.now c.args.by c.args.place c.args.file.now c.requires.given
-    (runs-of c.args.house.now c.args.by c.book.result.now.entries c.book.ensures.entries (c.is_running.ensures.running.0 c.if-not-is_running.false))
-    in
-    (search rules, (c.requires.ready, (c.requires.can, own)))
+pub put-requires-clause-own : goal.put-requires-clause-own
+put-requires-clause-own g c =
+    own-file c.args.house.now c.args.by c.args.place c.args.file.now c.requires.given (c.runs_with.ensures.runs.0 c.if-not-runs_with.false).0
+
+pub put-requires-clause-truly : goal.put-requires-clause-truly
+put-requires-clause-truly g c told =
+    let runs = c.runs_with.ensures.runs.0 c.if-not-runs_with.false in
+    file-house c.args.house.now c.args.by c.args.place c.args.file.now
+    (file-true (trail_of c.args.house.now.trail) c.args.by runs.0 c.args.place c.args.file.now runs.1 (c.requires.truly told))
 
 pub returns-in-Ok : goal.returns-in-Ok
 returns-in-Ok g c = record {
   put =
-      file-done g.D.Shelf.told g.D.Shelf.faults c.args.by c.args.place c.args.file.now c.args.house.now c.put.new.self
-      (runs-of c.args.house.now c.args.by c.book.result.now.entries c.book.ensures.entries (c.is_running.ensures.running.0 c.if-not-is_running.false))
-      c.in-Ok.ensures.put.ready c.in-Ok.ensures.encoded c.in-Ok.ensures.put.step;
+      file-done g.D.Shelf.told g.D.Shelf.faults c.args.by c.args.place c.args.file.now c.args.house.now c.put.new.house
+      (c.runs_with.ensures.runs.0 c.if-not-runs_with.false) c.in-Ok.ensures.whole c.in-Ok.ensures.encoded c.in-Ok.ensures.put.step;
+}
+
+pub returns-in-Err : goal.returns-in-Err
+returns-in-Err g c = record {
+  put =
+      file-failed g.D.Shelf.told g.D.Shelf.faults c.args.by c.args.place c.args.file.now c.in-Err.fault c.args.house.now c.put.new.house
+      c.requires.whole c.in-Err.ensures.stays c.in-Err.ensures.opens c.in-Err.ensures.start c.in-Err.ensures.put.step;
 }

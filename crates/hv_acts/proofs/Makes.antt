@@ -1,0 +1,62 @@
+-- A table that is made by an act.
+use Rattle.std.proofs.Common.{ℕ, Option, Some, None, Ok, Err, List}
+use Rattle.std.specs.Prelude.{IsSomeAnd}
+use Rattle.hv_base.specs.declared.ids.TxnId.{TxnId}
+use Rattle.hv_base.specs.declared.ids.TableId.{TableId}
+use Rattle.hv_shelf.specs.Disk.{Store}
+use Rattle.hv_history.specs.declared.entry.Entry.TheVariants as entry
+use Rattle.hv_history.specs.declared.state.Transaction.{Transaction}
+use Rattle.hv_history.specs.State.{State, numbered}
+use Rattle.hv_history.specs.Legal.{IsRunning, CreateFits}
+use Rattle.hv_trail.specs.declared.trail.TrailItem.{TrailItem}
+use Rattle.hv_trail.specs.Trail.{state_at}
+use Rattle.hv_trail.specs.Kept.{trail_of}
+use Rattle.hv_trail.specs.Steps.{Note}
+use Rattle.hv_house.specs.declared.house.House.{House}
+use Rattle.hv_house.specs.Steps.{seen_of}
+use Rattle.hv_telling.specs.Telling.{IsWhole}
+use Rattle.hv_acts.specs.declared.fault.ActFault.{ActFault}
+use Rattle.hv_acts.specs.declared.fault.ActFault.TheVariants as act
+use Rattle.hv_acts.specs.Answers.{next_table, IsLate, IsWhy, EntryStep}
+use Rattle.hv_acts.specs.Meant.{HasAtMost, RunsWith}
+use Rattle.hv_acts.specs.Making.{MakeFits, MakeStep}
+use Rattle.hv_acts.proofs.Steps.{whole-keeps}
+use Rattle.hv_acts.proofs.Notes.{why-of, asked-late}
+
+-- what was refused for one fact is refused for that and another
+pub why-both : (trail : List TrailItem) (txn : TxnId) (P Q : Type 0) (why : ActFault) → IsWhy trail txn P why → IsWhy trail txn (P × Q) why
+why-both trail txn P Q (act.Ended at) is = is
+why-both trail txn P Q (act.Full entries) is = is
+why-both trail txn P Q (act.Held by) is = is
+why-both trail txn P Q (act.Broken put count) is = is
+why-both trail txn P Q act.Unfit is = (is.0, λ both. is.1 both.0)
+why-both trail txn P Q (act.House why) is = is
+
+runs-by : (state : State) (table : ℕ) (o : Option Transaction) → IsSomeAnd o (CreateFits state table) → IsSomeAnd o IsRunning
+runs-by state table None fits = fits
+runs-by state table (Some t) fits = fits.running
+
+-- what makes a table runs
+make-runs : (trail : List TrailItem) (txn : TxnId) → MakeFits trail txn → RunsWith trail txn 0
+make-runs trail txn fits = (runs-by (state_at trail) (next_table trail).0 (numbered (state_at trail).transactions txn.0) fits.0, fits.1)
+
+module _ {D : Type 0} (told : D → Option Store) (faults : D → ℕ) (txn : TxnId) where
+  pub make-late : (why : ActFault) (house : House D) → IsWhole told house → IsLate (trail_of house.trail) txn why → (RunsWith (trail_of house.trail) txn 0 → ⊥)
+      → MakeStep told faults txn house house (Err why)
+  make-late why house whole late not = record {
+    keeps = whole-keeps told house whole;
+    step = asked-late told faults (seen_of house) (trail_of house.trail) txn (Note (entry.Create txn (next_table (trail_of house.trail)))) why late;
+    answers = why-of (trail_of house.trail) txn (MakeFits (trail_of house.trail) txn) why late (λ fits. not (make-runs (trail_of house.trail) txn fits));
+  }
+
+  pub make-done : (table : TableId) (before now : House D) → HasAtMost (trail_of before.trail) txn 0
+      → EntryStep {T = Unit {0}} told faults txn (entry.Create txn (next_table (trail_of before.trail))) before now (Ok tt) → MakeStep told faults txn before now (Ok table)
+  make-done table before now none s = record { keeps = s.keeps; step = s.step; answers = ((s.answers.0, none), tt) }
+
+  pub make-failed : (why : ActFault) (before now : House D)
+      → EntryStep {T = Unit {0}} told faults txn (entry.Create txn (next_table (trail_of before.trail))) before now (Err why) → MakeStep told faults txn before now (Err why)
+  make-failed why before now s = record {
+    keeps = s.keeps;
+    step = s.step;
+    answers = why-both (trail_of before.trail) txn _ _ why s.answers;
+  }

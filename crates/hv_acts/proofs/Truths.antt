@@ -1,0 +1,190 @@
+-- What acts add to a told house is true where it is added.
+use Rattle.std.proofs.Common.{◌≡◌, inl, inr, ℕ, ◌+◌, ◌≤◌, true, is_none, Option, Some, None, List, [], ◌∷◌, ◌++◌, length, take, refl, sym, ap, ◌∙◌, subst, append-nil, arith}
+use Rattle.std.specs.Prelude.{IsSomeAnd, IsTrue}
+use Rattle.std.specs.List.{slice_get, AllByRecursion}
+use Rattle.std.proofs.lemmas.List.{length-append}
+use Rattle.hv_base.specs.declared.ids.TxnId.{TxnId}
+use Rattle.hv_base.specs.declared.ids.TableId.{TableId}
+use Rattle.hv_base.specs.declared.ids.Touch.{Touch}
+use Rattle.hv_shelf.specs.declared.place.Place.{Place}
+use Rattle.hv_logic.specs.declared.meaning.Meaning.{Meaning}
+use Rattle.hv_logic.specs.declared.meaning.Meaning.TheVariants.{Change, Make}
+use Rattle.hv_route.specs.declared.files.OutFile.{OutFile}
+use Rattle.hv_route.specs.Touching.{touches_of}
+use Rattle.hv_book.specs.Briefs.{given_at}
+use Rattle.hv_history.specs.declared.entry.Entry.{Entry}
+use Rattle.hv_history.specs.declared.entry.Entry.TheVariants as entry
+use Rattle.hv_history.specs.declared.entry.Cause.TheVariants as cause
+use Rattle.hv_history.specs.declared.state.Ending.{Ending}
+use Rattle.hv_history.specs.declared.state.Transaction.{Transaction}
+use Rattle.hv_history.specs.State.{numbered, meaning}
+use Rattle.hv_history.specs.Legal.{IsRunning, CommitFits, is_touched, IsTruthful, TouchesAreMeant, IsMake, ConflictIsTrue, IsFirstConflict, place_of_snapshot}
+use Rattle.hv_stands.specs.Running.{meant, snapshot_at, running, IsUnderWay}
+use Rattle.hv_trail.specs.declared.trail.TrailItem.{TrailItem}
+use Rattle.hv_trail.specs.Trail.{book_of, state_at}
+use Rattle.hv_trail.specs.Kept.{trail_of}
+use Rattle.hv_house.specs.declared.house.House.{House}
+use Rattle.hv_house.specs.House.{entries_of}
+use Rattle.hv_telling.specs.Telling.{IsTrueNow, IsMeantFile}
+use Rattle.hv_acts.specs.Answers.{EntryFits}
+use Rattle.hv_acts.specs.Putting.{Runs}
+use Rattle.hv_acts.specs.Committing.{IsConflict}
+use Rattle.hv_acts.specs.Meant.{MeansNow, HasMeant, HasAtMost, IsFileMeant, IsCommitMeant, IsMakeMeant}
+use Rattle.hv_acts.proofs.Steps.{book-is}
+use Rattle.hv_acts.proofs.Meant.{IsOnWay, on-way}
+
+-- ---- it is open
+
+is-open : (t : Transaction) → IsRunning t → t.ending ≡ None
+is-open t runs = by t.ending refl
+  where
+    by : (o : Option Ending) → t.ending ≡ o → o ≡ None
+    by None e = refl
+    by (Some ending) e = let never : is_none (Some ending) ≡ true = ap is_none (sym e) ∙ runs.unended in cc
+
+record IsHere (trail : List TrailItem) (txn : TxnId) : Type 0 where
+  t : Transaction
+  here : numbered (state_at trail).transactions txn.0 ≡ Some t
+  unended : t.ending ≡ None
+
+running-here : (trail : List TrailItem) (txn : TxnId) → Runs trail txn → IsHere trail txn
+running-here trail txn runs = by (numbered (state_at trail).transactions txn.0) refl runs
+  where
+    by : (o : Option Transaction) → numbered (state_at trail).transactions txn.0 ≡ o → IsSomeAnd o IsRunning → IsHere trail txn
+    by None e is = absurd is
+    by (Some t) e is = record { t = t; here = e; unended = is-open t is }
+
+module _ (trail : List TrailItem) (txn : TxnId) (runs : Runs trail txn) where
+  -- it is under way
+  way : (given : List (ℕ × ℕ)) (means : Meaning) → HasMeant trail txn given means → IsOnWay (book_of trail) txn given means (running-here trail txn runs).t
+  way given means has =
+      let here = running-here trail txn runs in
+      on-way trail txn given means here.t has here.here here.unended
+
+  -- and has just its write ids
+  just-by : (given ids : List (ℕ × ℕ)) (means : Meaning) (t : Transaction) (on : IsOnWay (book_of trail) txn given means t) → on.ids ≡ ids → ids ≡ [] → MeansNow trail txn given means
+  just-by given ids means t on same none = record {
+    asking = on.asking;
+    place = on.place;
+    said = on.said;
+    under_way =
+        subst (IsUnderWay (book_of trail) on.asking txn.0 on.place on.said)
+        (ap (λ (more : List (ℕ × ℕ)). given ++ more) (same ∙ none) ∙ append-nil given) on.under_way;
+    means_it = on.means_it;
+  }
+
+  none-longer : (ids : List (ℕ × ℕ)) → length ids ≤ 0 → ids ≡ []
+  none-longer [] short = refl
+  none-longer (x ∷ ids) short = let never : length (x ∷ ids) ≡ 0 = omega (arith, short) in cc
+
+  -- no more than it was given
+  pub just-given : (given : List (ℕ × ℕ)) (means : Meaning) → HasMeant trail txn given means → HasAtMost trail txn (length given) → MeansNow trail txn given means
+  just-given given means has most =
+      let on = way given means has in
+      let count : length (given_at (numbered (state_at trail).transactions txn.0)) ≡ length given + length on.ids =
+      ap (λ (o : Option Transaction). length (given_at o)) on.under_way.here ∙ length-append given on.ids in
+      just-by given on.ids means _ on refl (none-longer on.ids (omega (arith, count, most)))
+
+  -- ---- a file
+
+  pub file-true : (place : Place) (file : OutFile) → HasAtMost trail txn 1 → IsFileMeant trail txn place file → IsMeantFile (book_of trail) txn place file
+  file-true place file most is =
+      let just = just-given ((is.info.table.0, is.write) ∷ []) (Change is.info is.effect) is.change most in
+      record {
+        asking = just.asking;
+        at = just.place;
+        said = just.said;
+        info = is.info;
+        effect = is.effect;
+        write = is.write;
+        under_way = just.under_way;
+        means = just.means_it;
+        is_one = is.is_one;
+        place_is = is.place_is;
+      }
+
+  -- ---- an entry
+
+  -- what is true of what it means is true of what its transaction means
+  meaning-here : (given : List (ℕ × ℕ)) (means : Meaning) (P : Option Meaning → Type 0) → MeansNow trail txn given means → P (Some means)
+      → IsSomeAnd (numbered (state_at trail).transactions txn.0) (λ (t : Transaction). P (meaning t))
+  meaning-here given means P just is =
+      subst (λ (o : Option Transaction). IsSomeAnd o (λ (t : Transaction). P (meaning t))) (sym just.under_way.here) (subst P (sym just.means_it) is)
+
+  pub make-true : (table : TableId) → HasAtMost trail txn 0 → IsMakeMeant trail txn → IsTrueNow (book_of trail) trail (entry.Create txn table)
+  make-true table most is =
+      let just = just-given [] (Make is.shape) is.make most in (
+        meaning-here [] (Make is.shape) IsMake just tt,
+        record { asking = just.asking; place = just.place; said = just.said; under_way = just.under_way },
+      )
+
+  -- what touches nothing has no write id where it fits
+  unused : (ids : List (ℕ × ℕ)) (wrote : List Touch) → wrote ≡ [] → AllByRecursion (λ given. IsTrue (is_touched wrote given)) ids → ids ≡ []
+  unused [] wrote none used = refl
+  unused (x ∷ ids) wrote none used = let never : is_touched [] x ≡ true = ap (λ (ts : List Touch). is_touched ts x) (sym none) ∙ used.0 in cc
+
+  just-none : (wrote : List Touch) (means : Meaning) → HasMeant trail txn [] means → wrote ≡ [] → EntryFits trail (entry.Commit txn wrote) → MeansNow trail txn [] means
+  just-none wrote means has none fits =
+      let on = way [] means has in
+      let fit = subst (λ (o : Option Transaction). IsSomeAnd o (CommitFits (state_at trail) wrote)) on.under_way.here fits in
+      just-by [] on.ids means _ on refl (unused on.ids wrote none fit.used)
+
+  pub commit-true : (wrote : List Touch) → HasAtMost trail txn 1 → EntryFits trail (entry.Commit txn wrote) → IsCommitMeant trail txn wrote
+      → IsTrueNow (book_of trail) trail (entry.Commit txn wrote)
+  commit-true wrote most fits (inl is) =
+      let just = just-none wrote is.means is.meant_it is.none fits in (
+        meaning-here [] is.means (TouchesAreMeant wrote) just is.touches,
+        inl (record { asking = just.asking; place = just.place; said = just.said; under_way = just.under_way }),
+      )
+  commit-true wrote most fits (inr is) =
+      let just = just-given ((is.info.table.0, is.write) ∷ []) (Change is.info is.effect) is.change most in (
+        meaning-here ((is.info.table.0, is.write) ∷ []) (Change is.info is.effect) (TouchesAreMeant wrote) just is.touches,
+        inr (record {
+          asking = just.asking;
+          place = just.place;
+          said = just.said;
+          info = is.info;
+          effect = is.effect;
+          write = is.write;
+          under_way = just.under_way;
+          means = just.means_it;
+          files = is.files;
+          held = is.held;
+          encoded = is.encoded;
+        }),
+      )
+
+  -- ---- a conflict
+
+  pub conflict-true : (wrote : List Touch) (by : TxnId) (table : TableId) (partition : List ℕ) → IsCommitMeant trail txn wrote
+      → IsConflict trail txn wrote by table partition → IsTruthful (state_at trail) (entry.Abort txn (cause.Conflict by table partition))
+  conflict-true wrote by table partition (inl is) met =
+      let never : slice_get [] met.clash.at ≡ Some met.is.touch = ap (λ (ts : List Touch). slice_get ts met.clash.at) (sym is.none) ∙ met.is.found in cc
+  conflict-true wrote by table partition (inr is) met =
+      let on = way ((is.info.table.0, is.write) ∷ []) (Change is.info is.effect) is.change in
+      let first =
+      subst (λ (ts : List Touch). IsFirstConflict (state_at trail) (place_of_snapshot met.is.t.snapshot) ts met.clash.by.0 met.is.touch.table.0 met.is.touch.partition)
+      is.touches met.is.conflict in
+      let named : IsFirstConflict (state_at trail) (place_of_snapshot met.is.t.snapshot) (touches_of is.info is.effect) by.0 table.0 partition =
+      subst (λ (b : TxnId). IsFirstConflict (state_at trail) (place_of_snapshot met.is.t.snapshot) (touches_of is.info is.effect) b.0 table.0 partition) (sym met.by_is)
+      (subst (λ (n : TableId). IsFirstConflict (state_at trail) (place_of_snapshot met.is.t.snapshot) (touches_of is.info is.effect) met.clash.by.0 n.0 partition) (sym met.table_is)
+      (subst (IsFirstConflict (state_at trail) (place_of_snapshot met.is.t.snapshot) (touches_of is.info is.effect) met.clash.by.0 met.is.touch.table.0) (sym met.partition_is) first)) in
+      let both : Some met.is.t ≡ Some (running on.asking (meant (take on.place (book_of trail)) on.said) (snapshot_at (book_of trail) on.place) (((is.info.table.0, is.write) ∷ []) ++ on.ids)) =
+      sym met.is.is ∙ on.under_way.here in
+      let same : meaning met.is.t ≡ Some (Change is.info is.effect) = ap (λ (o : Option Transaction). meaning-of o) both ∙ on.means_it in
+      subst (λ (o : Option Transaction). IsSomeAnd o (λ (t : Transaction). ConflictIsTrue (state_at trail) by.0 table.0 partition t (meaning t))) (sym met.is.is)
+      (subst (ConflictIsTrue (state_at trail) by.0 table.0 partition met.is.t) (sym same) named)
+    where
+      meaning-of : Option Transaction → Option Meaning
+      meaning-of None = None
+      meaning-of (Some t) = meaning t
+
+-- ---- a house
+
+pub true-house : {D : Type 0} (house : House D) (event : Entry) → IsTrueNow (book_of (trail_of house.trail)) (trail_of house.trail) event
+    → IsTrueNow (entries_of house) (trail_of house.trail) event
+true-house house event is = subst (λ (book : List Entry). IsTrueNow book (trail_of house.trail) event) (book-is house) is
+
+pub file-house : {D : Type 0} (house : House D) (by : TxnId) (place : Place) (file : OutFile) → IsMeantFile (book_of (trail_of house.trail)) by place file
+    → IsMeantFile (entries_of house) by place file
+file-house house by place file is = subst (λ (book : List Entry). IsMeantFile book by place file) (book-is house) is

@@ -1,0 +1,6 @@
+use Rattle.hv_history.specs.declared.entry.Entry.TheVariants as entry
+use Rattle.hv_acts.proofs.Truths.{true-house}
+use Rattle.hv_acts.proofs.aborting.abort_for.Goals as goal
+
+pub note_fitting-requires-clause-truly : goal.note_fitting-requires-clause-truly
+note_fitting-requires-clause-truly g c told fits = true-house c.args.house.now (entry.Abort c.args.txn c.args.cause) (c.requires.truly told)

@@ -1,0 +1,101 @@
+-- What the statement of a transaction means, whatever others add behind it; and what is true of what acts add to a told house.
+-- Source: Hive Transactions; that marks say which files were put is this project's profile.
+use Rattle.std.specs.Prelude.{◌≡◌, ◌⊎◌, ℕ, ◌≤◌, Some, List, [], ◌∷◌, length, take, Contains}
+use Rattle.std.specs.List.{AllByRecursion}
+use Rattle.hv_base.specs.declared.ids.TxnId.{TxnId}
+use Rattle.hv_base.specs.declared.ids.Touch.{Touch}
+use Rattle.hv_shelf.specs.declared.place.Place.{Place}
+use Rattle.hv_ast.specs.declared.statement.Stmt.{Stmt}
+use Rattle.hv_logic.specs.declared.catalog.Shape.{Shape}
+use Rattle.hv_logic.specs.declared.catalog.TableInfo.{TableInfo}
+use Rattle.hv_logic.specs.declared.effect.Effect.{Effect}
+use Rattle.hv_logic.specs.declared.meaning.Meaning.{Meaning}
+use Rattle.hv_logic.specs.declared.meaning.Meaning.TheVariants.{Change, Make}
+use Rattle.hv_route.specs.Back.{AreHeld}
+use Rattle.hv_route.specs.Routes.{files_of}
+use Rattle.hv_route.specs.Touching.{touches_of}
+use Rattle.hv_route.specs.declared.files.OutFile.{OutFile}
+use Rattle.hv_book.specs.Briefs.{given_at}
+use Rattle.hv_history.specs.declared.entry.Entry.TheVariants as entry
+use Rattle.hv_history.specs.declared.entry.Cause.{Cause}
+use Rattle.hv_history.specs.declared.entry.Cause.TheVariants as cause
+use Rattle.hv_history.specs.State.{numbered}
+use Rattle.hv_history.specs.Lasting.{IsFront}
+use Rattle.hv_history.specs.Legal.{Of, IsRunning, IsTruthful, TouchesAreMeant}
+use Rattle.hv_stands.specs.Files.{place_of_file}
+use Rattle.hv_stands.specs.Laws.{HasFile}
+use Rattle.hv_stands.specs.Running.{Asking, meant, IsUnderWay}
+use Rattle.hv_trail.specs.declared.trail.TrailItem.{TrailItem}
+use Rattle.hv_trail.specs.Trail.{book_of, state_at}
+use Rattle.hv_house.specs.Steps.{AreWritten}
+
+-- ---- what it means
+
+-- its statement is under way with these write ids, and means this
+pub record MeansNow (trail : List TrailItem) (txn : TxnId) (given : List (ℕ × ℕ)) (means : Meaning) : Type 0 where
+  pub asking : Asking
+  pub place : ℕ
+  pub said : Stmt
+  pub under_way : IsUnderWay (book_of trail) asking txn.0 place said given
+  pub means_it : meant (take place (book_of trail)) said ≡ Some means
+
+-- that was so at a front of the trail
+pub record HasMeant (trail : List TrailItem) (txn : TxnId) (given : List (ℕ × ℕ)) (means : Meaning) : Type 0 where
+  pub then_ : List TrailItem
+  pub front : IsFront then_ trail
+  pub was : MeansNow then_ txn given means
+
+-- What others might have changed, and is tested in the hold: so many write ids it has at most, while it is open.
+abbrev pub HasAtMost : List TrailItem → TxnId → ℕ → Type 0
+HasAtMost trail txn most = length (given_at (numbered (state_at trail).transactions txn.0)) ≤ most
+
+-- it has started and has not ended, and has so many
+abbrev pub RunsWith : List TrailItem → TxnId → ℕ → Type 0
+RunsWith trail txn most = Of (state_at trail) txn.0 IsRunning × HasAtMost trail txn most
+
+-- ---- what is true of what is added
+
+-- the file is one of the change that its statement means, at its place under its write id
+pub record IsFileMeant (trail : List TrailItem) (by : TxnId) (place : Place) (file : OutFile) : Type 0 where
+  pub info : TableInfo
+  pub effect : Effect
+  pub write : ℕ
+  pub change : HasMeant trail by ((info.table.0, write) ∷ []) (Change info effect)
+  pub is_one : Contains (files_of info.shape write 0 effect) file
+  pub place_is : place ≡ place_of_file info.table.0 write file
+
+-- its statement means that nothing is touched, and it had no write id
+pub record TouchesNothing (trail : List TrailItem) (txn : TxnId) (wrote : List Touch) : Type 0 where
+  pub means : Meaning
+  pub meant_it : HasMeant trail txn [] means
+  pub touches : TouchesAreMeant wrote (Some means)
+  pub none : wrote ≡ []
+
+-- the touches are those of the change that its statement means, and each file of that change was put
+pub record IsChangePut (trail : List TrailItem) (txn : TxnId) (wrote : List Touch) : Type 0 where
+  pub info : TableInfo
+  pub effect : Effect
+  pub write : ℕ
+  pub change : HasMeant trail txn ((info.table.0, write) ∷ []) (Change info effect)
+  pub touches : wrote ≡ touches_of info effect
+  pub files : AreWritten trail txn info effect write
+  pub held : AreHeld effect.inserts
+  pub encoded : AllByRecursion HasFile (files_of info.shape write 0 effect)
+
+abbrev pub IsCommitMeant : List TrailItem → TxnId → List Touch → Type 0
+IsCommitMeant trail txn wrote = TouchesNothing trail txn wrote ⊎ IsChangePut trail txn wrote
+
+-- its statement makes a table, and it had no write id
+pub record IsMakeMeant (trail : List TrailItem) (txn : TxnId) : Type 0 where
+  pub shape : Shape
+  pub make : HasMeant trail txn [] (Make shape)
+
+-- the cause is what came of its statement, over the book of this trail
+abbrev pub IsCauseTrue : List TrailItem → TxnId → Cause → Type 0
+IsCauseTrue trail txn why = IsTruthful (state_at trail) (entry.Abort txn why)
+
+-- whether it is true rests on what the statement means alone, and not on whether it has started, its write ids, or others' commits
+abbrev pub IsSteady : Cause → Type 0
+IsSteady cause.Full = ⊥
+IsSteady (cause.Conflict by table partition) = ⊥
+IsSteady why = Unit {0}

@@ -1,0 +1,50 @@
+ghost use Rattle.std.specs.Prelude.{◌≡◌};
+ghost use Rattle.hv_telling.specs.Telling.{IsWhole};
+ghost use Rattle.hv_acts.specs.Told.{IsWholeOrClosed};
+
+use hv_actor::Housed;
+use hv_house::House;
+use hv_shelf::Shelf;
+
+/// A house that acts keep whole: where the store that it was opened over told a legal book whose files stood, its book is
+/// legal and its files stand, between any two of them.
+#[derive(Drop)]
+pub struct ToldHouse<D> {
+    pub(crate) house: House<D>,
+}
+
+impl<D: Shelf> ToldHouse<D> {
+    /// A house that is whole, for those who act on it.
+    pub fn new(house: House<D>) -> ToldHouse<D>
+        requires whole { IsWhole D.told house }
+        ensures house { result.house ≡ house }
+        ensures keeps { IsWholeOrClosed D.told result.house }
+    {
+        ToldHouse { house }
+    }
+
+    /// The house, when all is done.
+    pub fn into_house(self) -> House<D>
+        ensures house { result ≡ self.house }
+    {
+        let ToldHouse { house } = self;
+        house
+    }
+}
+
+impl<D: Shelf + Drop> Housed<D> for ToldHouse<D> {
+    ghost use Rattle.hv_house.specs.Steps.{seen_of};
+    ghost use Rattle.hv_acts.specs.Told.{IsWholeOrClosed};
+
+    ghost seen = { λ h. seen_of h.house };
+
+    ghost keeps = { λ h. IsWholeOrClosed D.told h.house };
+
+    fn items(&self) -> u64 {
+        self.house.items()
+    }
+
+    fn opened(&self) -> u64 {
+        self.house.opened()
+    }
+}
