@@ -12,7 +12,7 @@ use Rattle.hv_stands.proofs.StatementFiles.{other-entries-stand}
 use Rattle.hv_house.specs.House.{IsFaithful}
 use Rattle.hv_house.specs.declared.boot.BootFault.{BootFault}
 use Rattle.hv_house.specs.declared.boot.BootFault.TheVariants as fault
-use Rattle.hv_house.specs.Booting.{lost_entry, open_numbers, opening_entries, IsCutOpening, LeavesFront}
+use Rattle.hv_house.specs.Booting.{lost_entry, open_numbers, opening_entries, IsCutOpening, LeavesFront, NotesWithRoom}
 use Rattle.hv_house.proofs.Openings.{opened-book}
 use Rattle.hv_telling.specs.Telling.{OpensLater}
 use Rattle.hv_telling.proofs.Told.{same-faithful}
@@ -82,9 +82,12 @@ module _ (book : List Entry) (before now : Store) (room : HasRoom profile (state
       (parts ∙ ap (λ (rest : List Entry). front ++ rest) next.2 ∙ sym (append_assoc front (next.0 ∷ []) next.1))
       (subst (λ (b : List Entry). IsJournal b now.journal) (append_assoc book front (next.0 ∷ [])) next.3)
 
-pub cut-opens-later : (why : BootFault) (book : List Entry) (before now : Store) → HasRoom profile (state_of book) 1 → now.tree ≡ before.tree → IsFaithful book before
+-- where there is no room for it, nothing of it was noted
+pub cut-opens-later : (why : BootFault) (book : List Entry) (before now : Store) → NotesWithRoom profile book now.journal → now.tree ≡ before.tree → IsFaithful book before
     → IsCutOpening why book now.journal → OpensLater book now
-cut-opens-later why book before now room tree faithful cut = by book before now room tree faithful why cut.front cut.more cut.parts cut.leaves
+cut-opens-later why book before now (inl journal) tree faithful cut =
+    record { book = book; opens = record { journal = journal; faithful = same-faithful book before now tree faithful }; begins = ([], sym (append-nil book)) }
+cut-opens-later why book before now (inr room) tree faithful cut = by book before now room tree faithful why cut.front cut.more cut.parts cut.leaves
 
 -- ---- a longer book begins with its fronts
 

@@ -4,7 +4,7 @@ use Rattle.hv_base.specs.Told.{Tells, Moves, StaysTold}
 use Rattle.hv_shelf.specs.Disk.{Store}
 use Rattle.hv_history.specs.declared.entry.Entry.{Entry}
 use Rattle.hv_history.specs.State.{state_of}
-use Rattle.hv_history.specs.Legal.{load, HasRoom, IsLegal, profile}
+use Rattle.hv_history.specs.Legal.{load, IsLegal, profile}
 use Rattle.hv_history.specs.Journal.{Reads, IsJournal}
 use Rattle.hv_base.specs.Sink.{Gains, GainsPart}
 use Rattle.hv_journal.specs.Appending.{Holds, KeepsTree}
@@ -16,7 +16,7 @@ use Rattle.hv_house.specs.declared.fault.HouseFault.{HouseFault}
 use Rattle.hv_house.specs.declared.fault.HouseFault.TheVariants as fault
 use Rattle.hv_house.specs.declared.boot.BootFault.{BootFault}
 use Rattle.hv_house.specs.declared.boot.BootFault.TheVariants as boot
-use Rattle.hv_house.specs.Booting.{opening_of, opening_entries, OpensTo, Opens, StopsOpening, IsCutOpening, HasNoBook, HasFullBook}
+use Rattle.hv_house.specs.Booting.{opening_of, opening_entries, OpensTo, Opens, StopsOpening, IsCutOpening, NotesWithRoom, StopsWithRoom, HasNoBook, HasFullBook}
 use Rattle.hv_house.proofs.Faithful.{one-journal}
 use Rattle.hv_house.proofs.Boots.{reads-journal}
 use Rattle.hv_recovery.specs.Recovery.{IsJournalOf}
@@ -344,48 +344,59 @@ cut-opening why (Some s) (Some t) store opened at opens stops =
     let one : s ≡ store = same_some s store at in
     stops opened (record { journal = subst (λ (x : Store). IsJournal opened x.journal) (sym one) opens.journal; fit = opens.faithful.legal.fit })
 
+-- where it was noted only with room
+cut-room : (told told' : Option Store) (store : Store) (opened : List Entry) → told ≡ Some store → OpensTo opened store → StopsWithRoom profile told told'
+    → Tells told' (λ s. NotesWithRoom profile opened s.journal)
+cut-room None told' store opened at opens stops = cc
+cut-room (Some s) None store opened at opens stops = tt
+cut-room (Some s) (Some t) store opened at opens stops =
+    let one : s ≡ store = same_some s store at in
+    stops opened (record { journal = subst (λ (x : Store). IsJournal opened x.journal) (sym one) opens.journal; fit = opens.faithful.legal.fit })
+
 no-store : (before : Store) (told : Option Store) → told ≡ None → told ≡ Some before → ⊥
 no-store before told none some = cc
 
 unopened-any : (book : List Entry) (written : List ℕ) (before : Store) (told told' : Option Store) (Keeps : List ℕ → Type 0) → told ≡ Some before → Moves KeepsTree told told'
-    → ((after : Store) → after.tree ≡ before.tree → Keeps after.journal → HasRoom profile (state_of book) 1 → OpensLater book after)
-    → Tells told' (λ s. Keeps s.journal) → (after : Store) × (told' ≡ Some after) × IsUnopened book written written before after Keeps
-unopened-any book written before None told' Keeps e tree later keeps = absurd (no-store before None refl e)
-unopened-any book written before (Some s) None Keeps e tree later keeps = absurd tree
-unopened-any book written before (Some s) (Some s') Keeps e tree later keeps =
+    → ((after : Store) → after.tree ≡ before.tree → Keeps after.journal → NotesWithRoom profile book after.journal → OpensLater book after)
+    → Tells told' (λ s. Keeps s.journal) → Tells told' (λ s. NotesWithRoom profile book s.journal) → (after : Store) × (told' ≡ Some after) × IsUnopened book written written before after Keeps
+unopened-any book written before None told' Keeps e tree later keeps room = absurd (no-store before None refl e)
+unopened-any book written before (Some s) None Keeps e tree later keeps room = absurd tree
+unopened-any book written before (Some s) (Some s') Keeps e tree later keeps room =
     let same : s'.tree ≡ before.tree = tree ∙ ap (λ (x : Store). x.tree) (same_some s before e) in
-    (s', refl, record { wrote = refl; files = same; keeps = keeps; opens = later s' same keeps })
+    (s', refl, record { wrote = refl; files = same; keeps = keeps; opens = later s' same keeps room })
 
 unopened : (why : BootFault) (book : List Entry) (written : List ℕ) (before : Store) (told told' : Option Store) → told ≡ Some before → Moves KeepsTree told told'
-    → OpensTo book before → Tells told' (λ s. IsCutOpening why book s.journal)
+    → OpensTo book before → Tells told' (λ s. IsCutOpening why book s.journal) → Tells told' (λ s. NotesWithRoom profile book s.journal)
     → (after : Store) × (told' ≡ Some after) × IsUnopened book written written before after (IsCutOpening why book)
-unopened why book written before told told' e tree opens keeps =
+unopened why book written before told told' e tree opens keeps room =
     unopened-any book written before told told' (IsCutOpening why book) e tree
-    (λ after same cut room. cut-opens-later why book before after room same opens.faithful cut) keeps
+    (λ after same cut noted. cut-opens-later why book before after noted same opens.faithful cut) keeps room
 
 Serves-five : (low high : ℕ) (actions : List Action) (sink : Option (List ℕ)) (told told' : Option Store) → Moves KeepsTree told told'
-    → StopsOpening profile told told' boot.Store → Serves 5 low high actions sink sink told told'
-Serves-five low high actions sink told told' tree stops = λ written store opened at_sink at_told opens.
-    let there = unopened boot.Store opened written store told told' at_told tree opens (cut-opening boot.Store told told' store opened at_told opens stops) in
+    → StopsOpening profile told told' boot.Store → StopsWithRoom profile told told' → Serves 5 low high actions sink sink told told'
+Serves-five low high actions sink told told' tree stops room = λ written store opened at_sink at_told opens.
+    let there = unopened boot.Store opened written store told told' at_told tree opens (cut-opening boot.Store told told' store opened at_told opens stops)
+    (cut-room told told' store opened at_told opens room) in
     record { now = written; store = there.0; sink_tells = at_sink; store_tells = there.1; served = served-five low high opened actions written written store there.0 (inr there.2) }
 
 Serves-seven : (low high : ℕ) (actions : List Action) (sink : Option (List ℕ)) (told told' : Option Store) → Moves KeepsTree told told'
-    → StopsOpening profile told told' boot.NoMemory → Serves 7 low high actions sink sink told told'
-Serves-seven low high actions sink told told' tree stops = λ written store opened at_sink at_told opens.
-    let there = unopened boot.NoMemory opened written store told told' at_told tree opens (cut-opening boot.NoMemory told told' store opened at_told opens stops) in
+    → StopsOpening profile told told' boot.NoMemory → StopsWithRoom profile told told' → Serves 7 low high actions sink sink told told'
+Serves-seven low high actions sink told told' tree stops room = λ written store opened at_sink at_told opens.
+    let there = unopened boot.NoMemory opened written store told told' at_told tree opens (cut-opening boot.NoMemory told told' store opened at_told opens stops)
+    (cut-room told told' store opened at_told opens room) in
     record { now = written; store = there.0; sink_tells = at_sink; store_tells = there.1; served = served-seven low high opened actions written written store there.0 (inr there.2) }
 
 pub Serves-store : (status low high : ℕ) (actions : List Action) (sink : Option (List ℕ)) (told told' : Option Store) (why : BootFault) → status ≡ 5 → why ≡ boot.Store → Moves KeepsTree told told'
-    → StopsOpening profile told told' why → Serves status low high actions sink sink told told'
-Serves-store status low high actions sink told told' why e is tree stops =
+    → StopsOpening profile told told' why → StopsWithRoom profile told told' → Serves status low high actions sink sink told told'
+Serves-store status low high actions sink told told' why e is tree stops room =
     subst (λ n. Serves n low high actions sink sink told told') (sym e)
-    (Serves-five low high actions sink told told' tree (subst (StopsOpening profile told told') is stops))
+    (Serves-five low high actions sink told told' tree (subst (StopsOpening profile told told') is stops) room)
 
 pub Serves-memory : (status low high : ℕ) (actions : List Action) (sink : Option (List ℕ)) (told told' : Option Store) (why : BootFault) → status ≡ 7 → why ≡ boot.NoMemory → Moves KeepsTree told told'
-    → StopsOpening profile told told' why → Serves status low high actions sink sink told told'
-Serves-memory status low high actions sink told told' why e is tree stops =
+    → StopsOpening profile told told' why → StopsWithRoom profile told told' → Serves status low high actions sink sink told told'
+Serves-memory status low high actions sink told told' why e is tree stops room =
     subst (λ n. Serves n low high actions sink sink told told') (sym e)
-    (Serves-seven low high actions sink told told' tree (subst (StopsOpening profile told told') is stops))
+    (Serves-seven low high actions sink told told' tree (subst (StopsOpening profile told told') is stops) room)
 
 -- ---- a journal that isn't opened
 
@@ -468,16 +479,16 @@ stopped-opens low high start actions written now store Keeps is =
     later-behind start (is.is_before.grows.more ++ is.halfway.added) is.book store
     (is.halfway.book ∙ ap (λ (b : List Entry). b ++ is.halfway.added) is.is_before.grows.book_is ∙ append_assoc start is.is_before.grows.more is.halfway.added) is.opens
 
-pub failed-opens : (low high : ℕ) (book : List Entry) (actions : List Action) (written now : List ℕ) (before store : Store) → HasRoom profile (state_of book) 1
+pub failed-opens : (low high : ℕ) (book : List Entry) (actions : List Action) (written now : List ℕ) (before store : Store)
     → StopsForStore low high book actions written now before store → OpensLater book store
-failed-opens low high book actions written now before store room (inl is) =
+failed-opens low high book actions written now before store (inl is) =
     later-behind book (opening_entries (state_of book)) (opening_of book) store refl
     (stopped-opens low high (opening_of book) actions written now store (ReadsFurther store.journal) is)
-failed-opens low high book actions written now before store room (inr is) = is.opens room
+failed-opens low high book actions written now before store (inr is) = is.opens
 
-pub lacked-opens : (low high : ℕ) (book : List Entry) (actions : List Action) (written now : List ℕ) (before store : Store) → HasRoom profile (state_of book) 1
+pub lacked-opens : (low high : ℕ) (book : List Entry) (actions : List Action) (written now : List ℕ) (before store : Store)
     → StopsForMemory low high book actions written now before store → OpensLater book store
-lacked-opens low high book actions written now before store room (inl is) =
+lacked-opens low high book actions written now before store (inl is) =
     later-behind book (opening_entries (state_of book)) (opening_of book) store refl
     (stopped-opens low high (opening_of book) actions written now store (ReadsTo store.journal) is)
-lacked-opens low high book actions written now before store room (inr is) = is.opens room
+lacked-opens low high book actions written now before store (inr is) = is.opens

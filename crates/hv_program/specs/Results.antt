@@ -5,7 +5,7 @@ use Rattle.hv_base.specs.Sink.{GainsPart}
 use Rattle.hv_shelf.specs.Disk.{Store}
 use Rattle.hv_history.specs.declared.entry.Entry.{Entry}
 use Rattle.hv_history.specs.State.{state_of}
-use Rattle.hv_history.specs.Legal.{IsLegal, HasRoom, profile}
+use Rattle.hv_history.specs.Legal.{IsLegal, profile}
 use Rattle.hv_history.specs.Journal.{Reads}
 use Rattle.hv_journal.specs.Appending.{ReadsMore}
 use Rattle.hv_directives.specs.declared.actions.Action.{Action}
@@ -76,13 +76,12 @@ pub record IsStopped (low high : ℕ) (start : List Entry) (actions : List Actio
   pub keeps : Keeps before action book
   pub opens : OpensLater book after
 
--- No action was done, nothing was written, and no file was touched. Where the book has room for its opening the store opens again, to
--- the book with a front of that.
+-- No action was done, nothing was written, and no file was touched. The store opens again, to the book with a front of its opening.
 pub record IsUnopened (book : List Entry) (written now : List ℕ) (before after : Store) (Keeps : List ℕ → Type 0) : Type 0 where
   pub wrote : now ≡ written
   pub files : after.tree ≡ before.tree
   pub keeps : Keeps after.journal
-  pub opens : HasRoom profile (state_of book) 1 → OpensLater book after
+  pub opens : OpensLater book after
 
 -- the journal reads to the book
 abbrev pub ReadsTo : List ℕ → Standing → Action → List Entry → Type 0

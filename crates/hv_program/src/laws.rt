@@ -2,13 +2,11 @@ ghost use Rattle.std.specs.Prelude.{List, ℕ, Bool};
 ghost use Rattle.hv_shelf.specs.Disk.{Store};
 ghost use Rattle.hv_history.specs.declared.entry.Entry.{Entry};
 ghost use Rattle.hv_directives.specs.declared.actions.Action.{Action};
-ghost use Rattle.hv_history.specs.State.{state_of};
-ghost use Rattle.hv_history.specs.Legal.{HasRoom, profile};
 ghost use Rattle.hv_telling.specs.Telling.{OpensLater};
 ghost use Rattle.hv_program.specs.Results.{IsServed, IsCutOff, IsStopped, ReadsTo, ReadsFurther, StopsForMemory, StopsForStore};
 
 /// What a run leaves opens again, however it ended: to a legal book that begins with the book it was opened with, and with all that was
-/// noted by then. A run that stopped in its opening leaves a front of that behind the book, where there was room for it.
+/// noted by then. A run that stopped in its opening leaves a front of that behind the book.
 pub fn opens_again()
     ensures done { (low high : ℕ) (start : List Entry) (actions : List Action) (written now : List ℕ) (store : Store)
         (refused : Bool) → IsServed low high start actions written now store refused → OpensLater start store }
@@ -19,9 +17,7 @@ pub fn opens_again()
     ensures ran_out { (low high : ℕ) (start : List Entry) (actions : List Action) (written now : List ℕ) (store : Store)
         → IsStopped low high start actions written now store (ReadsTo store.journal) → OpensLater start store }
     ensures failed { (low high : ℕ) (book : List Entry) (actions : List Action) (written now : List ℕ) (before store : Store)
-        → HasRoom profile (state_of book) 1
         → StopsForStore low high book actions written now before store → OpensLater book store }
     ensures lacked { (low high : ℕ) (book : List Entry) (actions : List Action) (written now : List ℕ) (before store : Store)
-        → HasRoom profile (state_of book) 1
         → StopsForMemory low high book actions written now before store → OpensLater book store }
 {}

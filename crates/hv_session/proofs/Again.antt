@@ -2,6 +2,7 @@
 use Rattle.std.proofs.Common.{◌≡◌, ℕ, nat_eq, Bool, true, false, cond, Option, Some, None, List, [], ◌∷◌, ◌++◌, refl, sym, ap, ◌∙◌, subst}
 use Rattle.std.specs.Cmp.Lexicographic.{pointwise, bytes_decides}
 use Rattle.std.specs.Option.{option_to_list}
+use Rattle.hv_base.specs.declared.ids.TxnId.{TxnId}
 use Rattle.hv_shelf.specs.Disk.{Store}
 use Rattle.hv_locks.specs.declared.table.Lock.{Lock}
 use Rattle.hv_logic.specs.declared.seen.Seen.{Seen}
@@ -63,8 +64,8 @@ module _ (told : Option Store) (s : State) (reads : Bool) where
       by (Some y) is e next = seen-here name lock.name y x are.1 (pointwise nat_eq y.info.shape.name name) refl is e next
 
 -- and so behind the first names of a statement
-pub sees-some : {D : Type 0} (told : D → Option Store) (faults : D → ℕ) (first now : House D) (place : ℕ) (reads : Bool) (locks : List Lock) (i : ℕ) (seen : List Seen)
-    → SeesUpTo told faults first now place reads locks i seen → AreSeenOfSome (told now.shelf) (state_at (entries_of now) place) reads seen
-sees-some told faults first now place reads locks i seen sees =
-    subst (λ (o : Option Store). AreSeenOfSome o (state_at (entries_of now) place) reads seen) (sym sees.asked.store)
-    (subst (λ (b : List _). AreSeenOfSome (told first.shelf) (state_at b place) reads seen) (sym sees.asked.book) (_, sees.sees))
+pub sees-some : {D : Type 0} (told : D → Option Store) (faults : D → ℕ) (by : TxnId) (first now : House D) (place : ℕ) (reads : Bool) (locks : List Lock) (i : ℕ) (seen : List Seen)
+    → SeesUpTo told faults by first now place reads locks i seen → AreSeenOfSome (told now.shelf) (state_at (entries_of now) place) reads seen
+sees-some told faults by first now place reads locks i seen sees =
+    subst (λ (o : Option Store). AreSeenOfSome o (state_at (entries_of now) place) reads seen) (sym sees.looked.asked.store)
+    (subst (λ (b : List _). AreSeenOfSome (told first.shelf) (state_at b place) reads seen) (sym sees.looked.asked.book) (_, sees.sees))

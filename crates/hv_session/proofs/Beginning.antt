@@ -7,9 +7,8 @@ use Rattle.std.specs.List.{AllByRecursion}
 use Rattle.std.proofs.lemmas.List.{append_cancel_left}
 use Rattle.hv_base.specs.declared.gate.Stage.{Stage}
 use Rattle.hv_base.specs.declared.gate.Stage.TheVariants as stage
-use Rattle.hv_base.specs.Told.{Tells, Moves, StaysTold}
-use Rattle.hv_base.proofs.ToldLemmas.{stays_by}
-use Rattle.hv_shelf.specs.Disk.{Store, Tree}
+use Rattle.hv_base.specs.declared.ids.TxnId.{TxnId}
+use Rattle.hv_shelf.specs.Disk.{Store}
 use Rattle.hv_ast.specs.declared.statement.Stmt.{Stmt}
 use Rattle.hv_locks.specs.declared.table.Lock.{Lock}
 use Rattle.hv_built.specs.Running.{Runs}
@@ -20,121 +19,48 @@ use Rattle.hv_history.specs.declared.entry.Cause.TheVariants as cause
 use Rattle.hv_history.specs.declared.state.Transaction.{Transaction}
 use Rattle.hv_history.specs.Book.{tree_of_entry}
 use Rattle.hv_history.specs.Answers.{cause_text}
-use Rattle.hv_history.specs.State.{State, state_of, opened, meaning, nothing_yet, after}
-use Rattle.hv_history.specs.Legal.{Fits, FullFits, BlockedFits, AllFit, IsLegal, IsTruthful, Of, is_started, NeedsId, first_holder, load, profile}
-use Rattle.hv_journal.specs.Appending.{KeepsTree}
-use Rattle.hv_stands.specs.Files.{Stands}
+use Rattle.hv_history.specs.State.{state_of, opened, meaning}
+use Rattle.hv_history.specs.Legal.{Fits, FullFits, BlockedFits, IsTruthful, Of, is_started, NeedsId, first_holder, load, profile}
+use Rattle.hv_stands.specs.Running.{meant, Asking, next_number, opening, starting, IsOf, AreOf, IsWaiting, IsUnderWay}
 use Rattle.hv_next.specs.Order.{AllInOrder}
 use Rattle.hv_next.specs.Carrying.{IsAtHold}
-use Rattle.hv_stands.specs.Running.{Asking, next_number, opening, starting, meant, IsOf, AreOf, IsWaiting, IsUnderWay}
-use Rattle.hv_stands.specs.Statements.{AllFitting, CommitsNothing}
 use Rattle.hv_stands.proofs.Begun.{opens, begins}
-use Rattle.hv_stands.proofs.StatementFiles.{other-entries-stand}
 use Rattle.hv_house.specs.declared.fault.HouseFault.{HouseFault}
 use Rattle.hv_house.specs.declared.fault.HouseFault.TheVariants as fault
 use Rattle.hv_house.specs.declared.house.House.{House}
 use Rattle.hv_house.specs.Faults.{FileCause, EndsRun}
-use Rattle.hv_house.specs.House.{entries_of, IsReady, IsSmall, IsFaithful, Shows, AreNoted, AreHalted, StaysReady, Leaves, BeginFits, beginning_of}
+use Rattle.hv_house.specs.House.{entries_of, IsSmall, AreNoted, AreHalted, Leaves, BeginFits, beginning_of}
 use Rattle.hv_house.specs.Asking.{CanBegin, holder_against}
 use Rattle.hv_house.proofs.Beginning.{load-behind-opened, holder-behind-opened}
 use Rattle.hv_house.specs.Steps.{IsMarked}
+use Rattle.hv_telling.specs.Telling.{IsToldHouse, IsWhole, StaysWhole, StillOpens}
 use Rattle.hv_ending.specs.declared.ready.Reply.{Reply}
-use Rattle.hv_ending.specs.Ending.{KeepsCount, IsUndamaged, EndsUncommitted, IsAborted, HasStopped, StillOpens, aborting, HasReplied}
-use Rattle.hv_ending.specs.Steps.{StandsWith}
-use Rattle.hv_ending.proofs.Opens.{halted-opens, one-halted-opens, event-stands}
-use Rattle.hv_base.specs.declared.ids.TxnId.{TxnId}
+use Rattle.hv_ending.specs.Ending.{KeepsCount, IsUndamaged, EndsUncommitted, IsAborted, HasStopped, aborting, HasReplied}
 use Rattle.hv_session.proofs.Shorts.{short_blocked, short_full}
 use Rattle.hv_session.specs.declared.paused.Paused.{Paused}
 use Rattle.hv_session.specs.declared.paused.Taken.{Taken}
 use Rattle.hv_session.specs.declared.paused.Taken.TheVariants as taken
 use Rattle.hv_session.specs.Lines.{IsLine, IsFullLine, IsTextLine}
-use Rattle.hv_session.specs.Taking.{IsWhyNot, EndsBefore, IsHold, IsAtPlace, IsTrulyHeld, IsKeptIn, IsTakenAs}
-use Rattle.hv_session.specs.Ways.{IsPart, IsTaking, StopsAtBeginning, IsTrueOf, ShowsAnd, GoesInTime, StandsHeld, StandsTruly, IsTurnedAway, hindrance_of, LacksRoom, AbortsOpened}
-use Rattle.hv_session.proofs.Books.{IsBegun, fit-behind, begun-true, one-legal}
+use Rattle.hv_session.specs.Taking.{IsAtPlace, IsTrulyHeld, IsWhyNot, EndsBefore, IsHold, IsKeptIn, IsTakenAs}
+use Rattle.hv_session.specs.Ways.{IsPart, IsTaking, StopsAtBeginning, GoesInTime, StandsHeld, StandsTruly, IsTurnedAway, hindrance_of, LacksRoom, AbortsOpened}
+use Rattle.hv_session.proofs.Books.{IsBegun}
 use Rattle.hv_session.proofs.Orders.{at-its-hold, opened-in-order, begun-in-order, of-waiting, locks-are, hindered-in-order}
-use Rattle.hv_session.proofs.Telling.{told-map, told-behind}
-use Rattle.hv_session.proofs.Passing.{HasPassed, part-taking, passed-part, same-files}
-
--- ---- a faithful book goes on by entries that begin a statement
-
-fit-front : (s : State) (book more : List Entry) → AllFit profile s (book ++ more) → AllFit profile s book
-fit-front s [] more fit = tt
-fit-front s (e ∷ book) more fit = (fit.0, fit-front (after s e) book more fit.1)
-
-begun-quiet : (event : Entry) → IsBegun event → CommitsNothing event
-begun-quiet (entry.Opened txn session number text) begun = tt
-begun-quiet (entry.Start txn statement) begun = tt
-begun-quiet (entry.Given txn table write) begun = tt
-begun-quiet event begun = absurd begun
-
-one-faithful : (book : List Entry) (event : Entry) (x y : Store) → AllFitting (book ++ event ∷ []) → IsTruthful (state_of book) event → CommitsNothing event
-    → y.tree ≡ x.tree → IsFaithful book x → IsFaithful (book ++ event ∷ []) y
-one-faithful book event x y fit truthful quiet tree faithful = record {
-  stands = subst (Stands (state_of (book ++ event ∷ []))) (sym tree)
-      (other-entries-stand book event x.tree (fit-front nothing_yet book (event ∷ []) fit) (fit-behind nothing_yet book (event ∷ []) fit).0 quiet faithful.stands);
-  legal = one-legal book event faithful.legal fit truthful;
-}
-
-pub begun-faithful : (book added : List Entry) (x y : Store) → AllFitting (book ++ added) → AllByRecursion IsBegun added → y.tree ≡ x.tree
-    → IsFaithful book x → IsFaithful (book ++ added) y
-begun-faithful book [] x y fit begun tree faithful = record {
-  stands = subst (λ (b : List Entry). Stands (state_of b) y.tree) (sym (append-nil book)) (subst (Stands (state_of book)) (sym tree) faithful.stands);
-  legal = subst (IsLegal profile) (sym (append-nil book)) faithful.legal;
-}
-begun-faithful book (event ∷ added) x y fit begun tree faithful =
-    let next : (book ++ event ∷ []) ++ added ≡ book ++ (event ∷ added) = append_assoc book (event ∷ []) added in
-    let all : AllFitting ((book ++ event ∷ []) ++ added) = subst AllFitting (sym next) fit in
-    subst (λ (b : List Entry). IsFaithful b y) next
-    (begun-faithful (book ++ event ∷ []) added x y all begun.1 tree
-    (one-faithful book event x x (fit-front nothing_yet (book ++ event ∷ []) added all) (begun-true (state_of book) event begun.0) (begun-quiet event begun.0) refl faithful))
+use Rattle.hv_session.proofs.Passing.{HasPassed, part-taking, passed-part, nothing-passed}
 
 -- ---- what was noted of a statement that begins
 
 module _ {D : Type 0} (told : D → Option Store) (before now : House D) where
-  pub noted-passed : (faults : D → ℕ) (txn : ℕ) (events : List Entry) → IsReady told now → AreNoted told events before now → AreOf txn events → AllByRecursion IsBegun events
-      → faults before.shelf ≤ faults now.shelf → HasPassed told faults txn before now
-  noted-passed faults txn events ready noted of_it begun later = record {
-    ready = ready;
+  pub noted-passed : (faults : D → ℕ) (txn : ℕ) (events : List Entry) → IsWhole told now → now.start ≡ before.start → AreNoted told events before now → AreOf txn events
+      → AllByRecursion IsBegun events → faults before.shelf ≤ faults now.shelf → HasPassed told faults txn before now
+  noted-passed faults txn events whole start noted of_it begun later = record {
+    whole = whole;
+    start = start;
     added = events;
     book = noted.entries;
     of_it = of_it;
     begun = begun;
-    keeps = same-files (state_of (entries_of before)).tables (told before.shelf) (told now.shelf) noted.tree;
-    tells = stays_by KeepsTree (told before.shelf) (told now.shelf) noted.tree;
     later = later;
   }
-
-  pub noted-shows : (events : List Entry) → IsReady told now → AreNoted told events before now → AllByRecursion IsBegun events
-      → Shows told before (entries_of before) → Shows told now (entries_of now)
-  noted-shows events ready noted begun shows =
-      told-behind KeepsTree (IsFaithful (entries_of before)) (IsFaithful (entries_of now))
-      (λ x y tree faithful. subst (λ (b : List Entry). IsFaithful b y) (sym noted.entries)
-      (begun-faithful (entries_of before) events x y (subst AllFitting noted.entries ready.fit) begun tree faithful))
-      (told before.shelf) (told now.shelf) noted.tree shows
-
-  -- nothing was noted, since memory lacked
-  module _ (faults : D → ℕ) (txn : ℕ) (events : List Entry) (halted : AreHalted told events fault.NoMemory before now) (stays : StaysReady told fault.NoMemory now) where
-    pub lacks-passed : faults before.shelf ≤ faults now.shelf → HasPassed told faults txn before now
-    lacks-passed later = record {
-      ready = stays.ready refl;
-      added = [];
-      book = halted.entries ∙ sym (append-nil (entries_of before));
-      of_it = tt;
-      begun = tt;
-      keeps = same-files (state_of (entries_of before)).tables (told before.shelf) (told now.shelf) halted.tree;
-      tells = stays_by KeepsTree (told before.shelf) (told now.shelf) halted.tree;
-      later = later;
-    }
-
-    pub lacks-shows : (P : Type 0) → P → Shows told before (entries_of before) → ShowsAnd told now (λ _. P)
-    lacks-shows P p shows =
-        told-behind KeepsTree (IsFaithful (entries_of before)) (IsTrueOf (entries_of now) (λ _. P))
-        (λ x y tree faithful. record {
-          faithful = subst (λ (b : List Entry). IsFaithful b y) (sym halted.entries)
-              (record { stands = subst (Stands (state_of (entries_of before))) (sym tree) faithful.stands; legal = faithful.legal });
-          true_of = p;
-        })
-        (told before.shelf) (told now.shelf) halted.tree shows
 
   -- or the run ends
   pub halted-stopped : (txn : ℕ) (event : Entry) (why : HouseFault) → AreHalted told (event ∷ []) why before now → IsOf txn event
@@ -165,14 +91,6 @@ module _ {D : Type 0} (told : D → Option Store) (before now : House D) where
 pub memory-away : (first now : List Entry) (asking : Asking) (reply : Reply) → now ≡ first → IsLine (cause_text None cause.Memory) reply → IsTurnedAway first now asking reply
 memory-away first now asking reply same line hold is = inr (inr (inr (record { book = same; unended = line.unended; is_refused = line.refusal; line = line.line_is })))
 
--- the two entries that begin a statement leave the files standing
-beginning-faithful : (book : List Entry) (asking : Asking) (store : Store) → BeginFits book asking → IsFaithful book store → IsFaithful (book ++ beginning_of book asking) store
-beginning-faithful book asking store fits faithful =
-    let one : IsFaithful (book ++ opening book asking ∷ []) store = (event-stands book (opening book asking) store tt (λ fit. tt) faithful).with_it fits.0 in
-    let both : IsFaithful ((book ++ opening book asking ∷ []) ++ starting (next_number book) ∷ []) store =
-    (event-stands (book ++ opening book asking ∷ []) (starting (next_number book)) store tt (λ fit. tt) one).with_it fits.1 in
-    subst (λ (b : List Entry). IsFaithful b store) (append_assoc book (opening book asking ∷ []) (starting (next_number book) ∷ [])) both
-
 -- ---- where the note of an opening was refused
 
 module _ {D : Type 0} (told : D → Option Store) (faults : D → ℕ) (before now : House D) where
@@ -180,64 +98,52 @@ module _ {D : Type 0} (told : D → Option Store) (faults : D → ℕ) (before n
   its_number = next_number (entries_of before)
 
   -- memory lacked, and the reply says so
-  unopened-ok : (events : List Entry) (why : HouseFault) (reply : Reply) → AreHalted told events why before now → StaysReady told why now
+  unopened-ok : (events : List Entry) (why : HouseFault) (reply : Reply) → AreHalted told events why before now → StaysWhole told why now → now.start ≡ before.start
       → faults before.shelf ≤ faults now.shelf → why ≡ fault.NoMemory
-      → IsPart told faults (IsFaithful (entries_of before)) its_number before now (Ok reply)
-  unopened-ok events why reply halted stays later is =
+      → IsPart told faults its_number before now (Ok reply)
+  unopened-ok events why reply halted stays start later is =
       passed-part told faults its_number before now reply
-      (lacks-passed told before now faults its_number events
-      (subst (λ (w : HouseFault). AreHalted told events w before now) is halted) (subst (λ (w : HouseFault). StaysReady told w now) is stays) later)
+      (nothing-passed told faults its_number before now halted.entries start (subst (λ (w : HouseFault). StaysWhole told w now) is stays) later)
 
   -- or the run ends
-  pub unopened-part : {T : Type 0} (event : Entry) (why : HouseFault) (result : Result Reply HouseFault) → IsOf its_number event → IsBegun event → Fits profile (state_of (entries_of before)) event
-      → AreHalted told (event ∷ []) why before now → StaysReady told why now
-      → StaysTold (told before.shelf) (told now.shelf) → EndsRun why → FileCause {T = T} (faults before.shelf) (faults now.shelf) (Err why)
+  pub unopened-part : {T : Type 0} (event : Entry) (why : HouseFault) (result : Result Reply HouseFault) → IsOf its_number event → Fits profile (state_of (entries_of before)) event
+      → AreHalted told (event ∷ []) why before now → StaysWhole told why now → now.start ≡ before.start
+      → (IsToldHouse told before → StillOpens told now) → EndsRun why → FileCause {T = T} (faults before.shelf) (faults now.shelf) (Err why)
       → IfOk result (λ reply. (why ≡ fault.NoMemory) × IsLine (cause_text None cause.Memory) reply) → IfErr result (λ failed. failed ≡ why)
-      → IsPart told faults (IsFaithful (entries_of before)) its_number before now result
-  unopened-part event why (Ok reply) of_it begun fits halted stays tells ends cause memory failed = unopened-ok (event ∷ []) why reply halted stays cause.later memory.0
-  unopened-part {T = T} event why (Err other) of_it begun fits halted stays tells ends cause memory failed =
-      subst (λ (w : HouseFault). IsPart {T = Reply} told faults (IsFaithful (entries_of before)) its_number before now (Err w)) (sym failed) (record {
+      → IsPart told faults its_number before now result
+  unopened-part event why (Ok reply) of_it fits halted stays start reopens ends cause memory failed =
+      unopened-ok (event ∷ []) why reply halted stays start cause.later memory.0
+  unopened-part {T = T} event why (Err other) of_it fits halted stays start reopens ends cause memory failed =
+      subst (λ (w : HouseFault). IsPart {T = Reply} told faults its_number before now (Err w)) (sym failed) (record {
         done = tt;
-        keeps = same-files (state_of (entries_of before)).tables (told before.shelf) (told now.shelf) halted.tree;
-        tells = tells;
+        start = start;
         stopped = halted-stopped told before now its_number event why halted of_it fits;
-        opens = λ shows. one-halted-opens told event why before now halted fits
-            (told-map (IsFaithful (entries_of before)) (StandsWith (entries_of before) event)
-            (λ s faithful. event-stands (entries_of before) event s (begun-quiet event begun) (λ fit. begun-true (state_of (entries_of before)) event begun) faithful)
-            (told before.shelf) shows);
+        opens = reopens;
         ends = ends;
         cause = record { later = cause.later; failed = cause.failed };
       })
 
   pub unbegun-taking : {T : Type 0} (asking : Asking) (why : HouseFault) (result : Result Reply HouseFault) → BeginFits (entries_of before) asking
-      → AreHalted told (beginning_of (entries_of before) asking) why before now → StaysReady told why now
-      → StaysTold (told before.shelf) (told now.shelf) → EndsRun why → FileCause {T = T} (faults before.shelf) (faults now.shelf) (Err why)
+      → AreHalted told (beginning_of (entries_of before) asking) why before now → StaysWhole told why now → now.start ≡ before.start
+      → (IsToldHouse told before → StillOpens told now) → EndsRun why → FileCause {T = T} (faults before.shelf) (faults now.shelf) (Err why)
       → IfOk result (λ reply. (why ≡ fault.NoMemory) × IsLine (cause_text None cause.Memory) reply) → IfErr result (λ failed. failed ≡ why)
       → IsTaking told faults asking before now result
-  unbegun-taking asking why (Ok reply) fits halted stays tells ends cause memory failed =
-      part-taking told faults asking before now (Ok reply) (unopened-ok (beginning_of (entries_of before) asking) why reply halted stays cause.later memory.0)
-  unbegun-taking {T = T} asking why (Err other) fits halted stays tells ends cause memory failed =
+  unbegun-taking asking why (Ok reply) fits halted stays start reopens ends cause memory failed =
+      part-taking told faults asking before now (Ok reply) (unopened-ok (beginning_of (entries_of before) asking) why reply halted stays start cause.later memory.0)
+  unbegun-taking {T = T} asking why (Err other) fits halted stays start reopens ends cause memory failed =
       subst (λ (w : HouseFault). IsTaking {T = Reply} told faults asking before now (Err w)) (sym failed) (record {
         done = tt;
-        keeps = same-files (state_of (entries_of before)).tables (told before.shelf) (told now.shelf) halted.tree;
-        tells = tells;
+        start = start;
         stopped = inr (halted-beginning told before now asking why halted fits);
-        opens = λ shows. halted-opens told (beginning_of (entries_of before) asking) why before now halted shows
-            (told-map (IsFaithful (entries_of before)) (IsFaithful (entries_of before ++ beginning_of (entries_of before) asking))
-            (λ s faithful. beginning-faithful (entries_of before) asking s fits faithful) (told before.shelf) shows);
+        opens = reopens;
         ends = ends;
         cause = record { later = cause.later; failed = cause.failed };
       })
 
-  pub unopened-truly : (events : List Entry) (asking : Asking) (why : HouseFault) (result : Result Reply HouseFault) → AreHalted told events why before now → StaysReady told why now
-      → IfOk result (λ reply. (why ≡ fault.NoMemory) × IsLine (cause_text None cause.Memory) reply) → Shows told before (entries_of before)
-      → IfOk result (λ reply. ShowsAnd told now (λ _. IsTurnedAway (entries_of before) (entries_of now) asking reply))
-  unopened-truly events asking why (Err other) halted stays memory shows = tt
-  unopened-truly events asking why (Ok reply) halted stays memory shows =
-      lacks-shows told before now faults its_number events
-      (subst (λ (w : HouseFault). AreHalted told events w before now) memory.0 halted) (subst (λ (w : HouseFault). StaysReady told w now) memory.0 stays)
-      (IsTurnedAway (entries_of before) (entries_of now) asking reply)
-      (memory-away (entries_of before) (entries_of now) asking reply halted.entries memory.1) shows
+pub unopened-turned : (before now : List Entry) (asking : Asking) (why : HouseFault) (result : Result Reply HouseFault) → now ≡ before
+    → IfOk result (λ reply. (why ≡ fault.NoMemory) × IsLine (cause_text None cause.Memory) reply) → IfOk result (IsTurnedAway before now asking)
+unopened-turned before now asking why (Err other) same memory = tt
+unopened-turned before now asking why (Ok reply) same memory = memory-away before now asking reply same memory.1
 
 -- a text has one tree
 one-tree : (text : List ℕ) (a b : Stmt) → Runs text a → Runs text b → a ≡ b
@@ -254,18 +160,18 @@ module _ (first before now : List Entry) (asking : Asking) (book : before ≡ fi
   same-added : (xs ys : List Entry) → now ≡ before ++ xs → now ≡ before ++ ys → xs ≡ ys
   same-added xs ys x y = append_cancel_left before xs ys (sym x ∙ y)
 
-  kept-up : (hold : Option Stage) (paused : Paused) (files : Tree) → paused.txn.0 ≡ next_number first → IsAtPlace hold paused.point → IsTrulyHeld now files paused
+  kept-up : (hold : Option Stage) (paused : Paused) → paused.txn.0 ≡ next_number first → IsAtPlace hold paused.point → IsTrulyHeld now paused
       → Of (state_of now) (next_number first) (λ (t : Transaction). IsAtHold hold t.given (meaning t))
-  kept-up hold paused files txn_is place truly =
+  kept-up hold paused txn_is place truly =
       let held = truly.held in
       subst (λ (n : ℕ). Of (state_of now) n (λ (t : Transaction). IsAtHold hold t.given (meaning t))) txn_is
       (subst (λ (o : Option Transaction). IsSomeAnd o (λ (t : Transaction). IsAtHold hold t.given (meaning t))) (sym held.under_way.here)
-      (at-its-hold hold paused.point files (meant (take paused.place now) paused.tree) held.given place held.unrefused truly.truly))
+      (at-its-hold hold paused.point (meant (take paused.place now) paused.tree) held.given place held.unrefused truly.truly))
 
-  pub goes-taken : (hold : Option Stage) (files : Tree) (tree : Stmt) (way : Taken) → Runs asking.text tree → CanBegin profile first tree → StandsHeld now asking way
+  pub goes-taken : (hold : Option Stage) (tree : Stmt) (way : Taken) → Runs asking.text tree → CanBegin profile first tree → StandsHeld now asking way
       → GoesInTime hold (next_number first) before now way
-      → StandsTruly before now files (next_number first) way → IsTakenAs first now files asking hold way
-  goes-taken hold files tree (taken.Replied reply) runs can stands goes truly = inl (record {
+      → StandsTruly before now (next_number first) way → IsTakenAs first now asking hold way
+  goes-taken hold tree (taken.Replied reply) runs can stands goes truly = inl (record {
     added = starting (next_number first) ∷ truly.added;
     book = begun-book truly.added truly.book;
     tree = tree;
@@ -277,7 +183,7 @@ module _ (first before now : List Entry) (asking : Asking) (book : before ≡ fi
     answered = truly.answered;
     in_order = begun-in-order first asking truly.added (subst (λ (b : List Entry). AllInOrder (state_of b) truly.added) book truly.in_order);
   })
-  goes-taken hold files tree (taken.Kept paused) runs can stands goes truly = record {
+  goes-taken hold tree (taken.Kept paused) runs can stands goes truly = record {
     added = starting (next_number first) ∷ goes.added;
     book = begun-book goes.added goes.book;
     txn_is = goes.in_time.0;
@@ -288,7 +194,7 @@ module _ (first before now : List Entry) (asking : Asking) (book : before ≡ fi
     in_order = begun-in-order first asking goes.added
         (subst (λ (b : List Entry). AllInOrder (state_of b) goes.added) book
         (subst (AllInOrder (state_of before)) (same-added truly.1.0 goes.added truly.1.1 goes.book) truly.1.2));
-    up_to_hold = kept-up hold paused files goes.in_time.0 goes.in_time.2 truly.0;
+    up_to_hold = kept-up hold paused goes.in_time.0 goes.in_time.2 truly.0;
   }
 
   pub goes-kept : (hold : Option Stage) (way : Taken) → GoesInTime hold (next_number first) before now way → StandsHeld now asking way → IsKeptIn first now asking way
@@ -391,11 +297,6 @@ module _ (book : List Entry) (asking : Asking) (txn : ℕ) (said : Stmt) (waits 
   hindrance-true (Some holder) = here-waits (λ (t : Transaction). Unit {0}) tt
   hindrance-true None = here-waits (λ (t : Transaction). IsFalse (is_started t) ⊎ NeedsId t.given (meaning t)) (inl refl)
 
-pub hindrance-told : (book : List Entry) (asking : Asking) (txn : ℕ) (said : Stmt) → IsWaiting book asking txn said → (holder : Option ℕ) → (o : Option Store)
-    → Tells o (λ _. IsTruthful (state_of book) (aborting txn (hindrance_of holder)))
-hindrance-told book asking txn said waits holder None = tt
-hindrance-told book asking txn said waits holder (Some s) = hindrance-true book asking txn said waits holder
-
 pub hindrance-small : (txn : TxnId) (holder : Option ℕ) → IsSmall (aborting txn.0 (hindrance_of holder))
 hindrance-small txn (Some holder) = short_blocked txn (record { 0 = holder })
 hindrance-small txn None = short_full txn
@@ -414,15 +315,14 @@ hindrance-counts low high txn None of (inl is) = subst (λ (w : Cause). KeepsCou
 hindrance-counts low high txn (Some holder) of (inl is) = subst (λ (w : Cause). KeepsCount low high (aborting txn w)) (sym is) tt
 
 module _ (holder : Option ℕ) {D : Type 0} (told : D → Option Store) (faults : D → ℕ) (txn : ℕ) (before now : House D) where
-  pub aborted-part : (result : Result Reply HouseFault) → IfOk result (λ _. IsReady told now)
-      → IfOk result (λ _. IsAborted txn (hindrance_of holder) (entries_of before) (entries_of now))
-      → Moves KeepsTree (told before.shelf) (told now.shelf) → StaysTold (told before.shelf) (told now.shelf)
-      → IfErr result (λ failed. HasStopped told txn failed before now) → (Shows told before (entries_of before) → IfErr result (λ _. StillOpens told now))
+  pub aborted-part : (result : Result Reply HouseFault) → IfOk result (λ _. IsWhole told now)
+      → IfOk result (λ _. IsAborted txn (hindrance_of holder) (entries_of before) (entries_of now)) → now.start ≡ before.start
+      → IfErr result (λ failed. HasStopped told txn failed before now) → (IsToldHouse told before → IfErr result (λ _. StillOpens told now))
       → IfErr result EndsRun → FileCause (faults before.shelf) (faults now.shelf) result
-      → IsPart told faults (IsFaithful (entries_of before)) txn before now result
-  aborted-part (Ok reply) ready aborted tree tells stopped opens ends cause = record {
+      → IsPart told faults txn before now result
+  aborted-part (Ok reply) whole aborted start stopped reopens ends cause = record {
     done = record {
-      ready = ready;
+      whole = whole;
       added = record {
         added = aborting txn aborted.of ∷ [];
         book = aborted.book;
@@ -430,40 +330,27 @@ module _ (holder : Option ℕ) {D : Type 0} (told : D → Option Store) (faults 
         counts = (hindrance-counts (faults before.shelf) (faults now.shelf) txn holder aborted.of aborted.is, tt);
       };
     };
-    keeps = same-files (state_of (entries_of before)).tables (told before.shelf) (told now.shelf) tree;
-    tells = tells;
+    start = start;
     stopped = tt;
-    opens = λ shows. tt;
+    opens = λ is. tt;
     ends = tt;
     cause = cause;
   }
-  aborted-part (Err failed) ready aborted tree tells stopped opens ends cause = record {
-    done = tt;
-    keeps = same-files (state_of (entries_of before)).tables (told before.shelf) (told now.shelf) tree;
-    tells = tells;
-    stopped = stopped;
-    opens = opens;
-    ends = ends;
-    cause = cause;
-  }
+  aborted-part (Err failed) whole aborted start stopped reopens ends cause =
+      record { done = tt; start = start; stopped = stopped; opens = reopens; ends = ends; cause = cause }
 
 -- ---- behind its Opened it is turned away
 
 pub turned-away : {D : Type 0} (told : D → Option Store) (faults : D → ℕ) (txn : ℕ) (before between now : House D) (asking : Asking) (said : Stmt) (result : Result Reply HouseFault)
     → entries_of between ≡ entries_of before ++ opening (entries_of before) asking ∷ [] → txn ≡ next_number (entries_of before)
     → (CanBegin profile (entries_of before) said → ⊥)
-    → IsWaiting (entries_of between) asking txn said → AbortsOpened told faults said txn between now result → Shows told between (entries_of between)
-    → IfOk result (λ reply. ShowsAnd told now (λ _. IsTurnedAway (entries_of before) (entries_of now) asking reply))
-turned-away told faults txn before between now asking said (Err why) book is cannot waits aborts shows = tt
-turned-away told faults txn before between now asking said (Ok reply) book is cannot waits aborts shows =
-    told-map (IsFaithful (entries_of now)) (IsTrueOf (entries_of now) (λ _. IsTurnedAway (entries_of before) (entries_of now) asking reply))
-    (λ s faithful. record {
-      faithful = faithful;
-      true_of = aborted-away (entries_of before) (entries_of between) (entries_of now) asking book said reply waits.runs cannot
-          (subst (λ (n : ℕ). IsAborted n (hindrance_of (holder_against (entries_of between) said)) (entries_of between) (entries_of now)) is aborts.aborted)
-          (subst (λ (n : ℕ). HasReplied (entries_of now) n reply.text reply.refused reply.ended) is (aborts.answered asking said waits));
-    })
-    (told now.shelf) (aborts.shows shows)
+    → IsWaiting (entries_of between) asking txn said → AbortsOpened told faults said txn between now result
+    → IfOk result (IsTurnedAway (entries_of before) (entries_of now) asking)
+turned-away told faults txn before between now asking said (Err why) book is cannot waits aborts = tt
+turned-away told faults txn before between now asking said (Ok reply) book is cannot waits aborts =
+    aborted-away (entries_of before) (entries_of between) (entries_of now) asking book said reply waits.runs cannot
+    (subst (λ (n : ℕ). IsAborted n (hindrance_of (holder_against (entries_of between) said)) (entries_of between) (entries_of now)) is aborts.aborted)
+    (subst (λ (n : ℕ). HasReplied (entries_of now) n reply.text reply.refused reply.ended) is (aborts.answered asking said waits))
 
 -- ---- an entry that opens a statement
 
@@ -492,9 +379,9 @@ pub opened-runs : (book : List Entry) (first asking : Asking) (event : Entry) (t
 unfolding text_of
 opened-runs book first asking event tree one other runs = subst (λ (t : List ℕ). Runs t tree) (ap text_of (sym one ∙ other)) runs
 
-pub renumbered : {D T : Type 0} {Known : Store → Type 0} (told : D → Option Store) (faults : D → ℕ) (before now : House D) (txn number : ℕ) (result : Result T HouseFault) → txn ≡ number
-    → IsPart told faults Known txn before now result → IsPart told faults Known number before now result
-renumbered {Known = Known} told faults before now txn number result is part = subst (λ (n : ℕ). IsPart told faults Known n before now result) is part
+pub renumbered : {D T : Type 0} (told : D → Option Store) (faults : D → ℕ) (before now : House D) (txn number : ℕ) (result : Result T HouseFault) → txn ≡ number
+    → IsPart told faults txn before now result → IsPart told faults number before now result
+renumbered told faults before now txn number result is part = subst (λ (n : ℕ). IsPart told faults n before now result) is part
 
 pub opened-is : (book : List Entry) (asking : Asking) (txn : TxnId) → txn.0 ≡ next_number book → entry.Opened txn asking.session asking.number asking.text ≡ opening book asking
 opened-is book asking txn is = ap (λ (n : ℕ). entry.Opened (record { 0 = n }) asking.session asking.number asking.text) is
@@ -514,44 +401,25 @@ kept-on first before now asking book txn is hold (Err why) goes stands = tt
 kept-on first before now asking book txn is hold (Ok way) goes stands =
     goes-kept first before now asking book hold way (subst (λ (n : ℕ). GoesInTime hold n before now way) is goes) stands
 
-pub goes-on : {D : Type 0} (told : D → Option Store) (first before now : House D) (asking : Asking)
-    → entries_of before ≡ entries_of first ++ opening (entries_of first) asking ∷ starting (next_number (entries_of first)) ∷ [] → (txn : ℕ) → txn ≡ next_number (entries_of first)
-    → (hold : Option Stage) (tree : Stmt) (result : Result Taken HouseFault) → Runs asking.text tree → CanBegin profile (entries_of first) tree
-    → IfOk result (StandsHeld (entries_of now) asking) → IfOk result (GoesInTime hold txn (entries_of before) (entries_of now))
-    → IfOk result (λ way. ShowsAnd told now (λ s. StandsTruly (entries_of before) (entries_of now) s.tree txn way))
-    → IfOk result (λ way. ShowsAnd told now (λ s. IsTakenAs (entries_of first) (entries_of now) s.tree asking hold way))
-goes-on told first before now asking book txn is hold tree (Err why) runs can stands goes truly = tt
-goes-on told first before now asking book txn is hold tree (Ok way) runs can stands goes truly =
-    told-map (IsTrueOf (entries_of now) (λ s. StandsTruly (entries_of before) (entries_of now) s.tree txn way)) (IsTrueOf (entries_of now) (λ s. IsTakenAs (entries_of first) (entries_of now) s.tree asking hold way))
-    (λ s both. record {
-      faithful = both.faithful;
-      true_of = goes-taken (entries_of first) (entries_of before) (entries_of now) asking book hold s.tree tree way runs can stands
-          (subst (λ (n : ℕ). GoesInTime hold n (entries_of before) (entries_of now) way) is goes)
-          (subst (λ (n : ℕ). StandsTruly (entries_of before) (entries_of now) s.tree n way) is both.true_of);
-    })
-    (told now.shelf) truly
-
--- ---- one that is turned away is taken so
-
-pub turned-taken : {D : Type 0} (told : D → Option Store) (before now : House D) (asking : Asking) (hold : Option Stage) → IsHold hold → (reply : Reply)
-    → ShowsAnd told now (λ _. IsTurnedAway (entries_of before) (entries_of now) asking reply)
-    → ShowsAnd told now (λ s. IsTakenAs (entries_of before) (entries_of now) s.tree asking hold (taken.Replied reply))
-turned-taken told before now asking hold is reply truly =
-    told-map (IsTrueOf (entries_of now) (λ _. IsTurnedAway (entries_of before) (entries_of now) asking reply))
-    (IsTrueOf (entries_of now) (λ s. IsTakenAs (entries_of before) (entries_of now) s.tree asking hold (taken.Replied reply)))
-    (λ s both. record { faithful = both.faithful; true_of = both.true_of hold is })
-    (told now.shelf) truly
+pub goes-on : (first before now : List Entry) (asking : Asking) → before ≡ first ++ opening first asking ∷ starting (next_number first) ∷ [] → (txn : ℕ) → txn ≡ next_number first
+    → (hold : Option Stage) (tree : Stmt) (result : Result Taken HouseFault) → Runs asking.text tree → CanBegin profile first tree
+    → IfOk result (StandsHeld now asking) → IfOk result (GoesInTime hold txn before now) → IfOk result (StandsTruly before now txn)
+    → IfOk result (IsTakenAs first now asking hold)
+goes-on first before now asking book txn is hold tree (Err why) runs can stands goes truly = tt
+goes-on first before now asking book txn is hold tree (Ok way) runs can stands goes truly =
+    goes-taken first before now asking book hold tree way runs can stands
+    (subst (λ (n : ℕ). GoesInTime hold n before now way) is goes) (subst (λ (n : ℕ). StandsTruly before now n way) is truly)
 
 -- ---- one that wasn't opened is taken so
 
-pub memory-taken : (book : List Entry) (files : Tree) (asking : Asking) (hold : Option Stage) (reply : Reply) → IsLine (cause_text None cause.Memory) reply
-    → IsTakenAs book book files asking hold (taken.Replied reply)
-memory-taken book files asking hold reply line = inr (inr (inr (record { book = refl; unended = line.unended; is_refused = line.refusal; line = line.line_is })))
+pub memory-taken : (book : List Entry) (asking : Asking) (hold : Option Stage) (reply : Reply) → IsLine (cause_text None cause.Memory) reply
+    → IsTakenAs book book asking hold (taken.Replied reply)
+memory-taken book asking hold reply line = inr (inr (inr (record { book = refl; unended = line.unended; is_refused = line.refusal; line = line.line_is })))
 
-pub text-taken : (book : List Entry) (files : Tree) (asking : Asking) (hold : Option Stage) (reply : Reply) → IsTextLine asking.text reply
-    → IsTakenAs book book files asking hold (taken.Replied reply)
-text-taken book files asking hold reply (inl line) = inr (inl (record { book = refl; unended = line.unended; is_refused = line.refusal; fault = line.fault }))
-text-taken book files asking hold reply (inr line) = memory-taken book files asking hold reply line
+pub text-taken : (book : List Entry) (asking : Asking) (hold : Option Stage) (reply : Reply) → IsTextLine asking.text reply
+    → IsTakenAs book book asking hold (taken.Replied reply)
+text-taken book asking hold reply (inl line) = inr (inl (record { book = refl; unended = line.unended; is_refused = line.refusal; fault = line.fault }))
+text-taken book asking hold reply (inr line) = memory-taken book asking hold reply line
 
 -- where the test says so, no opening fits
 pub unfit : (book : List Entry) (asking : Asking) (txn : TxnId) → txn.0 ≡ next_number book → (fits : Bool) → fits ≡ false

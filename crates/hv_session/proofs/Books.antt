@@ -6,9 +6,9 @@ use Rattle.hv_history.specs.declared.entry.Entry.{Entry}
 use Rattle.hv_history.specs.declared.entry.Entry.TheVariants as entry
 use Rattle.hv_history.specs.declared.entry.Cause.TheVariants as cause
 use Rattle.hv_history.specs.State.{State, after, state_of, nothing_yet}
-use Rattle.hv_history.specs.Legal.{AllFit, AllTruthful, IsTruthful, IsLegalFrom, IsLegal, profile}
+use Rattle.hv_history.specs.Legal.{AllFit, AllTruthful, IsTruthful, IsLegalFrom, profile}
 use Rattle.hv_stands.specs.Statements.{AllFitting}
-use Rattle.hv_ending.specs.Ending.{KeepsCount, IsNoEnd, IsUndamaged}
+use Rattle.hv_ending.specs.Ending.{KeepsCount, IsNoEnd}
 
 -- ---- facts of each entry
 
@@ -39,12 +39,6 @@ begun-unended (entry.Opened txn session number text) begun = tt
 begun-unended (entry.Start txn statement) begun = tt
 begun-unended (entry.Given txn table write) begun = tt
 begun-unended event begun = absurd begun
-
-pub begun-undamaged : (event : Entry) → IsBegun event → IsUndamaged event
-begun-undamaged (entry.Opened txn session number text) begun = tt
-begun-undamaged (entry.Start txn statement) begun = tt
-begun-undamaged (entry.Given txn table write) begun = tt
-begun-undamaged event begun = absurd begun
 
 pub begun-true : (s : State) (event : Entry) → IsBegun event → IsTruthful s event
 begun-true s (entry.Opened txn session number text) begun = tt
@@ -85,11 +79,6 @@ legal-from s book more legal next = record {
 -- what begins a statement behind a book is legal, where it fits
 pub begun-legal : (book more : List Entry) → AllFitting (book ++ more) → AllByRecursion IsBegun more → IsLegalFrom profile (state_of book) more
 begun-legal book more fit begun = record { fit = fit-behind nothing_yet book more fit; truthful = begun-truthful (state_of book) more begun }
-
--- and so is one entry more
-pub one-legal : (book : List Entry) (event : Entry) → IsLegal profile book → AllFitting (book ++ event ∷ []) → IsTruthful (state_of book) event → IsLegal profile (book ++ event ∷ [])
-one-legal book event legal fit truthful =
-    legal-from nothing_yet book (event ∷ []) legal (record { fit = fit-behind nothing_yet book (event ∷ []) fit; truthful = (truthful, tt) })
 
 pub state-behind : (book more : List Entry) → state_of (book ++ more) ≡ fold after (state_of book) more
 state-behind book more = fold-append after nothing_yet book more

@@ -3,9 +3,7 @@ use Rattle.std.proofs.Common.{◌≡◌, ℕ, ◌≤◌, Option, Some, None, Lis
 use Rattle.std.specs.Prelude.{IsTrue, IsSomeAnd, IfOk}
 use Rattle.hv_base.specs.Refusals as refusals
 use Rattle.hv_base.specs.declared.refusal.Refusal.{Refusal}
-use Rattle.hv_base.specs.Told.{Tells, Moves, StaysTold}
 use Rattle.hv_base.specs.Faults.{Rose}
-use Rattle.hv_base.proofs.ToldLemmas.{Moves-then, Moves-same, stays_same, stays_equal, stays_stays}
 use Rattle.hv_shelf.specs.Disk.{Store}
 use Rattle.hv_ast.specs.declared.statement.Stmt.{Stmt}
 use Rattle.hv_logic.specs.declared.meaning.Meaning.{Meaning}
@@ -17,26 +15,26 @@ use Rattle.hv_history.specs.declared.entry.FilePlace.{FilePlace}
 use Rattle.hv_history.specs.declared.state.Transaction.{Transaction}
 use Rattle.hv_history.specs.State.{state_of, meaning}
 use Rattle.hv_history.specs.Legal.{Of, is_open, IsRunning, Fits, IsTruthful, IsRefusedAs, IsLegalFrom, profile}
-use Rattle.hv_journal.specs.Appending.{Holds, HoldsMore, KeepsTree}
-use Rattle.hv_stands.specs.Running.{Asking, meant, running, snapshot_at, IsUnderWay, KeepsGiven}
+use Rattle.hv_journal.specs.Appending.{Holds, HoldsMore}
+use Rattle.hv_stands.specs.Running.{Asking, meant, running, snapshot_at, IsUnderWay}
 use Rattle.hv_house.specs.declared.fault.HouseFault.{HouseFault}
 use Rattle.hv_house.specs.declared.fault.HouseFault.TheVariants as halts
 use Rattle.hv_house.specs.declared.fault.RowFault.{RowFault}
 use Rattle.hv_house.specs.declared.fault.RowFault.TheVariants as row_fault
 use Rattle.hv_house.specs.declared.house.House.{House}
 use Rattle.hv_house.specs.Faults.{HasRisen, HasRisenReading, EndsRun, IsDamage}
-use Rattle.hv_house.specs.House.{entries_of, IsAsked, IsFaithful, Leaves, Shows}
+use Rattle.hv_house.specs.House.{entries_of, Leaves}
+use Rattle.hv_telling.specs.Telling.{IsToldHouse, StillOpens}
 use Rattle.hv_ending.specs.declared.ready.Way.{Way}
 use Rattle.hv_ending.specs.declared.ready.Reply.{Reply}
 use Rattle.hv_ending.specs.Ending.{KeepsCount, IsUndamaged, IsAborted, HasStopped, aborting}
-use Rattle.hv_ending.proofs.Opens.{held-opens}
-use Rattle.hv_session.proofs.Passing.{cause-from, same-files, asked-shows}
-use Rattle.hv_session.specs.Ways.{IsPart, IsTrueOf, ShowsAnd, CutsOff, IsCauseOfRows, IsAbortedFor, EndsFor, ComesTo, ComesTruly}
+use Rattle.hv_telling.proofs.Told.{told-stays}
+use Rattle.hv_session.proofs.Passing.{cause-from}
+use Rattle.hv_session.proofs.Orders.{early-uncommitted, aborted-in-order}
+use Rattle.hv_session.specs.Ways.{IsPart, CutsOff, IsCauseOfRows, IsAbortedFor, EndsFor, ComesTo, ComesTruly}
 use Rattle.hv_session.specs.declared.ends.Outcome.{Outcome}
 use Rattle.hv_session.specs.declared.ends.Outcome.TheVariants as outcome
-use Rattle.hv_session.specs.Taking.{EndsEarly, IsFinished}
-use Rattle.hv_session.proofs.Orders.{early-uncommitted, aborted-in-order}
-use Rattle.hv_session.proofs.Telling.{told-both, told-behind}
+use Rattle.hv_session.specs.Taking.{EndsEarly}
 
 -- ---- what fits and is true of a statement that is under way
 
@@ -101,58 +99,45 @@ nothing-stopped told txn why before now ends holds same = record {
 -- ---- an abort for a fault of rows
 
 module _ {D : Type 0} (told : D → Option Store) (faults : D → ℕ) (way : Way) where
-  of-truth : (why : Cause) (before : House D) (o : Option Store) → IsTruthful (state_of (entries_of before)) (aborting way.txn.0 why)
-      → Tells o (λ _. IsTruthful (state_of (entries_of before)) (aborting way.txn.0 why))
-  of-truth why before None truly = tt
-  of-truth why before (Some s) truly = truly
-
   aborted-for : (fault : RowFault) (why : Cause) (before now : House D) (r : Result Reply HouseFault) → IsCauseOfRows fault why
       → IfOk r (λ _. IsAborted way.txn.0 why (entries_of before) (entries_of now)) → IfOk r (λ _. IsAbortedFor way.txn.0 fault (entries_of before) (entries_of now))
   aborted-for fault why before now (Ok reply) is aborted = record { why = why; is_cause = is; aborted = aborted }
   aborted-for fault why before now (Err failed) is aborted = tt
 
   pub cut-ends : (fault : RowFault) (why : Cause) (before now : House D) (result : Result Reply HouseFault)
-      → IsCauseOfRows fault why → IsTruthful (state_of (entries_of before)) (aborting way.txn.0 why)
-      → CutsOff told faults way why before now result → EndsFor told faults way fault before now result
-  cut-ends fault why before now result is truly cuts = record {
-    ready = cuts.ready;
+      → IsCauseOfRows fault why → CutsOff told faults way why before now result → EndsFor told faults way fault before now result
+  cut-ends fault why before now result is cuts = record {
+    whole = cuts.whole;
     aborted = aborted-for fault why before now result is cuts.aborted;
     answered = cuts.answered;
-    shows = cuts.shows (of-truth why before (told before.shelf) truly);
-    tree = cuts.tree;
-    tells = cuts.tells;
+    start = cuts.start;
     stopped = cuts.stopped;
-    opens = cuts.opens (of-truth why before (told before.shelf) truly);
+    opens = cuts.opens;
     ends = cuts.ends;
     later = cuts.cause.later;
     cause = λ low below risen. cause-from low (faults before.shelf) (faults now.shelf) below result cuts.cause;
   }
 
   -- the run ends in place of an abort
-  pub store-ends : (fault : HouseFault) (house : House D) → Holds (told house.shelf) (entries_of house)
+  pub store-ends : (fault : HouseFault) (house : House D) → Holds (told house.shelf) (entries_of house) → (IsToldHouse told house → StillOpens told house)
       → ((low : ℕ) → HasRisen low (faults house.shelf) fault → Rose low (faults house.shelf))
       → EndsFor told faults way (row_fault.House fault) house house (Err halts.Store)
-  store-ends fault house holds rises = record {
-    ready = tt;
+  store-ends fault house holds opens rises = record {
+    whole = tt;
     aborted = tt;
     answered = λ asking said given under. tt;
-    shows = λ shows. tt;
-    tree = Moves-same KeepsTree (λ s. refl) (told house.shelf);
-    tells = stays_same (told house.shelf);
+    start = refl;
     stopped = nothing-stopped told way.txn.0 halts.Store house house tt holds refl;
-    opens = λ shows. held-opens (entries_of house) (told house.shelf) holds shows;
+    opens = opens;
     ends = tt;
     later = omega arith;
     cause = λ low below risen. record { later = below; failed = rises low risen };
   }
 
-  -- ---- behind what was only asked
+  -- ---- behind what was only read
 
-  module _ (fault : RowFault) (first before now : House D) (asked : IsAsked told first before) (later : faults first.shelf ≤ faults before.shelf)
+  module _ (fault : RowFault) (first before now : House D) (same : entries_of before ≡ entries_of first) (start : before.start ≡ first.start) (later : faults first.shelf ≤ faults before.shelf)
       (risen : HasRisenReading (faults first.shelf) (faults before.shelf) fault) where
-    abbrev same : entries_of before ≡ entries_of first
-    same = asked.book
-
     counts : (why of : Cause) → IsCauseOfRows fault why → ((of ≡ why) ⊎ (of ≡ cause.Memory)) → faults before.shelf ≤ faults now.shelf
         → KeepsCount (faults first.shelf) (faults now.shelf) (aborting way.txn.0 of)
     counts why of is (inr memory) upto = subst (λ (w : Cause). KeepsCount (faults first.shelf) (faults now.shelf) (aborting way.txn.0 w)) (sym memory) tt
@@ -189,17 +174,6 @@ module _ {D : Type 0} (told : D → Option Store) (faults : D → ℕ) (way : Wa
         by (row_fault.House halts.NoMemory) is undamaged = subst (λ (w : Cause). IsUndamaged (aborting way.txn.0 w)) (sym is) tt
         by (row_fault.House halts.Store) is undamaged = absurd is
 
-    abbrev tree_kept : Moves KeepsTree (told first.shelf) (told before.shelf)
-    tree_kept = subst (Moves KeepsTree (told first.shelf)) (sym asked.store) (Moves-same KeepsTree (λ s. refl) (told first.shelf))
-
-    files-kept : Moves KeepsTree (told before.shelf) (told now.shelf) → Moves (KeepsGiven (state_of (entries_of first)).tables) (told first.shelf) (told now.shelf)
-    files-kept tree =
-        same-files (state_of (entries_of first)).tables (told first.shelf) (told now.shelf)
-        (Moves-then KeepsTree KeepsTree KeepsTree (λ x y z p q. q ∙ p) (told first.shelf) (told before.shelf) (told now.shelf) tree_kept tree)
-
-    tells-kept : StaysTold (told before.shelf) (told now.shelf) → StaysTold (told first.shelf) (told now.shelf)
-    tells-kept tells = stays_stays (told first.shelf) (told before.shelf) (told now.shelf) (stays_equal (told first.shelf) (told before.shelf) asked.store) tells
-
     stopped-kept : (why : HouseFault) → HasStopped told way.txn.0 why before now → HasStopped told way.txn.0 why first now
     stopped-kept why stopped = record {
       added = stopped.added;
@@ -218,12 +192,12 @@ module _ {D : Type 0} (told : D → Option Store) (faults : D → ℕ) (way : Wa
     ended-book of book = book ∙ ap (λ (b : List Entry). b ++ aborting way.txn.0 of ∷ []) same
 
     pub ended-part : (reply : Reply) → EndsFor told faults way fault before now (Ok reply) → (outcome : Outcome)
-        → IsPart told faults (IsFaithful (entries_of first)) way.txn.0 first now (Ok outcome)
+        → IsPart told faults way.txn.0 first now (Ok outcome)
     ended-part reply ends outcome =
         let aborted = ends.aborted.aborted in
         record {
           done = record {
-            ready = ends.ready;
+            whole = ends.whole;
             added = record {
               added = aborting way.txn.0 aborted.of ∷ [];
               book = ended-book aborted.of aborted.book;
@@ -231,24 +205,22 @@ module _ {D : Type 0} (told : D → Option Store) (faults : D → ℕ) (way : Wa
               counts = (counts ends.aborted.why aborted.of ends.aborted.is_cause aborted.is ends.later, tt);
             };
           };
-          keeps = files-kept ends.tree;
-          tells = tells-kept ends.tells;
+          start = ends.start ∙ start;
           stopped = tt;
-          opens = λ shows. tt;
+          opens = λ is. tt;
           ends = tt;
           cause = record { later = (ends.cause (faults first.shelf) later risen).later; failed = tt };
         }
 
     pub halted-part : (why : HouseFault) → EndsFor told faults way fault before now (Err why)
-        → IsPart {T = Outcome} told faults (IsFaithful (entries_of first)) way.txn.0 first now (Err why)
+        → IsPart {T = Outcome} told faults way.txn.0 first now (Err why)
     halted-part why ends =
         let why_ended = ends.cause (faults first.shelf) later risen in
         record {
           done = tt;
-          keeps = files-kept ends.tree;
-          tells = tells-kept ends.tells;
+          start = ends.start ∙ start;
           stopped = stopped-kept why ends.stopped;
-          opens = λ shows. ends.opens (asked-shows told first before asked shows);
+          opens = λ is. ends.opens (told-stays told first before start is);
           ends = ends.ends;
           cause = record { later = why_ended.later; failed = why_ended.failed };
         }
@@ -258,26 +230,18 @@ module _ {D : Type 0} (told : D → Option Store) (faults : D → ℕ) (way : Wa
         let aborted = ends.aborted.aborted in
         (aborted.of, early ends.aborted.why aborted.of ends.aborted.is_cause aborted.is, ended-book aborted.of aborted.book)
 
-    -- where all is told it has its answer, and no file was damaged
+    -- it has its answer, and where no file was damaged none of its entries says so
     pub ended-truly : (reply : Reply) (asking : Asking) (said : Stmt) → EndsFor told faults way fault before now (Ok reply)
-        → IsUnderWay (entries_of first) asking way.txn.0 way.place said [] → Shows told first (entries_of first)
-        → Tells (told first.shelf) (λ _. IsDamage fault → ⊥)
-        → ShowsAnd told now (λ _. ComesTruly (entries_of first) (entries_of now) way said (outcome.Ended reply))
-    ended-truly reply asking said ends under shows undamaged =
+        → IsUnderWay (entries_of first) asking way.txn.0 way.place said [] → (IsDamage fault → ⊥)
+        → ComesTruly (entries_of first) (entries_of now) way said (outcome.Ended reply)
+    ended-truly reply asking said ends under undamaged =
         let aborted = ends.aborted.aborted in
-        told-both (IsFaithful (entries_of now)) (λ _. IsDamage fault → ⊥) (IsTrueOf (entries_of now) (λ _. IsFinished (entries_of first) (entries_of now) way.txn.0 reply.text reply.refused reply.ended))
-        (λ s faithful none. record {
-          faithful = faithful;
-          true_of = record {
-            added = aborting way.txn.0 aborted.of ∷ [];
-            book = ended-book aborted.of aborted.book;
-            of_it = (refl, tt);
-            undamaged = (whole ends.aborted.why aborted.of ends.aborted.is_cause aborted.is none, tt);
-            answered = ends.answered asking said [] (subst (λ (b : List Entry). IsUnderWay b asking way.txn.0 way.place said []) (sym same) under);
-            in_order = aborted-in-order (entries_of first) asking way.txn.0 way.place said [] under aborted.of
-                (early-uncommitted aborted.of (early ends.aborted.why aborted.of ends.aborted.is_cause aborted.is));
-          };
-        })
-        (told now.shelf)
-        (ends.shows (asked-shows told first before asked shows))
-        (told-behind (λ _ _. Unit {0}) (λ _. IsDamage fault → ⊥) (λ _. IsDamage fault → ⊥) (λ x y step none. none) (told first.shelf) (told now.shelf) (tells-kept ends.tells) undamaged)
+        record {
+          added = aborting way.txn.0 aborted.of ∷ [];
+          book = ended-book aborted.of aborted.book;
+          of_it = (refl, tt);
+          undamaged = (whole ends.aborted.why aborted.of ends.aborted.is_cause aborted.is undamaged, tt);
+          answered = ends.answered asking said [] (subst (λ (b : List Entry). IsUnderWay b asking way.txn.0 way.place said []) (sym same) under);
+          in_order = aborted-in-order (entries_of first) asking way.txn.0 way.place said [] under aborted.of
+              (early-uncommitted aborted.of (early ends.aborted.why aborted.of ends.aborted.is_cause aborted.is));
+        }

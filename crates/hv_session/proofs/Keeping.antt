@@ -1,7 +1,6 @@
 -- Where a started statement is held: what was noted until then, and what stands of it.
 use Rattle.std.proofs.Common.{◌≡◌, ℕ, Some, None, List, [], ◌∷◌, ◌++◌, inl, inr, refl, sym, ap, ◌∙◌, subst, append-nil}
 use Rattle.hv_base.specs.declared.gate.Stage.TheVariants as stage
-use Rattle.hv_shelf.specs.Disk.{Tree}
 use Rattle.hv_ast.specs.declared.statement.Stmt.{Stmt}
 use Rattle.hv_history.specs.declared.entry.Entry.{Entry}
 use Rattle.hv_stands.specs.Running.{Asking, starting, IsUnderWay}
@@ -26,9 +25,9 @@ started-stands book asking way tree under = record { given = []; under_way = und
 pub started-goes : (book : List Entry) (way : Way) (tree : Stmt) → GoesInTime (Some stage.Start) way.txn.0 book book (keep way tree point.Started)
 started-goes book way tree = record { added = []; book = sym (append-nil book); in_time = (refl, refl, tt) }
 
-pub started-truly : (book : List Entry) (asking : Asking) (way : Way) (tree : Stmt) (files : Tree) → IsUnderWay book asking way.txn.0 way.place tree []
-    → StandsTruly book book files way.txn.0 (keep way tree point.Started)
-started-truly book asking way tree files under =
+pub started-truly : (book : List Entry) (asking : Asking) (way : Way) (tree : Stmt) → IsUnderWay book asking way.txn.0 way.place tree []
+    → StandsTruly book book way.txn.0 (keep way tree point.Started)
+started-truly book asking way tree under =
     (record { asking = asking; held = started-stands book asking way tree under; truly = tt }, ([], sym (append-nil book), tt))
 
 -- ---- at its end
@@ -56,11 +55,11 @@ module _ (before now : List Entry) (way : Way) (tree : Stmt) where
       record { given = []; under_way = meant-under asking comes.0 under; none = refl; can = comes.1; unrefused = unrefused }
   meant-stands asking (outcome.Ended reply) under comes unrefused = tt
 
-  pub meant-truly : (asking : Asking) (files : Tree) (found : Outcome) → IsUnderWay before asking way.txn.0 way.place tree [] → ComesTo way.txn.0 before now found → ComesUnrefused found
-      → ComesTruly before now way tree found → StandsTruly before now files way.txn.0 (held_meant way tree found)
-  meant-truly asking files (outcome.Means meaning) under comes unrefused truly =
+  pub meant-truly : (asking : Asking) (found : Outcome) → IsUnderWay before asking way.txn.0 way.place tree [] → ComesTo way.txn.0 before now found → ComesUnrefused found
+      → ComesTruly before now way tree found → StandsTruly before now way.txn.0 (held_meant way tree found)
+  meant-truly asking (outcome.Means meaning) under comes unrefused truly =
       (record { asking = asking; held = meant-stands asking (outcome.Means meaning) under comes unrefused; truly = truly }, ([], comes.0 ∙ sym (append-nil before), tt))
-  meant-truly asking files (outcome.Ended reply) under comes unrefused truly = truly
+  meant-truly asking (outcome.Ended reply) under comes unrefused truly = truly
 
   -- ---- before its end
 
@@ -88,9 +87,7 @@ module _ (before now : List Entry) (way : Way) (tree : Stmt) where
   ready-stands asking (prepared.Ready ready) stands = ready-held asking ready stands
   ready-stands asking (prepared.Ended reply) stands = tt
 
-  pub ready-truly : (asking : Asking) (files : Tree) (found : Prepared) → GoesTruly before now files asking way tree found
-      → StandsTruly before now files way.txn.0 (held_ready way tree found)
+  pub ready-truly : (asking : Asking) (found : Prepared) → GoesTruly before now asking way tree found → StandsTruly before now way.txn.0 (held_ready way tree found)
   unfolding ready-held
-  ready-truly asking files (prepared.Ready ready) truly =
-      (record { asking = asking; held = ready-held asking ready truly.0.to_end; truly = truly.0.truly }, truly.1)
-  ready-truly asking files (prepared.Ended reply) truly = truly
+  ready-truly asking (prepared.Ready ready) truly = (record { asking = asking; held = ready-held asking ready truly.0.to_end; truly = truly.0.truly }, truly.1)
+  ready-truly asking (prepared.Ended reply) truly = truly

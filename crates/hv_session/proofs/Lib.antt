@@ -1,10 +1,10 @@
 mod Books
-mod Orders
 mod Shorts
-mod Telling
 mod Passing
 mod Again
 mod SeenTables
+mod Looked
+mod Orders
 mod Cutting
 mod Going
 mod Keeping

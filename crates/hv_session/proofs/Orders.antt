@@ -11,7 +11,6 @@ use Rattle.hv_base.specs.declared.gate.Stage.TheVariants as stage
 use Rattle.hv_base.specs.declared.ids.TableId.{TableId}
 use Rattle.hv_base.specs.declared.ids.WriteId.{WriteId}
 use Rattle.hv_base.specs.declared.ids.Touch.{Touch}
-use Rattle.hv_shelf.specs.Disk.{Tree}
 use Rattle.hv_ast.specs.declared.statement.Stmt.{Stmt}
 use Rattle.hv_locks.specs.declared.table.Lock.{Lock}
 use Rattle.hv_grammar.specs.Texts.{tree_of}
@@ -166,17 +165,17 @@ makes-table : (o : Option Meaning) → IsMake o → IsToCommit [] o
 makes-table (Some (Make shape)) makes = tt
 makes-table o makes = absurd makes
 
-pub true-to-commit : (files : Tree) (o : Option Meaning) (given : List (ℕ × ℕ)) (last : End) (text : List ℕ) → EndIsTrue files o given last text → IsToCommit given o
-true-to-commit files o given (end.Commit wrote name put) text is = by is.files_are
+pub true-to-commit : (o : Option Meaning) (given : List (ℕ × ℕ)) (last : End) (text : List ℕ) → EndIsTrue o given last text → IsToCommit given o
+true-to-commit o given (end.Commit wrote name put) text is = by is.files_are
   where
-    by : ((given ≡ []) × (wrote ≡ [])) ⊎ IsChangeReady files o given name → IsToCommit given o
+    by : ((given ≡ []) × (wrote ≡ [])) ⊎ IsChangeReady o given name put → IsToCommit given o
     by (inl none) =
         subst (λ (ids : List (ℕ × ℕ)). IsToCommit ids o) (sym none.0)
         (touches-nothing o (subst (λ (ts : List Touch). TouchesAreMeant ts o) none.1 is.meant))
     by (inr change) =
         subst (λ (ids : List (ℕ × ℕ)). IsToCommit ids o) (sym change.id)
         (subst (λ (m : Option Meaning). IsToCommit ((change.info.table.0, change.write) ∷ []) m) (sym change.is_change) refl)
-true-to-commit files o given end.Create text is = subst (λ (ids : List (ℕ × ℕ)). IsToCommit ids o) (sym is.none) (makes-table o is.makes)
+true-to-commit o given end.Create text is = subst (λ (ids : List (ℕ × ℕ)). IsToCommit ids o) (sym is.none) (makes-table o is.makes)
 
 pub needs-no-id : (given : List (ℕ × ℕ)) (o : Option Meaning) → IsToCommit given o → needs_id given o ≡ false
 needs-no-id (x ∷ given) o to_commit = refl
@@ -190,22 +189,22 @@ needs-no-id [] (Some Plain) to_commit = refl
 needs-no-id [] None to_commit = refl
 
 -- its end, with what was noted to prepare it
-pub ready-in-order : (book now : List Entry) (asking : Asking) (txn place : ℕ) (said : Stmt) (low high : ℕ) (files : Tree) (ready : Ready)
-    → IsTrulyReady book files asking txn place said ready → (ends : Concludes txn low high book now) → AllInOrder (state_of book) ends.added
-ready-in-order book now asking txn place said low high files ready is ends =
+pub ready-in-order : (book now : List Entry) (asking : Asking) (txn place : ℕ) (said : Stmt) (low high : ℕ) (ready : Ready)
+    → IsTrulyReady book asking txn place said ready → (ends : Concludes txn low high book now) → AllInOrder (state_of book) ends.added
+ready-in-order book now asking txn place said low high ready is ends =
     ended-in-order book asking txn place said is.to_end.given is.to_end.under_way
-    (needs-no-id is.to_end.given (meant (take place book) said) (true-to-commit files (meant (take place book) said) is.to_end.given ready.end ready.text is.truly))
+    (needs-no-id is.to_end.given (meant (take place book) said) (true-to-commit (meant (take place book) said) is.to_end.given ready.end ready.text is.truly))
     ends.added ends.of_it ends.ends
 
-pub concluded-in-order : (book between now : List Entry) (asking : Asking) (txn place : ℕ) (said : Stmt) (low mid high : ℕ) (found : Meaning) (files : Tree) (ready : Ready)
+pub concluded-in-order : (book between now : List Entry) (asking : Asking) (txn place : ℕ) (said : Stmt) (low mid high : ℕ) (found : Meaning) (ready : Ready)
     → IsUnderWay book asking txn place said [] → meant (take place book) said ≡ Some found → AddsAsked found book between
-    → (prepares : Prepares txn low mid book between (prepared.Ready ready)) → IsTrulyReady between files asking txn place said ready
+    → (prepares : Prepares txn low mid book between (prepared.Ready ready)) → IsTrulyReady between asking txn place said ready
     → (ends : Concludes txn mid high between now) → AllInOrder (state_of book) (prepares.added ++ ends.added)
-concluded-in-order book between now asking txn place said low mid high found files ready under means asks prepares is ends =
+concluded-in-order book between now asking txn place said low mid high found ready under means asks prepares is ends =
     order-behind (state_of book) prepares.added ends.added
     (prepared-in-order book asking txn place said under found means between prepares.added prepares.book asks prepares.shape)
     (subst (λ (s : State). AllInOrder s ends.added) (ap (λ (b : List Entry). state_of b) prepares.book ∙ state-behind book prepares.added)
-    (ready-in-order between now asking txn place said mid high files ready is ends))
+    (ready-in-order between now asking txn place said mid high ready is ends))
 
 -- ---- at its hold
 
@@ -213,13 +212,13 @@ read-unrefused : (found : Meaning) → IsUnrefused found → IsUnrefusedMeaning 
 read-unrefused (Refused why) un = un
 read-unrefused other un = tt
 
-pub at-its-hold : (hold : Option Stage) (at : Point) (files : Tree) (o : Option Meaning) (given : List (ℕ × ℕ)) → IsAtPlace hold at → WaitsUnrefused at
-    → PointIsTrue files o given at → IsAtHold hold given o
-at-its-hold (Some stage.Start) point.Started files o given place unrefused truly = tt
-at-its-hold (Some stage.Read) (point.Meant found) files o given place unrefused truly =
+pub at-its-hold : (hold : Option Stage) (at : Point) (o : Option Meaning) (given : List (ℕ × ℕ)) → IsAtPlace hold at → WaitsUnrefused at
+    → PointIsTrue o given at → IsAtHold hold given o
+at-its-hold (Some stage.Start) point.Started o given place unrefused truly = tt
+at-its-hold (Some stage.Read) (point.Meant found) o given place unrefused truly =
     subst IsUnrefusedMeaning (sym truly) (read-unrefused found unrefused)
-at-its-hold (Some stage.Commit) (point.Ready ready) files o given place unrefused truly = true-to-commit files o given ready.end ready.text truly
-at-its-hold hold other files o given place unrefused truly = absurd place
+at-its-hold (Some stage.Commit) (point.Ready ready) o given place unrefused truly = true-to-commit o given ready.end ready.text truly
+at-its-hold hold other o given place unrefused truly = absurd place
 
 -- ---- a statement is opened
 

@@ -2,30 +2,25 @@
 use Rattle.std.proofs.Common.{◌≡◌, ℕ, ◌<◌, ◌≤◌, Option, List, [], ◌++◌, Result, Ok, Err, inl, refl, sym, ap, ◌∙◌, subst, arith, append_assoc, append-nil}
 use Rattle.std.specs.Prelude.{IsErrAnd}
 use Rattle.std.specs.List.{AllByRecursion}
-use Rattle.std.specs.FinMap as tree
-use Rattle.hv_base.specs.Told.{Tells, Moves, StaysTold}
 use Rattle.hv_base.specs.Faults.{Rose}
-use Rattle.hv_base.proofs.ToldLemmas.{Moves-then, Moves-weaken, Moves-same, stays_stays, stays_by}
 use Rattle.hv_shelf.specs.Disk.{Store}
 use Rattle.hv_history.specs.declared.entry.Entry.{Entry}
-use Rattle.hv_history.specs.declared.state.Table.{Table}
 use Rattle.hv_history.specs.State.{State, state_of}
 use Rattle.hv_history.specs.Legal.{IsLegalFrom, profile}
-use Rattle.hv_journal.specs.Appending.{KeepsTree}
-use Rattle.hv_stands.specs.Running.{Asking, next_number, IsOf, AreOf, KeepsGiven}
+use Rattle.hv_stands.specs.Running.{Asking, next_number, IsOf, AreOf}
 use Rattle.hv_stands.specs.Statements.{AllFitting}
-use Rattle.hv_stands.proofs.StatementFiles.{earlier-ids-kept}
 use Rattle.hv_house.specs.declared.fault.HouseFault.{HouseFault}
 use Rattle.hv_house.specs.declared.fault.HouseFault.TheVariants as fault
 use Rattle.hv_house.specs.declared.fault.RowFault.{RowFault}
 use Rattle.hv_house.specs.declared.fault.RowFault.TheVariants as row_fault
 use Rattle.hv_house.specs.declared.house.House.{House}
 use Rattle.hv_house.specs.Faults.{FileCause, ReadCause, HasRisen, HasRisenReading}
-use Rattle.hv_house.specs.House.{entries_of, IsReady, IsAsked, IsFaithful, Shows}
+use Rattle.hv_house.specs.House.{entries_of}
+use Rattle.hv_telling.specs.Telling.{IsWhole}
+use Rattle.hv_telling.proofs.Told.{told-stays}
+use Rattle.hv_telling.proofs.Opens.{whole-opens}
 use Rattle.hv_ending.specs.Ending.{KeepsCount, IsNoEnd, HasStopped}
-use Rattle.hv_ending.proofs.Opens.{held-opens}
-use Rattle.hv_session.specs.Ways.{IsDone, IsPart, IsTaking, IsTrueOf, ShowsAnd}
-use Rattle.hv_session.proofs.Telling.{told-map}
+use Rattle.hv_session.specs.Ways.{IsDone, IsPart, IsTaking}
 use Rattle.hv_session.proofs.Books.{all-append, all-map, IsBegun, begun-counts, begun-unended, begun-legal, counts-from, legal-from, state-behind}
 
 -- ---- counts of faults
@@ -58,27 +53,16 @@ cause-from low mid high below (Ok x) cause = let later = cause.later in record {
 cause-from low mid high below (Err why) cause =
     let later = cause.later in record { later = omega (arith, below, later); failed = risen-from low mid high below why cause.failed }
 
--- ---- the files of write ids that were given
-
-kept-through : (book added : List Entry) (s : State) → state_of (book ++ added) ≡ s → ((before now : Store) → KeepsGiven (state_of (book ++ added)).tables before now → KeepsGiven (state_of book).tables before now)
-    → (x y z : Store) → KeepsGiven (state_of book).tables x y → KeepsGiven s.tables y z → KeepsGiven (state_of book).tables x z
-kept-through book added s e earlier x y z first then place given =
-    earlier y z (subst (λ (t : State). KeepsGiven t.tables y z) (sym e) then) place given ∙ first place given
-
-pub same-files : (tables : List Table) (a b : Option Store) → Moves KeepsTree a b → Moves (KeepsGiven tables) a b
-same-files tables a b moves = Moves-weaken KeepsTree (KeepsGiven tables) (λ x y same place given. ap (λ t. tree.get t place) same) a b moves
-
 -- ---- what was passed
 
--- entries by which a statement begins were noted, and the house is ready
+-- entries by which a statement begins were noted, and the house is whole
 pub record HasPassed {D : Type 0} (told : D → Option Store) (faults : D → ℕ) (txn : ℕ) (before now : House D) : Type 0 where
-  pub ready : IsReady told now
+  pub whole : IsWhole told now
+  pub start : now.start ≡ before.start
   pub added : List Entry
   pub book : entries_of now ≡ entries_of before ++ added
   pub of_it : AreOf txn added
   pub begun : AllByRecursion IsBegun added
-  pub keeps : Moves (KeepsGiven (state_of (entries_of before)).tables) (told before.shelf) (told now.shelf)
-  pub tells : StaysTold (told before.shelf) (told now.shelf)
   pub later : faults before.shelf ≤ faults now.shelf
 
 module _ {D : Type 0} (told : D → Option Store) (faults : D → ℕ) (txn : ℕ) (before between now : House D) (passed : HasPassed told faults txn before between) where
@@ -86,11 +70,11 @@ module _ {D : Type 0} (told : D → Option Store) (faults : D → ℕ) (txn : �
   book-behind added book = book ∙ ap (λ (b : List Entry). b ++ added) passed.book ∙ append_assoc (entries_of before) passed.added added
 
   fits-behind : AllFitting (entries_of before ++ passed.added)
-  fits-behind = subst AllFitting passed.book passed.ready.fit
+  fits-behind = subst AllFitting passed.book passed.whole.ready.fit
 
   done-behind : IsDone told faults txn between now → IsDone told faults txn before now
   done-behind done = record {
-    ready = done.ready;
+    whole = done.whole;
     added = record {
       added = passed.added ++ done.added.added;
       book = book-behind done.added.added done.added.book;
@@ -117,54 +101,41 @@ module _ {D : Type 0} (told : D → Option Store) (faults : D → ℕ) (txn : �
     leaves = stopped.leaves;
   }
 
-  keeps-behind : Moves (KeepsGiven (state_of (entries_of between)).tables) (told between.shelf) (told now.shelf)
-      → Moves (KeepsGiven (state_of (entries_of before)).tables) (told before.shelf) (told now.shelf)
-  keeps-behind keeps =
-      Moves-then (KeepsGiven (state_of (entries_of before)).tables) (KeepsGiven (state_of (entries_of between)).tables) (KeepsGiven (state_of (entries_of before)).tables)
-      (kept-through (entries_of before) passed.added (state_of (entries_of between)) (ap state_of (sym passed.book))
-      (λ x y. earlier-ids-kept (entries_of before) passed.added x y fits-behind))
-      (told before.shelf) (told between.shelf) (told now.shelf) passed.keeps keeps
-
-  pub part-behind : {T : Type 0} {Known Then : Store → Type 0} → (Tells (told before.shelf) Known → Tells (told between.shelf) Then) → (result : Result T HouseFault)
-      → IsPart told faults Then txn between now result → IsPart told faults Known txn before now result
-  part-behind on (Ok x) part = record {
+  pub part-behind : {T : Type 0} (result : Result T HouseFault) → IsPart told faults txn between now result → IsPart told faults txn before now result
+  part-behind (Ok x) part = record {
     done = done-behind part.done;
-    keeps = keeps-behind part.keeps;
-    tells = stays_stays (told before.shelf) (told between.shelf) (told now.shelf) passed.tells part.tells;
+    start = part.start ∙ passed.start;
     stopped = tt;
-    opens = λ known. tt;
+    opens = λ is. tt;
     ends = tt;
     cause = cause-from (faults before.shelf) (faults between.shelf) (faults now.shelf) passed.later (Ok x) part.cause;
   }
-  part-behind on (Err why) part = record {
+  part-behind (Err why) part = record {
     done = tt;
-    keeps = keeps-behind part.keeps;
-    tells = stays_stays (told before.shelf) (told between.shelf) (told now.shelf) passed.tells part.tells;
+    start = part.start ∙ passed.start;
     stopped = stopped-behind why part.stopped;
-    opens = λ known. part.opens (on known);
+    opens = λ is. part.opens (told-stays told before between passed.start is);
     ends = part.ends;
     cause = cause-from (faults before.shelf) (faults between.shelf) (faults now.shelf) passed.later (Err why) part.cause;
   }
 
 -- ---- the same part, with another answer
 
-module _ {D T U : Type 0} {Known : Store → Type 0} (told : D → Option Store) (faults : D → ℕ) (txn : ℕ) (before now : House D) where
-  pub part-ok : (x : T) (y : U) → IsPart told faults Known txn before now (Ok x) → IsPart told faults Known txn before now (Ok y)
+module _ {D T U : Type 0} (told : D → Option Store) (faults : D → ℕ) (txn : ℕ) (before now : House D) where
+  pub part-ok : (x : T) (y : U) → IsPart told faults txn before now (Ok x) → IsPart told faults txn before now (Ok y)
   part-ok x y part = record {
     done = part.done;
-    keeps = part.keeps;
-    tells = part.tells;
+    start = part.start;
     stopped = tt;
-    opens = λ known. tt;
+    opens = λ is. tt;
     ends = tt;
     cause = record { later = part.cause.later; failed = tt };
   }
 
-  pub part-err : (why : HouseFault) → IsPart {T = T} told faults Known txn before now (Err why) → IsPart {T = U} told faults Known txn before now (Err why)
+  pub part-err : (why : HouseFault) → IsPart {T = T} told faults txn before now (Err why) → IsPart {T = U} told faults txn before now (Err why)
   part-err why part = record {
     done = tt;
-    keeps = part.keeps;
-    tells = part.tells;
+    start = part.start;
     stopped = part.stopped;
     opens = part.opens;
     ends = part.ends;
@@ -172,19 +143,19 @@ module _ {D T U : Type 0} {Known : Store → Type 0} (told : D → Option Store)
   }
 
 -- what a call that failed leaves is what is handed on
-pub part-residual : {D T U : Type 0} {Known : Store → Type 0} (told : D → Option Store) (faults : D → ℕ) (txn : ℕ) (before now : House D) (why : HouseFault) (r : Result U HouseFault)
-    → IsErrAnd r (λ y. y ≡ why) → IsPart {T = T} told faults Known txn before now (Err why) → IsPart told faults Known txn before now r
+pub part-residual : {D T U : Type 0} (told : D → Option Store) (faults : D → ℕ) (txn : ℕ) (before now : House D) (why : HouseFault) (r : Result U HouseFault)
+    → IsErrAnd r (λ y. y ≡ why) → IsPart {T = T} told faults txn before now (Err why) → IsPart told faults txn before now r
 part-residual told faults txn before now why (Ok x) left part = absurd left
-part-residual {T = T} {U = U} {Known = Known} told faults txn before now why (Err y) left part =
-    subst (λ (w : HouseFault). IsPart {T = U} told faults Known txn before now (Err w)) (sym left)
-    (part-err {T = T} {U = U} {Known = Known} told faults txn before now why part)
+part-residual {T = T} {U = U} told faults txn before now why (Err y) left part =
+    subst (λ (w : HouseFault). IsPart {T = U} told faults txn before now (Err w)) (sym left)
+    (part-err {T = T} {U = U} told faults txn before now why part)
 
 -- a part that was passed is done
-pub passed-part : {D T : Type 0} {Known : Store → Type 0} (told : D → Option Store) (faults : D → ℕ) (txn : ℕ) (before now : House D) (x : T)
-    → HasPassed told faults txn before now → IsPart told faults Known txn before now (Ok x)
+pub passed-part : {D T : Type 0} (told : D → Option Store) (faults : D → ℕ) (txn : ℕ) (before now : House D) (x : T)
+    → HasPassed told faults txn before now → IsPart told faults txn before now (Ok x)
 passed-part told faults txn before now x passed = record {
   done = record {
-    ready = passed.ready;
+    whole = passed.whole;
     added = record {
       added = passed.added;
       book = passed.book;
@@ -192,10 +163,9 @@ passed-part told faults txn before now x passed = record {
       counts = all-map IsBegun (KeepsCount (faults before.shelf) (faults now.shelf)) (begun-counts (faults before.shelf) (faults now.shelf)) passed.added passed.begun;
     };
   };
-  keeps = passed.keeps;
-  tells = passed.tells;
+  start = passed.start;
   stopped = tt;
-  opens = λ known. tt;
+  opens = λ is. tt;
   ends = tt;
   cause = record { later = passed.later; failed = tt };
 }
@@ -203,20 +173,19 @@ passed-part told faults txn before now x passed = record {
 -- ---- a part of taking up a statement
 
 module _ {D T : Type 0} (told : D → Option Store) (faults : D → ℕ) (asking : Asking) (before now : House D) where
-  pub part-taking : (result : Result T HouseFault) → IsPart told faults (IsFaithful (entries_of before)) (next_number (entries_of before)) before now result
+  pub part-taking : (result : Result T HouseFault) → IsPart told faults (next_number (entries_of before)) before now result
       → IsTaking told faults asking before now result
   part-taking (Ok x) part =
-      record { done = part.done; keeps = part.keeps; tells = part.tells; stopped = tt; opens = λ shows. tt; ends = tt; cause = part.cause }
+      record { done = part.done; start = part.start; stopped = tt; opens = λ is. tt; ends = tt; cause = part.cause }
   part-taking (Err why) part =
-      record { done = tt; keeps = part.keeps; tells = part.tells; stopped = inl part.stopped; opens = part.opens; ends = part.ends; cause = part.cause }
+      record { done = tt; start = part.start; stopped = inl part.stopped; opens = part.opens; ends = part.ends; cause = part.cause }
 
   pub taking-ok : {U : Type 0} (x : U) (y : T) → IsTaking told faults asking before now (Ok x) → IsTaking told faults asking before now (Ok y)
   taking-ok x y taking = record {
     done = taking.done;
-    keeps = taking.keeps;
-    tells = taking.tells;
+    start = taking.start;
     stopped = tt;
-    opens = λ shows. tt;
+    opens = λ is. tt;
     ends = tt;
     cause = record { later = taking.cause.later; failed = tt };
   }
@@ -224,8 +193,7 @@ module _ {D T : Type 0} (told : D → Option Store) (faults : D → ℕ) (asking
   taking-err : {U : Type 0} (why : HouseFault) → IsTaking {T = U} told faults asking before now (Err why) → IsTaking {T = T} told faults asking before now (Err why)
   taking-err why taking = record {
     done = tt;
-    keeps = taking.keeps;
-    tells = taking.tells;
+    start = taking.start;
     stopped = taking.stopped;
     opens = taking.opens;
     ends = taking.ends;
@@ -238,67 +206,44 @@ module _ {D T : Type 0} (told : D → Option Store) (faults : D → ℕ) (asking
   taking-residual {U = U} why (Err y) left taking =
       subst (λ (w : HouseFault). IsTaking {T = T} told faults asking before now (Err w)) (sym left) (taking-err {U = U} why taking)
 
--- ---- parts in which nothing was noted
+-- ---- nothing was noted
 
-module _ {D : Type 0} (told : D → Option Store) (before now : House D) (asked : IsAsked told before now) where
-  pub asked-same : entries_of now ≡ entries_of before
-  asked-same = asked.book
-
-  asked-keeps : Moves KeepsTree (told before.shelf) (told now.shelf)
-  asked-keeps = subst (Moves KeepsTree (told before.shelf)) (sym asked.store) (Moves-same KeepsTree (λ s. refl) (told before.shelf))
-
-  pub asked-shows : Shows told before (entries_of before) → Shows told now (entries_of now)
-  asked-shows shows =
-      subst (λ (b : List Entry). Tells (told now.shelf) (IsFaithful b)) (sym asked-same)
-      (subst (λ (o : Option Store). Tells o (IsFaithful (entries_of before))) (sym asked.store) shows)
-
-  pub nothing-passed : (faults : D → ℕ) (txn : ℕ) → IsReady told now → faults before.shelf ≤ faults now.shelf → HasPassed told faults txn before now
-  nothing-passed faults txn ready later = record {
-    ready = ready;
-    added = [];
-    book = asked-same ∙ sym (append-nil (entries_of before));
-    of_it = tt;
-    begun = tt;
-    keeps = same-files (state_of (entries_of before)).tables (told before.shelf) (told now.shelf) asked-keeps;
-    tells = stays_by KeepsTree (told before.shelf) (told now.shelf) asked-keeps;
-    later = later;
-  }
+pub nothing-passed : {D : Type 0} (told : D → Option Store) (faults : D → ℕ) (txn : ℕ) (before now : House D)
+    → entries_of now ≡ entries_of before → now.start ≡ before.start → IsWhole told now → faults before.shelf ≤ faults now.shelf → HasPassed told faults txn before now
+nothing-passed told faults txn before now same start whole later = record {
+  whole = whole;
+  start = start;
+  added = [];
+  book = same ∙ sym (append-nil (entries_of before));
+  of_it = tt;
+  begun = tt;
+  later = later;
+}
 
 -- ---- nothing was done
 
-module _ {D : Type 0} (told : D → Option Store) (house : House D) where
-  still-asked : IsAsked told house house
-  still-asked = record { store = refl; place = refl; book = refl }
-
-  pub still-part : {T : Type 0} {Known : Store → Type 0} (faults : D → ℕ) (txn : ℕ) (x : T) → IsReady told house → IsPart told faults Known txn house house (Ok x)
-  still-part faults txn x ready = passed-part told faults txn house house x (nothing-passed told house house still-asked faults txn ready (omega arith))
-
-  pub still-shows : (P : Store → Type 0) → Shows told house (entries_of house) → ((s : Store) → P s) → ShowsAnd told house P
-  still-shows P shows p =
-      told-map (IsFaithful (entries_of house)) (IsTrueOf (entries_of house) P) (λ s faithful. record { faithful = faithful; true_of = p s }) (told house.shelf) shows
+module _ {D : Type 0} (told : D → Option Store) (faults : D → ℕ) (txn : ℕ) (house : House D) (whole : IsWhole told house) where
+  pub still-part : {T : Type 0} (x : T) → IsPart told faults txn house house (Ok x)
+  still-part x = passed-part told faults txn house house x (nothing-passed told faults txn house house refl refl whole (omega arith))
 
   -- and memory lacked
-  pub still-halts : {T : Type 0} (faults : D → ℕ) (txn : ℕ) → IsReady told house
-      → IsPart {T = T} told faults (IsFaithful (entries_of house)) txn house house (Err fault.NoMemory)
-  still-halts faults txn ready =
-      let still = still-part {Known = IsFaithful (entries_of house)} faults txn txn ready in
-      record {
-        done = tt;
-        keeps = still.keeps;
-        tells = still.tells;
-        stopped = record {
-          added = [];
-          book = sym (append-nil (entries_of house));
-          of_it = tt;
-          legal = record { fit = tt; truthful = tt };
-          unended = tt;
-          further = [];
-          further_of_it = tt;
-          few = omega arith;
-          fit = tt;
-          leaves = ready.kept.reads;
-        };
-        opens = λ shows. held-opens (entries_of house) (told house.shelf) ready.kept.reads shows;
-        ends = tt;
-        cause = record { later = omega arith; failed = tt };
-      }
+  pub still-halts : {T : Type 0} → IsPart {T = T} told faults txn house house (Err fault.NoMemory)
+  still-halts = record {
+    done = tt;
+    start = refl;
+    stopped = record {
+      added = [];
+      book = sym (append-nil (entries_of house));
+      of_it = tt;
+      legal = record { fit = tt; truthful = tt };
+      unended = tt;
+      further = [];
+      further_of_it = tt;
+      few = omega arith;
+      fit = tt;
+      leaves = whole.ready.kept.reads;
+    };
+    opens = λ is. whole-opens told house whole is;
+    ends = tt;
+    cause = record { later = omega arith; failed = tt };
+  }

@@ -1,9 +1,10 @@
 -- What was seen of the tables that a statement names, as they stood at a place of the book, is what it means something over.
-use Rattle.std.proofs.Common.{◌≡◌, ℕ, ◌+◌, ◌<◌, ◌≤◌, Bool, true, false, cond, Option, Some, None, List, [], ◌∷◌, ◌++◌, map, length, refl, sym, ap, ◌∙◌, subst, arith, ◌⊎◌, inl, inr, append_assoc, append-nil, take, get_or}
+use Rattle.std.proofs.Common.{◌≡◌, ℕ, ◌+◌, ◌<◌, Bool, true, false, cond, Option, Some, None, List, [], ◌∷◌, ◌++◌, map, length, refl, sym, ap, ◌∙◌, subst, arith, ◌⊎◌, inl, inr, append_assoc, append-nil, take, get_or}
 use Rattle.std.proofs.lemmas.List.{take_more, map-append}
 use Rattle.std.specs.Prelude.{Result, Ok, Err, IsErrAnd, IfErr}
 use Rattle.std.specs.Option.{option_to_list}
 use Rattle.std.specs.List.{flat_map}
+use Rattle.hv_base.specs.declared.ids.TxnId.{TxnId}
 use Rattle.hv_base.specs.Told.{Tells}
 use Rattle.hv_locks.specs.declared.table.Lock.{Lock}
 use Rattle.hv_shelf.specs.Disk.{Store}
@@ -36,11 +37,15 @@ use Rattle.hv_stands.proofs.SeenTables.{read-infos, CanChangeTable, change-of-se
 use Rattle.hv_house.specs.declared.house.House.{House}
 use Rattle.hv_house.specs.declared.fault.RowFault.{RowFault}
 use Rattle.hv_house.specs.Faults.{IsDamage}
-use Rattle.hv_house.specs.House.{entries_of, IsAsked, IsReady, IsFaithful, Shows}
+use Rattle.hv_house.specs.House.{entries_of, IsAsked}
 use Rattle.hv_house.specs.Seeing.{ids_in, AreRead, SeesRows, IsSeenOf}
 use Rattle.hv_house.proofs.Seen.{rows-content}
 use Rattle.hv_viewing.specs.Counting.{IsAmiss}
+use Rattle.hv_viewing.specs.Looking.{HasLooked}
+use Rattle.hv_viewing.proofs.Looking.{looks-then}
 use Rattle.hv_viewing.proofs.Stood.{none-amiss}
+use Rattle.hv_telling.specs.Telling.{IsWhole, IsToldHouse}
+use Rattle.hv_telling.proofs.Told.{whole-shown}
 use Rattle.hv_ending.specs.Ending.{CanEnd, CanChange}
 use Rattle.hv_session.specs.Seeing.{AddsSeen, AreSeen, IsSeen, SeesUpTo, IsNarrow, state_at}
 
@@ -59,31 +64,21 @@ seen-more told s reads (other ∷ locks) lock seen first are is = (
   seen-more told s reads locks lock are.1 first are.4 is,
 )
 
-pub asked-asked : {D : Type 0} (told : D → Option Store) (first before now : House D) → IsAsked told first before → IsAsked told before now → IsAsked told first now
-asked-asked told first before now asked then = record {
-  store = then.store ∙ asked.store;
-  place = then.place ∙ asked.place;
-  book = then.book ∙ asked.book;
-}
-
 -- one more of the names was looked at
-pub sees-next : {D : Type 0} (told : D → Option Store) (faults : D → ℕ) (first before now : House D) (place : ℕ) (reads : Bool) (locks : List Lock) (i : ℕ) (lock : Lock) (seen next : List Seen)
-    → SeesUpTo told faults first before place reads locks i seen → i < length locks → get_or locks i lock ≡ lock
-    → IsAsked told before now → IsReady told now → faults before.shelf ≤ faults now.shelf
+pub sees-next : {D : Type 0} (told : D → Option Store) (faults : D → ℕ) (by : TxnId) (first before now : House D) (place : ℕ) (reads : Bool) (locks : List Lock) (i : ℕ) (lock : Lock) (seen next : List Seen)
+    → SeesUpTo told faults by first before place reads locks i seen → i < length locks → get_or locks i lock ≡ lock
+    → HasLooked told faults by before now
     → AddsSeen (told before.shelf) (state_at (entries_of before) place) reads lock.name seen next
-    → SeesUpTo told faults first now place reads locks (i + 1) next
-sees-next told faults first before now place reads locks i lock seen next sees within here only ready later adds =
-    let o : told before.shelf ≡ told first.shelf = sees.asked.store in
-    let known : state_at (entries_of before) place ≡ state_at (entries_of first) place = ap (λ b. state_at b place) sees.asked.book in
+    → SeesUpTo told faults by first now place reads locks (i + 1) next
+sees-next told faults by first before now place reads locks i lock seen next sees within here looked adds =
+    let o : told before.shelf ≡ told first.shelf = sees.looked.asked.store in
+    let known : state_at (entries_of before) place ≡ state_at (entries_of first) place = ap (λ b. state_at b place) sees.looked.asked.book in
     let one : IsSeenOf (told first.shelf) reads (state_at (entries_of first) place) (table_of_name lock.name (state_at (entries_of first) place).tables) adds.first =
     subst (λ (s : State). IsSeenOf (told first.shelf) reads s (table_of_name lock.name s.tables) adds.first) known
     (subst (λ (t : Option Store). IsSeenOf t reads (state_at (entries_of before) place) (table_of_name lock.name (state_at (entries_of before) place).tables) adds.first) o adds.sees) in
     let more : take (i + 1) locks ≡ take i locks ++ lock ∷ [] = take_more locks i lock within ∙ ap (λ (l : Lock). take i locks ++ l ∷ []) here in
-    let was = sees.later in
     record {
-      asked = asked-asked told first before now sees.asked only;
-      ready = ready;
-      later = omega (arith, was, later);
+      looked = looks-then told faults by first before now (Ok tt) sees.looked looked;
       sees = subst (λ (xs : List Seen). AreSeen (told first.shelf) (state_at (entries_of first) place) reads (take (i + 1) locks) xs) (sym adds.now_is)
           (subst (λ (ls : List Lock). AreSeen (told first.shelf) (state_at (entries_of first) place) reads ls (seen ++ option_to_list adds.first)) (sym more)
           (seen-more (told first.shelf) (state_at (entries_of first) place) reads (take i locks) lock seen adds.first sees.sees one));
@@ -221,34 +216,28 @@ module _ (told : Option Store) (book : List Entry) (place : ℕ) (tree : Stmt) (
     pub unspoiled : IsLegal profile book → IsAmiss told (state_at book place) → ⊥
     unspoiled legal amiss = none-amiss book place s legal small stands (subst (λ (o : Option Store). IsAmiss o (state_at book place)) tells amiss)
 
--- what a look that failed leaves is what is handed on
-pub whole-residual : {T : Type 0} (o : Option Store) (why : RowFault) (r : Result T RowFault) → IsErrAnd r (λ y. y ≡ why) → Tells o (λ _. IsDamage why → ⊥)
-    → IfErr r (λ w. Tells o (λ _. IsDamage w → ⊥))
-whole-residual o why (Ok x) left none = absurd left
-whole-residual o why (Err y) left none = subst (λ (w : RowFault). Tells o (λ _. IsDamage w → ⊥)) (sym left) none
+-- ---- of a told house that is whole
 
--- ---- of a house that shows its book
-
-module _ {D : Type 0} (told : D → Option Store) (house : House D) (place : ℕ) (tree : Stmt) (ready : IsReady told house) (shows : Shows told house (entries_of house)) where
+module _ {D : Type 0} (told : D → Option Store) (house : House D) (place : ℕ) (tree : Stmt) (whole : IsWhole told house) (is_told : IsToldHouse told house) where
   abbrev its_book : List Entry
   its_book = entries_of house
 
   few : length its_book < write_end
-  few = let at_most = ready.kept.few in omega (arith, at_most)
+  few = let at_most = whole.ready.kept.few in omega (arith, at_most)
 
   pub means-shown : (seen : List Seen) (meaning : Meaning) → IsSeen (told house.shelf) (state_at its_book place) tree seen → meaning_in tree seen ≡ Some meaning
-      → Tells (told house.shelf) (λ _. meant (take place its_book) tree ≡ Some meaning)
-  means-shown seen meaning is means = by (told house.shelf) refl shows is
-    where
-      by : (o : Option Store) → told house.shelf ≡ o → Tells o (IsFaithful its_book) → IsSeen (told house.shelf) (state_at its_book place) tree seen
-          → Tells o (λ _. meant (take place its_book) tree ≡ Some meaning)
-      by None tells faithful sees = tt
-      by (Some s) tells faithful sees = sym (meant-told (told house.shelf) its_book place tree ready.fit s tells faithful.stands few seen sees) ∙ means
+      → meant (take place its_book) tree ≡ Some meaning
+  means-shown seen meaning is means =
+      let shows = whole-shown told house whole is_told in
+      sym (meant-told (told house.shelf) its_book place tree whole.ready.fit shows.0 shows.1 shows.2.stands few seen is) ∙ means
 
   -- no damage is told of its files
-  pub damage-none : (why : RowFault) → (IsDamage why → IsAmiss (told house.shelf) (state_at its_book place)) → Tells (told house.shelf) (λ _. IsDamage why → ⊥)
-  damage-none why damage = by (told house.shelf) refl shows
-    where
-      by : (o : Option Store) → told house.shelf ≡ o → Tells o (IsFaithful its_book) → Tells o (λ _. IsDamage why → ⊥)
-      by None tells faithful = tt
-      by (Some s) tells faithful = λ is. unspoiled (told house.shelf) its_book place tree ready.fit s tells faithful.stands few faithful.legal (damage is)
+  pub damage-none : (why : RowFault) → (IsDamage why → IsAmiss (told house.shelf) (state_at its_book place)) → IsDamage why → ⊥
+  damage-none why damage is =
+      let shows = whole-shown told house whole is_told in
+      unspoiled (told house.shelf) its_book place tree whole.ready.fit shows.0 shows.1 shows.2.stands few shows.2.legal (damage is)
+
+-- what a look that failed leaves is what is handed on
+pub handed-on : {T : Type 0} (P : RowFault → Type 0) (why : RowFault) (r : Result T RowFault) → IsErrAnd r (λ y. y ≡ why) → P why → IfErr r P
+handed-on P why (Ok x) left p = absurd left
+handed-on P why (Err y) left p = subst P (sym left) p

@@ -6,7 +6,6 @@ use Rattle.hv_base.specs.declared.gate.Stage.{Stage}
 use Rattle.hv_base.specs.declared.gate.Stage.TheVariants as stage
 use Rattle.hv_base.specs.declared.ids.TableId.{TableId}
 use Rattle.hv_base.specs.declared.ids.WriteId.{WriteId}
-use Rattle.hv_shelf.specs.Disk.{Tree}
 use Rattle.hv_ast.specs.declared.statement.Stmt.{Stmt}
 use Rattle.hv_built.specs.Running.{Runs}
 use Rattle.hv_logic.specs.declared.meaning.Meaning.{Meaning}
@@ -147,17 +146,18 @@ pub record IsHeld (book : List Entry) (asking : Asking) (paused : Paused) : Type
 abbrev pub IsHeldBySome : List Entry → Paused → Type 0
 IsHeldBySome book paused = (asking : Asking) × IsHeld book asking paused
 
-abbrev pub PointIsTrue : Tree → Option Meaning → List (ℕ × ℕ) → Point → Type 0
-PointIsTrue files meaning given point.Started = Unit {0}
-PointIsTrue files meaning given (point.Meant found) = meaning ≡ Some found
-PointIsTrue files meaning given (point.Ready ready) = EndIsTrue files meaning given ready.end ready.text
+abbrev pub PointIsTrue : Option Meaning → List (ℕ × ℕ) → Point → Type 0
+PointIsTrue meaning given point.Started = Unit {0}
+PointIsTrue meaning given (point.Meant found) = meaning ≡ Some found
+PointIsTrue meaning given (point.Ready ready) = EndIsTrue meaning given ready.end ready.text
 
-pub record IsTrulyHeld (book : List Entry) (files : Tree) (paused : Paused) : Type 0 where
+-- and, in a told house, it has come to what its text means
+pub record IsTrulyHeld (book : List Entry) (paused : Paused) : Type 0 where
   pub asking : Asking
   pub held : IsHeld book asking paused
-  pub truly : PointIsTrue files (meant (take paused.place book) paused.tree) held.given paused.point
+  pub truly : PointIsTrue (meant (take paused.place book) paused.tree) held.given paused.point
 
--- ---- what a statement that was taken up comes to, over a book of which all is told
+-- ---- what a statement that was taken up comes to, in a told house
 
 -- It went through the book as a transaction, whose answer is the reply. It started at once where it could, and its entries come in the
 -- order of its way.
@@ -201,20 +201,20 @@ IsReplied before now asking hold reply refused ended =
     ⊎ IsFull before now reply refused ended ⊎ LacksMemory before now reply refused ended
 
 -- it is held, with its transaction open: nothing is left of it that comes before its hold
-pub record IsKept (before now : List Entry) (files : Tree) (asking : Asking) (hold : Option Stage) (paused : Paused) : Type 0 where
+pub record IsKept (before now : List Entry) (asking : Asking) (hold : Option Stage) (paused : Paused) : Type 0 where
   pub added : List Entry
   pub book : now ≡ before ++ opening before asking ∷ added
   pub txn_is : paused.txn.0 ≡ next_number before
   pub runs : Runs asking.text paused.tree
   pub can : CanBegin profile before paused.tree
   pub at_hold : HoldsAt hold (next_number before) added
-  pub truly : IsTrulyHeld now files paused
+  pub truly : IsTrulyHeld now paused
   pub in_order : AllInOrder (state_of before) (opening before asking ∷ added)
   pub up_to_hold : Of (state_of now) (next_number before) (λ transaction. IsAtHold hold transaction.given (meaning transaction))
 
-abbrev pub IsTakenAs : List Entry → List Entry → Tree → Asking → Option Stage → Taken → Type 0
-IsTakenAs before now files asking hold (taken.Replied reply) = IsReplied before now asking hold reply.text reply.refused reply.ended
-IsTakenAs before now files asking hold (taken.Kept paused) = IsKept before now files asking hold paused
+abbrev pub IsTakenAs : List Entry → List Entry → Asking → Option Stage → Taken → Type 0
+IsTakenAs before now asking hold (taken.Replied reply) = IsReplied before now asking hold reply.text reply.refused reply.ended
+IsTakenAs before now asking hold (taken.Kept paused) = IsKept before now asking hold paused
 
 -- what stands of one that is held whatever is told
 abbrev pub IsKeptIn : List Entry → List Entry → Asking → Taken → Type 0

@@ -1,16 +1,15 @@
 -- A part of a statement's way: what is noted by it, and what stands behind it.
 use Rattle.std.specs.Prelude.{◌≡◌, ◌⊎◌, ℕ, ◌+◌, ◌<◌, ◌≤◌, Option, Some, None, List, [], ◌∷◌, ◌++◌, take, Result, IfOk, IfErr}
-use Rattle.hv_base.specs.Told.{Tells, Moves, StaysTold}
 use Rattle.hv_base.specs.declared.gate.Stage.{Stage}
-use Rattle.hv_shelf.specs.Disk.{Store, Tree}
+use Rattle.hv_shelf.specs.Disk.{Store}
 use Rattle.hv_ast.specs.declared.statement.Stmt.{Stmt}
+use Rattle.hv_logic.specs.declared.meaning.Meaning.{Meaning}
 use Rattle.hv_history.specs.declared.entry.Entry.{Entry}
 use Rattle.hv_history.specs.declared.entry.Cause.{Cause}
 use Rattle.hv_history.specs.declared.entry.Cause.TheVariants as cause
 use Rattle.hv_history.specs.State.{state_of}
-use Rattle.hv_history.specs.Legal.{IsTruthful, load, profile}
-use Rattle.hv_journal.specs.Appending.{KeepsTree}
-use Rattle.hv_stands.specs.Running.{Asking, next_number, starting, meant, IsWaiting, IsUnderWay, KeepsGiven}
+use Rattle.hv_history.specs.Legal.{load, profile}
+use Rattle.hv_stands.specs.Running.{Asking, next_number, starting, meant, IsWaiting, IsUnderWay}
 use Rattle.hv_next.specs.Order.{AllInOrder}
 use Rattle.hv_house.specs.declared.fault.HouseFault.{HouseFault}
 use Rattle.hv_house.specs.declared.fault.HouseFault.TheVariants as fault
@@ -18,13 +17,14 @@ use Rattle.hv_house.specs.declared.fault.RowFault.{RowFault}
 use Rattle.hv_house.specs.declared.fault.RowFault.TheVariants as row_fault
 use Rattle.hv_house.specs.declared.house.House.{House}
 use Rattle.hv_house.specs.Faults.{FileCause, EndsRun, HasRisenReading}
-use Rattle.hv_house.specs.House.{entries_of, IsReady, IsFaithful, Shows, Leaves, BeginFits, beginning_of}
+use Rattle.hv_house.specs.House.{entries_of, Leaves, BeginFits, beginning_of}
 use Rattle.hv_house.specs.Asking.{holder_against}
+use Rattle.hv_telling.specs.Telling.{IsWhole, IsToldHouse, StillOpens}
 use Rattle.hv_ending.specs.declared.ready.Way.{Way}
 use Rattle.hv_ending.specs.declared.ready.Reply.{Reply}
 use Rattle.hv_ending.specs.declared.ready.Prepared.{Prepared}
 use Rattle.hv_ending.specs.declared.ready.Prepared.TheVariants as prepared
-use Rattle.hv_ending.specs.Ending.{AddsOf, CanEnd, HasStopped, StillOpens, IsAborted, PreparesBy, IsTrulyPrepared, aborting, HasReplied}
+use Rattle.hv_ending.specs.Ending.{AddsOf, CanEnd, HasStopped, IsAborted, PreparesBy, IsTrulyPrepared, aborting, HasReplied}
 use Rattle.hv_session.specs.declared.ends.Outcome.{Outcome}
 use Rattle.hv_session.specs.declared.ends.Outcome.TheVariants as outcome
 use Rattle.hv_session.specs.declared.paused.Point.{Point}
@@ -35,29 +35,19 @@ use Rattle.hv_session.specs.Taking.{EndsEarly, EndsBefore, HoldsAt, IsHold, IsAt
 
 -- ---- whatever is told
 
--- a part that was done: the house is ready, and the book went on by entries of this transaction
+-- a part that was done: the house is whole, and the book went on by entries of this transaction
 pub record IsDone {D : Type 0} (told : D → Option Store) (faults : D → ℕ) (txn : ℕ) (before now : House D) : Type 0 where
-  pub ready : IsReady told now
+  pub whole : IsWhole told now
   pub added : AddsOf txn (faults before.shelf) (faults now.shelf) (entries_of before) (entries_of now)
 
--- and one that was done or not: where it wasn't the store opens again, if this was known of it before
-pub record IsPart {D T : Type 0} (told : D → Option Store) (faults : D → ℕ) (Known : Store → Type 0) (txn : ℕ) (before now : House D) (result : Result T HouseFault) : Type 0 where
+-- and one that was done or not: where it wasn't, the store of a told house opens again
+pub record IsPart {D T : Type 0} (told : D → Option Store) (faults : D → ℕ) (txn : ℕ) (before now : House D) (result : Result T HouseFault) : Type 0 where
   pub done : IfOk result (λ _. IsDone told faults txn before now)
-  pub keeps : Moves (KeepsGiven (state_of (entries_of before)).tables) (told before.shelf) (told now.shelf)
-  pub tells : StaysTold (told before.shelf) (told now.shelf)
+  pub start : now.start ≡ before.start
   pub stopped : IfErr result (λ why. HasStopped told txn why before now)
-  pub opens : Tells (told before.shelf) Known → IfErr result (λ _. StillOpens told now)
+  pub opens : IsToldHouse told before → IfErr result (λ _. StillOpens told now)
   pub ends : IfErr result EndsRun
   pub cause : FileCause (faults before.shelf) (faults now.shelf) result
-
--- ---- where all is told: the files of a legal book, and what this says of them
-
-pub record IsTrueOf (book : List Entry) (P : Store → Type 0) (store : Store) : Type 0 where
-  pub faithful : IsFaithful book store
-  pub true_of : P store
-
-abbrev pub ShowsAnd : {D : Type 0} → (D → Option Store) → House D → (Store → Type 0) → Type 0
-ShowsAnd told house P = Tells (told house.shelf) (IsTrueOf (entries_of house) P)
 
 -- ---- an abort
 
@@ -65,19 +55,20 @@ ShowsAnd told house P = Tells (told house.shelf) (IsTrueOf (entries_of house) P)
 abbrev pub IsOnWay : List Entry → Way → Stmt → Type 0
 IsOnWay book way said = (asking : Asking) × IsUnderWay book asking way.txn.0 way.place said []
 
+-- and in a told house it means this
+abbrev pub IsOnWayAs : {D : Type 0} → (D → Option Store) → House D → Way → Meaning → Type 0
+IsOnWayAs told house way meaning =
+    (said : Stmt) × IsOnWay (entries_of house) way said × (IsToldHouse told house → meant (take way.place (entries_of house)) said ≡ Some meaning)
+
 -- a started statement is aborted for this cause, or since memory lacked for that
 pub record CutsOff {D : Type 0} (told : D → Option Store) (faults : D → ℕ) (way : Way) (why : Cause) (before now : House D) (result : Result Reply HouseFault) : Type 0 where
-  pub ready : IfOk result (λ _. IsReady told now)
+  pub whole : IfOk result (λ _. IsWhole told now)
   pub aborted : IfOk result (λ _. IsAborted way.txn.0 why (entries_of before) (entries_of now))
   pub answered : (asking : Asking) (said : Stmt) (given : List (ℕ × ℕ)) → IsUnderWay (entries_of before) asking way.txn.0 way.place said given
       → IfOk result (λ reply. HasReplied (entries_of now) way.txn.0 reply.text reply.refused reply.ended)
-  pub shows : Tells (told before.shelf) (λ _. IsTruthful (state_of (entries_of before)) (aborting way.txn.0 why))
-      → Shows told before (entries_of before) → IfOk result (λ _. Shows told now (entries_of now))
-  pub tree : Moves KeepsTree (told before.shelf) (told now.shelf)
-  pub tells : StaysTold (told before.shelf) (told now.shelf)
+  pub start : now.start ≡ before.start
   pub stopped : IfErr result (λ failed. HasStopped told way.txn.0 failed before now)
-  pub opens : Tells (told before.shelf) (λ _. IsTruthful (state_of (entries_of before)) (aborting way.txn.0 why))
-      → Shows told before (entries_of before) → IfErr result (λ _. StillOpens told now)
+  pub opens : IsToldHouse told before → IfErr result (λ _. StillOpens told now)
   pub ends : IfErr result EndsRun
   pub cause : FileCause (faults before.shelf) (faults now.shelf) result
 
@@ -98,15 +89,13 @@ pub record IsAbortedFor (txn : ℕ) (fault : RowFault) (before now : List Entry)
 
 -- a started statement is aborted for a fault by which its tables couldn't be seen, or the run ends
 pub record EndsFor {D : Type 0} (told : D → Option Store) (faults : D → ℕ) (way : Way) (fault : RowFault) (before now : House D) (result : Result Reply HouseFault) : Type 0 where
-  pub ready : IfOk result (λ _. IsReady told now)
+  pub whole : IfOk result (λ _. IsWhole told now)
   pub aborted : IfOk result (λ _. IsAbortedFor way.txn.0 fault (entries_of before) (entries_of now))
   pub answered : (asking : Asking) (said : Stmt) (given : List (ℕ × ℕ)) → IsUnderWay (entries_of before) asking way.txn.0 way.place said given
       → IfOk result (λ reply. HasReplied (entries_of now) way.txn.0 reply.text reply.refused reply.ended)
-  pub shows : Shows told before (entries_of before) → IfOk result (λ _. Shows told now (entries_of now))
-  pub tree : Moves KeepsTree (told before.shelf) (told now.shelf)
-  pub tells : StaysTold (told before.shelf) (told now.shelf)
+  pub start : now.start ≡ before.start
   pub stopped : IfErr result (λ failed. HasStopped told way.txn.0 failed before now)
-  pub opens : Shows told before (entries_of before) → IfErr result (λ _. StillOpens told now)
+  pub opens : IsToldHouse told before → IfErr result (λ _. StillOpens told now)
   pub ends : IfErr result EndsRun
   pub later : faults before.shelf ≤ faults now.shelf
   pub cause : (low : ℕ) → low ≤ faults before.shelf → HasRisenReading low (faults before.shelf) fault → FileCause low (faults now.shelf) result
@@ -136,10 +125,10 @@ pub record GoesToCommit (txn : ℕ) (before now : List Entry) (found : Prepared)
 abbrev pub AddsInOrder : List Entry → List Entry → Type 0
 AddsInOrder before now = (added : List Entry) × (now ≡ before ++ added) × AllInOrder (state_of before) added
 
-abbrev pub GoesTruly : List Entry → List Entry → Tree → Asking → Way → Stmt → Prepared → Type 0
-GoesTruly before now files asking way said (prepared.Ready ready) =
-    IsTrulyPrepared now files asking way.txn.0 way.place said (prepared.Ready ready) × AddsInOrder before now
-GoesTruly before now files asking way said (prepared.Ended reply) = IsFinished before now way.txn.0 reply.text reply.refused reply.ended
+abbrev pub GoesTruly : List Entry → List Entry → Asking → Way → Stmt → Prepared → Type 0
+GoesTruly before now asking way said (prepared.Ready ready) =
+    IsTrulyPrepared now asking way.txn.0 way.place said (prepared.Ready ready) × AddsInOrder before now
+GoesTruly before now asking way said (prepared.Ended reply) = IsFinished before now way.txn.0 reply.text reply.refused reply.ended
 
 -- ---- where it is held
 
@@ -169,9 +158,9 @@ abbrev pub StandsHeld : List Entry → Asking → Taken → Type 0
 StandsHeld now asking (taken.Replied reply) = Unit {0}
 StandsHeld now asking (taken.Kept paused) = IsHeld now asking paused
 
-abbrev pub StandsTruly : List Entry → List Entry → Tree → ℕ → Taken → Type 0
-StandsTruly before now files txn (taken.Replied reply) = IsFinished before now txn reply.text reply.refused reply.ended
-StandsTruly before now files txn (taken.Kept paused) = IsTrulyHeld now files paused × AddsInOrder before now
+abbrev pub StandsTruly : List Entry → List Entry → ℕ → Taken → Type 0
+StandsTruly before now txn (taken.Replied reply) = IsFinished before now txn reply.text reply.refused reply.ended
+StandsTruly before now txn (taken.Kept paused) = IsTrulyHeld now paused × AddsInOrder before now
 
 -- ---- the parts of a statement that is taken up
 
@@ -189,10 +178,9 @@ StopsTaken told asking why before now =
 -- a statement was taken up, or the run stopped in that
 pub record IsTaking {D T : Type 0} (told : D → Option Store) (faults : D → ℕ) (asking : Asking) (before now : House D) (result : Result T HouseFault) : Type 0 where
   pub done : IfOk result (λ _. IsDone told faults (next_number (entries_of before)) before now)
-  pub keeps : Moves (KeepsGiven (state_of (entries_of before)).tables) (told before.shelf) (told now.shelf)
-  pub tells : StaysTold (told before.shelf) (told now.shelf)
+  pub start : now.start ≡ before.start
   pub stopped : IfErr result (λ why. StopsTaken told asking why before now)
-  pub opens : Shows told before (entries_of before) → IfErr result (λ _. StillOpens told now)
+  pub opens : IsToldHouse told before → IfErr result (λ _. StillOpens told now)
   pub ends : IfErr result EndsRun
   pub cause : FileCause (faults before.shelf) (faults now.shelf) result
 
@@ -212,8 +200,7 @@ LacksRoom book tree = holder_against book tree ≡ None → profile.entries < lo
 
 -- an opened statement is aborted for what stands in its way
 pub record AbortsOpened {D : Type 0} (told : D → Option Store) (faults : D → ℕ) (tree : Stmt) (txn : ℕ) (before now : House D) (result : Result Reply HouseFault) : Type 0 where
-  pub part : IsPart told faults (IsFaithful (entries_of before)) txn before now result
+  pub part : IsPart told faults txn before now result
   pub aborted : IfOk result (λ _. IsAborted txn (hindrance_of (holder_against (entries_of before) tree)) (entries_of before) (entries_of now))
   pub answered : (asking : Asking) (said : Stmt) → IsWaiting (entries_of before) asking txn said
       → IfOk result (λ reply. HasReplied (entries_of now) txn reply.text reply.refused reply.ended)
-  pub shows : Shows told before (entries_of before) → IfOk result (λ _. Shows told now (entries_of now))

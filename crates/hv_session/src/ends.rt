@@ -1,20 +1,21 @@
 //! How a started statement goes to its end.
 
 ghost use Rattle.std.specs.Prelude.{◌≡◌, true, Some, [], take, IfOk};
-ghost use Rattle.hv_base.specs.Told.{Tells};
 ghost use Rattle.hv_ast.specs.declared.statement.Stmt.{Stmt as Tree};
-ghost use Rattle.hv_history.specs.Legal.{Fits, profile};
+ghost use Rattle.hv_history.specs.Legal.{Fits, IsTruthful, profile};
 ghost use Rattle.hv_history.specs.State.{state_of};
 ghost use Rattle.hv_stands.specs.Running.{Asking, meant, IsUnderWay};
 ghost use Rattle.hv_house.specs.Faults.{IsShortDamage};
-ghost use Rattle.hv_house.specs.House.{entries_of, IsSmall, IsReady, StaysRead, IsFaithful, Shows};
+ghost use Rattle.hv_house.specs.House.{entries_of, IsSmall, IsReady};
 ghost use Rattle.hv_house.specs.Steps.{IsMarked, IsMarkedFor};
 ghost use Rattle.hv_house.specs.declared.fault.HouseFault.TheVariants as fault;
 ghost use Rattle.hv_house.specs.declared.fault.RowFault.TheVariants as row_fault;
-ghost use Rattle.hv_ending.specs.Ending.{aborting, CanEnd, EndsUncommitted, IsPreparedIn, MeansThis};
+ghost use Rattle.hv_telling.specs.Telling.{IsWhole, IsToldHouse};
+ghost use Rattle.hv_ending.specs.Ending.{aborting, CanEnd, EndsUncommitted, IsPreparedIn};
 ghost use Rattle.hv_history.specs.declared.entry.Cause.TheVariants.{ReadFault};
 ghost use Rattle.hv_session.specs.Taking.{IsFinished};
-ghost use Rattle.hv_session.specs.Ways.{IsPart, ShowsAnd, IsOnWay, CutsOff, EndsFor, ComesTo, ComesTruly, ComesUnrefused, GoesToCommit, GoesTruly};
+ghost use Rattle.hv_session.specs.Seeing.{LeavesRead};
+ghost use Rattle.hv_session.specs.Ways.{IsPart, IsOnWay, IsOnWayAs, CutsOff, EndsFor, ComesTo, ComesTruly, ComesUnrefused, GoesToCommit, GoesTruly};
 
 use crate::seeing::see_meaning;
 use hv_ast::{Stmt, discard};
@@ -39,11 +40,13 @@ fn cut_off<D: Shelf>(
     way: Way,
     cause: Cause,
 ) -> Result<Reply, HouseFault>
-    requires ready { IsReady D.told house.old }
+    requires whole { IsWhole D.told house.old }
     requires small { IsSmall (aborting way.txn.0 cause) }
     requires fits { Fits profile (state_of (entries_of house.old)) (aborting way.txn.0 cause) }
     requires marked { IsMarked house.old (aborting way.txn.0 cause) }
     requires uncommitted { EndsUncommitted cause }
+    requires truly { IsToldHouse D.told house.old
+        → IsTruthful (state_of (entries_of house.old)) (aborting way.txn.0 cause) }
     ensures cuts { CutsOff D.told D.faults way cause house.old house.new result }
 {
     refuse(alloc, house, way.txn, cause)
@@ -68,7 +71,7 @@ fn end_failed<D: Shelf>(
     way: Way,
     count: u64,
 ) -> Result<Reply, HouseFault>
-    requires ready { IsReady D.told house.old }
+    requires whole { IsWhole D.told house.old }
     requires marked { IsMarkedFor house.old way.txn (row_fault.House (fault.Failed count)) }
     requires way { (said : Tree) × IsOnWay (entries_of house.old) way said }
     ensures ends { EndsFor D.told D.faults way (row_fault.House (fault.Failed count)) house.old house.new result }
@@ -87,7 +90,7 @@ fn end_halted<D: Shelf>(
     way: Way,
     fault: HouseFault,
 ) -> Result<Reply, HouseFault>
-    requires stays { StaysRead D.told (row_fault.House fault) house.old }
+    requires left { LeavesRead D.told (row_fault.House fault) house.old }
     requires marked { IsMarkedFor house.old way.txn (row_fault.House fault) }
     requires way { (said : Tree) × IsOnWay (entries_of house.old) way said }
     ensures ends { EndsFor D.told D.faults way (row_fault.House fault) house.old house.new result }
@@ -106,7 +109,7 @@ fn end_unseen<D: Shelf>(
     way: Way,
     fault: RowFault,
 ) -> Result<Reply, HouseFault>
-    requires stays { StaysRead D.told fault house.old }
+    requires left { LeavesRead D.told fault house.old }
     requires marked { IsMarkedFor house.old way.txn fault }
     requires way { (said : Tree) × IsOnWay (entries_of house.old) way said }
     requires short { IsShortDamage fault }
@@ -125,16 +128,12 @@ fn come_to<D: Shelf>(
     way: Way,
     tree: &Stmt,
 ) -> Result<Outcome, HouseFault>
-    requires ready { IsReady D.told house.old }
+    requires whole { IsWhole D.told house.old }
     requires way { IsOnWay (entries_of house.old) way tree.now }
-    ensures part { IsPart D.told D.faults (IsFaithful (entries_of house.old)) way.txn.0
-        house.old house.new result }
+    ensures part { IsPart D.told D.faults way.txn.0 house.old house.new result }
     ensures comes { IfOk result (ComesTo way.txn.0 (entries_of house.old) (entries_of house.new)) }
-    ensures truly { (asking : Asking)
-        → IsUnderWay (entries_of house.old) asking way.txn.0 way.place tree.now []
-        → Shows D.told house.old (entries_of house.old)
-        → IfOk result (λ outcome. ShowsAnd D.told house.new (λ _. ComesTruly
-        (entries_of house.old) (entries_of house.new) way tree.now outcome)) }
+    ensures truly { IsToldHouse D.told house.old
+        → IfOk result (ComesTruly (entries_of house.old) (entries_of house.new) way tree.now) }
 {
     match see_meaning(alloc, house, way.txn, way.place, tree) {
         Ok(meaning) => Ok(Outcome::Means(meaning)),
@@ -149,18 +148,12 @@ pub fn end_as<D: Shelf>(
     way: Way,
     meaning: Meaning,
 ) -> Result<Reply, HouseFault>
-    requires ready { IsReady D.told house.old }
-    requires way { (said : Tree) × IsOnWay (entries_of house.old) way said }
+    requires whole { IsWhole D.told house.old }
+    requires way { IsOnWayAs D.told house.old way meaning }
     requires can { CanEnd (entries_of house.old) meaning }
-    ensures part { IsPart D.told D.faults (MeansThis (entries_of house.old) way meaning) way.txn.0
-        house.old house.new result }
-    ensures truly { (asking : Asking) (said : Tree)
-        → IsUnderWay (entries_of house.old) asking way.txn.0 way.place said []
-        → Tells (D.told house.old.shelf)
-        (λ _. meant (take way.place (entries_of house.old)) said ≡ Some meaning)
-        → Shows D.told house.old (entries_of house.old)
-        → IfOk result (λ reply. ShowsAnd D.told house.new (λ _. IsFinished
-        (entries_of house.old) (entries_of house.new) way.txn.0 reply.text reply.refused reply.ended)) }
+    ensures part { IsPart D.told D.faults way.txn.0 house.old house.new result }
+    ensures truly { IsToldHouse D.told house.old → IfOk result (λ reply. IsFinished
+        (entries_of house.old) (entries_of house.new) way.txn.0 reply.text reply.refused reply.ended) }
 {
     match prepare(alloc, house, way, meaning)? {
         Prepared::Ready(ready) => conclude(alloc, house, way, ready),
@@ -175,15 +168,11 @@ pub fn go_to_end<D: Shelf>(
     way: Way,
     tree: &Stmt,
 ) -> Result<Reply, HouseFault>
-    requires ready { IsReady D.told house.old }
+    requires whole { IsWhole D.told house.old }
     requires way { IsOnWay (entries_of house.old) way tree.now }
-    ensures part { IsPart D.told D.faults (IsFaithful (entries_of house.old)) way.txn.0
-        house.old house.new result }
-    ensures truly { (asking : Asking)
-        → IsUnderWay (entries_of house.old) asking way.txn.0 way.place tree.now []
-        → Shows D.told house.old (entries_of house.old)
-        → IfOk result (λ reply. ShowsAnd D.told house.new (λ _. IsFinished
-        (entries_of house.old) (entries_of house.new) way.txn.0 reply.text reply.refused reply.ended)) }
+    ensures part { IsPart D.told D.faults way.txn.0 house.old house.new result }
+    ensures truly { IsToldHouse D.told house.old → IfOk result (λ reply. IsFinished
+        (entries_of house.old) (entries_of house.new) way.txn.0 reply.text reply.refused reply.ended) }
 {
     match come_to(alloc, house, way, tree)? {
         Outcome::Means(meaning) => end_as(alloc, house, way, meaning),
@@ -198,20 +187,15 @@ fn end_refused<D: Shelf>(
     way: Way,
     meaning: Meaning,
 ) -> Result<Outcome, HouseFault>
-    requires ready { IsReady D.told house.old }
-    requires way { (said : Tree) × IsOnWay (entries_of house.old) way said }
+    requires whole { IsWhole D.told house.old }
+    requires way { IsOnWayAs D.told house.old way meaning }
     requires can { CanEnd (entries_of house.old) meaning }
-    ensures part { IsPart D.told D.faults (MeansThis (entries_of house.old) way meaning) way.txn.0
-        house.old house.new result }
+    ensures part { IsPart D.told D.faults way.txn.0 house.old house.new result }
     ensures comes { IfOk result (ComesTo way.txn.0 (entries_of house.old) (entries_of house.new)) }
     ensures unrefused { IfOk result ComesUnrefused }
-    ensures truly { (asking : Asking) (said : Tree)
-        → IsUnderWay (entries_of house.old) asking way.txn.0 way.place said []
-        → Tells (D.told house.old.shelf)
-        (λ _. meant (take way.place (entries_of house.old)) said ≡ Some meaning)
-        → Shows D.told house.old (entries_of house.old)
-        → IfOk result (λ outcome. ShowsAnd D.told house.new (λ _. ComesTruly
-        (entries_of house.old) (entries_of house.new) way said outcome)) }
+    ensures truly { (said : Tree) → meant (take way.place (entries_of house.old)) said ≡ Some meaning
+        → IsToldHouse D.told house.old
+        → IfOk result (ComesTruly (entries_of house.old) (entries_of house.new) way said) }
 {
     match meaning {
         Meaning::Refused(refusal) => {
@@ -230,17 +214,13 @@ pub fn come_unrefused<D: Shelf>(
     way: Way,
     tree: &Stmt,
 ) -> Result<Outcome, HouseFault>
-    requires ready { IsReady D.told house.old }
+    requires whole { IsWhole D.told house.old }
     requires way { IsOnWay (entries_of house.old) way tree.now }
-    ensures part { IsPart D.told D.faults (IsFaithful (entries_of house.old)) way.txn.0
-        house.old house.new result }
+    ensures part { IsPart D.told D.faults way.txn.0 house.old house.new result }
     ensures comes { IfOk result (ComesTo way.txn.0 (entries_of house.old) (entries_of house.new)) }
     ensures unrefused { IfOk result ComesUnrefused }
-    ensures truly { (asking : Asking)
-        → IsUnderWay (entries_of house.old) asking way.txn.0 way.place tree.now []
-        → Shows D.told house.old (entries_of house.old)
-        → IfOk result (λ outcome. ShowsAnd D.told house.new (λ _. ComesTruly
-        (entries_of house.old) (entries_of house.new) way tree.now outcome)) }
+    ensures truly { IsToldHouse D.told house.old
+        → IfOk result (ComesTruly (entries_of house.old) (entries_of house.new) way tree.now) }
 {
     match come_to(alloc, house, way, tree)? {
         Outcome::Means(meaning) => end_refused(alloc, house, way, meaning),
@@ -255,19 +235,17 @@ pub fn go_to_commit<D: Shelf>(
     way: Way,
     tree: &Stmt,
 ) -> Result<Prepared, HouseFault>
-    requires ready { IsReady D.told house.old }
+    requires whole { IsWhole D.told house.old }
     requires way { IsOnWay (entries_of house.old) way tree.now }
-    ensures part { IsPart D.told D.faults (IsFaithful (entries_of house.old)) way.txn.0
-        house.old house.new result }
+    ensures part { IsPart D.told D.faults way.txn.0 house.old house.new result }
     ensures goes { IfOk result (GoesToCommit way.txn.0 (entries_of house.old) (entries_of house.new)) }
     ensures stands { (asking : Asking)
         → IsUnderWay (entries_of house.old) asking way.txn.0 way.place tree.now []
         → IfOk result (IsPreparedIn (entries_of house.new) asking way.txn.0 way.place tree.now) }
     ensures truly { (asking : Asking)
         → IsUnderWay (entries_of house.old) asking way.txn.0 way.place tree.now []
-        → Shows D.told house.old (entries_of house.old)
-        → IfOk result (λ found. ShowsAnd D.told house.new (λ s. GoesTruly
-        (entries_of house.old) (entries_of house.new) s.tree asking way tree.now found)) }
+        → IsToldHouse D.told house.old
+        → IfOk result (GoesTruly (entries_of house.old) (entries_of house.new) asking way tree.now) }
 {
     match come_to(alloc, house, way, tree)? {
         Outcome::Means(meaning) => prepare(alloc, house, way, meaning),

@@ -3,10 +3,11 @@
 ghost use Rattle.std.specs.Prelude.{◌≡◌, [], Some, IfOk};
 ghost use Rattle.hv_base.specs.declared.gate.Stage.TheVariants as stages;
 ghost use Rattle.hv_stands.specs.Running.{Asking, IsUnderWay};
-ghost use Rattle.hv_house.specs.House.{entries_of, IsReady, IsFaithful, Shows};
+ghost use Rattle.hv_house.specs.House.{entries_of};
+ghost use Rattle.hv_telling.specs.Telling.{IsWhole, IsToldHouse};
 ghost use Rattle.hv_session.specs.declared.paused.Taken.TheVariants.{Replied};
 ghost use Rattle.hv_session.specs.Taking.{IsHold, IsFinished};
-ghost use Rattle.hv_session.specs.Ways.{IsPart, ShowsAnd, IsOnWay, keep, held_meant, held_ready, GoesInTime, StandsHeld, StandsTruly};
+ghost use Rattle.hv_session.specs.Ways.{IsPart, IsOnWay, keep, held_meant, held_ready, GoesInTime, StandsHeld, StandsTruly};
 
 use crate::ends::{Outcome, come_unrefused, go_to_commit, go_to_end};
 use crate::paused::{Paused, Point, Taken};
@@ -62,19 +63,15 @@ fn hold_read<D: Shelf>(
     way: Way,
     tree: Stmt,
 ) -> Result<Taken, HouseFault>
-    requires ready { IsReady D.told house.old }
+    requires whole { IsWhole D.told house.old }
     requires way { IsOnWay (entries_of house.old) way tree }
-    ensures part { IsPart D.told D.faults (IsFaithful (entries_of house.old)) way.txn.0
-        house.old house.new result }
+    ensures part { IsPart D.told D.faults way.txn.0 house.old house.new result }
     ensures goes { IfOk result (GoesInTime (Some stages.Read) way.txn.0 (entries_of house.old) (entries_of house.new)) }
     ensures stands { (asking : Asking)
         → IsUnderWay (entries_of house.old) asking way.txn.0 way.place tree []
         → IfOk result (StandsHeld (entries_of house.new) asking) }
-    ensures truly { (asking : Asking)
-        → IsUnderWay (entries_of house.old) asking way.txn.0 way.place tree []
-        → Shows D.told house.old (entries_of house.old)
-        → IfOk result (λ taken. ShowsAnd D.told house.new (λ s. StandsTruly
-        (entries_of house.old) (entries_of house.new) s.tree way.txn.0 taken)) }
+    ensures truly { IsToldHouse D.told house.old
+        → IfOk result (StandsTruly (entries_of house.old) (entries_of house.new) way.txn.0) }
 {
     match come_unrefused(alloc, house, way, &tree) {
         Ok(outcome) => Ok(held_meant(way, tree, outcome)),
@@ -92,19 +89,15 @@ fn hold_commit<D: Shelf>(
     way: Way,
     tree: Stmt,
 ) -> Result<Taken, HouseFault>
-    requires ready { IsReady D.told house.old }
+    requires whole { IsWhole D.told house.old }
     requires way { IsOnWay (entries_of house.old) way tree }
-    ensures part { IsPart D.told D.faults (IsFaithful (entries_of house.old)) way.txn.0
-        house.old house.new result }
+    ensures part { IsPart D.told D.faults way.txn.0 house.old house.new result }
     ensures goes { IfOk result (GoesInTime (Some stages.Commit) way.txn.0 (entries_of house.old) (entries_of house.new)) }
     ensures stands { (asking : Asking)
         → IsUnderWay (entries_of house.old) asking way.txn.0 way.place tree []
         → IfOk result (StandsHeld (entries_of house.new) asking) }
-    ensures truly { (asking : Asking)
-        → IsUnderWay (entries_of house.old) asking way.txn.0 way.place tree []
-        → Shows D.told house.old (entries_of house.old)
-        → IfOk result (λ taken. ShowsAnd D.told house.new (λ s. StandsTruly
-        (entries_of house.old) (entries_of house.new) s.tree way.txn.0 taken)) }
+    ensures truly { IsToldHouse D.told house.old
+        → IfOk result (StandsTruly (entries_of house.old) (entries_of house.new) way.txn.0) }
 {
     match go_to_commit(alloc, house, way, &tree) {
         Ok(prepared) => Ok(held_ready(way, tree, prepared)),
@@ -122,15 +115,11 @@ pub fn end_started<D: Shelf>(
     way: Way,
     tree: Stmt,
 ) -> Result<Reply, HouseFault>
-    requires ready { IsReady D.told house.old }
+    requires whole { IsWhole D.told house.old }
     requires way { IsOnWay (entries_of house.old) way tree }
-    ensures part { IsPart D.told D.faults (IsFaithful (entries_of house.old)) way.txn.0
-        house.old house.new result }
-    ensures truly { (asking : Asking)
-        → IsUnderWay (entries_of house.old) asking way.txn.0 way.place tree []
-        → Shows D.told house.old (entries_of house.old)
-        → IfOk result (λ reply. ShowsAnd D.told house.new (λ _. IsFinished
-        (entries_of house.old) (entries_of house.new) way.txn.0 reply.text reply.refused reply.ended)) }
+    ensures part { IsPart D.told D.faults way.txn.0 house.old house.new result }
+    ensures truly { IsToldHouse D.told house.old → IfOk result (λ reply. IsFinished
+        (entries_of house.old) (entries_of house.new) way.txn.0 reply.text reply.refused reply.ended) }
 {
     let result = go_to_end(alloc, house, way, &tree);
     discard(tree);
@@ -146,19 +135,15 @@ fn go_to<D: Shelf>(
     stage: Stage,
 ) -> Result<Taken, HouseFault>
     requires hold { IsHold (Some stage) }
-    requires ready { IsReady D.told house.old }
+    requires whole { IsWhole D.told house.old }
     requires way { IsOnWay (entries_of house.old) way tree }
-    ensures part { IsPart D.told D.faults (IsFaithful (entries_of house.old)) way.txn.0
-        house.old house.new result }
+    ensures part { IsPart D.told D.faults way.txn.0 house.old house.new result }
     ensures goes { IfOk result (GoesInTime (Some stage) way.txn.0 (entries_of house.old) (entries_of house.new)) }
     ensures stands { (asking : Asking)
         → IsUnderWay (entries_of house.old) asking way.txn.0 way.place tree []
         → IfOk result (StandsHeld (entries_of house.new) asking) }
-    ensures truly { (asking : Asking)
-        → IsUnderWay (entries_of house.old) asking way.txn.0 way.place tree []
-        → Shows D.told house.old (entries_of house.old)
-        → IfOk result (λ taken. ShowsAnd D.told house.new (λ s. StandsTruly
-        (entries_of house.old) (entries_of house.new) s.tree way.txn.0 taken)) }
+    ensures truly { IsToldHouse D.told house.old
+        → IfOk result (StandsTruly (entries_of house.old) (entries_of house.new) way.txn.0) }
 {
     match stage {
         Stage::Start => Ok(kept(way, tree, Point::Started)),
@@ -177,19 +162,15 @@ pub fn go<D: Shelf>(
     hold: Option<Stage>,
 ) -> Result<Taken, HouseFault>
     requires hold { IsHold hold }
-    requires ready { IsReady D.told house.old }
+    requires whole { IsWhole D.told house.old }
     requires way { IsOnWay (entries_of house.old) way tree }
-    ensures part { IsPart D.told D.faults (IsFaithful (entries_of house.old)) way.txn.0
-        house.old house.new result }
+    ensures part { IsPart D.told D.faults way.txn.0 house.old house.new result }
     ensures goes { IfOk result (GoesInTime hold way.txn.0 (entries_of house.old) (entries_of house.new)) }
     ensures stands { (asking : Asking)
         → IsUnderWay (entries_of house.old) asking way.txn.0 way.place tree []
         → IfOk result (StandsHeld (entries_of house.new) asking) }
-    ensures truly { (asking : Asking)
-        → IsUnderWay (entries_of house.old) asking way.txn.0 way.place tree []
-        → Shows D.told house.old (entries_of house.old)
-        → IfOk result (λ taken. ShowsAnd D.told house.new (λ s. StandsTruly
-        (entries_of house.old) (entries_of house.new) s.tree way.txn.0 taken)) }
+    ensures truly { IsToldHouse D.told house.old
+        → IfOk result (StandsTruly (entries_of house.old) (entries_of house.new) way.txn.0) }
 {
     match hold {
         Some(stage) => go_to(alloc, house, way, tree, stage),

@@ -8,12 +8,13 @@ ghost use Rattle.hv_history.specs.Legal.{Fits, profile};
 ghost use Rattle.hv_history.specs.State.{state_of};
 ghost use Rattle.hv_stands.specs.Running.{Asking as Asked, next_number, opening, IsWaiting};
 ghost use Rattle.hv_house.specs.Faults.{EndsRun};
-ghost use Rattle.hv_house.specs.House.{entries_of, BeginFits, IsReady, IsFaithful, Shows};
+ghost use Rattle.hv_house.specs.House.{entries_of, BeginFits, IsReady};
 ghost use Rattle.hv_house.specs.Asking.{CanBegin, holder_against};
+ghost use Rattle.hv_telling.specs.Telling.{IsWhole, IsToldHouse};
 ghost use Rattle.hv_house.specs.declared.fault.HouseFault.TheVariants.{NoMemory as OutOfMemory};
 ghost use Rattle.hv_session.specs.Lines.{IsLine};
 ghost use Rattle.hv_session.specs.Taking.{asked_of, IsHold, IsKeptIn, IsTakenAs};
-ghost use Rattle.hv_session.specs.Ways.{IsPart, IsTaking, ShowsAnd, IsTurnedAway, hindrance_of, LacksRoom, AbortsOpened};
+ghost use Rattle.hv_session.specs.Ways.{IsPart, IsTaking, IsTurnedAway, hindrance_of, LacksRoom, AbortsOpened};
 
 use crate::asking::Asking;
 use crate::holds::go;
@@ -27,6 +28,7 @@ use hv_house::{House, HouseFault};
 use hv_locks::LockState;
 use hv_reading::read_statement;
 use hv_shelf::Shelf;
+use hv_telling::{begin as begin_in, note};
 use std::alloc::Global;
 
 /// Replies where the statement wasn't opened: for want of memory, where it was that.
@@ -59,7 +61,7 @@ fn abort_opened<D: Shelf>(
     txn: TxnId,
     tree: &Stmt,
 ) -> Result<Reply, HouseFault>
-    requires ready { IsReady D.told house.old }
+    requires whole { IsWhole D.told house.old }
     requires waiting { (asking : Asked) × IsWaiting (entries_of house.old) asking txn.0 tree.now }
     requires lacks { LacksRoom (entries_of house.old) tree.now }
     ensures aborts { AbortsOpened D.told D.faults tree.now txn.0 house.old house.new result }
@@ -76,19 +78,18 @@ fn note_and_abort<D: Shelf>(
     kept: Stmt,
     tree: &Stmt,
 ) -> Result<Reply, HouseFault>
-    requires ready { IsReady D.told house.old }
+    requires whole { IsWhole D.told house.old }
     requires opened { (asking : Asked) × (opened ≡ opening (entries_of house.old) asking)
         × Runs asking.text kept × Runs asking.text tree.now × (length asking.text ≤ 32768) × (length asking.session ≤ 32) }
     requires cannot { CanBegin profile (entries_of house.old) tree.now → ⊥ }
     requires fits { Fits profile (state_of (entries_of house.old)) opened }
-    ensures part { IsPart D.told D.faults (IsFaithful (entries_of house.old))
-        (next_number (entries_of house.old)) house.old house.new result }
-    ensures truly { (asking : Asked) → opened ≡ opening (entries_of house.old) asking → Shows D.told house.old (entries_of house.old)
-        → IfOk result (λ reply. ShowsAnd D.told house.new (λ _. IsTurnedAway
-        (entries_of house.old) (entries_of house.new) asking reply)) }
+    ensures part { IsPart D.told D.faults (next_number (entries_of house.old))
+        house.old house.new result }
+    ensures turned { (asking : Asked) → opened ≡ opening (entries_of house.old) asking
+        → IfOk result (IsTurnedAway (entries_of house.old) (entries_of house.new) asking) }
 {
     let txn = house.next_txn();
-    match house.note(opened, Some(kept)) {
+    match note(house, opened, Some(kept)) {
         Ok(()) => abort_opened(alloc, house, txn, tree),
         Err(fault) => unopened(alloc, fault),
     }
@@ -103,17 +104,16 @@ fn turn_away<D: Shelf>(
     kept: Stmt,
     tree: &Stmt,
 ) -> Result<Reply, HouseFault>
-    requires ready { IsReady D.told house.old }
+    requires whole { IsWhole D.told house.old }
     requires kept { Runs asking.text kept }
     requires tree { Runs asking.text tree.now }
     requires short { length asking.text ≤ 32768 }
     requires named { length asking.session ≤ 32 }
     requires cannot { CanBegin profile (entries_of house.old) tree.now → ⊥ }
-    ensures part { IsPart D.told D.faults (IsFaithful (entries_of house.old))
-        (next_number (entries_of house.old)) house.old house.new result }
-    ensures truly { Shows D.told house.old (entries_of house.old)
-        → IfOk result (λ reply. ShowsAnd D.told house.new (λ _. IsTurnedAway
-        (entries_of house.old) (entries_of house.new) (asked_of asking) reply)) }
+    ensures part { IsPart D.told D.faults (next_number (entries_of house.old))
+        house.old house.new result }
+    ensures turned { IfOk result (IsTurnedAway
+        (entries_of house.old) (entries_of house.new) (asked_of asking)) }
 {
     let Asking {
         session,
@@ -143,7 +143,7 @@ fn begin<D: Shelf>(
     kept: Stmt,
     tree: Stmt,
 ) -> Result<Taken, HouseFault>
-    requires ready { IsReady D.told house.old }
+    requires whole { IsWhole D.told house.old }
     requires kept { Runs asking.text kept }
     requires tree { Runs asking.text tree }
     requires short { length asking.text ≤ 32768 }
@@ -153,9 +153,8 @@ fn begin<D: Shelf>(
     requires fits { BeginFits (entries_of house.old) (asked_of asking) }
     ensures taking { IsTaking D.told D.faults (asked_of asking) house.old house.new result }
     ensures held { IfOk result (IsKeptIn (entries_of house.old) (entries_of house.new) (asked_of asking)) }
-    ensures truly { Shows D.told house.old (entries_of house.old)
-        → IfOk result (λ taken. ShowsAnd D.told house.new (λ s. IsTakenAs
-        (entries_of house.old) (entries_of house.new) s.tree (asked_of asking) asking.hold taken)) }
+    ensures truly { IsToldHouse D.told house.old → IfOk result (IsTakenAs
+        (entries_of house.old) (entries_of house.new) (asked_of asking) asking.hold) }
 {
     let Asking {
         session,
@@ -164,7 +163,7 @@ fn begin<D: Shelf>(
         hold,
         ..
     } = asking;
-    match house.begin(session, number, text, kept) {
+    match begin_in(house, session, number, text, kept) {
         Ok((txn, place)) => go(alloc, house, Way { txn, place }, tree, hold),
         Err(fault) => {
             discard(tree);
@@ -181,7 +180,7 @@ fn take_read<D: Shelf>(
     kept: Stmt,
     tree: Stmt,
 ) -> Result<Taken, HouseFault>
-    requires ready { IsReady D.told house.old }
+    requires whole { IsWhole D.told house.old }
     requires kept { Runs asking.text kept }
     requires tree { Runs asking.text tree }
     requires short { length asking.text ≤ 32768 }
@@ -189,9 +188,8 @@ fn take_read<D: Shelf>(
     requires hold { IsHold asking.hold }
     ensures taking { IsTaking D.told D.faults (asked_of asking) house.old house.new result }
     ensures held { IfOk result (IsKeptIn (entries_of house.old) (entries_of house.new) (asked_of asking)) }
-    ensures truly { Shows D.told house.old (entries_of house.old)
-        → IfOk result (λ taken. ShowsAnd D.told house.new (λ s. IsTakenAs
-        (entries_of house.old) (entries_of house.new) s.tree (asked_of asking) asking.hold taken)) }
+    ensures truly { IsToldHouse D.told house.old → IfOk result (IsTakenAs
+        (entries_of house.old) (entries_of house.new) (asked_of asking) asking.hold) }
 {
     if house.can_begin(&tree) {
         return begin(alloc, house, asking, kept, tree);
@@ -208,16 +206,15 @@ pub fn take_statement<D: Shelf>(
     asking: Asking,
     tree: Stmt,
 ) -> Result<Taken, HouseFault>
-    requires ready { IsReady D.told house.old }
+    requires whole { IsWhole D.told house.old }
     requires tree { Runs asking.text tree }
     requires short { length asking.text ≤ 32768 }
     requires named { length asking.session ≤ 32 }
     requires hold { IsHold asking.hold }
     ensures taking { IsTaking D.told D.faults (asked_of asking) house.old house.new result }
     ensures held { IfOk result (IsKeptIn (entries_of house.old) (entries_of house.new) (asked_of asking)) }
-    ensures truly { Shows D.told house.old (entries_of house.old)
-        → IfOk result (λ taken. ShowsAnd D.told house.new (λ s. IsTakenAs
-        (entries_of house.old) (entries_of house.new) s.tree (asked_of asking) asking.hold taken)) }
+    ensures truly { IsToldHouse D.told house.old → IfOk result (IsTakenAs
+        (entries_of house.old) (entries_of house.new) (asked_of asking) asking.hold) }
 {
     match read_statement(alloc, &asking.text) {
         Ok(kept) => take_read(alloc, house, asking, kept, tree),

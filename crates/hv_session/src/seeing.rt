@@ -1,21 +1,22 @@
 //! What a started statement sees, and what it comes to.
 
 ghost use Rattle.std.specs.Prelude.{◌≡◌, ◌≤◌, ◌++◌, ◌∷◌, [], Some, IfOk, OnOk, IfErr, IsSome, length, take, true};
-ghost use Rattle.hv_base.specs.Told.{Tells};
 ghost use Rattle.hv_built.specs.Built.{IsBuilt};
 ghost use Rattle.hv_changes.specs.Columns.{columns_of};
 ghost use Rattle.hv_meaning.specs.Meaning.{meaning_in};
 ghost use Rattle.hv_meaning.specs.Laws.{MeansSomething, are_values, reads_rows};
 ghost use Rattle.hv_stands.specs.Running.{meant};
 ghost use Rattle.hv_house.specs.Faults.{ReadCause, IsShortDamage, IsDamage};
-ghost use Rattle.hv_house.specs.House.{entries_of, IsAsked, IsReady, StaysRead, Shows};
+ghost use Rattle.hv_house.specs.House.{entries_of, IsReady};
 ghost use Rattle.hv_house.specs.Steps.{IsMarkedFor};
 ghost use Rattle.hv_house.specs.Seeing.{IsSeenOf};
 ghost use Rattle.hv_viewing.specs.Counting.{IsAmiss};
+ghost use Rattle.hv_viewing.specs.Looking.{Looks};
+ghost use Rattle.hv_telling.specs.Telling.{IsWhole, IsToldHouse};
 ghost use Rattle.hv_logic.specs.Tables.{named};
 ghost use Rattle.hv_stands.specs.Reading.{table_of_name};
 ghost use Rattle.hv_ending.specs.Ending.{CanEnd};
-ghost use Rattle.hv_session.specs.Seeing.{AddsSeen, AreSeenOfSome, IsSeen, IsNarrow, state_at};
+ghost use Rattle.hv_session.specs.Seeing.{AddsSeen, AreSeenOfSome, IsSeen, IsNarrow, LeavesRead, state_at};
 
 use hv_ast::{Rows, Stmt};
 use hv_base::{Duplicate, NoMemory, Text, TxnId};
@@ -80,17 +81,13 @@ fn look<D: Shelf>(
 ) -> Result<Option<Seen>, RowFault>
     requires ready { IsReady D.told house.old }
     requires seen { AreSeenOfSome (D.told house.old.shelf) (state_at (entries_of house.old) place) reads seen.now }
-    ensures asked { IsAsked D.told house.old house.new }
+    ensures looks { Looks D.told D.faults by house.old house.new result }
     ensures short { IfErr result IsShortDamage }
     ensures seen { IfOk result (λ found. IsSeenOf (D.told house.old.shelf) reads (state_at (entries_of house.old) place)
         (table_of_name name.now (state_at (entries_of house.old) place).tables) found) }
     ensures once { IsSome (named name.now seen.now) → house.new ≡ house.old }
     ensures damage { IfErr result (λ fault. IsDamage fault
         → IsAmiss (D.told house.old.shelf) (state_at (entries_of house.old) place)) }
-    ensures ready { IfOk result (λ _. IsReady D.told house.new) }
-    ensures stays { IfErr result (λ why. StaysRead D.told why house.new) }
-    ensures marked { IfErr result (IsMarkedFor house.new by) }
-    ensures cause { ReadCause (D.faults house.old.shelf) (D.faults house.new.shelf) result }
 {
     match seen_before(alloc, name, seen)? {
         Some(table) => Ok(Some(table)),
@@ -110,16 +107,12 @@ fn see_next<D: Shelf>(
 ) -> Result<(), RowFault>
     requires ready { IsReady D.told house.old }
     requires seen { AreSeenOfSome (D.told house.old.shelf) (state_at (entries_of house.old) place) reads seen.old.items }
-    ensures asked { IsAsked D.told house.old house.new }
+    ensures looks { Looks D.told D.faults by house.old house.new result }
     ensures short { IfErr result IsShortDamage }
     ensures seen { OnOk result (AddsSeen (D.told house.old.shelf) (state_at (entries_of house.old) place) reads
         name.now seen.old.items seen.new.items) }
     ensures damage { IfErr result (λ fault. IsDamage fault
         → IsAmiss (D.told house.old.shelf) (state_at (entries_of house.old) place)) }
-    ensures ready { OnOk result (IsReady D.told house.new) }
-    ensures stays { IfErr result (λ why. StaysRead D.told why house.new) }
-    ensures marked { IfErr result (IsMarkedFor house.new by) }
-    ensures cause { ReadCause (D.faults house.old.shelf) (D.faults house.new.shelf) result }
 {
     if let Some(table) = look(alloc, house, by, place, name, reads, seen)? {
         put(table, seen)?;
@@ -137,16 +130,12 @@ fn seen<D: Shelf>(
     tree: &Stmt,
 ) -> Result<Vec<Seen>, RowFault>
     requires ready { IsReady D.told house.old }
-    ensures asked { IsAsked D.told house.old house.new }
+    ensures looks { Looks D.told D.faults by house.old house.new result }
     ensures short { IfErr result IsShortDamage }
     ensures seen { IfOk result (λ seen. IsSeen (D.told house.old.shelf)
         (state_at (entries_of house.old) place) tree.now seen.items) }
     ensures damage { IfErr result (λ fault. IsDamage fault
         → IsAmiss (D.told house.old.shelf) (state_at (entries_of house.old) place)) }
-    ensures ready { IfOk result (λ _. IsReady D.told house.new) }
-    ensures stays { IfErr result (λ why. StaysRead D.told why house.new) }
-    ensures marked { IfErr result (IsMarkedFor house.new by) }
-    ensures cause { ReadCause (D.faults house.old.shelf) (D.faults house.new.shelf) result }
 {
     let names = names_in(alloc, tree)?;
     let reads = reads_rows(tree);
@@ -206,18 +195,17 @@ pub fn see_meaning<D: Shelf>(
     place: u64,
     tree: &Stmt,
 ) -> Result<Meaning, RowFault>
-    requires ready { IsReady D.told house.old }
+    requires whole { IsWhole D.told house.old }
     requires built { IsBuilt tree.now }
-    ensures asked { IsAsked D.told house.old house.new }
+    ensures book { entries_of house.new ≡ entries_of house.old }
+    ensures start { house.new.start ≡ house.old.start }
     ensures short { IfErr result IsShortDamage }
     ensures can { IfOk result (CanEnd (entries_of house.old)) }
-    ensures means { Shows D.told house.old (entries_of house.old)
-        → IfOk result (λ meaning. Tells (D.told house.old.shelf)
-        (λ _. meant (take place (entries_of house.old)) tree.now ≡ Some meaning)) }
-    ensures whole { Shows D.told house.old (entries_of house.old)
-        → IfErr result (λ fault. Tells (D.told house.old.shelf) (λ _. IsDamage fault → ⊥)) }
-    ensures ready { IfOk result (λ _. IsReady D.told house.new) }
-    ensures stays { IfErr result (λ why. StaysRead D.told why house.new) }
+    ensures means { IsToldHouse D.told house.old → IfOk result (λ meaning.
+        meant (take place (entries_of house.old)) tree.now ≡ Some meaning) }
+    ensures undamaged { IsToldHouse D.told house.old → IfErr result (λ fault. IsDamage fault → ⊥) }
+    ensures whole { IfOk result (λ _. IsWhole D.told house.new) }
+    ensures left { IfErr result (λ why. LeavesRead D.told why house.new) }
     ensures marked { IfErr result (IsMarkedFor house.new by) }
     ensures cause { ReadCause (D.faults house.old.shelf) (D.faults house.new.shelf) result }
 {

@@ -1,10 +1,9 @@
 ghost use Rattle.std.specs.Prelude.{◌≡◌, ◌≤◌, false, length, IfOk, IfErr};
-ghost use Rattle.hv_base.specs.Told.{Tells, Moves, StaysTold};
-ghost use Rattle.hv_history.specs.State.{state_of};
-ghost use Rattle.hv_stands.specs.Running.{next_number, KeepsGiven};
+ghost use Rattle.hv_stands.specs.Running.{next_number};
 ghost use Rattle.hv_house.specs.Faults.{FileCause, EndsRun};
-ghost use Rattle.hv_house.specs.House.{entries_of, IsReady, Shows};
-ghost use Rattle.hv_ending.specs.Ending.{AddsOf, HasStopped, StillOpens};
+ghost use Rattle.hv_house.specs.House.{entries_of};
+ghost use Rattle.hv_telling.specs.Telling.{IsWhole, IsToldHouse, StillOpens};
+ghost use Rattle.hv_ending.specs.Ending.{AddsOf, HasStopped};
 ghost use Rattle.hv_session.specs.Taking.{asked_of, IsHold, IsHeldBySome, IsTrulyHeld, IsKeptIn, IsTakenAs, IsFinished};
 ghost use Rattle.hv_session.specs.Ways.{StopsTaken};
 
@@ -32,27 +31,21 @@ pub fn take_up<D: Shelf>(
     asking: Asking,
     how: How,
 ) -> Result<Taken, HouseFault>
-    requires ready { IsReady D.told house.old }
+    requires whole { IsWhole D.told house.old }
     requires short { length asking.text ≤ 32768 }
     requires named { length asking.session ≤ 32 }
     requires hold { IsHold asking.hold }
     requires run { how.waits ≡ false }
-    ensures ready { IfOk result (λ _. IsReady D.told house.new) }
+    ensures whole { IfOk result (λ _. IsWhole D.told house.new) }
     ensures added { IfOk result (λ _. AddsOf (next_number (entries_of house.old))
         (D.faults house.old.shelf) (D.faults house.new.shelf)
         (entries_of house.old) (entries_of house.new)) }
     ensures held { IfOk result (IsKeptIn (entries_of house.old) (entries_of house.new) (asked_of asking)) }
-    ensures shows { Shows D.told house.old (entries_of house.old)
-        → IfOk result (λ _. Shows D.told house.new (entries_of house.new)) }
-    ensures taken { Shows D.told house.old (entries_of house.old)
-        → IfOk result (λ taken. Tells (D.told house.new.shelf) (λ s. IsTakenAs
-        (entries_of house.old) (entries_of house.new) s.tree (asked_of asking) asking.hold taken)) }
-    ensures keeps { Moves (KeepsGiven (state_of (entries_of house.old)).tables)
-        (D.told house.old.shelf) (D.told house.new.shelf) }
-    ensures tells { StaysTold (D.told house.old.shelf) (D.told house.new.shelf) }
+    ensures taken { IsToldHouse D.told house.old → IfOk result (IsTakenAs
+        (entries_of house.old) (entries_of house.new) (asked_of asking) asking.hold) }
+    ensures start { house.new.start ≡ house.old.start }
     ensures stopped { IfErr result (λ why. StopsTaken D.told (asked_of asking) why house.old house.new) }
-    ensures opens { Shows D.told house.old (entries_of house.old)
-        → IfErr result (λ _. StillOpens D.told house.new) }
+    ensures opens { IsToldHouse D.told house.old → IfErr result (λ _. StillOpens D.told house.new) }
     ensures ends { IfErr result EndsRun }
     ensures cause { FileCause (D.faults house.old.shelf) (D.faults house.new.shelf) result }
 {
@@ -72,27 +65,19 @@ pub fn finish<D: Shelf>(
     paused: Paused,
     how: How,
 ) -> Result<Reply, HouseFault>
-    requires ready { IsReady D.told house.old }
+    requires whole { IsWhole D.told house.old }
     requires run { how.waits ≡ false }
     requires held { IsHeldBySome (entries_of house.old) paused }
-    ensures ready { IfOk result (λ _. IsReady D.told house.new) }
+    requires truly { IsToldHouse D.told house.old → IsTrulyHeld (entries_of house.old) paused }
+    ensures whole { IfOk result (λ _. IsWhole D.told house.new) }
     ensures added { IfOk result (λ _. AddsOf paused.txn.0
         (D.faults house.old.shelf) (D.faults house.new.shelf)
         (entries_of house.old) (entries_of house.new)) }
-    ensures shows { Shows D.told house.old (entries_of house.old)
-        → Tells (D.told house.old.shelf) (λ s. IsTrulyHeld (entries_of house.old) s.tree paused)
-        → IfOk result (λ _. Shows D.told house.new (entries_of house.new)) }
-    ensures finished { Shows D.told house.old (entries_of house.old)
-        → Tells (D.told house.old.shelf) (λ s. IsTrulyHeld (entries_of house.old) s.tree paused)
-        → IfOk result (λ reply. Tells (D.told house.new.shelf) (λ _. IsFinished
-        (entries_of house.old) (entries_of house.new) paused.txn.0 reply.text reply.refused reply.ended)) }
-    ensures keeps { Moves (KeepsGiven (state_of (entries_of house.old)).tables)
-        (D.told house.old.shelf) (D.told house.new.shelf) }
-    ensures tells { StaysTold (D.told house.old.shelf) (D.told house.new.shelf) }
+    ensures finished { IsToldHouse D.told house.old → IfOk result (λ reply. IsFinished
+        (entries_of house.old) (entries_of house.new) paused.txn.0 reply.text reply.refused reply.ended) }
+    ensures start { house.new.start ≡ house.old.start }
     ensures stopped { IfErr result (λ why. HasStopped D.told paused.txn.0 why house.old house.new) }
-    ensures opens { Shows D.told house.old (entries_of house.old)
-        → Tells (D.told house.old.shelf) (λ s. IsTrulyHeld (entries_of house.old) s.tree paused)
-        → IfErr result (λ _. StillOpens D.told house.new) }
+    ensures opens { IsToldHouse D.told house.old → IfErr result (λ _. StillOpens D.told house.new) }
     ensures ends { IfErr result EndsRun }
     ensures cause { FileCause (D.faults house.old.shelf) (D.faults house.new.shelf) result }
 {

@@ -23,7 +23,8 @@ returns-in-Ok g c = record {
 
 pub returns-in-Err-Store-default : goal.returns-in-Err-Store-default
 returns-in-Err-Store-default g c = record {
-  served = Serves-store _ _ _ _ _ _ _ _ c.status.ensures c.in-Err-Store-default.field-0-0-is c.in-Err-Store-default.ensures.same_tree c.in-Err-Store-default.ensures.stopped;
+  served = Serves-store _ _ _ _ _ _ _ _ c.status.ensures c.in-Err-Store-default.field-0-0-is c.in-Err-Store-default.ensures.same_tree c.in-Err-Store-default.ensures.stopped
+      c.in-Err-Store-default.ensures.roomy;
   opened = opens-store _ _ _ _ _ c.status.ensures;
   blames = blames-store _ _ _ _ _ c.status.ensures c.in-Err-Store-default.field-0-0-is c.in-Err-Store-default.ensures.cause.failed;
   heard = stays_same _;
@@ -31,7 +32,8 @@ returns-in-Err-Store-default g c = record {
 
 pub returns-in-Err-NoMemory-default : goal.returns-in-Err-NoMemory-default
 returns-in-Err-NoMemory-default g c = record {
-  served = Serves-memory _ _ _ _ _ _ _ _ c.status-in-Err-NoMemory-default.ensures c.in-Err-NoMemory-default.field-0-0-is c.in-Err-NoMemory-default.ensures.same_tree c.in-Err-NoMemory-default.ensures.stopped;
+  served = Serves-memory _ _ _ _ _ _ _ _ c.status-in-Err-NoMemory-default.ensures c.in-Err-NoMemory-default.field-0-0-is c.in-Err-NoMemory-default.ensures.same_tree c.in-Err-NoMemory-default.ensures.stopped
+      c.in-Err-NoMemory-default.ensures.roomy;
   opened = opens-memory _ _ _ _ _ c.status-in-Err-NoMemory-default.ensures;
   blames = blames-memory _ _ _ _ c.status-in-Err-NoMemory-default.ensures;
   heard = stays_same _;

@@ -1,10 +1,9 @@
 use Rattle.std.proofs.Common.{sym, subst, Some}
 use Rattle.hv_base.specs.declared.gate.Stage.TheVariants as stage
 use Rattle.hv_house.specs.House.{entries_of}
-use Rattle.hv_session.specs.Ways.{GoesInTime, StandsHeld, StandsTruly, ShowsAnd, GoesTruly}
+use Rattle.hv_session.specs.Ways.{GoesInTime, StandsHeld, StandsTruly}
 use Rattle.hv_session.proofs.Passing.{part-ok, part-err}
 use Rattle.hv_session.proofs.Keeping.{ready-goes, ready-stands, ready-truly}
-use Rattle.hv_session.proofs.Going.{shows-more}
 use Rattle.hv_session.proofs.holds.hold_commit.Goals as goal
 
 pub returns-in-Ok-clause-part : goal.returns-in-Ok-clause-part
@@ -22,12 +21,10 @@ returns-in-Ok-clause-stands g c = λ asking under.
     (ready-stands (entries_of c.args.house.now) (entries_of c.go_to_commit.new.house) c.args.way c.args.tree asking c.in-Ok.prepared (c.in-Ok.ensures.stands asking under))
 
 pub returns-in-Ok-clause-truly : goal.returns-in-Ok-clause-truly
-returns-in-Ok-clause-truly g c = λ asking under shows.
-    subst (λ t. ShowsAnd g.D.Shelf.told c.go_to_commit.new.house (λ s. StandsTruly (entries_of c.args.house.now) (entries_of c.go_to_commit.new.house) s.tree c.args.way.txn.0 t))
-    (sym c.held_ready.ensures)
-    (shows-more g.D.Shelf.told c.go_to_commit.new.house (λ s. GoesTruly (entries_of c.args.house.now) (entries_of c.go_to_commit.new.house) s.tree asking c.args.way c.args.tree c.in-Ok.prepared) _
-    (λ s truly. ready-truly (entries_of c.args.house.now) (entries_of c.go_to_commit.new.house) c.args.way c.args.tree asking s.tree c.in-Ok.prepared truly)
-    (c.in-Ok.ensures.truly asking under shows))
+returns-in-Ok-clause-truly g c = λ is.
+    subst (StandsTruly (entries_of c.args.house.now) (entries_of c.go_to_commit.new.house) c.args.way.txn.0) (sym c.held_ready.ensures)
+    (ready-truly (entries_of c.args.house.now) (entries_of c.go_to_commit.new.house) c.args.way c.args.tree c.requires.way.0 c.in-Ok.prepared
+    (c.in-Ok.ensures.truly c.requires.way.0 c.requires.way.1 is))
 
 pub returns-in-Err-clause-part : goal.returns-in-Err-clause-part
 returns-in-Err-clause-part g c =

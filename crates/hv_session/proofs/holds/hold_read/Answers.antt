@@ -1,10 +1,9 @@
 use Rattle.std.proofs.Common.{sym, subst, Some}
 use Rattle.hv_house.specs.House.{entries_of}
-use Rattle.hv_session.specs.Ways.{GoesInTime, StandsHeld, StandsTruly, ShowsAnd, ComesTruly}
+use Rattle.hv_session.specs.Ways.{GoesInTime, StandsHeld, StandsTruly}
 use Rattle.hv_base.specs.declared.gate.Stage.TheVariants as stage
 use Rattle.hv_session.proofs.Passing.{part-ok, part-err}
 use Rattle.hv_session.proofs.Keeping.{meant-goes, meant-stands, meant-truly}
-use Rattle.hv_session.proofs.Going.{shows-more}
 use Rattle.hv_session.proofs.holds.hold_read.Goals as goal
 
 pub returns-in-Ok-clause-part : goal.returns-in-Ok-clause-part
@@ -22,12 +21,10 @@ returns-in-Ok-clause-stands g c = λ asking under.
     (meant-stands (entries_of c.args.house.now) (entries_of c.come_unrefused.new.house) c.args.way c.args.tree asking c.in-Ok.outcome under c.in-Ok.ensures.comes c.in-Ok.ensures.unrefused)
 
 pub returns-in-Ok-clause-truly : goal.returns-in-Ok-clause-truly
-returns-in-Ok-clause-truly g c = λ asking under shows.
-    subst (λ t. ShowsAnd g.D.Shelf.told c.come_unrefused.new.house (λ s. StandsTruly (entries_of c.args.house.now) (entries_of c.come_unrefused.new.house) s.tree c.args.way.txn.0 t))
-    (sym c.held_meant.ensures)
-    (shows-more g.D.Shelf.told c.come_unrefused.new.house (λ _. ComesTruly (entries_of c.args.house.now) (entries_of c.come_unrefused.new.house) c.args.way c.args.tree c.in-Ok.outcome) _
-    (λ s truly. meant-truly (entries_of c.args.house.now) (entries_of c.come_unrefused.new.house) c.args.way c.args.tree asking s.tree c.in-Ok.outcome under c.in-Ok.ensures.comes c.in-Ok.ensures.unrefused truly)
-    (c.in-Ok.ensures.truly asking under shows))
+returns-in-Ok-clause-truly g c = λ is.
+    subst (StandsTruly (entries_of c.args.house.now) (entries_of c.come_unrefused.new.house) c.args.way.txn.0) (sym c.held_meant.ensures)
+    (meant-truly (entries_of c.args.house.now) (entries_of c.come_unrefused.new.house) c.args.way c.args.tree c.requires.way.0 c.in-Ok.outcome c.requires.way.1 c.in-Ok.ensures.comes
+    c.in-Ok.ensures.unrefused (c.in-Ok.ensures.truly is))
 
 pub returns-in-Err-clause-part : goal.returns-in-Err-clause-part
 returns-in-Err-clause-part g c =

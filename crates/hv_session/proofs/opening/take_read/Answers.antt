@@ -4,7 +4,6 @@ use Rattle.hv_house.specs.House.{entries_of}
 use Rattle.hv_session.specs.Taking.{asked_of}
 use Rattle.hv_stands.specs.Running.{next_number}
 use Rattle.hv_session.proofs.Passing.{part-ok, part-taking, taking-residual}
-use Rattle.hv_session.proofs.Beginning.{turned-taken}
 use Rattle.hv_session.proofs.opening.take_read.Goals as goal
 
 pub begin-requires-clause-can : goal.begin-requires-clause-can
@@ -22,8 +21,7 @@ returns-clause-taking g c =
     (part-ok g.D.Shelf.told g.D.Shelf.faults (next_number (entries_of c.args.house.now)) c.args.house.now c.turn_away-result.new.house c.in_ok-result.field-0 _ c.in_ok-result.ensures.part)
 
 pub returns-clause-truly : goal.returns-clause-truly
-returns-clause-truly g c = λ shows.
-    turned-taken g.D.Shelf.told c.args.house.now c.turn_away-result.new.house (asked_of c.args.asking) c.args.asking.hold c.requires.hold c.in_ok-result.field-0 (c.in_ok-result.ensures.truly shows)
+returns-clause-truly g c = λ is. c.in_ok-result.ensures.turned c.args.asking.hold c.requires.hold
 
 pub returns-in_err-result-clause-taking : goal.returns-in_err-result-clause-taking
 returns-in_err-result-clause-taking g c =

@@ -3,8 +3,7 @@ use Rattle.hv_house.specs.declared.fault.HouseFault.TheVariants as fault
 use Rattle.hv_stands.specs.Running.{next_number}
 use Rattle.hv_house.specs.House.{entries_of}
 use Rattle.hv_session.specs.Taking.{asked_of}
-use Rattle.hv_session.specs.Ways.{IsTurnedAway}
-use Rattle.hv_session.proofs.Passing.{still-part, still-shows, still-halts, part-residual}
+use Rattle.hv_session.proofs.Passing.{still-part, still-halts, part-residual}
 use Rattle.hv_session.proofs.Beginning.{opened-is, unfit, lacks-room, full-away}
 use Rattle.hv_session.proofs.opening.turn_away.Goals as goal
 
@@ -24,24 +23,23 @@ note_and_abort-requires-clause-fits g c = c.fits.ensures.fits.0 c.if-fits.true
 pub returns-then-fits-clause-part : goal.returns-then-fits-clause-part
 returns-then-fits-clause-part g c = c.note_and_abort.ensures.part
 
-pub returns-then-fits-clause-truly : goal.returns-then-fits-clause-truly
-returns-then-fits-clause-truly g c =
-    c.note_and_abort.ensures.truly (asked_of c.args.asking)
+pub returns-then-fits-clause-turned : goal.returns-then-fits-clause-turned
+returns-then-fits-clause-turned g c =
+    c.note_and_abort.ensures.turned (asked_of c.args.asking)
     (opened-is (entries_of c.args.house.now) (asked_of c.args.asking) c.next_txn.result c.next_txn.ensures.next)
 
 pub returns-in_ok-full_reply-clause-part : goal.returns-in_ok-full_reply-clause-part
 returns-in_ok-full_reply-clause-part g c =
-    still-part g.D.Shelf.told c.args.house.now g.D.Shelf.faults (next_number (entries_of c.args.house.now)) c.in_ok-full_reply.field-0 c.requires.ready
+    still-part g.D.Shelf.told g.D.Shelf.faults (next_number (entries_of c.args.house.now)) c.args.house.now c.requires.whole c.in_ok-full_reply.field-0
 
-pub returns-in_ok-full_reply-clause-truly : goal.returns-in_ok-full_reply-clause-truly
-returns-in_ok-full_reply-clause-truly g c = λ shows.
-    still-shows g.D.Shelf.told c.args.house.now (λ s. IsTurnedAway (entries_of c.args.house.now) (entries_of c.args.house.now) (asked_of c.args.asking) c.in_ok-full_reply.field-0) shows
-    (λ s. full-away (entries_of c.args.house.now) (asked_of c.args.asking) c.in_ok-full_reply.field-0
+pub returns-in_ok-full_reply-clause-turned : goal.returns-in_ok-full_reply-clause-turned
+returns-in_ok-full_reply-clause-turned g c =
+    full-away (entries_of c.args.house.now) (asked_of c.args.asking) c.in_ok-full_reply.field-0
     (lacks-room (entries_of c.args.house.now) (asked_of c.args.asking) c.args.tree.now c.requires.tree
     (unfit (entries_of c.args.house.now) (asked_of c.args.asking) c.next_txn.result c.next_txn.ensures.next c.fits.result c.if-fits.false c.fits.ensures.fits))
-    c.in_ok-full_reply.ensures.line)
+    c.in_ok-full_reply.ensures.line
 
 pub returns-in_err-full_reply-clause-part : goal.returns-in_err-full_reply-clause-part
 returns-in_err-full_reply-clause-part g c =
     part-residual g.D.Shelf.told g.D.Shelf.faults (next_number (entries_of c.args.house.now)) c.args.house.now c.args.house.now fault.NoMemory c.from_residual.result c.from_residual.ensures.1
-    (still-halts g.D.Shelf.told c.args.house.now {T = List ℕ} g.D.Shelf.faults (next_number (entries_of c.args.house.now)) c.requires.ready)
+    (still-halts g.D.Shelf.told g.D.Shelf.faults (next_number (entries_of c.args.house.now)) c.args.house.now c.requires.whole {T = List ℕ})

@@ -1,5 +1,0 @@
-use Rattle.hv_history.specs.Legal.{profile}
-use Rattle.hv_session.proofs.opening.begin.Given as goal
-
-abbrev pub ghost-begin : goal.ghost-begin
-ghost-begin g a = profile
