@@ -1,0 +1,4 @@
+pub mod Lasts
+pub mod Acts
+pub mod Meanings
+pub mod Creates
