@@ -1,6 +1,6 @@
 -- What each act asks, and what it leaves.
 use Rattle.std.proofs.Common.{◌≡◌, inl, ℕ, zero, suc, Bool, true, false, is_none, Option, Some, None, List, [], ◌∷◌, ◌++◌, length, take, refl, sym, ap, ◌∙◌, subst, append-nil, arith, Ok, Err, Result}
-use Rattle.std.specs.Prelude.{IsSomeAnd, IsTrue, IfOk}
+use Rattle.std.specs.Prelude.{IsSomeAnd, IsTrue, IfOk, IfErr}
 use Rattle.std.specs.List.{slice_get}
 use Rattle.std.proofs.lemmas.List.{length-append}
 use Rattle.hv_base.specs.declared.ids.TxnId.{TxnId}
@@ -31,12 +31,15 @@ use Rattle.hv_stands.proofs.Meanings.{built-means}
 use Rattle.hv_trail.specs.declared.trail.TrailItem.{TrailItem}
 use Rattle.hv_trail.specs.declared.trail.TrailItem.TheVariants.{Noted}
 use Rattle.hv_trail.specs.Trail.{book_of, state_at}
-use Rattle.hv_trail.specs.Steps.{HouseSeen, Note, Commit}
+use Rattle.hv_trail.specs.Steps.{HouseSeen, Note, Commit, Ask, MayEnd}
 use Rattle.hv_trail.proofs.LastingLaws.{book-append}
 use Rattle.hv_actor.specs.Acting.{Reached, Held}
 use Rattle.hv_house.specs.House.{IsSmall}
 use Rattle.hv_telling.specs.Telling.{IsTold}
+use Rattle.hv_house.specs.declared.fault.HouseFault.TheVariants as fault
 use Rattle.hv_acts.specs.declared.fault.ActFault.{ActFault}
+use Rattle.hv_acts.specs.declared.fault.ActFault.TheVariants as act
+use Rattle.hv_acts.specs.declared.fault.BeginFault.TheVariants as hindered_by
 use Rattle.hv_acts.specs.declared.fault.BeginFault.{BeginFault}
 use Rattle.hv_acts.specs.declared.opening.Begun.{Begun}
 use Rattle.hv_acts.specs.declared.committing.Committed.{Committed}
@@ -48,7 +51,7 @@ use Rattle.hv_acts.specs.Making.{MakeFits}
 use Rattle.hv_acts.specs.Meant.{HasMeant, IsMakeMeant, IsCommitMeant, IsCauseTrue}
 use Rattle.hv_acts.proofs.Meant.{on-way}
 use Rattle.hv_acts.proofs.Lasting.{cause-lasts}
-use Rattle.hv_doing.specs.Doing.{HasStarted, HasMeantSome, IsDue, committed_at}
+use Rattle.hv_doing.specs.Doing.{HasStarted, HasMeantSome, IsDue, committed_at, StopsRun, StopsBegin}
 use Rattle.hv_doing.proofs.Lasts.{meant-lasts}
 
 -- ---- the house that was reached
@@ -225,3 +228,53 @@ module _ {D : Type 0} (told : D → Option Store) (faults : D → ℕ) (B : List
           means_it = some.1;
         },
       )
+
+-- ---- a call that makes none on files doesn't fail as one
+
+pub note-stops : {T : Type 0} (event : Entry) (result : Result T ActFault) → MayEnd (answer_call (Note event) result) (answer_outcome result) → IfErr result StopsRun
+note-stops event (Ok x) may = tt
+note-stops event (Err (act.Ended at)) may = tt
+note-stops event (Err (act.Full entries)) may = tt
+note-stops event (Err (act.Held by)) may = tt
+note-stops event (Err (act.Broken put count)) may = tt
+note-stops event (Err act.Unfit) may = tt
+note-stops event (Err (act.House fault.Store)) may = tt
+note-stops event (Err (act.House fault.NoMemory)) may = tt
+note-stops event (Err (act.House (fault.Failed count))) may = may
+
+pub ask-stops : {T : Type 0} (result : Result T ActFault) → MayEnd Ask (answer_outcome result) → IfErr result StopsRun
+ask-stops (Ok x) may = tt
+ask-stops (Err (act.Ended at)) may = tt
+ask-stops (Err (act.Full entries)) may = tt
+ask-stops (Err (act.Held by)) may = tt
+ask-stops (Err (act.Broken put count)) may = tt
+ask-stops (Err act.Unfit) may = tt
+ask-stops (Err (act.House fault.Store)) may = tt
+ask-stops (Err (act.House fault.NoMemory)) may = tt
+ask-stops (Err (act.House (fault.Failed count))) may = may
+
+commit-stops : (txn : TxnId) (wrote : List Touch) (found : Result Committed ActFault) → MayEnd (answer_call (Commit txn wrote) found) (commit_outcome found)
+    → IfErr (committed_at found) StopsRun
+commit-stops txn wrote (Ok (committed.Done at)) may = tt
+commit-stops txn wrote (Ok (committed.Conflict at by table partition)) may = tt
+commit-stops txn wrote (Err (act.Ended at)) may = tt
+commit-stops txn wrote (Err (act.Full entries)) may = tt
+commit-stops txn wrote (Err (act.Held by)) may = tt
+commit-stops txn wrote (Err (act.Broken put count)) may = tt
+commit-stops txn wrote (Err act.Unfit) may = tt
+commit-stops txn wrote (Err (act.House fault.Store)) may = tt
+commit-stops txn wrote (Err (act.House fault.NoMemory)) may = tt
+commit-stops txn wrote (Err (act.House (fault.Failed count))) may = may
+
+pub committed-stops : (txn : TxnId) (wrote : List Touch) (found : Result Committed ActFault) → MayEnd (answer_call (Commit txn wrote) found) (commit_outcome found)
+    → (result : Result ℕ ActFault) → result ≡ committed_at found → IfErr result StopsRun
+committed-stops txn wrote found may result e = subst (λ (r : Result ℕ ActFault). IfErr r StopsRun) (sym e) (commit-stops txn wrote found may)
+
+pub begin-stops : (trail : List TrailItem) (session : List ℕ) (number : ℕ) (text : List ℕ) (result : Result Begun BeginFault)
+    → MayEnd (begin_call trail session number text result) (begin_outcome result) → IfErr result StopsBegin
+begin-stops trail session number text (Ok start) may = tt
+begin-stops trail session number text (Err (hindered_by.Held by)) may = tt
+begin-stops trail session number text (Err (hindered_by.Full entries)) may = tt
+begin-stops trail session number text (Err (hindered_by.House fault.Store)) may = tt
+begin-stops trail session number text (Err (hindered_by.House fault.NoMemory)) may = tt
+begin-stops trail session number text (Err (hindered_by.House (fault.Failed count))) may = may

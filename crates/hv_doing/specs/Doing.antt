@@ -25,6 +25,7 @@ use Rattle.hv_meta.specs.declared.facts.TxnState.TheVariants as standing
 use Rattle.hv_meta.specs.States.{state_in}
 use Rattle.hv_house.specs.declared.fault.HouseFault.{HouseFault}
 use Rattle.hv_house.specs.declared.fault.HouseFault.TheVariants as fault
+use Rattle.hv_house.specs.Faults.{EndsRun}
 use Rattle.hv_acts.specs.declared.opening.Begun.{Begun}
 use Rattle.hv_acts.specs.declared.committing.Committed.{Committed}
 use Rattle.hv_acts.specs.declared.committing.Committed.TheVariants as committed
@@ -62,6 +63,20 @@ IsGone trail txn (act.Held by) = Unit {0}
 IsGone trail txn (act.Broken put count) = Unit {0}
 IsGone trail txn act.Unfit = Unit {0}
 IsGone trail txn (act.House why) = Unit {0}
+
+-- a house's call that failed ends the run: no call on files is made
+abbrev pub StopsRun : ActFault → Type 0
+StopsRun (act.Ended at) = Unit {0}
+StopsRun (act.Full entries) = Unit {0}
+StopsRun (act.Held by) = Unit {0}
+StopsRun (act.Broken put count) = Unit {0}
+StopsRun act.Unfit = Unit {0}
+StopsRun (act.House why) = EndsRun why
+
+abbrev pub StopsBegin : BeginFault → Type 0
+StopsBegin (hindered_by.Held by) = Unit {0}
+StopsBegin (hindered_by.Full entries) = Unit {0}
+StopsBegin (hindered_by.House why) = EndsRun why
 
 -- ---- a commit that touches nothing
 

@@ -14,7 +14,7 @@ ghost use Rattle.hv_acts.specs.Answers.{adds_entry};
 ghost use Rattle.hv_acts.specs.Beginning.{adds_beginning, IsBeginWhy};
 ghost use Rattle.hv_acts.specs.Meant.{HasMeant, IsMakeMeant};
 ghost use Rattle.hv_acts.specs.Reading.{HasPlace, info_then, IsOfHouse};
-ghost use Rattle.hv_doing.specs.Doing.{HasStarted, IsGone, IsDue, IsUnopposed, committed_at};
+ghost use Rattle.hv_doing.specs.Doing.{StopsRun, StopsBegin, HasStarted, IsGone, IsDue, IsUnopposed, committed_at};
 
 use hv_actor::Actor;
 use hv_acts::{
@@ -48,6 +48,7 @@ pub fn begin<D: Shelf + Drop, W: Actor<D, ToldHouse<D>>>(
     ensures begun { IfOk result (λ start. HasStarted (W.seen actor.new)
         (record { session = session; number = number; text = text }) start tree) }
     ensures hindered { IfErr result (IsBeginWhy (book_of (W.seen actor.new)) tree) }
+    ensures stops { IfErr result StopsBegin }
 {
     actor.hold(
         alloc,
@@ -75,6 +76,7 @@ pub fn find_table<D: Shelf + Drop, W: Actor<D, ToldHouse<D>>>(
     ensures fit { IfOk result (λ _. AllFitting (book_of (W.seen actor.new))) }
     ensures found { IfOk result (λ found. found ≡ info_then (W.seen actor.new) place name.now) }
     ensures why { IfErr result IsOfHouse }
+    ensures stops { IfErr result StopsRun }
 {
     actor.hold(alloc, FindTable { place, name })
 }
@@ -93,6 +95,7 @@ pub fn create<D: Shelf + Drop, W: Actor<D, ToldHouse<D>>>(
         (W.own actor.old) (W.own actor.new) (W.seen actor.old) (W.seen actor.new) }
     ensures answered { IfOk result (λ _. HasAnswered (book_of (W.seen actor.new)) txn.0 ok_line false) }
     ensures gone { IfErr result (IsGone (W.seen actor.new) txn) }
+    ensures stops { IfErr result StopsRun }
 {
     actor.hold(alloc, MakeTable { txn })
 }
@@ -123,6 +126,7 @@ pub fn commit_nothing<D: Shelf + Drop, W: Actor<D, ToldHouse<D>>>(
         (W.own actor.old) (W.own actor.new) (W.seen actor.old) (W.seen actor.new) }
     ensures answered { IfOk result (λ _. HasAnswered (book_of (W.seen actor.new)) txn.0 ok_line false) }
     ensures gone { IfErr result (IsGone (W.seen actor.new) txn) }
+    ensures stops { IfErr result StopsRun }
 {
     let wrote = List::empty(alloc);
     unopposed(actor.hold(alloc, CommitWrites { txn, wrote }))
@@ -143,6 +147,7 @@ pub fn abort<D: Shelf + Drop, W: Actor<D, ToldHouse<D>>>(
         (W.own actor.old) (W.own actor.new) (W.seen actor.old) (W.seen actor.new) }
     ensures answered { IfOk result (λ _. HasAnswered (book_of (W.seen actor.new)) txn.0 (cause_text None cause) true) }
     ensures gone { IfErr result (IsGone (W.seen actor.new) txn) }
+    ensures stops { IfErr result StopsRun }
 {
     actor.hold(alloc, AbortFor { txn, cause })
 }

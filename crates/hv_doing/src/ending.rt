@@ -1,9 +1,10 @@
 //! How a statement ends that was begun: each end but one that others made is one act, and the reply's text is made before it.
-ghost use Rattle.std.specs.Prelude.{◌≡◌, None, []};
+ghost use Rattle.std.specs.Prelude.{IfErr, ◌≡◌, None, []};
 ghost use Rattle.hv_logic.specs.declared.meaning.Meaning.TheVariants.{Plain, Refused};
 ghost use Rattle.hv_history.specs.Answers.{ok_line, cause_text};
 ghost use Rattle.hv_acts.specs.Meant.{HasMeant, IsMakeMeant};
-ghost use Rattle.hv_doing.specs.Doing.{HasMeantSome, IsGone, IsDue, LacksMemory, MakesOrLacks, aborting, unaborted, EndsAs, Ends};
+ghost use Rattle.hv_house.specs.Faults.{EndsRun};
+ghost use Rattle.hv_doing.specs.Doing.{StopsRun, HasMeantSome, IsGone, IsDue, LacksMemory, MakesOrLacks, aborting, unaborted, EndsAs, Ends};
 ghost use Rattle.hv_doing.specs.declared.reply.Done.TheVariants as done;
 
 use crate::acting::{abort, commit_nothing, create};
@@ -29,7 +30,9 @@ fn replied(text: Vec<u8>, refused: bool) -> Done
 /// What a statement comes to whose abort was refused: others ended it, or the run stops. An abort that is due fits while its
 /// transaction is open, so that no other answer comes.
 fn unaborted(why: ActFault) -> Result<Done, HouseFault>
-    ensures { result ≡ unaborted why }
+    requires stops { StopsRun why }
+    ensures same { result ≡ unaborted why }
+    ensures stops { IfErr result EndsRun }
 {
     match why {
         ActFault::Ended { at } => Ok(Done::Gone { at }),
@@ -54,6 +57,7 @@ fn abort_with<D: Shelf + Drop, W: Actor<D, ToldHouse<D>>>(
     ensures root { W.root actor.new ≡ W.root actor.old }
     ensures ends { Ends W.between txn (λ last. last ≡ aborting txn cause)
         (W.own actor.old) (W.own actor.new) (W.seen actor.old) (W.seen actor.new) result }
+    ensures stops { IfErr result EndsRun }
 {
     match abort(alloc, actor, txn, cause) {
         Ok(_) => Ok(replied(text, true)),
@@ -76,6 +80,7 @@ pub fn lack_memory<D: Shelf + Drop, W: Actor<D, ToldHouse<D>>>(
     ensures root { W.root actor.new ≡ W.root actor.old }
     ensures ends { Ends W.between txn (LacksMemory txn)
         (W.own actor.old) (W.own actor.new) (W.seen actor.old) (W.seen actor.new) result }
+    ensures stops { IfErr result EndsRun }
 {
     match cause_text(alloc, &None, &Cause::Memory) {
         Ok(text) => abort_with(alloc, actor, txn, Cause::Memory, text),
@@ -93,15 +98,17 @@ pub fn end_without<D: Shelf + Drop, W: Actor<D, ToldHouse<D>>>(
     requires keeps { W.keeps actor.old }
     requires meant { HasMeantSome (W.seen actor.old) txn }
     requires gone { IsGone (W.seen actor.old) txn why }
+    requires stops { StopsRun why }
     ensures keeps { W.keeps actor.new }
     ensures root { W.root actor.new ≡ W.root actor.old }
     ensures ends { Ends W.between txn (LacksMemory txn)
         (W.own actor.old) (W.own actor.new) (W.seen actor.old) (W.seen actor.new) result }
+    ensures stops { IfErr result EndsRun }
 {
     match why {
         ActFault::Ended { at } => Ok(Done::Gone { at }),
         ActFault::House(HouseFault::Store) => Err(HouseFault::Store),
-        ActFault::House(HouseFault::Failed { count }) => Err(HouseFault::Failed { count }),
+        ActFault::House(HouseFault::Failed { .. }) => unreachable!(),
         ActFault::House(HouseFault::NoMemory)
         | ActFault::Full { .. }
         | ActFault::Held { .. }
@@ -123,6 +130,7 @@ fn create_with<D: Shelf + Drop, W: Actor<D, ToldHouse<D>>>(
     ensures root { W.root actor.new ≡ W.root actor.old }
     ensures ends { Ends W.between txn (MakesOrLacks txn)
         (W.own actor.old) (W.own actor.new) (W.seen actor.old) (W.seen actor.new) result }
+    ensures stops { IfErr result EndsRun }
 {
     match create(alloc, actor, txn) {
         Ok(_) => Ok(replied(text, false)),
@@ -142,6 +150,7 @@ fn end_by_create<D: Shelf + Drop, W: Actor<D, ToldHouse<D>>>(
     ensures root { W.root actor.new ≡ W.root actor.old }
     ensures ends { Ends W.between txn (MakesOrLacks txn)
         (W.own actor.old) (W.own actor.new) (W.seen actor.old) (W.seen actor.new) result }
+    ensures stops { IfErr result EndsRun }
 {
     match ok_line(alloc) {
         Ok(text) => create_with(alloc, actor, txn, text),
@@ -162,6 +171,7 @@ fn commit_with<D: Shelf + Drop, W: Actor<D, ToldHouse<D>>>(
     ensures root { W.root actor.new ≡ W.root actor.old }
     ensures ends { Ends W.between txn (EndsAs txn Plain)
         (W.own actor.old) (W.own actor.new) (W.seen actor.old) (W.seen actor.new) result }
+    ensures stops { IfErr result EndsRun }
 {
     match commit_nothing(alloc, actor, txn) {
         Ok(_) => Ok(replied(text, false)),
@@ -181,6 +191,7 @@ fn end_by_commit<D: Shelf + Drop, W: Actor<D, ToldHouse<D>>>(
     ensures root { W.root actor.new ≡ W.root actor.old }
     ensures ends { Ends W.between txn (EndsAs txn Plain)
         (W.own actor.old) (W.own actor.new) (W.seen actor.old) (W.seen actor.new) result }
+    ensures stops { IfErr result EndsRun }
 {
     match ok_line(alloc) {
         Ok(text) => commit_with(alloc, actor, txn, text),
@@ -201,6 +212,7 @@ fn end_by_refusal<D: Shelf + Drop, W: Actor<D, ToldHouse<D>>>(
     ensures root { W.root actor.new ≡ W.root actor.old }
     ensures ends { Ends W.between txn (EndsAs txn (Refused refusal))
         (W.own actor.old) (W.own actor.new) (W.seen actor.old) (W.seen actor.new) result }
+    ensures stops { IfErr result EndsRun }
 {
     let number = refusal.number();
     match cause_text(alloc, &None, &Cause::Refused { number }) {
@@ -225,6 +237,7 @@ pub fn end_as_meant<D: Shelf + Drop, W: Actor<D, ToldHouse<D>>>(
     ensures root { W.root actor.new ≡ W.root actor.old }
     ensures ends { Ends W.between txn (EndsAs txn meaning)
         (W.own actor.old) (W.own actor.new) (W.seen actor.old) (W.seen actor.new) result }
+    ensures stops { IfErr result EndsRun }
 {
     match meaning {
         Meaning::Make(_) => end_by_create(alloc, actor, txn),

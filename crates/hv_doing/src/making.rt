@@ -12,7 +12,8 @@ ghost use Rattle.hv_actor.specs.Acting.{Went};
 ghost use Rattle.hv_acts.specs.Reading.{info_then};
 ghost use Rattle.hv_house.specs.declared.fault.HouseFault.TheVariants as fault;
 ghost use Rattle.hv_acts.specs.declared.fault.ActFault.TheVariants as act;
-ghost use Rattle.hv_doing.specs.Doing.{HasStarted, IsGone, EndsAsMeant, Ends, IsDone, seen_found, not_begun};
+ghost use Rattle.hv_house.specs.Faults.{EndsRun};
+ghost use Rattle.hv_doing.specs.Doing.{StopsRun, StopsBegin, HasStarted, IsGone, EndsAsMeant, Ends, IsDone, seen_found, not_begun};
 
 use crate::acting::{begin, find_table};
 use crate::ending::{end_as_meant, end_without};
@@ -90,6 +91,7 @@ fn see<D: Shelf + Drop, W: Actor<D, ToldHouse<D>>>(
     ensures means { IfOk result (λ meaning.
         meant (take start.place (book_of (W.seen actor.new))) tree.now ≡ Some meaning) }
     ensures gone { IfErr result (IsGone (W.seen actor.new) start.txn) }
+    ensures stops { IfErr result StopsRun }
 {
     let found = find_table(alloc, actor, start.place, made_name(tree))?;
     meaning_beside(alloc, tree, found)
@@ -110,6 +112,7 @@ fn end_begun<D: Shelf + Drop, W: Actor<D, ToldHouse<D>>>(
     ensures ends { (asking : Asking) → HasStarted (W.seen actor.old) asking start tree.now
         → Ends W.between start.txn (EndsAsMeant (W.seen actor.new) asking start tree.now)
         (W.own actor.old) (W.own actor.new) (W.seen actor.old) (W.seen actor.new) result }
+    ensures stops { IfErr result EndsRun }
 {
     match see(alloc, actor, start, tree) {
         Ok(meaning) => end_as_meant(alloc, actor, start.txn, meaning),
@@ -118,7 +121,9 @@ fn end_begun<D: Shelf + Drop, W: Actor<D, ToldHouse<D>>>(
 }
 
 fn not_begun(why: BeginFault) -> Result<Done, HouseFault>
-    ensures { result ≡ not_begun why }
+    requires stops { StopsBegin why }
+    ensures same { result ≡ not_begun why }
+    ensures stops { IfErr result EndsRun }
 {
     match why {
         BeginFault::Held { by } => Ok(Done::Held { by }),
@@ -151,6 +156,7 @@ pub fn make_table<D: Shelf + Drop, W: Actor<D, ToldHouse<D>>>(
     ensures root { W.root actor.new ≡ W.root actor.old }
     ensures done { IsDone W.between (record { session = session; number = number; text = text }) tree.now
         (W.own actor.old) (W.own actor.new) (W.seen actor.old) (W.seen actor.new) result }
+    ensures stops { IfErr result EndsRun }
 {
     match begin(alloc, actor, session, number, text, kept) {
         Ok(start) => end_begun(alloc, actor, start, tree),

@@ -11,6 +11,3 @@ returns-in-Ended-clause-ends g c = record {
 
 pub returns-in-House-Store-clause-ends : goal.returns-in-House-Store-clause-ends
 returns-in-House-Store-clause-ends g c = went-none g.W.Actor.between g.met.W.Actor.rows (g.W.Actor.own c.args.actor.now) (g.W.Actor.seen c.args.actor.now)
-
-pub returns-in-House-Failed-clause-ends : goal.returns-in-House-Failed-clause-ends
-returns-in-House-Failed-clause-ends g c = went-none g.W.Actor.between g.met.W.Actor.rows (g.W.Actor.own c.args.actor.now) (g.W.Actor.seen c.args.actor.now)
