@@ -170,15 +170,15 @@ module _ {D : Type 0} (told : D → Option Store) (faults : D → ℕ) (B : List
         grind (arith, length-append, length-eight, length-four),
         tt,
         λ told. cause-lasts has.then_ house.trail has.front txn (cause.Refused number) tt
-            (subst (λ (o : Option Transaction). IsSomeAnd o (CauseIsTrue (state_at has.then_) (cause.Refused number))) (sym has.under_way.here)
-            (subst (IsRefusedAs number) (sym has.means_it) due.1)),
+            (subst (λ (o : Option Transaction). IsSomeAnd o (CauseIsTrue (state_at has.then_) (cause.Refused number))) (sym has.was.under_way.here)
+            (subst (IsRefusedAs number) (sym has.was.means_it) due.1)),
       )
   can-abort cause.Memory due house at =
       let has = meant-lasts seen house.trail (front-of B root seen house at) txn [] due.0 due.1 in (
         grind (arith, length-append, length-eight),
         tt,
         λ told. cause-lasts has.then_ house.trail has.front txn cause.Memory tt
-            (subst (λ (o : Option Transaction). IsSomeAnd o (CauseIsTrue (state_at has.then_) cause.Memory)) (sym has.under_way.here) tt),
+            (subst (λ (o : Option Transaction). IsSomeAnd o (CauseIsTrue (state_at has.then_) cause.Memory)) (sym has.was.under_way.here) tt),
       )
   can-abort why due house at = absurd due
 

@@ -43,11 +43,7 @@ pub meant-lasts : (before now : List TrailItem) → IsFront before now → (txn 
 meant-lasts before now front txn given means has = record {
   then_ = has.then_;
   front = front-more has.then_ before now has.front front;
-  asking = has.asking;
-  place = has.place;
-  said = has.said;
-  under_way = has.under_way;
-  means_it = has.means_it;
+  was = has.was;
 }
 
 pub some-lasts : (before now : List TrailItem) → IsFront before now → (txn : TxnId) → HasMeantSome before txn → HasMeantSome now txn
@@ -78,11 +74,7 @@ module _ (asking : Asking) (start : Begun) (tree : Stmt) where
     record {
       then_ = has.1.then_;
       front = has.1.front;
-      asking = asking;
-      place = start.place;
-      said = tree;
-      under_way = has.1.under_way;
-      means_it = has.1.means_it;
+      was = record { asking = asking; place = start.place; said = tree; under_way = has.1.under_way; means_it = has.1.means_it };
     },
   )
 
