@@ -1,16 +1,15 @@
 -- Rows of steps, put together.
-use Rattle.std.proofs.Common.{◌≡◌, ℕ, zero, suc, ◌+◌, ◌-◌, ◌≤◌, ◌<◌, min, Option, Some, List, [], ◌∷◌, ◌++◌, length, map, refl, sym, ap, ◌∙◌, subst, append_assoc, arith}
+use Rattle.std.proofs.Common.{◌≡◌, ℕ, zero, suc, ◌+◌, ◌-◌, ◌≤◌, ◌<◌, min, Some, List, [], ◌∷◌, ◌++◌, length, map, refl, sym, ap, ◌∙◌, subst, append_assoc, le_trans, arith}
 use Rattle.std.specs.Prelude.{slice_get}
 use Rattle.std.specs.Option.{option_to_list}
 use Rattle.std.proofs.lemmas.List.{append-nil}
-use Rattle.hv_shelf.specs.Disk.{Store}
 use Rattle.hv_trail.specs.declared.trail.TrailItem.{TrailItem}
 use Rattle.hv_trail.specs.Steps.{HouseSeen, Call, Outcome, gains}
 use Rattle.hv_trail.specs.Own.{RiseWithin, items_at}
 use Rattle.hv_trail.proofs.LastingLaws.{goes-on-front}
 use Rattle.hv_trail.proofs.OwnLaws.{items-front}
 use Rattle.hv_trail.proofs.StepLaws.{gains-few, two-at-most}
-use Rattle.hv_actor.specs.Acting.{Reached, Held, Went, Woven, AreRows, Nothing, Anything, placed_from, places_of, items_of, numbers_from, own_alone, own_among, Adds}
+use Rattle.hv_actor.specs.Acting.{IsLater, Went, Woven, AreRows, Nothing, placed_from, places_of, items_of, numbers_from, own_alone, own_among}
 
 pub length-append : {A : Type 0} (xs ys : List A) → length (xs ++ ys) ≡ length xs + length ys
 length-append [] ys = omega arith
@@ -120,22 +119,29 @@ own-went-alone gained own own' a b w =
 pub added-is : (house now : List TrailItem) (gained added : List TrailItem) → now ≡ house ++ gained → gained ≡ added → now ≡ house ++ added
 added-is house now gained added adds same = adds ∙ ap (λ xs. house ++ xs) same
 
-pub went-held : (B : List TrailItem → Type 0) → AreRows B → {D : Type 0} (root : D) (seen now gained : List TrailItem) (own own' : List ℕ) (house : HouseSeen D)
-    → Reached B root seen house → now ≡ house.trail ++ gained → own' ≡ own ++ numbers_from (length house.trail) (length gained)
+-- others' items stand behind what was seen, and what the step adds behind theirs
+pub went-held : (B : List TrailItem → Type 0) → AreRows B → (seen house now gained others : List TrailItem) (own own' : List ℕ)
+    → B others → house ≡ seen ++ others → now ≡ house ++ gained → own' ≡ own ++ numbers_from (length house) (length gained)
     → Went B gained own own' seen now
-went-held B rows root seen now gained own own' house at adds mine =
-    let whole : now ≡ seen ++ (at.others ++ gained) = adds ∙ ap (λ xs. xs ++ gained) at.goes_on ∙ append_assoc seen at.others gained
-    in let next : length house.trail ≡ length seen + length at.others = ap length at.goes_on ∙ length-append seen at.others
+went-held B rows seen house now gained others own own' between goes_on adds mine =
+    let whole : now ≡ seen ++ (others ++ gained) = adds ∙ ap (λ xs. xs ++ gained) goes_on ∙ append_assoc seen others gained
+    in let next : length house ≡ length seen + length others = ap length goes_on ∙ length-append seen others
     in record {
-      placed = placed_from (length house.trail) gained;
-      items = placed-items (length house.trail) gained;
-      places = mine ∙ ap (λ xs. own ++ xs) (sym (placed-places (length house.trail) gained));
-      added = at.others ++ gained;
+      placed = placed_from (length house) gained;
+      items = placed-items (length house) gained;
+      places = mine ∙ ap (λ xs. own ++ xs) (sym (placed-places (length house) gained));
+      added = others ++ gained;
       seen = whole;
-      woven = woven-before B rows.more (length seen) at.others (placed_from (length house.trail) gained) gained at.between_is
-          (subst (λ n. Woven B n (placed_from (length house.trail) gained) gained) next (woven-own B rows.none (length house.trail) gained));
-      goes_on = goes-on-front seen now (record { more = at.others ++ gained; is = whole });
+      woven = woven-before B rows.more (length seen) others (placed_from (length house) gained) gained between
+          (subst (λ n. Woven B n (placed_from (length house) gained) gained) next (woven-own B rows.none (length house) gained));
+      goes_on = goes-on-front seen now (record { more = others ++ gained; is = whole });
     }
+
+-- where no others came, what the step adds stands behind what was seen
+pub went-itself : (B : List TrailItem → Type 0) → AreRows B → (seen now gained : List TrailItem) (own own' : List ℕ)
+    → now ≡ seen ++ gained → own' ≡ own ++ numbers_from (length seen) (length gained) → Went B gained own own' seen now
+went-itself B rows seen now gained own own' adds mine =
+    went-held B rows seen seen now gained [] own own' rows.none (sym (append-nil seen)) adds mine
 
 -- the places of one who acts alone go on
 pub alone-more : {D : Type 0} (before now : HouseSeen D) (gained : List TrailItem) → before.opened ≤ length before.trail → now.opened ≡ before.opened
@@ -149,20 +155,20 @@ alone-more before now gained within same adds =
     ∙ numbers-more before.opened (length before.trail - before.opened) (length gained)
     ∙ ap (λ n. numbers_from before.opened (length before.trail - before.opened) ++ numbers_from n (length gained)) at
 
--- a house that nobody has acted on
-pub reached-itself : (B : List TrailItem → Type 0) → B [] → {D : Type 0} (house : HouseSeen D) → Reached B house.start house.trail house
-reached-itself B none house = record { start = refl; others = []; goes_on = sym (append-nil house.trail); between_is = none }
+-- ---- houses go on
 
--- one that others acted on
-pub reached-behind : {D : Type 0} (before now : HouseSeen D) → Adds before now → Reached Anything before.start before.trail now
-reached-behind before now adds = record { start = adds.start; others = adds.gains; goes_on = adds.trail; between_is = tt }
-
--- what was held of a store and a trail is held of their equals
-pub held-same : {D : Type 0} (told : D → Option Store) (faults : D → ℕ) (B : List TrailItem → Type 0) (root root' : D) (seen seen' last : List TrailItem)
-    (call : HouseSeen D → Call) (outcome : Outcome) (does : HouseSeen D → Type 0) → root ≡ root' → seen ≡ seen'
-    → Held told faults B root seen last call outcome does → Held told faults B root' seen' last call outcome does
-held-same told faults B root root' seen seen' last call outcome does e f held =
-    subst (λ r. Held told faults B r seen' last call outcome does) e (subst (λ xs. Held told faults B root xs last call outcome does) f held)
+pub later-further : {D : Type 0} (faults : D → ℕ) (a b c : HouseSeen D) → IsLater faults a b → IsLater faults b c → IsLater faults a c
+later-further faults a b c first next = record {
+  added = first.added ++ next.added;
+  trail = next.trail ∙ ap (λ xs. xs ++ next.added) first.trail ∙ append_assoc a.trail first.added next.added;
+  rest = record {
+    start = next.rest.start ∙ first.rest.start;
+    opened = next.rest.opened ∙ first.rest.opened;
+    limits = next.rest.limits ∙ first.rest.limits;
+  };
+  count = le_trans first.count next.count;
+  closed = λ e. next.closed (first.closed e);
+}
 
 -- ---- own places rise, and have the items
 

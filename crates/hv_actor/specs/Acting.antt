@@ -1,17 +1,19 @@
--- What an actor knows of a house that it reaches again, and what its own steps left.
+-- What an actor knows of a house that it finds again, and what its own steps left.
 -- Source: this project's profile.
-use Rattle.std.specs.Prelude.{◌≡◌, ℕ, zero, suc, ◌+◌, ◌-◌, Option, List, [], ◌∷◌, ◌++◌, length, map}
+use Rattle.std.specs.Prelude.{◌≡◌, ◌≤◌, true, ℕ, zero, suc, ◌+◌, ◌-◌, Option, List, [], ◌∷◌, ◌++◌, length, map}
 use Rattle.hv_shelf.specs.Disk.{Store}
 use Rattle.hv_trail.specs.declared.trail.TrailItem.{TrailItem}
 use Rattle.hv_trail.specs.Lasting.{GoesOn}
-use Rattle.hv_trail.specs.Steps.{HouseSeen, Call, Outcome, Step}
+use Rattle.hv_trail.specs.Steps.{HouseSeen, Call, Outcome, KeepsRest, Step}
 
--- What was seen is a front of its trail. What lies behind is of others, and is as `between` says.
-pub record Reached {D : Type 0} (between : List TrailItem → Type 0) (root : D) (seen : List TrailItem) (house : HouseSeen D) : Type 0 where
-  pub start : house.start ≡ root
-  pub others : List TrailItem
-  pub goes_on : house.trail ≡ seen ++ others
-  pub between_is : between others
+-- A house goes on: items stand behind those that stood, what no call changes is as it was, the store's count of faults doesn't fall, and one
+-- that was closed stays so.
+pub record IsLater {D : Type 0} (faults : D → ℕ) (before now : HouseSeen D) : Type 0 where
+  pub added : List TrailItem
+  pub trail : now.trail ≡ before.trail ++ added
+  pub rest : KeepsRest before now
+  pub count : faults before.shelf ≤ faults now.shelf
+  pub closed : before.closed ≡ true → now.closed ≡ true
 
 -- these items, at places from this one on
 abbrev pub placed_from : ℕ → List TrailItem → List (ℕ × TrailItem)
@@ -47,15 +49,14 @@ pub record Went (between : List TrailItem → Type 0) (gained : List TrailItem) 
   pub woven : Woven between (length before) placed added
   pub goes_on : GoesOn before now
 
--- one step, over a house that was reached
-pub record Held {D : Type 0} (told : D → Option Store) (faults : D → ℕ) (between : List TrailItem → Type 0) (root : D) (seen seen' : List TrailItem)
-    (call : HouseSeen D → Call) (outcome : Outcome) (does : HouseSeen D → Type 0) : Type 0 where
-  pub house : HouseSeen D
-  pub then_ : HouseSeen D
-  pub reached : Reached between root seen house
-  pub step : Step told faults (call house) outcome house then_
-  pub does_it : does house
-  pub saw : seen' ≡ then_.trail
+-- One step, on a house that was left as `before` and to which others had done what they may meanwhile.
+pub record Held {D H : Type 0} (told : D → Option Store) (faults : D → ℕ) (seen : H → HouseSeen D) (keeps : H → Type 0) (meanwhile : H → H → Type 0)
+    (before now : H) (call : HouseSeen D → Call) (outcome : Outcome) (does : HouseSeen D → HouseSeen D → Type 0) : Type 0 where
+  pub house : H
+  pub reached : meanwhile before house
+  pub kept : keeps house
+  pub step : Step told faults (call (seen house)) outcome (seen house) (seen now)
+  pub does_it : does (seen house) (seen now)
 
 -- nothing is a row of others' items, and two rows are one
 pub record AreRows (between : List TrailItem → Type 0) : Type 0 where
@@ -74,11 +75,16 @@ Anything others = Unit {0}
 abbrev pub own_alone : {D : Type 0} → HouseSeen D → List ℕ
 own_alone house = numbers_from house.opened (length house.trail - house.opened)
 
--- some items were added, by others
-pub record Adds {D : Type 0} (before now : HouseSeen D) : Type 0 where
-  pub gains : List TrailItem
-  pub trail : now.trail ≡ before.trail ++ gains
-  pub start : now.start ≡ before.start
+-- Others do nothing to the house, or anything by which it goes on.
+abbrev pub Untouched : {H : Type 0} → H → H → Type 0
+Untouched before now = now ≡ before
+
+abbrev pub Touched : {D H : Type 0} → (D → ℕ) → (H → HouseSeen D) → H → H → Type 0
+Touched faults seen before now = IsLater faults (seen before) (seen now)
+
+-- where others do nothing, the house is found as it was left
+abbrev pub IsAlone : {H : Type 0} → (H → H → Type 0) → Type 0
+IsAlone {H = H} meanwhile = (before now : H) → meanwhile before now → now ≡ before
 
 -- the places of one among others: those that it keeps, and from `since` on all of them
 abbrev pub own_among : List ℕ → ℕ → List TrailItem → List ℕ

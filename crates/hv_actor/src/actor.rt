@@ -1,7 +1,7 @@
 ghost use Rattle.std.specs.Prelude.{◌≡◌, ◌≤◌, ℕ, List, length};
 ghost use Rattle.hv_trail.specs.declared.trail.TrailItem.{TrailItem};
 ghost use Rattle.hv_trail.specs.Steps.{HouseSeen, Call, Outcome, gains, Step};
-ghost use Rattle.hv_actor.specs.Acting.{Reached, Held, Went, AreRows};
+ghost use Rattle.hv_actor.specs.Acting.{IsLater, Held, Went, AreRows};
 
 use hv_shelf::Shelf;
 use std::alloc::Global;
@@ -39,8 +39,8 @@ pub trait Act<D: Shelf, H: Housed<D>>: Drop {
     /// What it adds, by its answer alone.
     ghost adds: { Self → Self.Answer → List TrailItem };
 
-    /// What is true of its answer, over the house as it was.
-    ghost does: { Self → HouseSeen D → Self.Answer → Type 0 };
+    /// What is true of its answer, over the house as it was and as it is then.
+    ghost does: { Self → HouseSeen D → HouseSeen D → Self.Answer → Type 0 };
 
     fn act(self, alloc: Global, house: &mut H) -> Self::Answer
         requires keeps { H.keeps house.old }
@@ -48,16 +48,13 @@ pub trait Act<D: Shelf, H: Housed<D>>: Drop {
         ensures keeps { H.keeps house.new }
         ensures step { Step D.told D.faults (call self (H.seen house.old) result) (outcome self result) (H.seen house.old) (H.seen house.new) }
         ensures adds { gains (call self (H.seen house.old) result) (outcome self result) ≡ adds self result }
-        ensures does { does self (H.seen house.old) result };
+        ensures does { does self (H.seen house.old) (H.seen house.new) result };
 }
 
 /// One who acts on a house, step by step, and may not be the only one.
 pub trait Actor<D: Shelf, H: Housed<D>> {
-    /// The store that the house was opened over.
-    ghost root: { Self → D };
-
-    /// The trail, as far as it was seen.
-    ghost seen: { Self → List TrailItem };
+    /// The house, as it was last seen.
+    ghost house: { Self → H };
 
     /// The places of the trail that are its own.
     ghost own: { Self → List ℕ };
@@ -65,19 +62,27 @@ pub trait Actor<D: Shelf, H: Housed<D>> {
     /// What others may add between two of its steps.
     ghost between: { List TrailItem → Type 0 };
 
+    /// What others may do to the house between two of its steps.
+    ghost meanwhile: { H → H → Type 0 };
+
     /// What holds of it between two steps.
     ghost keeps: { Self → Type 0 };
 
     /// Lets one step happen. What the house is then was seen, and what the step added is its own.
     fn hold<A: Act<D, H>>(&mut self, alloc: Global, act: A) -> A::Answer
         requires keeps { keeps self.old }
-        requires can { (house : HouseSeen D) → Reached between (root self.old) (seen self.old) house → A.can act house }
+        requires can { (now : H) → H.keeps now → meanwhile (house self.old) now → A.can act (H.seen now) }
         ensures keeps { keeps self.new }
-        ensures root { root self.new ≡ root self.old }
-        ensures held { Held D.told D.faults between (root self.old) (seen self.old) (seen self.new)
-            (λ house. A.call act house result) (A.outcome act result) (λ house. A.does act house result) }
+        ensures held { Held D.told D.faults H.seen H.keeps meanwhile (house self.old) (house self.new)
+            (λ seen. A.call act seen result) (A.outcome act result) (λ before now. A.does act before now result) }
         ensures went { Went between (A.adds act result)
-            (own self.old) (own self.new) (seen self.old) (seen self.new) };
+            (own self.old) (own self.new) (H.seen (house self.old)).trail (H.seen (house self.new)).trail };
+
+    /// A house on which others act goes on.
+    ghost goes_on: { (before now : H) → meanwhile before now → IsLater D.faults (H.seen before) (H.seen now) };
+
+    /// What was last seen of the house is as each act keeps it.
+    ghost kept: { (self : Self) → keeps self → H.keeps (house self) };
 
     /// What two rows of others' items may be, they may be together.
     ghost rows: { AreRows between };
@@ -85,18 +90,22 @@ pub trait Actor<D: Shelf, H: Housed<D>> {
 
 /// A house on which nobody else acts.
 impl<D: Shelf, H: Housed<D>> Actor<D, H> for H {
-    ghost use Rattle.hv_actor.specs.Acting.{Nothing, own_alone};
-    ghost use Rattle.hv_actor.specs.Rows.{nothing_rows};
+    ghost use Rattle.hv_actor.specs.Acting.{Nothing, Untouched, own_alone};
+    ghost use Rattle.hv_actor.specs.Rows.{nothing_rows, untouched_goes_on};
 
-    ghost root = { λ h. (H.seen h).start };
-
-    ghost seen = { λ h. (H.seen h).trail };
+    ghost house = { λ h. h };
 
     ghost own = { λ h. own_alone (H.seen h) };
 
     ghost between = { Nothing };
 
+    ghost meanwhile = { Untouched };
+
     ghost keeps = { λ h. H.keeps h };
+
+    ghost goes_on = { untouched_goes_on D.faults H.seen };
+
+    ghost kept = { λ h keeps. keeps };
 
     ghost rows = { nothing_rows };
 

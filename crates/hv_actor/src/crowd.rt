@@ -1,6 +1,5 @@
 ghost use Rattle.std.specs.Prelude.{◌≡◌, ◌≤◌, ◌<◌, ◌+◌, ◌-◌, ◌++◌, min, length, vec_len, vec_capacity, IfOk, true};
-ghost use Rattle.hv_trail.specs.Steps.{HouseSeen};
-ghost use Rattle.hv_actor.specs.Acting.{Reached, Held, Went, Adds, Anything, numbers_from, own_among};
+ghost use Rattle.hv_actor.specs.Acting.{IsLater, Touched, Held, Went, Anything, numbers_from, own_among};
 
 use crate::actor::{Act, Actor, Housed};
 use hv_base::NoMemory;
@@ -14,7 +13,7 @@ pub trait Others<D: Shelf, H: Housed<D>>: Drop {
     fn go(&mut self, alloc: Global, house: &mut H)
         requires keeps { H.keeps house.old }
         ensures keeps { H.keeps house.new }
-        ensures adds { Adds (H.seen house.old) (H.seen house.new) };
+        ensures later { IsLater D.faults (H.seen house.old) (H.seen house.new) };
 }
 
 /// A house on which others act too: before each step of the one who holds it, as often as there is room to keep
@@ -128,13 +127,12 @@ impl<D: Shelf, H: Housed<D>, O: Others<D, H>> Crowd<D, H, O> {
     /// One step, behind those of the others.
     fn behind_others<A: Act<D, H>>(&mut self, alloc: Global, act: A) -> A::Answer
         requires keeps { H.keeps self.old.house }
-        requires can { (house : HouseSeen D) → Reached Anything (H.seen self.old.house).start (H.seen self.old.house).trail house → A.can act house }
+        requires can { (now : H) → H.keeps now → Touched D.faults H.seen self.old.house now → A.can act (H.seen now) }
         requires room { vec_len self.old.early + 2 ≤ vec_capacity self.old.early }
         requires since { self.old.since ≡ length (H.seen self.old.house).trail }
         ensures keeps { H.keeps self.new.house }
-        ensures root { (H.seen self.new.house).start ≡ (H.seen self.old.house).start }
-        ensures held { Held D.told D.faults Anything (H.seen self.old.house).start (H.seen self.old.house).trail (H.seen self.new.house).trail
-            (λ house. A.call act house result) (A.outcome act result) (λ house. A.does act house result) }
+        ensures held { Held D.told D.faults H.seen H.keeps (Touched D.faults H.seen) self.old.house self.new.house
+            (λ seen. A.call act seen result) (A.outcome act result) (λ before now. A.does act before now result) }
         ensures went { Went Anything (A.adds act result)
             (own_among self.old.early.items self.old.since (H.seen self.old.house).trail)
             (own_among self.new.early.items self.new.since (H.seen self.new.house).trail)
@@ -152,12 +150,11 @@ impl<D: Shelf, H: Housed<D>, O: Others<D, H>> Crowd<D, H, O> {
     /// One step, and nobody comes before it.
     fn undisturbed<A: Act<D, H>>(&mut self, alloc: Global, act: A) -> A::Answer
         requires keeps { H.keeps self.old.house }
-        requires can { (house : HouseSeen D) → Reached Anything (H.seen self.old.house).start (H.seen self.old.house).trail house → A.can act house }
+        requires can { (now : H) → H.keeps now → Touched D.faults H.seen self.old.house now → A.can act (H.seen now) }
         requires since { self.old.since ≤ length (H.seen self.old.house).trail }
         ensures keeps { H.keeps self.new.house }
-        ensures root { (H.seen self.new.house).start ≡ (H.seen self.old.house).start }
-        ensures held { Held D.told D.faults Anything (H.seen self.old.house).start (H.seen self.old.house).trail (H.seen self.new.house).trail
-            (λ house. A.call act house result) (A.outcome act result) (λ house. A.does act house result) }
+        ensures held { Held D.told D.faults H.seen H.keeps (Touched D.faults H.seen) self.old.house self.new.house
+            (λ seen. A.call act seen result) (A.outcome act result) (λ before now. A.does act before now result) }
         ensures went { Went Anything (A.adds act result)
             (own_among self.old.early.items self.old.since (H.seen self.old.house).trail)
             (own_among self.new.early.items self.new.since (H.seen self.new.house).trail)
@@ -168,18 +165,22 @@ impl<D: Shelf, H: Housed<D>, O: Others<D, H>> Crowd<D, H, O> {
 }
 
 impl<D: Shelf, H: Housed<D>, O: Others<D, H>> Actor<D, H> for Crowd<D, H, O> {
-    ghost use Rattle.hv_actor.specs.Acting.{Anything, own_among};
+    ghost use Rattle.hv_actor.specs.Acting.{Anything, Touched, own_among};
     ghost use Rattle.hv_actor.specs.Rows.{anything_rows};
 
-    ghost root = { λ c. (H.seen c.house).start };
-
-    ghost seen = { λ c. (H.seen c.house).trail };
+    ghost house = { λ c. c.house };
 
     ghost own = { λ c. own_among c.early.items c.since (H.seen c.house).trail };
 
     ghost between = { Anything };
 
+    ghost meanwhile = { Touched D.faults H.seen };
+
     ghost keeps = { λ c. H.keeps c.house };
+
+    ghost goes_on = { λ before now later. later };
+
+    ghost kept = { λ c keeps. keeps };
 
     ghost rows = { anything_rows };
 

@@ -1,7 +1,8 @@
 ghost use Rattle.std.specs.Prelude.{◌≡◌, ℕ, List, ◌++◌, length};
 ghost use Rattle.hv_trail.specs.declared.trail.TrailItem.{TrailItem};
 ghost use Rattle.hv_trail.specs.Own.{RiseWithin, items_at};
-ghost use Rattle.hv_actor.specs.Acting.{Went, Nothing, Anything, numbers_from};
+ghost use Rattle.hv_trail.specs.Steps.{HouseSeen};
+ghost use Rattle.hv_actor.specs.Acting.{IsLater, Went, Nothing, Untouched, IsAlone, numbers_from};
 
 use crate::actor::{Actor, Housed};
 use hv_shelf::Shelf;
@@ -27,4 +28,15 @@ pub fn own_places_have_own_items<D: Shelf, H: Housed<D>, W: Actor<D, H>>()
     ensures items { (gained : List TrailItem) (own next : List ℕ) (before now : List TrailItem)
         → Went W.between gained own next before now → RiseWithin 0 own (length before)
         → items_at next now ≡ items_at own before ++ gained }
+{}
+
+/// Where others do nothing to a house, whoever acts on it is alone: it is found as it was left.
+pub fn who_is_alone<H>()
+    ensures law { IsAlone {H = H} Untouched }
+{}
+
+/// A house goes on to itself, and where it goes on twice, it goes on.
+pub fn houses_go_on<D>()
+    ensures itself { (faults : D → ℕ) (house : HouseSeen D) → IsLater faults house house }
+    ensures further { (faults : D → ℕ) (a b c : HouseSeen D) → IsLater faults a b → IsLater faults b c → IsLater faults a c }
 {}

@@ -7,4 +7,6 @@ mod laws;
 
 pub use actor::{Act, Actor, Housed};
 pub use crowd::{Crowd, Others};
-pub use laws::{alone_adds_its_own, own_places_have_own_items, steps_go_together};
+pub use laws::{
+    alone_adds_its_own, houses_go_on, own_places_have_own_items, steps_go_together, who_is_alone,
+};
