@@ -1,13 +1,16 @@
 -- A transaction that is committed by an act, or aborted since a commit conflicts with it.
-use Rattle.std.proofs.Common.{◌≡◌, inl, inr, ℕ, Bool, true, false, append-nil, arith, Option, Some, None, Ok, Err, List, length, refl, sym, ◌∙◌, subst}
+use Rattle.std.proofs.Common.{◌≡◌, inl, inr, ℕ, zero, suc, ◌<◌, slice_get, Bool, true, false, append-nil, arith, Option, Some, None, Ok, Err, List, [], ◌∷◌, length, refl, sym, ◌∙◌, subst}
 use Rattle.std.specs.Prelude.{IsSomeAnd}
 use Rattle.hv_base.specs.Told.{Moves}
 use Rattle.hv_base.specs.declared.ids.TxnId.{TxnId}
 use Rattle.hv_base.specs.declared.ids.TableId.{TableId}
 use Rattle.hv_base.specs.declared.ids.Touch.{Touch}
+use Rattle.hv_shelf.specs.declared.place.Place.{Place}
 use Rattle.hv_shelf.specs.Disk.{Store}
+use Rattle.hv_route.specs.Routes.{files_of}
 use Rattle.hv_history.specs.declared.entry.Entry.{Entry}
 use Rattle.hv_history.specs.declared.entry.Entry.TheVariants as entry
+use Rattle.hv_history.specs.declared.entry.Cause.{Cause}
 use Rattle.hv_history.specs.declared.entry.Cause.TheVariants as cause
 use Rattle.hv_history.specs.declared.state.Table.{Table}
 use Rattle.hv_history.specs.declared.state.Transaction.{Transaction}
@@ -17,28 +20,31 @@ use Rattle.hv_conflicts.proofs.ClashLemmas.{clash-fits}
 use Rattle.hv_conflicts.specs.declared.meeting.Clash.{Clash}
 use Rattle.hv_conflicts.specs.Clashes.{IsClash}
 use Rattle.hv_trail.specs.declared.trail.Reader.TheVariants.{Txn}
-use Rattle.hv_trail.specs.declared.trail.TrailItem.{TrailItem}
 use Rattle.hv_trail.specs.Trail.{book_of, state_at, broken}
 use Rattle.hv_trail.specs.Kept.{trail_of}
-use Rattle.hv_trail.specs.Steps.{Note, Commit, Done, Closed, HouseSeen, Step}
+use Rattle.hv_trail.specs.Steps.{Note, Commit, Done, HouseSeen, Step}
 use Rattle.hv_house.specs.declared.fault.HouseFault.{HouseFault}
 use Rattle.hv_house.specs.declared.fault.HouseFault.TheVariants as fault
 use Rattle.hv_house.specs.declared.house.House.{House}
 use Rattle.hv_house.specs.House.{entries_of, IsSmall}
 use Rattle.hv_house.specs.Steps.{seen_of, fault_outcome, IsPutWhole, CanCommit}
-use Rattle.hv_telling.specs.Telling.{IsToldHouse, IsWhole, StaysWhole, StillOpens}
-use Rattle.hv_acts.specs.declared.committing.Shared.{Shared}
+use Rattle.hv_telling.specs.Telling.{IsWhole}
+use Rattle.hv_acts.specs.declared.aborted.Aborted.{Aborted}
+use Rattle.hv_acts.specs.declared.committing.Conflict.{Conflict}
+use Rattle.hv_acts.specs.declared.committing.Committed.TheVariants as committed
 use Rattle.hv_acts.specs.declared.fault.ActFault.{ActFault}
 use Rattle.hv_acts.specs.declared.fault.ActFault.TheVariants as act
-use Rattle.hv_acts.specs.Answers.{act_outcome, call_behind, IsLate, EntryFits, EntryStep}
+use Rattle.hv_acts.specs.Answers.{act_outcome, call_behind, FilesTest, IsLate, EntryFits, EntryStep, HasItsMark}
+use Rattle.hv_acts.specs.Aborting.{AbortStep}
 use Rattle.hv_acts.specs.Putting.{Runs}
-use Rattle.hv_acts.specs.declared.committing.Committed.TheVariants as committed
-use Rattle.hv_acts.specs.Committing.{WasPut, WasPutWhole, CommitsAlone, IsSharedBy, IsConflict, CommitStep}
-use Rattle.hv_acts.specs.Meant.{HasAtMost, RunsWith}
-use Rattle.hv_acts.proofs.Steps.{book-is, moves-same, or-false, asked, whole-keeps, keeps-behind}
-use Rattle.hv_acts.proofs.Notes.{why-of, asked-late}
-use Rattle.hv_acts.proofs.Makes.{why-both}
+use Rattle.hv_acts.specs.Committing.{IsOfItsChange, CanBePut, WerePut, conflict_cause, IsConflictOf, IsConflict, HasMet, CommitsAlone, CommitStep}
+use Rattle.hv_acts.specs.Meant.{HasAtMost, RunsWith, IsCommitDue, IsCauseTrue}
+use Rattle.hv_acts.proofs.Shorts.{short_conflict}
+use Rattle.hv_acts.proofs.Steps.{book-is, moves-same, or-false, asked, whole-keeps}
+use Rattle.hv_acts.proofs.Leaves.{late-leaves}
+use Rattle.hv_acts.proofs.Notes.{why-of, why-for, asked-late}
 use Rattle.hv_acts.proofs.Puts.{holds-id}
+use Rattle.hv_acts.proofs.Truths.{files-written, conflict-true}
 
 -- ---- what it rests on
 
@@ -54,52 +60,77 @@ there tables number P = by (numbered tables number) refl
     by None here is = absurd is
     by (Some table) here is = record { table = table; here = here; is = is }
 
-put-whole : {D : Type 0} (house : House D) (txn : TxnId) (wrote : List Touch) → Runs (trail_of house.trail) txn → WasPutWhole (trail_of house.trail) txn wrote
+put-whole : {D : Type 0} (house : House D) (txn : TxnId) (wrote : List Touch) (places : List Place) → Runs (trail_of house.trail) txn
+    → IsOfItsChange (trail_of house.trail) txn wrote places → WerePut (trail_of house.trail) txn places
     → IsPutWhole (entries_of house) (trail_of house.trail) txn wrote
-put-whole house txn wrote runs was =
-    let at = there (state_at (trail_of house.trail)).tables was.info.table.0 (λ (table : Table). table.info ≡ was.info) was.here in
+put-whole house txn wrote places runs is put =
+    let at = there (state_at (trail_of house.trail)).tables is.info.table.0 (λ (table : Table). table.info ≡ is.info) is.here in
     record {
-      info = was.info;
+      info = is.info;
       table = at.table;
-      here = subst (λ (book : List Entry). numbered (state_of book).tables was.info.table.0 ≡ Some at.table) (book-is house) at.here;
+      here = subst (λ (book : List Entry). numbered (state_of book).tables is.info.table.0 ≡ Some at.table) (book-is house) at.here;
       same = at.is;
-      effect = was.effect;
-      write = was.write;
-      touches = was.touches;
-      holds = holds-id house txn was.info.table.0 was.write runs was.given;
-      files = was.files;
+      effect = is.effect;
+      write = is.write;
+      touches = is.touches;
+      holds = holds-id house txn is.info.table.0 is.write runs is.given;
+      files = files-written (trail_of house.trail) txn is.info.table.0 is.write (files_of is.info.shape is.write 0 is.effect) places is.places_are put;
     }
 
-pub can-commit : {D : Type 0} (house : House D) (txn : TxnId) (wrote : List Touch) → Runs (trail_of house.trail) txn → broken (Txn txn) (trail_of house.trail) ≡ None
-    → WasPut (trail_of house.trail) txn wrote → CanCommit (entries_of house) (trail_of house.trail) txn wrote
-can-commit house txn wrote runs unbroken (inl none) = record { unbroken = unbroken; put = inl none }
-can-commit house txn wrote runs unbroken (inr was) = record { unbroken = unbroken; put = inr (put-whole house txn wrote runs was) }
+pub can-commit : {D : Type 0} (house : House D) (txn : TxnId) (wrote : List Touch) (places : List Place) → Runs (trail_of house.trail) txn
+    → broken (Txn txn) (trail_of house.trail) ≡ None → CanBePut (trail_of house.trail) txn wrote places → WerePut (trail_of house.trail) txn places
+    → CanCommit (entries_of house) (trail_of house.trail) txn wrote
+can-commit house txn wrote places runs unbroken (inl none) put = record { unbroken = unbroken; put = inl none }
+can-commit house txn wrote places runs unbroken (inr is) put = record { unbroken = unbroken; put = inr (put-whole house txn wrote places runs is put) }
 
 -- ---- a conflict
 
-pub small-shared : (txn by : TxnId) (touch : Touch) (shared : Shared) → IsSharedBy touch shared → IsSmall (entry.Abort txn (cause.Conflict by touch.table touch.partition))
-    → IsSmall (entry.Abort txn (cause.Conflict by shared.table shared.partition))
-small-shared txn by touch shared is small =
-    subst (λ (t : TableId). IsSmall (entry.Abort txn (cause.Conflict by t shared.partition))) (sym is.table)
-    (subst (λ (p : List ℕ). IsSmall (entry.Abort txn (cause.Conflict by touch.table p))) (sym is.partition) small)
+pub found-within : (ts : List Touch) (at : ℕ) (touch : Touch) → slice_get ts at ≡ Some touch → at < length ts
+found-within [] at touch e = cc
+found-within (t ∷ ts) zero touch e = omega arith
+found-within (t ∷ ts) (suc at) touch e = omega (arith, found-within ts at touch e)
 
 conflict-at : (state : State) (txn : TxnId) (wrote : List Touch) (clash : Clash) (o : Option Transaction) → numbered state.transactions txn.0 ≡ o → IsSomeAnd o IsRunning
     → (is : IsClash state txn.0 wrote clash) → IsSomeAnd o (ConflictFits state clash.by.0 is.touch.table.0 is.touch.partition)
 conflict-at state txn wrote clash None here runs is = runs
 conflict-at state txn wrote clash (Some t) here runs is = clash-fits state txn.0 t wrote clash is.touch here runs is is.found
 
-pub fits-shared : {D : Type 0} (house : House D) (txn : TxnId) (wrote : List Touch) (clash : Clash) (shared : Shared) → Runs (trail_of house.trail) txn
-    → (is : IsClash (state_at (trail_of house.trail)) txn.0 wrote clash) → IsSharedBy is.touch shared
-    → EntryFits (trail_of house.trail) (entry.Abort txn (cause.Conflict clash.by shared.table shared.partition))
-fits-shared house txn wrote clash shared runs is by =
-    subst (λ (t : TableId). EntryFits (trail_of house.trail) (entry.Abort txn (cause.Conflict clash.by t shared.partition))) (sym by.table)
-    (subst (λ (p : List ℕ). EntryFits (trail_of house.trail) (entry.Abort txn (cause.Conflict clash.by is.touch.table p))) (sym by.partition)
-    (conflict-at (state_at (trail_of house.trail)) txn wrote clash (numbered (state_at (trail_of house.trail)).transactions txn.0) refl runs is))
+module _ {D : Type 0} (house : House D) (txn : TxnId) (wrote : List Touch) (clash : Clash) (is : IsClash (state_at (trail_of house.trail)) txn.0 wrote clash)
+    (runs : RunsWith (trail_of house.trail) txn 1) where
+  -- its cause fits
+  conflict-fits : EntryFits (trail_of house.trail) (entry.Abort txn (conflict_cause clash.by is.touch))
+  conflict-fits = conflict-at (state_at (trail_of house.trail)) txn wrote clash (numbered (state_at (trail_of house.trail)).transactions txn.0) refl runs.0 is
 
--- what both share is what its change shares
-pub conflict-of : (trail : List TrailItem) (txn : TxnId) (wrote : List Touch) (clash : Clash) (shared : Shared) → (is : IsClash (state_at trail) txn.0 wrote clash)
-    → IsSharedBy is.touch shared → IsConflict trail txn wrote clash.by shared.table shared.partition
-conflict-of trail txn wrote clash shared is by = record { clash = clash; is = is; by_is = refl; table_is = by.table; partition_is = by.partition }
+  its-conflict : IsConflict (trail_of house.trail) txn wrote clash.by is.touch.table is.touch.partition
+  its-conflict = record { clash = clash; is = is; by_is = refl; table_is = refl; partition_is = refl }
+
+  module _ (name : List ℕ) (at : ℕ) (found : Conflict) (of : IsConflictOf at clash.by is.touch name found) where
+    pub found-small : IsSmall (entry.Commit txn wrote) → IsSmall (entry.Abort txn found.cause)
+    found-small small =
+        subst (λ (why : Cause). IsSmall (entry.Abort txn why)) (sym of.cause_is) (short_conflict txn clash.by wrote clash.at is.touch is.found small)
+
+    pub found-fits : EntryFits (trail_of house.trail) (entry.Abort txn found.cause)
+    found-fits = subst (λ (why : Cause). EntryFits (trail_of house.trail) (entry.Abort txn why)) (sym of.cause_is) conflict-fits
+
+    pub found-marked : HasItsMark (trail_of house.trail) txn found.cause
+    found-marked = subst (HasItsMark (trail_of house.trail) txn) (sym of.cause_is) tt
+
+    pub found-true : (places : List Place) → IsCommitDue (trail_of house.trail) txn wrote places → IsCauseTrue (trail_of house.trail) txn found.cause
+    found-true places due =
+        subst (IsCauseTrue (trail_of house.trail) txn) (sym of.cause_is)
+        (conflict-true (trail_of house.trail) txn runs.0 wrote places clash.by is.touch.table is.touch.partition due its-conflict)
+
+    pub found-met : HasMet (trail_of house.trail) txn wrote name found
+    found-met = record {
+      by = clash.by;
+      table = is.touch.table;
+      partition = is.touch.partition;
+      conflict = its-conflict;
+      cause_is = of.cause_is;
+      line = of.line;
+      fits = conflict-fits;
+      runs = runs;
+    }
 
 pub clash-trail : {D : Type 0} (house : House D) (txn : TxnId) (entries : List Entry) (xs ys : List Touch) (clash : Clash) → entries ≡ entries_of house → xs ≡ ys
     → IsClash (state_of entries) txn.0 xs clash → IsClash (state_at (trail_of house.trail)) txn.0 ys clash
@@ -184,39 +215,37 @@ module _ {D : Type 0} (told : D → Option Store) (faults : D → ℕ) (txn : Tx
 
 -- ---- what is promised of a commit
 
-module _ {D : Type 0} (told : D → Option Store) (faults : D → ℕ) (txn : TxnId) (wrote : List Touch) where
+module _ {D : Type 0} (told : D → Option Store) (faults : D → ℕ) (txn : TxnId) (wrote : List Touch) (name : List ℕ) (places : List Place) where
   pub commit-failed : (why : ActFault) (before now : House D) → EntryStep {T = Unit {0}} told faults txn (entry.Commit txn wrote) before now (Err why)
-      → CommitStep told faults txn wrote before now (Err why)
+      → CommitStep told faults txn wrote name places before now (Err why)
   commit-failed why before now s = record {
     keeps = s.keeps;
     step = commit-behind told faults txn wrote (seen_of before) (seen_of now) why s.step;
-    answers = why-both (trail_of before.trail) txn _ _ why s.answers;
+    answers = why-for FilesTest (trail_of before.trail) txn _ (CommitsAlone (trail_of before.trail) txn wrote places) (λ is. is.fits) why s.answers;
+    leaves = s.leaves;
   }
 
   pub commit-done : (at : ℕ) (before now : House D) → at ≡ length (book_of (trail_of before.trail)) → broken (Txn txn) (trail_of before.trail) ≡ None
-      → HasAtMost (trail_of before.trail) txn 1 → EntryStep {T = Unit {0}} told faults txn (entry.Commit txn wrote) before now (Ok tt)
-      → CommitStep told faults txn wrote before now (Ok (committed.Done at))
-  commit-done at before now place unbroken most s = record {
+      → WerePut (trail_of before.trail) txn places → HasAtMost (trail_of before.trail) txn 1
+      → EntryStep {T = Unit {0}} told faults txn (entry.Commit txn wrote) before now (Ok tt) → CommitStep told faults txn wrote name places before now (Ok (committed.At at))
+  commit-done at before now place unbroken put most s = record {
     keeps = s.keeps;
-    step = record {
-      may = tt;
-      trail = s.step.trail;
-      store = s.step.store;
-      closed = s.step.closed;
-      shut_out = λ shut. let never : Done ≡ Closed = s.step.shut_out shut in cc;
-      locks = s.step.locks;
-      counts = s.step.counts;
-      rest = s.step.rest;
-    };
-    answers = record { place = place; unbroken = unbroken; fits = (s.answers.0, most) };
+    step = s.step;
+    answers = record { place = place; unbroken = unbroken; fits = record { put = put; fits = s.answers.0; alone = most } };
+    leaves = s.leaves;
   }
 
   pub commit-broken : (put : Bool) (count : ℕ) (house : House D) → IsWhole told house → broken (Txn txn) (trail_of house.trail) ≡ Some (put, count)
-      → CommitStep told faults txn wrote house house (Err (act.Broken put count))
-  commit-broken put count house whole is = record { keeps = whole-keeps told house whole; step = asked told faults (seen_of house); answers = is }
+      → CommitStep told faults txn wrote name places house house (Err (act.Broken put count))
+  commit-broken put count house whole is = record {
+    keeps = whole-keeps told house whole;
+    step = asked told faults (seen_of house);
+    answers = (tt, is);
+    leaves = whole.ready.kept.running;
+  }
 
   -- memory lacked before the call
-  pub commit-lacks : (house : House D) → IsWhole told house → CommitStep told faults txn wrote house house (Err (act.House fault.NoMemory))
+  pub commit-lacks : (house : House D) → IsWhole told house → CommitStep told faults txn wrote name places house house (Err (act.House fault.NoMemory))
   commit-lacks house whole = record {
     keeps = whole-keeps told house whole;
     step = record {
@@ -230,43 +259,50 @@ module _ {D : Type 0} (told : D → Option Store) (faults : D → ℕ) (txn : Tx
       rest = record { start = refl; opened = refl; limits = refl };
     };
     answers = tt;
+    leaves = whole.ready.kept.running;
   }
 
+  -- a test refused it
   pub commit-late : (why : ActFault) (house : House D) → IsWhole told house → IsLate (trail_of house.trail) txn why
-      → (RunsWith (trail_of house.trail) txn 1 → ⊥) → CommitStep told faults txn wrote house house (Err why)
+      → (CommitsAlone (trail_of house.trail) txn wrote places → ⊥) → CommitStep told faults txn wrote name places house house (Err why)
   commit-late why house whole late not = record {
     keeps = whole-keeps told house whole;
     step = asked-late told faults (seen_of house) (trail_of house.trail) txn (Commit txn wrote) why late;
-    answers = why-of (trail_of house.trail) txn (CommitsAlone (trail_of house.trail) txn wrote) why late
-        (λ fits. not (commit-runs house txn wrote fits.0, fits.1));
+    answers = why-of FilesTest (trail_of house.trail) txn (CommitsAlone (trail_of house.trail) txn wrote places) why late not;
+    leaves = late-leaves told (trail_of house.trail) txn why (seen_of house) (seen_of house) late whole.ready.kept.running;
   }
 
-  pub conflict-failed : (by : TxnId) (table : TableId) (partition : List ℕ) (why : HouseFault) (before now : House D) → IsWhole told before
-      → StaysWhole told why now → (IsToldHouse told before → StillOpens told now) → now.start ≡ before.start
-      → Step told faults (Note (entry.Abort txn (cause.Conflict by table partition))) (fault_outcome why) (seen_of before) (seen_of now)
-      → CommitStep told faults txn wrote before now (Err (act.House why))
-  conflict-failed by table partition why before now was stays opens start s = record {
-    keeps = keeps-behind told before now why was stays opens start s.closed;
-    step = conflict-fails told faults txn wrote (seen_of before) (seen_of now) by table partition why s;
-    answers = tt;
-  }
+  pub commit-not-running : (why : ActFault) (house : House D) → IsWhole told house → IsLate (trail_of house.trail) txn why
+      → (RunsWith (trail_of house.trail) txn 1 → ⊥) → CommitStep told faults txn wrote name places house house (Err why)
+  commit-not-running why house whole late not = commit-late why house whole late (λ is. not (commit-runs house txn wrote is.fits, is.alone))
 
-  pub conflict-done : (at : ℕ) (by : TxnId) (table : TableId) (partition copy : List ℕ) (before now : House D) → IsWhole told now → copy ≡ partition
-      → at ≡ length (book_of (trail_of before.trail)) → IsConflict (trail_of before.trail) txn wrote by table partition
-      → Step told faults (Note (entry.Abort txn (cause.Conflict by table partition))) Done (seen_of before) (seen_of now)
-      → CommitStep told faults txn wrote before now (Ok (committed.Conflict at by table copy))
-  conflict-done at by table partition copy before now whole same place is s =
-      subst (λ (p : List ℕ). CommitStep told faults txn wrote before now (Ok (committed.Conflict at by table p))) (sym same) (record {
-        keeps = whole-keeps told now whole;
-        step = record {
-          may = tt;
-          trail = s.trail;
-          store = s.store;
-          closed = s.closed;
-          shut_out = λ shut. let never : Done ≡ Closed = s.shut_out shut in cc;
-          locks = s.locks;
-          counts = s.counts;
-          rest = s.rest;
-        };
-        answers = (place, is);
-      })
+  module _ (found : Conflict) (before now : House D) (met : HasMet (trail_of before.trail) txn wrote name found) where
+    pub conflict-failed : (why : HouseFault) → AbortStep told faults txn found.cause found.aborted.text before now (Err why)
+        → CommitStep told faults txn wrote name places before now (Err (act.House why))
+    conflict-failed why s = record {
+      keeps = s.keeps;
+      step =
+          conflict-fails told faults txn wrote (seen_of before) (seen_of now) met.by met.table met.partition why
+          (subst (λ (of : Cause). Step told faults (Note (entry.Abort txn of)) (fault_outcome why) (seen_of before) (seen_of now)) met.cause_is s.step);
+      answers = tt;
+      leaves = s.leaves;
+    }
+
+    pub conflict-done : (aborted : Aborted) → AbortStep told faults txn found.cause found.aborted.text before now (Ok aborted)
+        → CommitStep told faults txn wrote name places before now (Ok (committed.Aborted aborted))
+    conflict-done aborted s = record {
+      keeps = s.keeps;
+      step = subst (λ (of : Cause). Step told faults (Note (entry.Abort txn of)) Done (seen_of before) (seen_of now)) (sym s.tells.cause_is) s.step;
+      answers = record {
+        place = s.tells.place;
+        by = met.by;
+        table = met.table;
+        partition = met.partition;
+        conflict = met.conflict;
+        cause_is = s.tells.cause_is ∙ met.cause_is;
+        line = s.tells.line_is ∙ met.line;
+        fits = subst (λ (of : Cause). EntryFits (trail_of before.trail) (entry.Abort txn of)) (sym (s.tells.cause_is ∙ met.cause_is)) met.fits;
+        runs = met.runs;
+      };
+      leaves = s.running;
+    }

@@ -1,41 +1,31 @@
 -- What acts ask of a trail is true of every longer one.
 use Rattle.std.proofs.Common.{◌≡◌, inl, inr, ℕ, true, false, Option, Some, None, List, [], ◌∷◌, ◌++◌, refl, sym, ap, ◌∙◌, subst, append_assoc}
 use Rattle.std.specs.Prelude.{IsSomeAnd, Contains}
-use Rattle.std.specs.List.{slice_get, AllByRecursion}
 use Rattle.std.proofs.lemmas.List.Elements.{Contains-append_left}
 use Rattle.hv_base.specs.declared.ids.TxnId.{TxnId}
+use Rattle.hv_base.specs.declared.ids.TableId.{TableId}
 use Rattle.hv_base.specs.declared.ids.Touch.{Touch}
 use Rattle.hv_shelf.specs.declared.place.Place.{Place}
 use Rattle.hv_logic.specs.declared.catalog.TableInfo.{TableInfo}
-use Rattle.hv_logic.specs.declared.effect.Effect.{Effect}
 use Rattle.hv_logic.specs.declared.meaning.Meaning.{Meaning}
-use Rattle.hv_logic.specs.declared.meaning.Meaning.TheVariants.{Change, Make, RowLimit, PartitionLimit}
+use Rattle.hv_logic.specs.declared.meaning.Meaning.TheVariants.{Change, Make, Refused, RowLimit, PartitionLimit}
 use Rattle.hv_route.specs.declared.files.OutFile.{OutFile}
-use Rattle.hv_house.specs.Steps.{AreWritten}
 use Rattle.hv_history.specs.declared.entry.Cause.{Cause}
 use Rattle.hv_history.specs.declared.entry.Cause.TheVariants as cause
 use Rattle.hv_history.specs.declared.state.Table.{Table}
-use Rattle.hv_history.specs.declared.state.Statement.{Statement}
-use Rattle.hv_history.specs.declared.state.Transaction.{Transaction}
-use Rattle.hv_history.specs.State.{numbered, meaning, statement_meaning}
-use Rattle.hv_history.specs.Legal.{IsRefusedAs}
-use Rattle.hv_history.specs.Lasting.{IsFront, TableLater, AllLater}
-use Rattle.hv_stands.specs.Files.{place_of_file}
+use Rattle.hv_history.specs.State.{numbered}
+use Rattle.hv_history.specs.Lasting.{IsFront, TableLater}
 use Rattle.hv_trail.specs.declared.trail.Reader.TheVariants.{Txn}
-use Rattle.hv_trail.specs.declared.trail.Mark.TheVariants.{Wrote, Broke}
+use Rattle.hv_trail.specs.declared.trail.Mark.TheVariants.{Broke}
 use Rattle.hv_trail.specs.declared.trail.TrailItem.{TrailItem}
 use Rattle.hv_trail.specs.declared.trail.TrailItem.TheVariants.{Marked}
-use Rattle.hv_trail.specs.Trail.{state_at, HasWritten}
+use Rattle.hv_trail.specs.Trail.{state_at}
 use Rattle.hv_trail.specs.Lasting.{Has, IsGiven}
 use Rattle.hv_trail.proofs.LastingLaws.{goes-on-front, lasts, given-keeps}
 use Rattle.hv_acts.specs.Answers.{HasItsMark}
 use Rattle.hv_acts.specs.Putting.{HasIdFor}
-use Rattle.hv_acts.specs.Committing.{WasPut, WasPutWhole}
-use Rattle.hv_acts.specs.Meant.{HasMeant, IsFileMeant, IsCommitMeant, IsMakeMeant, IsCauseTrue, IsSteady}
-
-all-later : {A : Type 0} (P Q : A → Type 0) → ((x : A) → P x → Q x) → (xs : List A) → AllByRecursion P xs → AllByRecursion Q xs
-all-later P Q f [] all = tt
-all-later P Q f (x ∷ xs) all = (f x all.0, all-later P Q f xs all.1)
+use Rattle.hv_acts.specs.Committing.{IsOfItsChange, CanBePut}
+use Rattle.hv_acts.specs.Meant.{HasMeant, IsFileMeant, IsIdDue, IsCommitDue, IsMakeMeant, IsAbortDue}
 
 same-info : (info : TableInfo) (t u : Table) → TableLater t u → t.info ≡ info → u.info ≡ info
 same-info info t u later is = later.info ∙ is
@@ -45,16 +35,6 @@ info-stays : (info : TableInfo) (o p : Option Table) → ((t : Table) → o ≡ 
 info-stays info None p goes is = absurd is
 info-stays info (Some t) None goes is = absurd (goes t refl)
 info-stays info (Some t) (Some u) goes is = same-info info t u (goes t refl) is
-
--- the statement that opened it means what it meant
-same-meaning : (P : Option Meaning → Type 0) → (P None → ⊥) → (xs ys : List Statement) → AllLater xs ys → P (statement_meaning (slice_get xs 0)) → P (statement_meaning (slice_get ys 0))
-same-meaning P none [] ys later is = absurd (none is)
-same-meaning P none (x ∷ xs) [] later is = absurd later
-same-meaning P none (x ∷ xs) (y ∷ ys) later is = by x.meaning refl
-  where
-    by : (m : Option Meaning) → x.meaning ≡ m → P y.meaning
-    by None e = absurd (none (subst P e is))
-    by (Some m) e = subst P (sym (later.0.meaning m e)) (subst P e is)
 
 module _ (before now : List TrailItem) (front : IsFront before now) where
   item-lasts : (item : TrailItem) → Contains before item → Contains now item
@@ -86,24 +66,22 @@ module _ (before now : List TrailItem) (front : IsFront before now) where
     place_is = has.place_is;
   }
 
-  files-last : (txn : TxnId) (info : TableInfo) (effect : Effect) (write : ℕ) → AreWritten before txn info effect write → AreWritten now txn info effect write
-  files-last txn info effect write files =
-      all-later (λ (file : OutFile). HasWritten before (Txn txn) (place_of_file info.table.0 write file))
-      (λ (file : OutFile). HasWritten now (Txn txn) (place_of_file info.table.0 write file))
-      (λ file has. item-lasts (Marked (Wrote (Txn txn) (place_of_file info.table.0 write file))) has) _ files
-
-  whole-lasts : (txn : TxnId) (wrote : List Touch) → WasPutWhole before txn wrote → WasPutWhole now txn wrote
-  whole-lasts txn wrote was = record {
-    info = was.info;
+  change-lasts : (txn : TxnId) (wrote : List Touch) (places : List Place) → IsOfItsChange before txn wrote places → IsOfItsChange now txn wrote places
+  change-lasts txn wrote places is = record {
+    info = is.info;
     here =
-        info-stays was.info (numbered (state_at before).tables was.info.table.0) (numbered (state_at now).tables was.info.table.0)
-        ((goes-on-front before now front).history.tables was.info.table.0) was.here;
-    effect = was.effect;
-    write = was.write;
-    touches = was.touches;
-    given = given-lasts txn.0 was.info.table.0 was.write was.given;
-    files = files-last txn was.info was.effect was.write was.files;
+        info-stays is.info (numbered (state_at before).tables is.info.table.0) (numbered (state_at now).tables is.info.table.0)
+        ((goes-on-front before now front).history.tables is.info.table.0) is.here;
+    effect = is.effect;
+    write = is.write;
+    touches = is.touches;
+    given = given-lasts txn.0 is.info.table.0 is.write is.given;
+    places_are = is.places_are;
   }
+
+  pub put-lasts : (txn : TxnId) (wrote : List Touch) (places : List Place) → CanBePut before txn wrote places → CanBePut now txn wrote places
+  put-lasts txn wrote places (inl none) = inl none
+  put-lasts txn wrote places (inr is) = inr (change-lasts txn wrote places is)
 
   -- what it means
   meant-lasts : (txn : TxnId) (given : List (ℕ × ℕ)) (means : Meaning) → HasMeant before txn given means → HasMeant now txn given means
@@ -126,15 +104,25 @@ module _ (before now : List TrailItem) (front : IsFront before now) where
     place_is = is.place_is;
   }
 
-  pub commit-lasts : (txn : TxnId) (wrote : List Touch) → IsCommitMeant before txn wrote → IsCommitMeant now txn wrote
-  commit-lasts txn wrote (inl is) = inl (record { means = is.means; meant_it = meant-lasts txn [] is.means is.meant_it; touches = is.touches; none = is.none })
-  commit-lasts txn wrote (inr is) = inr (record {
+  pub due-lasts : (txn : TxnId) (table : TableId) → IsIdDue before txn table → IsIdDue now txn table
+  due-lasts txn table is = record {
+    info = is.info;
+    effect = is.effect;
+    change = meant-lasts txn [] (Change is.info is.effect) is.change;
+    of_table = is.of_table;
+    some = is.some;
+  }
+
+  pub commit-lasts : (txn : TxnId) (wrote : List Touch) (places : List Place) → IsCommitDue before txn wrote places → IsCommitDue now txn wrote places
+  commit-lasts txn wrote places (inl is) =
+      inl (record { means = is.means; meant_it = meant-lasts txn [] is.means is.meant_it; touches = is.touches; none = is.none })
+  commit-lasts txn wrote places (inr is) = inr (record {
     info = is.info;
     effect = is.effect;
     write = is.write;
     change = meant-lasts txn ((is.info.table.0, is.write) ∷ []) (Change is.info is.effect) is.change;
     touches = is.touches;
-    files = files-last txn is.info is.effect is.write is.files;
+    places_are = is.places_are;
     held = is.held;
     encoded = is.encoded;
   })
@@ -142,29 +130,17 @@ module _ (before now : List TrailItem) (front : IsFront before now) where
   pub make-lasts : (txn : TxnId) → IsMakeMeant before txn → IsMakeMeant now txn
   make-lasts txn is = record { shape = is.shape; make = meant-lasts txn [] (Make is.shape) is.make }
 
-  -- ---- a cause
-
-  meaning-lasts : (txn : ℕ) (P : Option Meaning → Type 0) → (P None → ⊥) → Has before txn (λ (t : Transaction). P (meaning t)) → Has now txn (λ (t : Transaction). P (meaning t))
-  meaning-lasts txn P none = lasts (λ (t : Transaction). P (meaning t)) (λ t u later. same-meaning P none t.statements u.statements later.statements) before now txn (goes-on-front before now front)
-
-  there-lasts : (txn : ℕ) (P : Type 0) → Has before txn (λ (t : Transaction). P) → Has now txn (λ (t : Transaction). P)
-  there-lasts txn P = lasts (λ (t : Transaction). P) (λ t u later is. is) before now txn (goes-on-front before now front)
-
-  pub cause-lasts : (txn : TxnId) (why : Cause) → IsSteady why → IsCauseTrue before txn why → IsCauseTrue now txn why
-  cause-lasts txn (cause.Refused number) steady is = meaning-lasts txn.0 (IsRefusedAs number) (λ none. none) is
-  cause-lasts txn cause.RowLimit steady is = meaning-lasts txn.0 (λ m. m ≡ Some RowLimit) (λ none. let never : None ≡ Some RowLimit = none in cc) is
-  cause-lasts txn cause.PartitionLimit steady is = meaning-lasts txn.0 (λ m. m ≡ Some PartitionLimit) (λ none. let never : None ≡ Some PartitionLimit = none in cc) is
-  cause-lasts txn cause.Full steady is = absurd steady
-  cause-lasts txn (cause.Conflict by table partition) steady is = absurd steady
-  cause-lasts txn (cause.Twice partition row) steady is = there-lasts txn.0 ⊥ is
-  cause-lasts txn (cause.Request by) steady is = there-lasts txn.0 (Unit {0}) is
-  cause-lasts txn (cause.Blocked holder) steady is = there-lasts txn.0 (Unit {0}) is
-  cause-lasts txn (cause.ReadFault count) steady is = there-lasts txn.0 (Unit {0}) is
-  cause-lasts txn (cause.WriteFault count) steady is = there-lasts txn.0 (Unit {0}) is
-  cause-lasts txn (cause.Damaged place) steady is = there-lasts txn.0 (Unit {0}) is
-  cause-lasts txn cause.Memory steady is = there-lasts txn.0 (Unit {0}) is
-  cause-lasts txn cause.Lost steady is = there-lasts txn.0 (Unit {0}) is
-
-  pub put-lasts : (txn : TxnId) (wrote : List Touch) → WasPut before txn wrote → WasPut now txn wrote
-  put-lasts txn wrote (inl none) = inl none
-  put-lasts txn wrote (inr was) = inr (whole-lasts txn wrote was)
+  pub abort-lasts : (txn : TxnId) (why : Cause) → IsAbortDue before txn why → IsAbortDue now txn why
+  abort-lasts txn (cause.Refused number) is = (is.0, is.1, meant-lasts txn [] (Refused is.0) is.2)
+  abort-lasts txn cause.RowLimit is = meant-lasts txn [] RowLimit is
+  abort-lasts txn cause.PartitionLimit is = meant-lasts txn [] PartitionLimit is
+  abort-lasts txn cause.Memory is = tt
+  abort-lasts txn (cause.ReadFault count) is = tt
+  abort-lasts txn (cause.WriteFault count) is = tt
+  abort-lasts txn (cause.Damaged place) is = tt
+  abort-lasts txn (cause.Conflict by table partition) is = absurd is
+  abort-lasts txn (cause.Request by) is = absurd is
+  abort-lasts txn cause.Full is = absurd is
+  abort-lasts txn (cause.Twice partition row) is = absurd is
+  abort-lasts txn (cause.Blocked holder) is = absurd is
+  abort-lasts txn cause.Lost is = absurd is

@@ -1,5 +1,5 @@
 -- A table that is made by an act.
-use Rattle.std.proofs.Common.{ℕ, Option, Some, None, Ok, Err, List}
+use Rattle.std.proofs.Common.{◌≡◌, ℕ, Option, Some, None, Ok, Err, List, length}
 use Rattle.std.specs.Prelude.{IsSomeAnd}
 use Rattle.hv_base.specs.declared.ids.TxnId.{TxnId}
 use Rattle.hv_base.specs.declared.ids.TableId.{TableId}
@@ -9,28 +9,19 @@ use Rattle.hv_history.specs.declared.state.Transaction.{Transaction}
 use Rattle.hv_history.specs.State.{State, numbered}
 use Rattle.hv_history.specs.Legal.{IsRunning, CreateFits}
 use Rattle.hv_trail.specs.declared.trail.TrailItem.{TrailItem}
-use Rattle.hv_trail.specs.Trail.{state_at}
+use Rattle.hv_trail.specs.Trail.{book_of, state_at}
 use Rattle.hv_trail.specs.Kept.{trail_of}
 use Rattle.hv_trail.specs.Steps.{Note}
 use Rattle.hv_house.specs.declared.house.House.{House}
 use Rattle.hv_house.specs.Steps.{seen_of}
 use Rattle.hv_telling.specs.Telling.{IsWhole}
 use Rattle.hv_acts.specs.declared.fault.ActFault.{ActFault}
-use Rattle.hv_acts.specs.declared.fault.ActFault.TheVariants as act
-use Rattle.hv_acts.specs.Answers.{next_table, IsLate, IsWhy, EntryStep}
+use Rattle.hv_acts.specs.Answers.{next_table, NoTest, IsLate, EntryStep}
 use Rattle.hv_acts.specs.Meant.{HasAtMost, RunsWith}
 use Rattle.hv_acts.specs.Making.{MakeFits, MakeStep}
 use Rattle.hv_acts.proofs.Steps.{whole-keeps}
-use Rattle.hv_acts.proofs.Notes.{why-of, asked-late}
-
--- what was refused for one fact is refused for that and another
-pub why-both : (trail : List TrailItem) (txn : TxnId) (P Q : Type 0) (why : ActFault) → IsWhy trail txn P why → IsWhy trail txn (P × Q) why
-why-both trail txn P Q (act.Ended at) is = is
-why-both trail txn P Q (act.Full entries) is = is
-why-both trail txn P Q (act.Held by) is = is
-why-both trail txn P Q (act.Broken put count) is = is
-why-both trail txn P Q act.Unfit is = (is.0, λ both. is.1 both.0)
-why-both trail txn P Q (act.House why) is = is
+use Rattle.hv_acts.proofs.Leaves.{late-leaves}
+use Rattle.hv_acts.proofs.Notes.{why-of, why-for, asked-late}
 
 runs-by : (state : State) (table : ℕ) (o : Option Transaction) → IsSomeAnd o (CreateFits state table) → IsSomeAnd o IsRunning
 runs-by state table None fits = fits
@@ -46,17 +37,25 @@ module _ {D : Type 0} (told : D → Option Store) (faults : D → ℕ) (txn : Tx
   make-late why house whole late not = record {
     keeps = whole-keeps told house whole;
     step = asked-late told faults (seen_of house) (trail_of house.trail) txn (Note (entry.Create txn (next_table (trail_of house.trail)))) why late;
-    answers = why-of (trail_of house.trail) txn (MakeFits (trail_of house.trail) txn) why late (λ fits. not (make-runs (trail_of house.trail) txn fits));
+    answers = why-of NoTest (trail_of house.trail) txn (MakeFits (trail_of house.trail) txn) why late (λ fits. not (make-runs (trail_of house.trail) txn fits));
+    leaves = late-leaves told (trail_of house.trail) txn why (seen_of house) (seen_of house) late whole.ready.kept.running;
   }
 
-  pub make-done : (table : TableId) (before now : House D) → HasAtMost (trail_of before.trail) txn 0
-      → EntryStep {T = Unit {0}} told faults txn (entry.Create txn (next_table (trail_of before.trail))) before now (Ok tt) → MakeStep told faults txn before now (Ok table)
-  make-done table before now none s = record { keeps = s.keeps; step = s.step; answers = ((s.answers.0, none), tt) }
+  pub make-done : (table : TableId) (at : ℕ) (before now : House D) → HasAtMost (trail_of before.trail) txn 0 → table ≡ next_table (trail_of before.trail)
+      → at ≡ length (book_of (trail_of before.trail)) → EntryStep {T = Unit {0}} told faults txn (entry.Create txn (next_table (trail_of before.trail))) before now (Ok tt)
+      → MakeStep told faults txn before now (Ok (record { table = table; at = at }))
+  make-done table at before now none next place s = record {
+    keeps = s.keeps;
+    step = s.step;
+    answers = ((s.answers.0, none), record { table = next; place = place });
+    leaves = s.leaves;
+  }
 
   pub make-failed : (why : ActFault) (before now : House D)
       → EntryStep {T = Unit {0}} told faults txn (entry.Create txn (next_table (trail_of before.trail))) before now (Err why) → MakeStep told faults txn before now (Err why)
   make-failed why before now s = record {
     keeps = s.keeps;
     step = s.step;
-    answers = why-both (trail_of before.trail) txn _ _ why s.answers;
+    answers = why-for NoTest (trail_of before.trail) txn _ _ (λ fits. fits.0) why s.answers;
+    leaves = s.leaves;
   }

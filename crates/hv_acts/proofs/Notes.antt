@@ -11,33 +11,44 @@ use Rattle.hv_shelf.specs.Disk.{Store}
 use Rattle.hv_history.specs.declared.entry.Entry.{Entry}
 use Rattle.hv_history.specs.declared.state.Table.{Table}
 use Rattle.hv_history.specs.State.{state_of, numbered}
-use Rattle.hv_history.specs.Legal.{Of, Fits, FullFits, BlockedFits, profile}
+use Rattle.hv_history.specs.Legal.{Of, Fits, FullFits, profile}
+use Rattle.hv_stands.specs.Running.{IsOf}
 use Rattle.hv_meta.specs.declared.facts.TxnState.{TxnState}
 use Rattle.hv_meta.specs.declared.facts.TxnState.TheVariants as standings
 use Rattle.hv_meta.specs.States.{state_in}
 use Rattle.hv_trail.specs.declared.trail.TrailItem.{TrailItem}
-use Rattle.hv_trail.specs.Trail.{book_of, state_at}
+use Rattle.hv_trail.specs.Trail.{state_at}
 use Rattle.hv_trail.specs.Kept.{trail_of}
 use Rattle.hv_trail.specs.Steps.{Call, Note, Done, HouseSeen, Step}
 use Rattle.hv_house.specs.declared.house.House.{House}
 use Rattle.hv_house.specs.declared.fault.HouseFault.{HouseFault}
-use Rattle.hv_house.specs.House.{entries_of}
+use Rattle.hv_house.specs.House.{entries_of, IsHalted}
 use Rattle.hv_house.specs.Steps.{seen_of, fault_outcome}
 use Rattle.hv_telling.specs.Telling.{IsToldHouse, IsWhole, StaysWhole, StillOpens}
 use Rattle.hv_acts.specs.declared.fault.ActFault.{ActFault}
 use Rattle.hv_acts.specs.declared.fault.ActFault.TheVariants as act
-use Rattle.hv_acts.specs.Answers.{act_outcome, call_behind, IsLate, IsWhy, HasNotEnded, id_behind, next_id, next_table, EntryFits, EntryStep}
+use Rattle.hv_acts.specs.Answers.{act_outcome, call_behind, Test, NoTest, IsLate, IsWhy, HasNotEnded, id_behind, next_id, next_table, EntryFits, EntryStep, WhyRises}
 use Rattle.hv_acts.proofs.Steps.{book-is, asked, whole-keeps, keeps-behind}
+use Rattle.hv_acts.proofs.Leaves.{noted-leaves, late-leaves}
 
 -- ---- why it was refused
 
-pub why-of : (trail : List TrailItem) (txn : TxnId) (Fact : Type 0) (why : ActFault) → IsLate trail txn why → (Fact → ⊥) → IsWhy trail txn Fact why
-why-of trail txn Fact (act.Ended at) late not = late
-why-of trail txn Fact (act.Full entries) late not = absurd late
-why-of trail txn Fact (act.Held by) late not = absurd late
-why-of trail txn Fact (act.Broken put count) late not = absurd late
-why-of trail txn Fact act.Unfit late not = (late, not)
-why-of trail txn Fact (act.House why) late not = absurd late
+pub why-of : (test : Test) (trail : List TrailItem) (txn : TxnId) (Fact : Type 0) (why : ActFault) → IsLate trail txn why → (Fact → ⊥) → IsWhy test trail txn Fact why
+why-of test trail txn Fact (act.Ended at) late not = late
+why-of test trail txn Fact (act.Full entries) late not = absurd late
+why-of test trail txn Fact (act.Held by) late not = absurd late
+why-of test trail txn Fact (act.Broken put count) late not = absurd late
+why-of test trail txn Fact act.Unfit late not = (late, not)
+why-of test trail txn Fact (act.House why) late not = absurd late
+
+-- what was refused for a fact is refused for one that it follows from
+pub why-for : (test : Test) (trail : List TrailItem) (txn : TxnId) (P Q : Type 0) → (Q → P) → (why : ActFault) → IsWhy NoTest trail txn P why → IsWhy test trail txn Q why
+why-for test trail txn P Q f (act.Ended at) is = is
+why-for test trail txn P Q f (act.Full entries) is = absurd is.0
+why-for test trail txn P Q f (act.Held by) is = absurd is.0
+why-for test trail txn P Q f (act.Broken put count) is = absurd is.0
+why-for test trail txn P Q f act.Unfit is = (is.0, λ q. is.1 (f q))
+why-for test trail txn P Q f (act.House why) is = tt
 
 -- a test refused it: the house was only asked
 pub asked-late : {D : Type 0} (told : D → Option Store) (faults : D → ℕ) (seen : HouseSeen D) (trail : List TrailItem) (txn : TxnId) (call : Call) (why : ActFault)
@@ -48,6 +59,15 @@ asked-late told faults seen trail txn call (act.Held by) late = absurd late
 asked-late told faults seen trail txn call (act.Broken put count) late = absurd late
 asked-late told faults seen trail txn call act.Unfit late = asked told faults seen
 asked-late told faults seen trail txn call (act.House why) late = absurd late
+
+-- no call on files was made
+pub late-rises : {D : Type 0} (faults : D → ℕ) (seen : HouseSeen D) (trail : List TrailItem) (txn : TxnId) (why : ActFault) → IsLate trail txn why → WhyRises faults seen why
+late-rises faults seen trail txn (act.Ended at) late = tt
+late-rises faults seen trail txn (act.Full entries) late = absurd late
+late-rises faults seen trail txn (act.Held by) late = absurd late
+late-rises faults seen trail txn (act.Broken put count) late = absurd late
+late-rises faults seen trail txn act.Unfit late = tt
+late-rises faults seen trail txn (act.House why) late = absurd late
 
 -- ---- how far its transaction has come
 
@@ -121,28 +141,25 @@ pub fits-book : {D : Type 0} (house : House D) (event : Entry) → EntryFits (tr
 fits-book house event = subst (λ (book : List Entry). Fits profile (state_of book) event) (book-is house)
 
 module _ {D : Type 0} (told : D → Option Store) (faults : D → ℕ) (txn : TxnId) (event : Entry) where
-  pub step-done : {T : Type 0} (x : T) (before now : House D) → IsWhole told now → Step told faults (Note event) Done (seen_of before) (seen_of now)
+  pub step-done : {T : Type 0} (x : T) (before now : House D) → IsWhole told before → IsWhole told now → Step told faults (Note event) Done (seen_of before) (seen_of now)
       → EntryFits (trail_of before.trail) event → EntryStep told faults txn event before now (Ok x)
-  step-done x before now whole step fits = record { keeps = whole-keeps told now whole; step = step; answers = (fits, tt) }
+  step-done x before now was whole step fits = record { keeps = whole-keeps told now whole; step = step; answers = (fits, tt); leaves = was.ready.kept.running }
 
   pub step-late : {T : Type 0} (why : ActFault) (house : House D) → IsWhole told house → IsLate (trail_of house.trail) txn why → (EntryFits (trail_of house.trail) event → ⊥)
       → EntryStep {T = T} told faults txn event house house (Err why)
   step-late why house whole late not = record {
     keeps = whole-keeps told house whole;
     step = asked-late told faults (seen_of house) (trail_of house.trail) txn (Note event) why late;
-    answers = why-of (trail_of house.trail) txn (EntryFits (trail_of house.trail) event) why late not;
+    answers = why-of NoTest (trail_of house.trail) txn (EntryFits (trail_of house.trail) event) why late not;
+    leaves = late-leaves told (trail_of house.trail) txn why (seen_of house) (seen_of house) late whole.ready.kept.running;
   }
 
-  pub step-failed : {T : Type 0} (why : HouseFault) (before now : House D) → IsWhole told before → StaysWhole told why now
-      → (IsToldHouse told before → StillOpens told now) → now.start ≡ before.start
+  pub step-failed : {T : Type 0} (why : HouseFault) (before now : House D) → IsWhole told before → IsOf txn.0 event → EntryFits (trail_of before.trail) event
+      → StaysWhole told why now → IsHalted told event why before now → (IsToldHouse told before → StillOpens told now) → now.start ≡ before.start
       → Step told faults (Note event) (fault_outcome why) (seen_of before) (seen_of now) → EntryStep {T = T} told faults txn event before now (Err (act.House why))
-  step-failed why before now was stays opens start step = record { keeps = keeps-behind told before now why was stays opens start step.closed; step = step; answers = tt }
-
-  -- a test refused it
-  pub step-full : {T : Type 0} (entries : ℕ) (house : House D) → IsWhole told house → entries ≡ length (book_of (trail_of house.trail))
-      → Of (state_at (trail_of house.trail)) txn.0 (FullFits profile (state_at (trail_of house.trail))) → EntryStep {T = T} told faults txn event house house (Err (act.Full entries))
-  step-full entries house whole count full = record { keeps = whole-keeps told house whole; step = asked told faults (seen_of house); answers = (count, full) }
-
-  pub step-held : {T : Type 0} (by : TxnId) (house : House D) → IsWhole told house → Of (state_at (trail_of house.trail)) txn.0 (BlockedFits (state_at (trail_of house.trail)) by.0)
-      → EntryStep {T = T} told faults txn event house house (Err (act.Held by))
-  step-held by house whole held = record { keeps = whole-keeps told house whole; step = asked told faults (seen_of house); answers = held }
+  step-failed why before now was of_it fits stays halted opens start step = record {
+    keeps = keeps-behind told before now why was stays opens start step.closed;
+    step = step;
+    answers = tt;
+    leaves = noted-leaves told txn.0 event why before now was.ready.kept.running of_it fits halted;
+  }

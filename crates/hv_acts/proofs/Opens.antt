@@ -20,7 +20,7 @@ use Rattle.hv_trail.specs.Kept.{trail_of}
 use Rattle.hv_trail.specs.Steps.{Note, Done, Step}
 use Rattle.hv_house.specs.declared.fault.HouseFault.{HouseFault}
 use Rattle.hv_house.specs.declared.house.House.{House}
-use Rattle.hv_house.specs.House.{entries_of, IsReady}
+use Rattle.hv_house.specs.House.{entries_of, IsReady, IsHalted}
 use Rattle.hv_locks.specs.declared.table.LockState.TheVariants.{Granted, Waiting}
 use Rattle.hv_house.specs.Asking.{holder_against, lock_state}
 use Rattle.hv_telling.specs.Telling.{IsToldHouse, IsWhole, StaysWhole, StillOpens}
@@ -28,6 +28,8 @@ use Rattle.hv_house.specs.Steps.{seen_of, fault_outcome}
 use Rattle.hv_acts.specs.declared.fault.ActFault.TheVariants as act
 use Rattle.hv_acts.specs.Waiting.{next_txn, next_opened, IsHeld, OpenStep}
 use Rattle.hv_acts.proofs.Steps.{book-is, asked, whole-keeps, keeps-behind}
+use Rattle.hv_acts.proofs.Leaves.{noted-leaves}
+use Rattle.hv_acts.proofs.Notes.{fits-trail}
 
 -- ---- what a Start waits for
 
@@ -118,15 +120,16 @@ module _ {D : Type 0} (told : D → Option Store) (faults : D → ℕ) (session 
   event-is : (house : House D) → txn.0 ≡ next_number (entries_of house) → event ≡ next_opened (trail_of house.trail) session number text
   event-is house next = λ i. entry.Opened (next-of house txn next i) session number text
 
-  pub open-done : (before now : House D) → IsWhole told now → txn.0 ≡ next_number (entries_of before) → Fits profile (state_of (entries_of before)) event
+  pub open-done : (before now : House D) → IsWhole told before → IsWhole told now → txn.0 ≡ next_number (entries_of before) → Fits profile (state_of (entries_of before)) event
       → Step told faults (Note event) Done (seen_of before) (seen_of now) → OpenStep told faults session number text before now (Ok txn)
-  open-done before now whole next fits step = record {
+  open-done before now was whole next fits step = record {
     keeps = whole-keeps told now whole;
     step = subst (λ (e : Entry). Step told faults (Note e) Done (seen_of before) (seen_of now)) (event-is before next) step;
     answers = (
       subst (λ (book : List Entry). HasRoom profile (state_of book) 2) (sym (book-is before)) fits.room,
       next-of before txn next,
     );
+    leaves = was.ready.kept.running;
   }
 
   pub open-full : (tree : Stmt) (entries : ℕ) (house : House D) → IsWhole told house → Runs text tree → txn.0 ≡ next_number (entries_of house)
@@ -143,14 +146,19 @@ module _ {D : Type 0} (told : D → Option Store) (faults : D → ℕ) (session 
         room = subst (λ (book : List Entry). HasRoom profile (state_of book) 2) (book-is house) room;
       }),
     );
+    leaves = whole.ready.kept.running;
   }
 
-  pub open-failed : (why : HouseFault) (before now : House D) → IsWhole told before → txn.0 ≡ next_number (entries_of before) → StaysWhole told why now
+  pub open-failed : (why : HouseFault) (before now : House D) → IsWhole told before → txn.0 ≡ next_number (entries_of before)
+      → Fits profile (state_of (entries_of before)) event → StaysWhole told why now → IsHalted told event why before now
       → (IsToldHouse told before → StillOpens told now) → now.start ≡ before.start
       → Step told faults (Note event) (fault_outcome why) (seen_of before) (seen_of now)
       → OpenStep told faults session number text before now (Err (act.House why))
-  open-failed why before now was next stays opens start step = record {
+  open-failed why before now was next fits stays halted opens start step = record {
     keeps = keeps-behind told before now why was stays opens start step.closed;
     step = subst (λ (e : Entry). Step told faults (Note e) (fault_outcome why) (seen_of before) (seen_of now)) (event-is before next) step;
     answers = tt;
+    leaves =
+        noted-leaves told (next_number (book_of (trail_of before.trail))) event why before now was.ready.kept.running
+        (ap Some (next ∙ ap next_number (sym (book-is before)))) (fits-trail before event fits) halted;
   }

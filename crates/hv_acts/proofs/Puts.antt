@@ -19,16 +19,18 @@ use Rattle.hv_trail.specs.Lasting.{IsGiven}
 use Rattle.hv_trail.specs.Steps.{Put, Done, Step}
 use Rattle.hv_house.specs.declared.house.House.{House}
 use Rattle.hv_house.specs.declared.fault.HouseFault.{HouseFault}
-use Rattle.hv_house.specs.House.{entries_of}
+use Rattle.hv_house.specs.Faults.{HasRisen}
+use Rattle.hv_house.specs.House.{entries_of, StaysPut}
 use Rattle.hv_house.specs.Steps.{seen_of, fault_outcome, HoldsId, IsOwnFile}
 use Rattle.hv_telling.specs.Telling.{IsToldHouse, IsWhole, StaysWhole, StillOpens}
 use Rattle.hv_acts.specs.declared.fault.ActFault.{ActFault}
 use Rattle.hv_acts.specs.declared.fault.ActFault.TheVariants as act
-use Rattle.hv_acts.specs.Answers.{IsLate}
+use Rattle.hv_acts.specs.Answers.{NoTest, IsLate}
 use Rattle.hv_acts.specs.Putting.{HasIdFor, Runs, FileStep}
 use Rattle.hv_acts.specs.Meant.{RunsWith}
 use Rattle.hv_acts.proofs.Steps.{book-is, whole-keeps, keeps-behind}
-use Rattle.hv_acts.proofs.Notes.{why-of, asked-late, no-true}
+use Rattle.hv_acts.proofs.Leaves.{held-leaves, late-leaves, rises-by}
+use Rattle.hv_acts.proofs.Notes.{why-of, asked-late, late-rises, no-true}
 
 -- ---- its own file
 
@@ -82,19 +84,34 @@ own-file house by place file has runs = record {
 -- ---- its step
 
 module _ {D : Type 0} (told : D → Option Store) (faults : D → ℕ) (by : TxnId) (place : Place) (file : OutFile) where
-  pub file-done : (before now : House D) → RunsWith (trail_of before.trail) by 1 → IsWhole told now → IsEncoded file
+  pub file-done : (before now : House D) → RunsWith (trail_of before.trail) by 1 → IsWhole told before → IsWhole told now → IsEncoded file
       → Step told faults (Put (Txn by) place (bytes_of file)) Done (seen_of before) (seen_of now) → FileStep told faults by place file before now (Ok tt)
-  file-done before now runs whole encoded step = record { keeps = whole-keeps told now whole; step = step; answers = (runs, encoded) }
+  file-done before now runs was whole encoded step = record {
+    keeps = whole-keeps told now whole;
+    step = step;
+    answers = (runs, encoded);
+    leaves = was.ready.kept.running;
+    rises = tt;
+  }
 
   pub file-late : (why : ActFault) (house : House D) → IsWhole told house → IsLate (trail_of house.trail) by why → (RunsWith (trail_of house.trail) by 1 → ⊥)
       → FileStep told faults by place file house house (Err why)
   file-late why house whole late not = record {
     keeps = whole-keeps told house whole;
     step = asked-late told faults (seen_of house) (trail_of house.trail) by (Put (Txn by) place (bytes_of file)) why late;
-    answers = why-of (trail_of house.trail) by (RunsWith (trail_of house.trail) by 1) why late not;
+    answers = why-of NoTest (trail_of house.trail) by (RunsWith (trail_of house.trail) by 1) why late not;
+    leaves = late-leaves told (trail_of house.trail) by why (seen_of house) (seen_of house) late whole.ready.kept.running;
+    rises = late-rises faults (seen_of house) (trail_of house.trail) by why late;
   }
 
   pub file-failed : (why : HouseFault) (before now : House D) → IsWhole told before → StaysWhole told why now → (IsToldHouse told before → StillOpens told now)
-      → now.start ≡ before.start → Step told faults (Put (Txn by) place (bytes_of file)) (fault_outcome why) (seen_of before) (seen_of now)
+      → now.start ≡ before.start → entries_of now ≡ entries_of before → StaysPut told why now → HasRisen (faults before.shelf) (faults now.shelf) why
+      → Step told faults (Put (Txn by) place (bytes_of file)) (fault_outcome why) (seen_of before) (seen_of now)
       → FileStep told faults by place file before now (Err (act.House why))
-  file-failed why before now was stays opens start step = record { keeps = keeps-behind told before now why was stays opens start step.closed; step = step; answers = tt }
+  file-failed why before now was stays opens start same put risen step = record {
+    keeps = keeps-behind told before now why was stays opens start step.closed;
+    step = step;
+    answers = tt;
+    leaves = held-leaves told by.0 why before now was.ready.kept.running same put;
+    rises = rises-by faults (seen_of before) (faults now.shelf) why risen;
+  }

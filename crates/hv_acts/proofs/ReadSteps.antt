@@ -27,7 +27,8 @@ use Rattle.hv_house.specs.declared.house.House.{House}
 use Rattle.hv_house.specs.House.{entries_of, book_limit, IsReady, IsFaithful, StaysPut}
 use Rattle.hv_house.specs.Seeing.{ids_in}
 use Rattle.hv_house.specs.Steps.{seen_of, fault_outcome}
-use Rattle.hv_house.specs.Listing.{info_in, AreTaken, IsMade, IsNotFound, get_outcome, StaysGot}
+use Rattle.hv_house.specs.Faults.{HasRisen}
+use Rattle.hv_house.specs.Listing.{info_in, AreTaken, IsMade, IsNotFound, get_outcome, StaysGot, HasRisenGetting}
 use Rattle.hv_telling.specs.Telling.{IsToldHouse, IsWhole}
 use Rattle.hv_telling.proofs.Told.{also-some, some-told, true-shown}
 use Rattle.hv_telling.proofs.Reading.{reads-keep-whole, reads-still-open}
@@ -35,11 +36,12 @@ use Rattle.hv_acts.specs.declared.fault.ActFault.TheVariants as act
 use Rattle.hv_acts.specs.Told.{IsWholeOrClosed}
 use Rattle.hv_acts.specs.Reading.{HasFittingBook, FilesStand, FindStep, ListStep, IsMadeAt, GetStep}
 use Rattle.hv_acts.proofs.Steps.{book-is, moves-same, or-false, asked, whole-keeps, keeps-behind, same-start}
+use Rattle.hv_acts.proofs.Leaves.{held-leaves, rises-by}
 
 -- ---- what a ready house has
 
 module _ {D : Type 0} (told : D → Option Store) (house : House D) where
-  fitting-book : IsReady told house → HasFittingBook (trail_of house.trail)
+  pub fitting-book : IsReady told house → HasFittingBook (trail_of house.trail)
   fitting-book ready = record {
     fit = subst AllFitting (sym (book-is house)) ready.fit;
     few = subst (λ (book : List Entry). length book ≤ book_limit) (sym (book-is house)) ready.kept.few;
@@ -60,7 +62,7 @@ module _ {D : Type 0} (told : D → Option Store) (house : House D) where
 -- ---- a table that is found
 
 module _ {D : Type 0} (told : D → Option Store) (faults : D → ℕ) where
-  answered : (seen : HouseSeen D) → Step told faults Ask Done seen seen
+  pub answered : (seen : HouseSeen D) → Step told faults Ask Done seen seen
   answered seen = record {
     may = tt;
     trail = sym (append-nil seen.trail);
@@ -133,14 +135,19 @@ module _ {D : Type 0} (told : D → Option Store) (faults : D → ℕ) (by : Txn
       files = files;
       stand = files-stand told before was;
     };
+    leaves = was.ready.kept.running;
+    rises = tt;
   }
 
-  pub list-failed : (place : ℕ) (table : TableId) (why : HouseFault) (before now : House D) → IsWhole told before → StaysPut told why now
+  pub list-failed : (place : ℕ) (table : TableId) (why : HouseFault) (before now : House D) → IsWhole told before → entries_of now ≡ entries_of before
+      → StaysPut told why now → HasRisen (faults before.shelf) (faults now.shelf) why
       → Step told faults call (fault_outcome why) (seen_of before) (seen_of now) → ListStep told faults by place table before now (Err (act.House why))
-  list-failed place table why before now was stays step = record {
+  list-failed place table why before now was same stays risen step = record {
     keeps = keeps-read why before now was stays step;
     step = step;
     answers = tt;
+    leaves = held-leaves told by.0 why before now was.ready.kept.running same stays;
+    rises = rises-by faults (seen_of before) (faults now.shelf) why risen;
   }
 
   -- ---- the bytes of a file
@@ -151,8 +158,9 @@ module _ {D : Type 0} (told : D → Option Store) (faults : D → ℕ) (by : Txn
       → ((bytes : List ℕ) → IsMade told before place bytes → IfOk result (λ (found : Vec ℕ). Tells (told before.shelf) (λ s. found.items ≡ bytes)))
       → ((bytes : List ℕ) → IsMade told before place bytes → IfErr result (λ why. Tells (told before.shelf) (λ s. IsNotFound why → ⊥)))
       → IfOk result (λ (found : Vec ℕ). IsReady told now) → IfErr result (λ why. StaysGot told why now)
+      → entries_of now ≡ entries_of before → IfErr result (HasRisenGetting (faults before.shelf) (faults now.shelf))
       → Step told faults call (get_outcome result) (seen_of before) (seen_of now) → GetStep told faults by place before now result
-  get-step place (Ok found) before now was bytes none made missed ready stays step = record {
+  get-step place (Ok found) before now was bytes none made missed ready stays same risen step = record {
     keeps = keeps-ready Done before now was ready step;
     step = step;
     answers = record {
@@ -163,8 +171,10 @@ module _ {D : Type 0} (told : D → Option Store) (faults : D → ℕ) (by : Txn
       truly = λ is items here. tells-some (told before.shelf) (found.items ≡ items) (λ s. Stands (state_at (trail_of before.trail)) s.tree) (files-stand told before was is)
           (made items (made-book told before place items (told-made before place items was is here)));
     };
+    leaves = was.ready.kept.running;
+    rises = tt;
   }
-  get-step place (Err get_fault.NotFound) before now was bytes none made missed ready stays step = record {
+  get-step place (Err get_fault.NotFound) before now was bytes none made missed ready stays same risen step = record {
     keeps = keeps-ready Done before now was stays step;
     step = step;
     answers = record {
@@ -176,13 +186,17 @@ module _ {D : Type 0} (told : D → Option Store) (faults : D → ℕ) (by : Txn
           (λ items here. tells-some (told before.shelf) ⊥ (λ s. Stands (state_at (trail_of before.trail)) s.tree) (files-stand told before was is)
           (never (told before.shelf) (missed items (made-book told before place items (told-made before place items was is here)))));
     };
+    leaves = was.ready.kept.running;
+    rises = tt;
   }
     where
       never : (o : Option Store) → Tells o (λ s. Unit {0} → ⊥) → Tells o (λ s. ⊥)
       never None not = tt
       never (Some s) not = not tt
-  get-step place (Err (get_fault.House why)) before now was bytes none made missed ready stays step = record {
+  get-step place (Err (get_fault.House why)) before now was bytes none made missed ready stays same risen step = record {
     keeps = keeps-read why before now was stays step;
     step = step;
     answers = tt;
+    leaves = held-leaves told by.0 why before now was.ready.kept.running same stays;
+    rises = rises-by faults (seen_of before) (faults now.shelf) why risen;
   }

@@ -20,6 +20,12 @@ short_given txn table write = grind (arith, length-append, length-eight)
 pub short_create : (txn : TxnId) (table : TableId) → IsSmall (entry.Create txn table)
 short_create txn table = grind (arith, length-append, length-eight)
 
+pub short_full : (txn : TxnId) → IsSmall (entry.Abort txn cause.Full)
+short_full txn = grind (arith, length-append, length-eight)
+
+pub short_blocked : (txn holder : TxnId) → IsSmall (entry.Abort txn (cause.Blocked holder))
+short_blocked txn holder = grind (arith, length-append, length-eight)
+
 -- ---- a conflict in one of its partitions is no longer than a commit
 
 one-touch : (ts : List Touch) (at : ℕ) (touch : Touch) → slice_get ts at ≡ Some touch → length (touch_spelling touch) ≤ length (flat_map touch_spelling ts)

@@ -44,6 +44,19 @@ module _ {D : Type 0} (told : D → Option Store) (faults : D → ℕ) (seen : H
     rest = record { start = refl; opened = refl; limits = refl };
   }
 
+  -- memory lacked before the call
+  pub lacked : (event : Entry) → seen.closed ≡ false → Step told faults (Note event) Refused seen seen
+  lacked event running = record {
+    may = tt;
+    trail = sym (append-nil seen.trail);
+    store = moves-same (told seen.shelf) _ (λ s. record { tree_is = refl; reads = λ is. is });
+    closed = or-false seen.closed;
+    shut_out = λ shut. absurd (true≢false (sym shut ∙ running));
+    locks = refl;
+    counts = omega arith;
+    rest = record { start = refl; opened = refl; limits = refl };
+  }
+
   shut : (call : Call) → MayEnd call Closed → gains call Closed ≡ [] → ((s : Store) → Changes (book_of seen.trail) call Closed s s)
       → locks_after call Closed seen.locks ≡ seen.locks → IsShutOut call Closed → seen.closed ≡ true → Step told faults call Closed seen seen
   shut call may none same locks out closed = record {

@@ -8,30 +8,46 @@ use Rattle.hv_base.specs.declared.ids.TableId.{TableId}
 use Rattle.hv_base.specs.declared.ids.Touch.{Touch}
 use Rattle.hv_shelf.specs.declared.place.Place.{Place}
 use Rattle.hv_logic.specs.declared.meaning.Meaning.{Meaning}
-use Rattle.hv_logic.specs.declared.meaning.Meaning.TheVariants.{Change, Make}
+use Rattle.hv_logic.specs.declared.meaning.Meaning.TheVariants.{Change, Make, Refused, RowLimit, PartitionLimit}
 use Rattle.hv_route.specs.declared.files.OutFile.{OutFile}
+use Rattle.hv_route.specs.Routes.{files_of}
 use Rattle.hv_route.specs.Touching.{touches_of}
 use Rattle.hv_book.specs.Briefs.{given_at}
 use Rattle.hv_history.specs.declared.entry.Entry.{Entry}
 use Rattle.hv_history.specs.declared.entry.Entry.TheVariants as entry
+use Rattle.hv_history.specs.declared.entry.Cause.{Cause}
 use Rattle.hv_history.specs.declared.entry.Cause.TheVariants as cause
 use Rattle.hv_history.specs.declared.state.Ending.{Ending}
 use Rattle.hv_history.specs.declared.state.Transaction.{Transaction}
 use Rattle.hv_history.specs.State.{numbered, meaning}
-use Rattle.hv_history.specs.Legal.{IsRunning, CommitFits, is_touched, IsTruthful, TouchesAreMeant, IsMake, ConflictIsTrue, IsFirstConflict, place_of_snapshot}
+use Rattle.hv_history.specs.Legal.{IsRunning, CommitFits, is_touched, IsTruthful, TouchesAreMeant, IsMake, IsRefusedAs, ConflictIsTrue, IsFirstConflict, place_of_snapshot}
+use Rattle.hv_stands.specs.Files.{place_of_file}
 use Rattle.hv_stands.specs.Running.{meant, snapshot_at, running, IsUnderWay}
+use Rattle.hv_trail.specs.declared.trail.Reader.TheVariants.{Txn}
 use Rattle.hv_trail.specs.declared.trail.TrailItem.{TrailItem}
-use Rattle.hv_trail.specs.Trail.{book_of, state_at}
+use Rattle.hv_trail.specs.Trail.{book_of, state_at, HasWritten}
 use Rattle.hv_trail.specs.Kept.{trail_of}
 use Rattle.hv_house.specs.declared.house.House.{House}
 use Rattle.hv_house.specs.House.{entries_of}
 use Rattle.hv_telling.specs.Telling.{IsTrueNow, IsMeantFile}
 use Rattle.hv_acts.specs.Answers.{EntryFits}
 use Rattle.hv_acts.specs.Putting.{Runs}
-use Rattle.hv_acts.specs.Committing.{IsConflict}
-use Rattle.hv_acts.specs.Meant.{MeansNow, HasMeant, HasAtMost, IsFileMeant, IsCommitMeant, IsMakeMeant}
+use Rattle.hv_acts.specs.Committing.{IsConflict, WerePut}
+use Rattle.hv_acts.specs.Meant.{MeansNow, HasMeant, HasAtMost, places_of_files, IsFileMeant, IsCommitDue, IsMakeMeant, IsAbortDue, IsCauseTrue}
 use Rattle.hv_acts.proofs.Steps.{book-is}
 use Rattle.hv_acts.proofs.Meant.{IsOnWay, on-way}
+
+-- ---- the marks of its files
+
+of-places : (P : Place → Type 0) (table write : ℕ) (files : List OutFile) → AllByRecursion P (places_of_files table write files)
+    → AllByRecursion (λ file. P (place_of_file table write file)) files
+of-places P table write [] all = tt
+of-places P table write (file ∷ files) all = (all.0, of-places P table write files all.1)
+
+pub files-written : (trail : List TrailItem) (txn : TxnId) (table write : ℕ) (files : List OutFile) (places : List Place) → places ≡ places_of_files table write files
+    → WerePut trail txn places → AllByRecursion (λ file. HasWritten trail (Txn txn) (place_of_file table write file)) files
+files-written trail txn table write files places are put =
+    of-places (HasWritten trail (Txn txn)) table write files (subst (AllByRecursion (HasWritten trail (Txn txn))) are put)
 
 -- ---- it is open
 
@@ -129,14 +145,14 @@ module _ (trail : List TrailItem) (txn : TxnId) (runs : Runs trail txn) where
       let fit = subst (λ (o : Option Transaction). IsSomeAnd o (CommitFits (state_at trail) wrote)) on.under_way.here fits in
       just-by [] on.ids means _ on refl (unused on.ids wrote none fit.used)
 
-  pub commit-true : (wrote : List Touch) → HasAtMost trail txn 1 → EntryFits trail (entry.Commit txn wrote) → IsCommitMeant trail txn wrote
-      → IsTrueNow (book_of trail) trail (entry.Commit txn wrote)
-  commit-true wrote most fits (inl is) =
+  pub commit-true : (wrote : List Touch) (places : List Place) → HasAtMost trail txn 1 → EntryFits trail (entry.Commit txn wrote) → WerePut trail txn places
+      → IsCommitDue trail txn wrote places → IsTrueNow (book_of trail) trail (entry.Commit txn wrote)
+  commit-true wrote places most fits put (inl is) =
       let just = just-none wrote is.means is.meant_it is.none fits in (
         meaning-here [] is.means (TouchesAreMeant wrote) just is.touches,
         inl (record { asking = just.asking; place = just.place; said = just.said; under_way = just.under_way }),
       )
-  commit-true wrote most fits (inr is) =
+  commit-true wrote places most fits put (inr is) =
       let just = just-given ((is.info.table.0, is.write) ∷ []) (Change is.info is.effect) is.change most in (
         meaning-here ((is.info.table.0, is.write) ∷ []) (Change is.info is.effect) (TouchesAreMeant wrote) just is.touches,
         inr (record {
@@ -148,7 +164,7 @@ module _ (trail : List TrailItem) (txn : TxnId) (runs : Runs trail txn) where
           write = is.write;
           under_way = just.under_way;
           means = just.means_it;
-          files = is.files;
+          files = files-written trail txn is.info.table.0 is.write (files_of is.info.shape is.write 0 is.effect) places is.places_are put;
           held = is.held;
           encoded = is.encoded;
         }),
@@ -156,11 +172,11 @@ module _ (trail : List TrailItem) (txn : TxnId) (runs : Runs trail txn) where
 
   -- ---- a conflict
 
-  pub conflict-true : (wrote : List Touch) (by : TxnId) (table : TableId) (partition : List ℕ) → IsCommitMeant trail txn wrote
+  pub conflict-true : (wrote : List Touch) (places : List Place) (by : TxnId) (table : TableId) (partition : List ℕ) → IsCommitDue trail txn wrote places
       → IsConflict trail txn wrote by table partition → IsTruthful (state_at trail) (entry.Abort txn (cause.Conflict by table partition))
-  conflict-true wrote by table partition (inl is) met =
+  conflict-true wrote places by table partition (inl is) met =
       let never : slice_get [] met.clash.at ≡ Some met.is.touch = ap (λ (ts : List Touch). slice_get ts met.clash.at) (sym is.none) ∙ met.is.found in cc
-  conflict-true wrote by table partition (inr is) met =
+  conflict-true wrote places by table partition (inr is) met =
       let on = way ((is.info.table.0, is.write) ∷ []) (Change is.info is.effect) is.change in
       let first =
       subst (λ (ts : List Touch). IsFirstConflict (state_at trail) (place_of_snapshot met.is.t.snapshot) ts met.clash.by.0 met.is.touch.table.0 met.is.touch.partition)
@@ -178,6 +194,34 @@ module _ (trail : List TrailItem) (txn : TxnId) (runs : Runs trail txn) where
       meaning-of : Option Transaction → Option Meaning
       meaning-of None = None
       meaning-of (Some t) = meaning t
+
+-- ---- another abort
+
+fits-here : (o : Option Transaction) (P : Transaction → Type 0) → IsSomeAnd o P → IsSomeAnd o (λ t. Unit {0})
+fits-here None P fits = fits
+fits-here (Some t) P fits = tt
+
+-- it means what it meant, whatever write ids it has
+meant-here : (trail : List TrailItem) (txn : TxnId) (means : Meaning) (P : Option Meaning → Type 0) → Runs trail txn → HasMeant trail txn [] means → P (Some means)
+    → IsSomeAnd (numbered (state_at trail).transactions txn.0) (λ (t : Transaction). P (meaning t))
+meant-here trail txn means P runs has is =
+    let on = way trail txn runs [] means has in
+    subst (λ (o : Option Transaction). IsSomeAnd o (λ (t : Transaction). P (meaning t))) (sym on.under_way.here) (subst P (sym on.means_it) is)
+
+pub abort-true : (trail : List TrailItem) (txn : TxnId) (why : Cause) → EntryFits trail (entry.Abort txn why) → IsAbortDue trail txn why → IsCauseTrue trail txn why
+abort-true trail txn (cause.Refused number) fits is = meant-here trail txn (Refused is.0) (IsRefusedAs number) fits is.2 is.1
+abort-true trail txn cause.RowLimit fits is = meant-here trail txn RowLimit (λ m. m ≡ Some RowLimit) fits is refl
+abort-true trail txn cause.PartitionLimit fits is = meant-here trail txn PartitionLimit (λ m. m ≡ Some PartitionLimit) fits is refl
+abort-true trail txn cause.Memory fits is = fits-here (numbered (state_at trail).transactions txn.0) _ fits
+abort-true trail txn (cause.ReadFault count) fits is = fits-here (numbered (state_at trail).transactions txn.0) _ fits
+abort-true trail txn (cause.WriteFault count) fits is = fits-here (numbered (state_at trail).transactions txn.0) _ fits
+abort-true trail txn (cause.Damaged place) fits is = fits-here (numbered (state_at trail).transactions txn.0) _ fits
+abort-true trail txn (cause.Conflict by table partition) fits is = absurd is
+abort-true trail txn (cause.Request by) fits is = absurd is
+abort-true trail txn cause.Full fits is = absurd is
+abort-true trail txn (cause.Twice partition row) fits is = absurd is
+abort-true trail txn (cause.Blocked holder) fits is = absurd is
+abort-true trail txn cause.Lost fits is = absurd is
 
 -- ---- a house
 

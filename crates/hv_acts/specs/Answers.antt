@@ -1,5 +1,5 @@
 -- What an act answers: the call that was made, how it ended, what it added, and why it was refused.
-use Rattle.std.specs.Prelude.{◌≡◌, ℕ, ◌+◌, true, false, Option, Some, None, List, [], ◌∷◌, length, Contains, Result, Ok, Err}
+use Rattle.std.specs.Prelude.{◌≡◌, ℕ, ◌+◌, ◌<◌, ◌≤◌, true, false, Option, Some, None, List, [], ◌∷◌, length, Contains, Result, Ok, Err}
 use Rattle.hv_base.specs.declared.ids.TxnId.{TxnId}
 use Rattle.hv_base.specs.declared.ids.TableId.{TableId}
 use Rattle.hv_base.specs.declared.ids.WriteId.{WriteId}
@@ -7,9 +7,10 @@ use Rattle.hv_shelf.specs.Disk.{Store}
 use Rattle.hv_history.specs.declared.entry.Entry.{Entry}
 use Rattle.hv_history.specs.declared.entry.Cause.{Cause}
 use Rattle.hv_history.specs.declared.entry.Cause.TheVariants as cause
+use Rattle.hv_history.specs.Answers.{cause_text}
 use Rattle.hv_history.specs.declared.state.Table.{Table}
 use Rattle.hv_history.specs.State.{numbered}
-use Rattle.hv_history.specs.Legal.{Of, Fits, FullFits, BlockedFits, profile}
+use Rattle.hv_history.specs.Legal.{Of, Fits, AllFit, FullFits, BlockedFits, profile}
 use Rattle.hv_meta.specs.declared.facts.TxnState.{TxnState}
 use Rattle.hv_meta.specs.declared.facts.TxnState.TheVariants as standing
 use Rattle.hv_meta.specs.States.{state_in}
@@ -19,10 +20,15 @@ use Rattle.hv_trail.specs.declared.trail.TrailItem.TheVariants.{Noted, Marked}
 use Rattle.hv_trail.specs.declared.trail.Mark.TheVariants.{Broke}
 use Rattle.hv_trail.specs.Trail.{book_of, state_at, broken}
 use Rattle.hv_trail.specs.Kept.{trail_of}
-use Rattle.hv_trail.specs.Steps.{Call, Note, Ask, Outcome, Done, Refused, Step}
+use Rattle.hv_trail.specs.Steps.{HouseSeen, Call, Note, Ask, Outcome, Done, Refused, Step}
+use Rattle.hv_stands.specs.Running.{AreOf}
+use Rattle.hv_house.specs.declared.fault.HouseFault.{HouseFault}
+use Rattle.hv_house.specs.declared.fault.HouseFault.TheVariants as fault
 use Rattle.hv_house.specs.declared.house.House.{House}
+use Rattle.hv_house.specs.House.{Leaves}
 use Rattle.hv_house.specs.Steps.{seen_of, fault_outcome}
 use Rattle.hv_acts.specs.Told.{IsWholeOrClosed}
+use Rattle.hv_acts.specs.declared.aborted.Aborted.{Aborted}
 use Rattle.hv_acts.specs.declared.fault.ActFault.{ActFault}
 use Rattle.hv_acts.specs.declared.fault.ActFault.TheVariants as act
 
@@ -71,20 +77,71 @@ IsLate trail txn (act.Ended at) = state_in (state_at trail) txn.0 ≡ standing.E
 IsLate trail txn act.Unfit = HasNotEnded (state_in (state_at trail) txn.0)
 IsLate trail txn why = ⊥
 
--- Why an act of this transaction that rests on that fact was refused, on a house with this trail. A call that failed says nothing here:
--- its step does.
-abbrev pub IsWhy : List TrailItem → TxnId → Type 0 → ActFault → Type 0
-IsWhy trail txn Fact (act.Ended at) = state_in (state_at trail) txn.0 ≡ standing.Ended at
-IsWhy trail txn Fact (act.Full entries) = (entries ≡ length (book_of trail)) × Of (state_at trail) txn.0 (FullFits profile (state_at trail))
-IsWhy trail txn Fact (act.Held by) = Of (state_at trail) txn.0 (BlockedFits (state_at trail) by.0)
-IsWhy trail txn Fact (act.Broken put count) = broken (Txn txn) trail ≡ Some (put, count)
-IsWhy trail txn Fact act.Unfit = HasNotEnded (state_in (state_at trail) txn.0) × (Fact → ⊥)
-IsWhy trail txn Fact (act.House why) = Unit {0}
+-- what an act tests beside its fact: nothing, whether its Start has to wait or finds no room, or whether a call on files failed before
+pub data Test : Type 0 where
+  NoTest : Test
+  StartTest : Test
+  FilesTest : Test
+
+abbrev pub IsStartTest : Test → Type 0
+IsStartTest NoTest = ⊥
+IsStartTest StartTest = Unit {0}
+IsStartTest FilesTest = ⊥
+
+abbrev pub IsFilesTest : Test → Type 0
+IsFilesTest NoTest = ⊥
+IsFilesTest StartTest = ⊥
+IsFilesTest FilesTest = Unit {0}
+
+-- Why an act of this transaction that makes such a test and rests on that fact was refused, on a house with this trail. A call that failed
+-- says nothing here: its step does.
+abbrev pub IsWhy : Test → List TrailItem → TxnId → Type 0 → ActFault → Type 0
+IsWhy test trail txn Fact (act.Ended at) = state_in (state_at trail) txn.0 ≡ standing.Ended at
+IsWhy test trail txn Fact (act.Full entries) = IsStartTest test × (entries ≡ length (book_of trail)) × Of (state_at trail) txn.0 (FullFits profile (state_at trail))
+IsWhy test trail txn Fact (act.Held by) = IsStartTest test × Of (state_at trail) txn.0 (BlockedFits (state_at trail) by.0)
+IsWhy test trail txn Fact (act.Broken put count) = IsFilesTest test × (broken (Txn txn) trail ≡ Some (put, count))
+IsWhy test trail txn Fact act.Unfit = HasNotEnded (state_in (state_at trail) txn.0) × (Fact → ⊥)
+IsWhy test trail txn Fact (act.House why) = Unit {0}
 
 -- it is done only where the fact holds, and its answer is so
-abbrev pub Answers : {T : Type 0} → List TrailItem → TxnId → Type 0 → (T → Type 0) → Result T ActFault → Type 0
-Answers trail txn Fact is (Ok x) = Fact × is x
-Answers trail txn Fact is (Err why) = IsWhy trail txn Fact why
+abbrev pub Answers : {T : Type 0} → Test → List TrailItem → TxnId → Type 0 → (T → Type 0) → Result T ActFault → Type 0
+Answers test trail txn Fact is (Ok x) = Fact × is x
+Answers test trail txn Fact is (Err why) = IsWhy test trail txn Fact why
+
+-- ---- a house that is open, and what a call leaves whose store failed
+
+-- The call was to note these entries at most, one or none, which are this transaction's and fit: the journal reads to the book, or to the
+-- book and them.
+pub record IsCutShort {D : Type 0} (told : D → Option Store) (txn : ℕ) (before now : HouseSeen D) : Type 0 where
+  pub further : List Entry
+  pub of_it : AreOf txn further
+  pub few : length further ≤ 1
+  pub fit : AllFit profile (state_at before.trail) further
+  pub leaves : Leaves fault.Store further (told now.shelf) (book_of before.trail)
+
+-- only a closed house, or one whose store fails now, answers that the store failed
+abbrev pub FaultLeaves : {D : Type 0} → (D → Option Store) → ℕ → HouseSeen D → HouseSeen D → HouseFault → Type 0
+FaultLeaves told txn before now fault.Store = before.closed ≡ false → IsCutShort told txn before now
+FaultLeaves told txn before now fault.NoMemory = before.closed ≡ false
+FaultLeaves told txn before now (fault.Failed count) = before.closed ≡ false
+
+abbrev pub WhyLeaves : {D : Type 0} → (D → Option Store) → ℕ → HouseSeen D → HouseSeen D → ActFault → Type 0
+WhyLeaves told txn before now (act.House why) = FaultLeaves told txn before now why
+WhyLeaves told txn before now why = before.closed ≡ false
+
+abbrev pub AnswerLeaves : {D T : Type 0} → (D → Option Store) → ℕ → HouseSeen D → HouseSeen D → Result T ActFault → Type 0
+AnswerLeaves told txn before now (Ok x) = before.closed ≡ false
+AnswerLeaves told txn before now (Err why) = WhyLeaves told txn before now why
+
+-- a fault of a call on files that has a count: the store's count of faults rose to it in this call
+abbrev pub FaultRises : {D : Type 0} → (D → ℕ) → HouseSeen D → HouseFault → Type 0
+FaultRises faults before (fault.Failed count) = faults before.shelf < count
+FaultRises faults before fault.Store = Unit {0}
+FaultRises faults before fault.NoMemory = Unit {0}
+
+abbrev pub WhyRises : {D : Type 0} → (D → ℕ) → HouseSeen D → ActFault → Type 0
+WhyRises faults before (act.House why) = FaultRises faults before why
+WhyRises faults before why = Unit {0}
 
 -- ---- an entry that is noted where it fits
 
@@ -95,7 +152,8 @@ EntryFits trail event = Fits profile (state_at trail) event
 pub record EntryStep {D T : Type 0} (told : D → Option Store) (faults : D → ℕ) (txn : TxnId) (event : Entry) (before now : House D) (result : Result T ActFault) : Type 0 where
   pub keeps : IsWholeOrClosed told now
   pub step : Step told faults (answer_call (Note event) result) (answer_outcome result) (seen_of before) (seen_of now)
-  pub answers : Answers (trail_of before.trail) txn (EntryFits (trail_of before.trail) event) (λ x. Unit {0}) result
+  pub answers : Answers NoTest (trail_of before.trail) txn (EntryFits (trail_of before.trail) event) (λ x. Unit {0}) result
+  pub leaves : AnswerLeaves told txn.0 (seen_of before) (seen_of now) result
 
 -- ---- numbers that are given next
 
@@ -112,6 +170,15 @@ abbrev pub next_table : List TrailItem → TableId
 next_table trail = record { 0 = length (state_at trail).tables + 1 }
 
 -- ---- an abort
+
+-- where an act aborted its transaction in its hold: for this cause, and this is what is printed
+abbrev pub aborted_line : Cause → List ℕ
+aborted_line why = cause_text None why
+
+-- the entry at that place aborts it for the cause that is told
+pub record IsAbortedAt (trail : List TrailItem) (aborted : Aborted) : Type 0 where
+  pub place : aborted.at ≡ length (book_of trail)
+  pub line : aborted.text ≡ aborted_line aborted.cause
 
 -- an abort for a call on files that failed has the mark of it
 abbrev pub HasItsMark : List TrailItem → TxnId → Cause → Type 0

@@ -1,18 +1,20 @@
 -- A statement that is begun.
-use Rattle.std.specs.Prelude.{◌≡◌, ℕ, ◌+◌, Option, Some, None, List, [], length, map, Result, Ok, Err}
+use Rattle.std.specs.Prelude.{◌≡◌, false, ℕ, ◌+◌, Option, Some, None, List, [], length, map, Result, Ok, Err}
 use Rattle.hv_ast.specs.declared.statement.Stmt.{Stmt}
 use Rattle.hv_shelf.specs.Disk.{Store}
 use Rattle.hv_history.specs.declared.entry.Entry.{Entry}
 use Rattle.hv_history.specs.State.{state_of}
 use Rattle.hv_history.specs.Legal.{HasRoom, profile}
-use Rattle.hv_stands.specs.Running.{next_number}
+use Rattle.hv_stands.specs.Running.{Asking, next_number}
 use Rattle.hv_stands.specs.Statements.{AllFitting}
 use Rattle.hv_trail.specs.declared.trail.TrailItem.{TrailItem}
 use Rattle.hv_trail.specs.declared.trail.TrailItem.TheVariants.{Noted}
 use Rattle.hv_trail.specs.Trail.{book_of}
 use Rattle.hv_trail.specs.Kept.{trail_of}
-use Rattle.hv_trail.specs.Steps.{Call, Begin, Ask, Outcome, Done, Refused, Step, begun}
+use Rattle.hv_trail.specs.Steps.{HouseSeen, Call, Begin, Ask, Outcome, Done, Refused, Step, begun}
+use Rattle.hv_house.specs.declared.fault.HouseFault.TheVariants as fault
 use Rattle.hv_house.specs.declared.house.House.{House}
+use Rattle.hv_house.specs.House.{Leaves, BeginFits, beginning_of}
 use Rattle.hv_house.specs.Steps.{seen_of, fault_outcome}
 use Rattle.hv_acts.specs.Told.{IsWholeOrClosed}
 use Rattle.hv_house.specs.Asking.{holder_against, CanBegin}
@@ -69,9 +71,23 @@ abbrev pub BeginAnswers : List TrailItem → Stmt → Result Begun BeginFault �
 BeginAnswers trail tree (Ok start) = HasBegun (book_of trail) tree start
 BeginAnswers trail tree (Err why) = IsBeginWhy (book_of trail) tree why
 
+-- the journal of a house that was open reads to the book still, or to the book and both entries, which fit
+pub record IsBeginningCut {D : Type 0} (told : D → Option Store) (asking : Asking) (before now : HouseSeen D) : Type 0 where
+  pub fits : BeginFits (book_of before.trail) asking
+  pub leaves : Leaves fault.Store (beginning_of (book_of before.trail) asking) (told now.shelf) (book_of before.trail)
+
+abbrev pub BeginLeaves : {D : Type 0} → (D → Option Store) → Asking → HouseSeen D → HouseSeen D → Result Begun BeginFault → Type 0
+BeginLeaves told asking before now (Ok start) = before.closed ≡ false
+BeginLeaves told asking before now (Err (hindered.Held by)) = before.closed ≡ false
+BeginLeaves told asking before now (Err (hindered.Full entries)) = before.closed ≡ false
+BeginLeaves told asking before now (Err (hindered.House fault.Store)) = before.closed ≡ false → IsBeginningCut told asking before now
+BeginLeaves told asking before now (Err (hindered.House fault.NoMemory)) = before.closed ≡ false
+BeginLeaves told asking before now (Err (hindered.House (fault.Failed count))) = ⊥
+
 -- all that is promised of a statement that was to begin
 pub record BeginStep {D : Type 0} (told : D → Option Store) (faults : D → ℕ) (session : List ℕ) (number : ℕ) (text : List ℕ) (tree : Stmt) (before now : House D)
     (result : Result Begun BeginFault) : Type 0 where
   pub keeps : IsWholeOrClosed told now
   pub step : Step told faults (begin_call (trail_of before.trail) session number text result) (begin_outcome result) (seen_of before) (seen_of now)
   pub answers : BeginAnswers (trail_of before.trail) tree result
+  pub leaves : BeginLeaves told (record { session = session; number = number; text = text }) (seen_of before) (seen_of now) result

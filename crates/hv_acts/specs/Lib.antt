@@ -1,9 +1,14 @@
+pub mod Aborting
 pub mod Answers
 pub mod Beginning
 pub mod Committing
+pub mod Counting
+pub mod Giving
+pub mod Going
 pub mod Making
 pub mod Meant
 pub mod Putting
 pub mod Reading
+pub mod Starting
 pub mod Told
 pub mod Waiting

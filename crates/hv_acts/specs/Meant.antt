@@ -1,8 +1,11 @@
 -- What the statement of a transaction means, whatever others add behind it; and what is true of what acts add to a told house.
 -- Source: Hive Transactions; that marks say which files were put is this project's profile.
-use Rattle.std.specs.Prelude.{◌≡◌, ◌⊎◌, ℕ, ◌≤◌, Some, List, [], ◌∷◌, length, take, Contains}
+use Rattle.std.specs.Prelude.{◌≡◌, ◌⊎◌, ℕ, ◌≤◌, ◌<◌, Some, List, [], ◌∷◌, length, take, map, Contains}
 use Rattle.std.specs.List.{AllByRecursion}
+use Rattle.hv_base.specs.Refusals as refusals
+use Rattle.hv_base.specs.declared.refusal.Refusal.{Refusal}
 use Rattle.hv_base.specs.declared.ids.TxnId.{TxnId}
+use Rattle.hv_base.specs.declared.ids.TableId.{TableId}
 use Rattle.hv_base.specs.declared.ids.Touch.{Touch}
 use Rattle.hv_shelf.specs.declared.place.Place.{Place}
 use Rattle.hv_ast.specs.declared.statement.Stmt.{Stmt}
@@ -10,12 +13,13 @@ use Rattle.hv_logic.specs.declared.catalog.Shape.{Shape}
 use Rattle.hv_logic.specs.declared.catalog.TableInfo.{TableInfo}
 use Rattle.hv_logic.specs.declared.effect.Effect.{Effect}
 use Rattle.hv_logic.specs.declared.meaning.Meaning.{Meaning}
-use Rattle.hv_logic.specs.declared.meaning.Meaning.TheVariants.{Change, Make}
+use Rattle.hv_logic.specs.declared.meaning.Meaning.TheVariants.{Change, Make, Refused, RowLimit, PartitionLimit}
 use Rattle.hv_route.specs.Back.{AreHeld}
 use Rattle.hv_route.specs.Routes.{files_of}
 use Rattle.hv_route.specs.Touching.{touches_of}
 use Rattle.hv_route.specs.declared.files.OutFile.{OutFile}
 use Rattle.hv_book.specs.Briefs.{given_at}
+use Rattle.hv_history.specs.declared.entry.Entry.{Entry}
 use Rattle.hv_history.specs.declared.entry.Entry.TheVariants as entry
 use Rattle.hv_history.specs.declared.entry.Cause.{Cause}
 use Rattle.hv_history.specs.declared.entry.Cause.TheVariants as cause
@@ -23,11 +27,10 @@ use Rattle.hv_history.specs.State.{numbered}
 use Rattle.hv_history.specs.Lasting.{IsFront}
 use Rattle.hv_history.specs.Legal.{Of, IsRunning, IsTruthful, TouchesAreMeant}
 use Rattle.hv_stands.specs.Files.{place_of_file}
-use Rattle.hv_stands.specs.Laws.{HasFile}
+use Rattle.hv_stands.specs.Laws.{HasFile, changes_in}
 use Rattle.hv_stands.specs.Running.{Asking, meant, IsUnderWay}
 use Rattle.hv_trail.specs.declared.trail.TrailItem.{TrailItem}
 use Rattle.hv_trail.specs.Trail.{book_of, state_at}
-use Rattle.hv_house.specs.Steps.{AreWritten}
 
 -- ---- what it means
 
@@ -55,6 +58,10 @@ RunsWith trail txn most = Of (state_at trail) txn.0 IsRunning × HasAtMost trail
 
 -- ---- what is true of what is added
 
+-- where these files stand, under a write id of that table
+abbrev pub places_of_files : ℕ → ℕ → List OutFile → List Place
+places_of_files table write files = map (place_of_file table write) files
+
 -- the file is one of the change that its statement means, at its place under its write id
 pub record IsFileMeant (trail : List TrailItem) (by : TxnId) (place : Place) (file : OutFile) : Type 0 where
   pub info : TableInfo
@@ -71,31 +78,54 @@ pub record TouchesNothing (trail : List TrailItem) (txn : TxnId) (wrote : List T
   pub touches : TouchesAreMeant wrote (Some means)
   pub none : wrote ≡ []
 
--- the touches are those of the change that its statement means, and each file of that change was put
-pub record IsChangePut (trail : List TrailItem) (txn : TxnId) (wrote : List Touch) : Type 0 where
+-- its statement means a change of rows in that table, and it had no write id
+pub record IsIdDue (trail : List TrailItem) (txn : TxnId) (table : TableId) : Type 0 where
+  pub info : TableInfo
+  pub effect : Effect
+  pub change : HasMeant trail txn [] (Change info effect)
+  pub of_table : table ≡ info.table
+  pub some : 0 < changes_in effect
+
+-- its statement means a change with these touches, whose files are those at these places, and can be read again
+pub record IsChangeDue (trail : List TrailItem) (txn : TxnId) (wrote : List Touch) (places : List Place) : Type 0 where
   pub info : TableInfo
   pub effect : Effect
   pub write : ℕ
   pub change : HasMeant trail txn ((info.table.0, write) ∷ []) (Change info effect)
   pub touches : wrote ≡ touches_of info effect
-  pub files : AreWritten trail txn info effect write
+  pub places_are : places ≡ places_of_files info.table.0 write (files_of info.shape write 0 effect)
   pub held : AreHeld effect.inserts
   pub encoded : AllByRecursion HasFile (files_of info.shape write 0 effect)
 
-abbrev pub IsCommitMeant : List TrailItem → TxnId → List Touch → Type 0
-IsCommitMeant trail txn wrote = TouchesNothing trail txn wrote ⊎ IsChangePut trail txn wrote
+abbrev pub IsCommitDue : List TrailItem → TxnId → List Touch → List Place → Type 0
+IsCommitDue trail txn wrote places = TouchesNothing trail txn wrote ⊎ IsChangeDue trail txn wrote places
 
 -- its statement makes a table, and it had no write id
 pub record IsMakeMeant (trail : List TrailItem) (txn : TxnId) : Type 0 where
   pub shape : Shape
   pub make : HasMeant trail txn [] (Make shape)
 
+-- Its statement means what the abort says, whatever others add: so it is true wherever it fits. An abort for want of room, for a lock or for
+-- a conflict is tested in one hold, and isn't asked for.
+abbrev pub IsAbortDue : List TrailItem → TxnId → Cause → Type 0
+IsAbortDue trail txn (cause.Refused number) = (why : Refusal) × (number ≡ refusals.number why) × HasMeant trail txn [] (Refused why)
+IsAbortDue trail txn cause.RowLimit = HasMeant trail txn [] RowLimit
+IsAbortDue trail txn cause.PartitionLimit = HasMeant trail txn [] PartitionLimit
+IsAbortDue trail txn cause.Memory = Unit {0}
+IsAbortDue trail txn (cause.ReadFault count) = Unit {0}
+IsAbortDue trail txn (cause.WriteFault count) = Unit {0}
+IsAbortDue trail txn (cause.Damaged place) = Unit {0}
+IsAbortDue trail txn why = ⊥
+
 -- the cause is what came of its statement, over the book of this trail
 abbrev pub IsCauseTrue : List TrailItem → TxnId → Cause → Type 0
 IsCauseTrue trail txn why = IsTruthful (state_at trail) (entry.Abort txn why)
 
--- whether it is true rests on what the statement means alone, and not on whether it has started, its write ids, or others' commits
-abbrev pub IsSteady : Cause → Type 0
-IsSteady cause.Full = ⊥
-IsSteady (cause.Conflict by table partition) = ⊥
-IsSteady why = Unit {0}
+-- ---- what ends none
+
+abbrev pub IsNoEnd : Entry → Type 0
+IsNoEnd (entry.Commit txn wrote) = ⊥
+IsNoEnd (entry.Create txn table) = ⊥
+IsNoEnd (entry.Drop txn table) = ⊥
+IsNoEnd (entry.Abort txn why) = ⊥
+IsNoEnd event = Unit {0}

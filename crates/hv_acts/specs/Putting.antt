@@ -1,5 +1,5 @@
 -- A file that is put.
-use Rattle.std.specs.Prelude.{◌≡◌, ℕ, true, Option, Some, List, [], ◌∷◌, Result, Ok, Err}
+use Rattle.std.specs.Prelude.{◌≡◌, ℕ, true, Option, Some, List, [], ◌∷◌, Result, Ok, Err, IfErr}
 use Rattle.hv_base.specs.declared.ids.TxnId.{TxnId}
 use Rattle.hv_shelf.specs.declared.place.Place.{Place}
 use Rattle.hv_shelf.specs.Disk.{Store}
@@ -23,7 +23,7 @@ use Rattle.hv_acts.specs.Told.{IsWholeOrClosed}
 use Rattle.hv_acts.specs.Meant.{RunsWith}
 use Rattle.hv_acts.specs.declared.fault.ActFault.{ActFault}
 use Rattle.hv_acts.specs.declared.fault.ActFault.TheVariants as act
-use Rattle.hv_acts.specs.Answers.{answer_call, answer_outcome, Answers}
+use Rattle.hv_acts.specs.Answers.{answer_call, answer_outcome, NoTest, Answers, AnswerLeaves, WhyRises}
 
 -- the place is that of this file under a write id that the transaction was given
 pub record HasIdFor (trail : List TrailItem) (by : TxnId) (place : Place) (file : OutFile) : Type 0 where
@@ -59,4 +59,6 @@ pub record FileStep {D : Type 0} (told : D → Option Store) (faults : D → ℕ
     (result : Result (Unit {0}) ActFault) : Type 0 where
   pub keeps : IsWholeOrClosed told now
   pub step : Step told faults (answer_call (Put (Txn by) place (bytes_of file)) result) (answer_outcome result) (seen_of before) (seen_of now)
-  pub answers : Answers (trail_of before.trail) by (RunsWith (trail_of before.trail) by 1) (λ done. IsEncoded file) result
+  pub answers : Answers NoTest (trail_of before.trail) by (RunsWith (trail_of before.trail) by 1) (λ done. IsEncoded file) result
+  pub leaves : AnswerLeaves told by.0 (seen_of before) (seen_of now) result
+  pub rises : IfErr result (WhyRises faults (seen_of before))

@@ -1,5 +1,5 @@
 -- What acts that read ask and answer: the table of a name, the files of a table that are taken, and the bytes of one.
-use Rattle.std.specs.Prelude.{◌≡◌, ℕ, ◌≤◌, Bool, true, false, Option, Some, None, IsSomeAnd, List, [], length, take, Result, Ok, Err}
+use Rattle.std.specs.Prelude.{◌≡◌, ℕ, ◌≤◌, Bool, true, false, Option, Some, None, IsSomeAnd, List, [], length, take, Result, Ok, Err, IfErr}
 use Rattle.std.specs.Option.{option_map}
 use Rattle.std.specs.Global.{Vec}
 use Rattle.std.specs.FinMap as tree
@@ -34,7 +34,7 @@ use Rattle.hv_acts.specs.Told.{IsWholeOrClosed}
 use Rattle.hv_telling.specs.Telling.{IsTold}
 use Rattle.hv_acts.specs.declared.fault.ActFault.{ActFault}
 use Rattle.hv_acts.specs.declared.fault.ActFault.TheVariants as act
-use Rattle.hv_acts.specs.Answers.{answer_outcome}
+use Rattle.hv_acts.specs.Answers.{answer_outcome, FaultLeaves, AnswerLeaves, FaultRises, WhyRises}
 
 -- ---- a place of the book
 
@@ -134,6 +134,8 @@ pub record ListStep {D : Type 0} (told : D → Option Store) (faults : D → ℕ
   pub keeps : IsWholeOrClosed told now
   pub step : Step told faults (Read (Some (Txn by))) (answer_outcome result) (seen_of before) (seen_of now)
   pub answers : ListAnswers told (seen_of before) place table result
+  pub leaves : AnswerLeaves told by.0 (seen_of before) (seen_of now) result
+  pub rises : IfErr result (WhyRises faults (seen_of before))
 
 -- ---- the bytes of a file
 
@@ -174,12 +176,23 @@ abbrev pub adds_getting : {T : Type 0} → TxnId → Result T GetFault → List 
 adds_getting by (Ok x) = []
 adds_getting by (Err why) = adds_missed by why
 
+abbrev pub GetLeaves : {D T : Type 0} → (D → Option Store) → ℕ → HouseSeen D → HouseSeen D → Result T GetFault → Type 0
+GetLeaves told txn before now (Ok x) = before.closed ≡ false
+GetLeaves told txn before now (Err get_fault.NotFound) = before.closed ≡ false
+GetLeaves told txn before now (Err (get_fault.House why)) = FaultLeaves told txn before now why
+
+abbrev pub GetRises : {D : Type 0} → (D → ℕ) → HouseSeen D → GetFault → Type 0
+GetRises faults before get_fault.NotFound = Unit {0}
+GetRises faults before (get_fault.House why) = FaultRises faults before why
+
 -- all that is promised of a file that was to be got for this transaction
 pub record GetStep {D : Type 0} (told : D → Option Store) (faults : D → ℕ) (by : TxnId) (place : Place) (before now : House D)
     (result : Result (Vec ℕ) GetFault) : Type 0 where
   pub keeps : IsWholeOrClosed told now
   pub step : Step told faults (Read (Some (Txn by))) (get_outcome result) (seen_of before) (seen_of now)
   pub answers : GetAnswers told (seen_of before) place result
+  pub leaves : GetLeaves told by.0 (seen_of before) (seen_of now) result
+  pub rises : IfErr result (GetRises faults (seen_of before))
 
 -- ---- one reading over several acts
 

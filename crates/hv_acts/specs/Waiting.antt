@@ -15,7 +15,7 @@ use Rattle.hv_house.specs.Steps.{seen_of}
 use Rattle.hv_acts.specs.Told.{IsWholeOrClosed}
 use Rattle.hv_acts.specs.declared.fault.ActFault.{ActFault}
 use Rattle.hv_acts.specs.declared.fault.ActFault.TheVariants as act
-use Rattle.hv_acts.specs.Answers.{answer_call, answer_outcome, EntryFits, Answers}
+use Rattle.hv_acts.specs.Answers.{answer_call, answer_outcome, StartTest, EntryFits, Answers, AnswerLeaves}
 
 -- the number of the transaction that is opened next, and its Opened
 abbrev pub next_txn : List TrailItem → TxnId
@@ -41,6 +41,7 @@ pub record OpenStep {D : Type 0} (told : D → Option Store) (faults : D → ℕ
   pub keeps : IsWholeOrClosed told now
   pub step : Step told faults (answer_call (Note (next_opened (trail_of before.trail) session number text)) result) (answer_outcome result) (seen_of before) (seen_of now)
   pub answers : OpenAnswers (trail_of before.trail) result
+  pub leaves : AnswerLeaves told (next_number (book_of (trail_of before.trail))) (seen_of before) (seen_of now) result
 
 -- ---- its Start
 
@@ -56,5 +57,12 @@ TellsHolder by answer = ⊥
 
 -- it is started only where its Start fits; where a lock is held against it, the answer is who holds it
 pub record StartAnswers (trail : List TrailItem) (txn : TxnId) (answer : Result ℕ ActFault) : Type 0 where
-  pub answers : Answers trail txn (EntryFits trail (entry.Start txn 0)) (λ (place : ℕ). place ≡ length (book_of trail)) answer
+  pub answers : Answers StartTest trail txn (EntryFits trail (entry.Start txn 0)) (λ (place : ℕ). place ≡ length (book_of trail)) answer
   pub held : (by : TxnId) → IsHeld trail txn by → TellsHolder by answer
+
+-- all that is promised of a transaction that was to start
+pub record StartStep {D : Type 0} (told : D → Option Store) (faults : D → ℕ) (txn : TxnId) (before now : House D) (result : Result ℕ ActFault) : Type 0 where
+  pub keeps : IsWholeOrClosed told now
+  pub step : Step told faults (answer_call (Note (entry.Start txn 0)) result) (answer_outcome result) (seen_of before) (seen_of now)
+  pub answers : StartAnswers (trail_of before.trail) txn result
+  pub leaves : AnswerLeaves told txn.0 (seen_of before) (seen_of now) result

@@ -4,7 +4,7 @@ ghost use Rattle.hv_trail.specs.Trail.{book_of};
 ghost use Rattle.hv_trail.specs.Kept.{trail_of};
 ghost use Rattle.hv_house.specs.House.{IsSmall};
 ghost use Rattle.hv_telling.specs.Telling.{IsToldHouse, IsWhole};
-ghost use Rattle.hv_acts.specs.Meant.{IsCauseTrue};
+ghost use Rattle.hv_acts.specs.Meant.{IsAbortDue};
 ghost use Rattle.hv_acts.specs.Answers.{HasItsMark, EntryStep};
 
 use crate::fault::ActFault;
@@ -28,7 +28,7 @@ fn abort_for<D: Shelf>(house: &mut House<D>, txn: TxnId, cause: Cause) -> Result
     requires whole { IsWhole D.told house.old }
     requires small { IsSmall (entry.Abort txn cause) }
     requires marked { HasItsMark (trail_of house.old.trail) txn cause }
-    requires truly { IsToldHouse D.told house.old → IsCauseTrue (trail_of house.old.trail) txn cause }
+    requires truly { IsToldHouse D.told house.old → IsAbortDue (trail_of house.old.trail) txn cause }
     ensures noted { EntryStep D.told D.faults txn (entry.Abort txn cause) house.old house.new result }
     ensures place { IfOk result (λ place. place ≡ length (book_of (trail_of house.old.trail))) }
 {
@@ -46,13 +46,13 @@ impl<D: Shelf + Drop> Act<D, ToldHouse<D>> for AbortFor {
     ghost use Rattle.hv_trail.specs.Steps.{Note};
     ghost use Rattle.hv_house.specs.House.{IsSmall};
     ghost use Rattle.hv_telling.specs.Telling.{IsTold};
-    ghost use Rattle.hv_acts.specs.Meant.{IsCauseTrue};
-    ghost use Rattle.hv_acts.specs.Answers.{HasItsMark, answer_call, answer_outcome, adds_entry, EntryFits, Answers};
+    ghost use Rattle.hv_acts.specs.Meant.{IsAbortDue};
+    ghost use Rattle.hv_acts.specs.Answers.{HasItsMark, answer_call, answer_outcome, adds_entry, NoTest, EntryFits, Answers, AnswerLeaves};
 
     type Answer = Result<u64, ActFault>;
 
     ghost can = { λ act house. IsSmall (entry.Abort act.txn act.cause) × HasItsMark house.trail act.txn act.cause
-        × (IsTold D.told house.start → IsCauseTrue house.trail act.txn act.cause) };
+        × (IsTold D.told house.start → IsAbortDue house.trail act.txn act.cause) };
 
     ghost call = { λ act house answer. answer_call (Note (entry.Abort act.txn act.cause)) answer };
 
@@ -60,9 +60,9 @@ impl<D: Shelf + Drop> Act<D, ToldHouse<D>> for AbortFor {
 
     ghost adds = { λ act answer. adds_entry (λ place. entry.Abort act.txn act.cause) answer };
 
-    ghost does = { λ act house answer. Answers house.trail act.txn
+    ghost does = { λ act house now answer. Answers NoTest house.trail act.txn
         (EntryFits house.trail (entry.Abort act.txn act.cause))
-        (λ (place : ℕ). place ≡ length (book_of house.trail)) answer };
+        (λ (place : ℕ). place ≡ length (book_of house.trail)) answer × AnswerLeaves D.told act.txn.0 house now answer };
 
     fn act(self, _alloc: Global, house: &mut ToldHouse<D>) -> Result<u64, ActFault> {
         if house.house.is_closed() {

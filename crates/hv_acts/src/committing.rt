@@ -1,113 +1,147 @@
-ghost use Rattle.std.specs.Prelude.{◌≡◌, ◌<◌, List, None, Some, IfOk, length};
+ghost use Rattle.std.specs.Prelude.{◌≡◌, ◌<◌, ◌↔◌, ℕ, List, None, Some, IsTrue, IfOk, length};
 ghost use Rattle.std.specs.List.{slice_get};
 ghost use Rattle.hv_base.specs.declared.ids.Touch.{Touch};
+ghost use Rattle.hv_shelf.specs.declared.place.Place.{Place};
 ghost use Rattle.hv_history.specs.declared.entry.Entry.TheVariants as entry;
-ghost use Rattle.hv_history.specs.declared.entry.Cause.TheVariants as cause;
 ghost use Rattle.hv_conflicts.specs.Clashes.{IsClash};
 ghost use Rattle.hv_trail.specs.declared.trail.Reader.TheVariants.{Txn};
-ghost use Rattle.hv_trail.specs.Trail.{state_at, broken};
+ghost use Rattle.hv_trail.specs.Trail.{book_of, state_at, broken, HasWritten};
 ghost use Rattle.hv_trail.specs.Kept.{trail_of};
 ghost use Rattle.hv_house.specs.House.{IsSmall};
 ghost use Rattle.hv_telling.specs.Telling.{IsToldHouse, IsWhole};
-ghost use Rattle.hv_acts.specs.Meant.{HasAtMost, IsCommitMeant, IsCauseTrue};
-ghost use Rattle.hv_acts.specs.Answers.{EntryFits};
-ghost use Rattle.hv_acts.specs.Putting.{Runs};
-ghost use Rattle.hv_acts.specs.Committing.{IsSharedBy, IsConflict, WasPut, CommitStep};
+ghost use Rattle.hv_acts.specs.Answers.{EntryFits, HasItsMark};
+ghost use Rattle.hv_acts.specs.Meant.{RunsWith, IsCommitDue, IsCauseTrue};
+ghost use Rattle.hv_acts.specs.Committing.{CanBePut, WerePut, IsConflictOf, HasMet, CommitStep};
 
+use crate::aborted::{Aborted, PutFiles};
 use crate::fault::ActFault;
-use crate::noting::{late, next_place, note_fitting, runs_with};
+use crate::noting::{late, next_place, note_abort, note_fitting, runs_with};
 use crate::told::ToldHouse;
 use hv_actor::Act;
-use hv_base::{Duplicate, List, NoMemory, TableId, Text, Touch, TxnId};
+use hv_base::{Duplicate, List, NoMemory, Text, Touch, TxnId};
 use hv_conflicts::{Clash, clash};
-use hv_history::{Cause, Entry};
+use hv_history::{Cause, Entry, conflict_text};
 use hv_house::{House, HouseFault};
-use hv_shelf::Shelf;
-use hv_telling::note;
+use hv_shelf::{Place, Shelf};
 use std::alloc::Global;
+use std::slice::from_ref;
 
-/// Commits a transaction with what it wrote, whose files it has put; or aborts it, where a commit conflicts with it.
+/// Commits a transaction with what it wrote in the table of that name, whose files it has put; or aborts it, where a commit conflicts
+/// with it.
 #[derive(Drop)]
 pub struct CommitWrites {
     pub txn: TxnId,
     pub wrote: List<Touch>,
+    pub name: Text,
+    pub put: PutFiles,
 }
 
-/// How a transaction ended that was to commit, by the entry at a place.
+/// How a transaction ended that was to commit.
 #[derive(Drop)]
 pub enum Committed {
-    Done {
-        at: u64,
-    },
-    /// It was aborted: that transaction committed behind its snapshot, and both deleted rows in this partition.
-    Conflict {
-        at: u64,
-        by: TxnId,
-        table: TableId,
-        partition: Text,
-    },
+    /// It committed, by the entry at this place.
+    At(u64),
+    /// It was aborted: another transaction committed behind its snapshot, and both deleted rows in one partition.
+    Aborted(Aborted),
 }
 
-/// What a transaction shares with a commit: a table, and a partition of it, twice: to be noted and to be answered.
+/// Whether the house has a mark that the transaction put a file at this place. The newest marks are looked at first.
+fn is_marked<D: Shelf>(house: &House<D>, txn: TxnId, place: &Place) -> bool
+    ensures marked { IsTrue result ↔ HasWritten (trail_of house.now.trail) (Txn txn) place.now }
+{
+    for at in (0..house.marks()).rev() {
+        if house.has_put(txn, at, from_ref(place)) {
+            return true;
+        }
+    }
+    false
+}
+
+/// Whether the house has a mark of each of these files.
+fn are_marked<D: Shelf>(house: &House<D>, txn: TxnId, places: &[Place]) -> bool
+    ensures marked { IsTrue result ↔ WerePut (trail_of house.now.trail) txn places.now }
+{
+    for place in places {
+        if !is_marked(house, txn, place) {
+            return false;
+        }
+    }
+    true
+}
+
+/// Whether the house has a mark of each file that was put. They may stand one behind another, or marks of others between them.
+fn is_put<D: Shelf>(house: &House<D>, txn: TxnId, put: &PutFiles) -> bool
+    ensures put { IsTrue result ↔ WerePut (trail_of house.now.trail) txn put.now.places }
+{
+    if house.has_put(txn, put.since, put.places.as_slice()) {
+        true
+    } else {
+        are_marked(house, txn, put.places.as_slice())
+    }
+}
+
+/// The cause of an abort for a conflict, to be noted, and what is told of it.
 #[derive(Drop)]
-struct Shared {
-    table: TableId,
-    partition: Text,
-    copy: Text,
+struct Conflict {
+    cause: Cause,
+    aborted: Aborted,
 }
 
-/// What the touch at the clash's place is of.
-fn shared_at(alloc: Global, found: Clash, wrote: &[Touch]) -> Result<Shared, NoMemory>
+/// The conflict of the touch at the clash's place, in the table of that name, which the entry at that place aborts for.
+fn conflict_at(
+    alloc: Global,
+    at: u64,
+    found: Clash,
+    wrote: &[Touch],
+    name: &Text,
+) -> Result<Conflict, NoMemory>
     requires within { found.at < length wrote.now }
-    ensures shared { (touch : Touch) → slice_get wrote.now found.at ≡ Some touch
-        → IfOk result (IsSharedBy touch) }
+    ensures conflict { (touch : Touch) → slice_get wrote.now found.at ≡ Some touch
+        → IfOk result (IsConflictOf at found.by touch name.now) }
 {
     let touch = &wrote[found.at];
+    let line = conflict_text(alloc, found.by.0, name.as_str(), &touch.partition)?;
     let partition = touch.partition.duplicate(alloc)?;
     let copy = touch.partition.duplicate(alloc)?;
-    Ok(Shared {
-        table: touch.table,
-        partition,
-        copy,
+    Ok(Conflict {
+        cause: Cause::Conflict {
+            with: found.by,
+            table: touch.table,
+            partition,
+        },
+        aborted: Aborted {
+            at,
+            cause: Cause::Conflict {
+                with: found.by,
+                table: touch.table,
+                partition: copy,
+            },
+            text: List::from_vec(line),
+        },
     })
 }
 
-/// Aborts a transaction for what it shares with the commit of that one.
+/// Aborts a transaction for this conflict.
 fn note_conflict<D: Shelf>(
     house: &mut House<D>,
     txn: TxnId,
-    by: TxnId,
-    shared: Shared,
+    conflict: Conflict,
 ) -> Result<Committed, ActFault>
     requires whole { IsWhole D.told house.old }
-    requires small { IsSmall (entry.Abort txn (cause.Conflict by shared.table shared.partition)) }
-    requires fits { EntryFits (trail_of house.old.trail)
-        (entry.Abort txn (cause.Conflict by shared.table shared.partition)) }
-    requires copy { shared.copy ≡ shared.partition }
-    requires truly { IsToldHouse D.told house.old → IsCauseTrue (trail_of house.old.trail) txn
-        (cause.Conflict by shared.table shared.partition) }
-    ensures committed { (wrote : List Touch)
-        → IsConflict (trail_of house.old.trail) txn wrote by shared.table shared.partition
-        → CommitStep D.told D.faults txn wrote house.old house.new result }
+    requires small { IsSmall (entry.Abort txn conflict.cause) }
+    requires fits { EntryFits (trail_of house.old.trail) (entry.Abort txn conflict.cause) }
+    requires marked { HasItsMark (trail_of house.old.trail) txn conflict.cause }
+    requires truly { IsToldHouse D.told house.old
+        → IsCauseTrue (trail_of house.old.trail) txn conflict.cause }
+    requires place { conflict.aborted.at ≡ length (book_of (trail_of house.old.trail)) }
+    requires same { conflict.aborted.cause ≡ conflict.cause }
+    ensures committed { (wrote : List Touch) (name : List ℕ) (places : List Place)
+        → HasMet (trail_of house.old.trail) txn wrote name conflict
+        → CommitStep D.told D.faults txn wrote name places house.old house.new result }
 {
-    let at = next_place(house);
-    let Shared {
-        table,
-        partition,
-        copy,
-    } = shared;
-    let cause = Cause::Conflict {
-        with: by,
-        table,
-        partition,
-    };
-    match note(house, Entry::Abort { txn, cause }, None) {
-        Ok(()) => Ok(Committed::Conflict {
-            at,
-            by,
-            table,
-            partition: copy,
-        }),
+    let Conflict { cause, aborted } = conflict;
+    match note_abort(house, txn, cause, aborted) {
+        Ok(aborted) => Ok(Committed::Aborted(aborted)),
         Err(fault) => Err(ActFault::House(fault)),
     }
 }
@@ -116,115 +150,121 @@ fn note_conflict<D: Shelf>(
 fn end_by_conflict<D: Shelf>(
     alloc: Global,
     house: &mut House<D>,
-    txn: TxnId,
+    due: &CommitWrites,
     found: Clash,
-    wrote: &[Touch],
 ) -> Result<Committed, ActFault>
     requires whole { IsWhole D.told house.old }
-    requires running { Runs (trail_of house.old.trail) txn }
-    requires small { IsSmall (entry.Commit txn wrote.now) }
-    requires clash { IsClash (state_at (trail_of house.old.trail)) txn.0 wrote.now found }
-    requires truly { IsToldHouse D.told house.old → IsCommitMeant (trail_of house.old.trail) txn wrote.now }
-    ensures committed { CommitStep D.told D.faults txn wrote.now house.old house.new result }
+    requires running { RunsWith (trail_of house.old.trail) due.now.txn 1 }
+    requires small { IsSmall (entry.Commit due.now.txn due.now.wrote) }
+    requires clash { IsClash (state_at (trail_of house.old.trail)) due.now.txn.0 due.now.wrote found }
+    requires truly { IsToldHouse D.told house.old
+        → IsCommitDue (trail_of house.old.trail) due.now.txn due.now.wrote due.now.put.places }
+    ensures committed { CommitStep D.told D.faults due.now.txn due.now.wrote due.now.name due.now.put.places
+        house.old house.new result }
 {
-    match shared_at(alloc, found, wrote) {
-        Ok(shared) => note_conflict(house, txn, found.by, shared),
+    let at = next_place(house);
+    match conflict_at(alloc, at, found, due.wrote.as_slice(), &due.name) {
+        Ok(conflict) => note_conflict(house, due.txn, conflict),
         Err(NoMemory) => Err(ActFault::House(HouseFault::NoMemory)),
     }
 }
 
 /// Commits a transaction that meets no conflict.
-fn end_by_commit<D: Shelf>(
-    house: &mut House<D>,
-    txn: TxnId,
-    wrote: List<Touch>,
-) -> Result<Committed, ActFault>
+fn end_by_commit<D: Shelf>(house: &mut House<D>, due: CommitWrites) -> Result<Committed, ActFault>
     requires whole { IsWhole D.told house.old }
-    requires running { Runs (trail_of house.old.trail) txn }
-    requires small { IsSmall (entry.Commit txn wrote) }
-    requires put { WasPut (trail_of house.old.trail) txn wrote }
-    requires truly { IsToldHouse D.told house.old → IsCommitMeant (trail_of house.old.trail) txn wrote }
-    requires unbroken { broken (Txn txn) (trail_of house.old.trail) ≡ None }
-    requires most { HasAtMost (trail_of house.old.trail) txn 1 }
-    ensures committed { CommitStep D.told D.faults txn wrote house.old house.new result }
+    requires running { RunsWith (trail_of house.old.trail) due.txn 1 }
+    requires small { IsSmall (entry.Commit due.txn due.wrote) }
+    requires can { CanBePut (trail_of house.old.trail) due.txn due.wrote due.put.places }
+    requires truly { IsToldHouse D.told house.old
+        → IsCommitDue (trail_of house.old.trail) due.txn due.wrote due.put.places }
+    requires unbroken { broken (Txn due.txn) (trail_of house.old.trail) ≡ None }
+    requires put { WerePut (trail_of house.old.trail) due.txn due.put.places }
+    ensures committed { CommitStep D.told D.faults due.txn due.wrote due.name due.put.places
+        house.old house.new result }
 {
     let at = next_place(house);
+    let txn = due.txn;
+    let wrote = due.wrote;
     match note_fitting(house, txn, Entry::Commit { txn, wrote }) {
-        Ok(()) => Ok(Committed::Done { at }),
+        Ok(()) => Ok(Committed::At(at)),
         Err(fault) => Err(fault),
     }
 }
 
-/// Commits a running transaction, or aborts it where a commit conflicts with it.
+/// Commits a running transaction whose files have their marks, or aborts it where a commit conflicts with it.
 fn end_running<D: Shelf>(
     alloc: Global,
     house: &mut House<D>,
-    txn: TxnId,
-    wrote: List<Touch>,
+    due: CommitWrites,
 ) -> Result<Committed, ActFault>
     requires whole { IsWhole D.told house.old }
-    requires running { Runs (trail_of house.old.trail) txn }
-    requires small { IsSmall (entry.Commit txn wrote) }
-    requires put { WasPut (trail_of house.old.trail) txn wrote }
-    requires truly { IsToldHouse D.told house.old → IsCommitMeant (trail_of house.old.trail) txn wrote }
-    requires unbroken { broken (Txn txn) (trail_of house.old.trail) ≡ None }
-    requires most { HasAtMost (trail_of house.old.trail) txn 1 }
-    ensures committed { CommitStep D.told D.faults txn wrote house.old house.new result }
+    requires running { RunsWith (trail_of house.old.trail) due.txn 1 }
+    requires small { IsSmall (entry.Commit due.txn due.wrote) }
+    requires can { CanBePut (trail_of house.old.trail) due.txn due.wrote due.put.places }
+    requires truly { IsToldHouse D.told house.old
+        → IsCommitDue (trail_of house.old.trail) due.txn due.wrote due.put.places }
+    requires unbroken { broken (Txn due.txn) (trail_of house.old.trail) ≡ None }
+    ensures committed { CommitStep D.told D.faults due.txn due.wrote due.name due.put.places
+        house.old house.new result }
 {
-    match clash(house.book(), txn, wrote.as_slice()) {
-        Some(found) => end_by_conflict(alloc, house, txn, found, wrote.as_slice()),
-        None => end_by_commit(house, txn, wrote),
+    if !is_put(house, due.txn, &due.put) {
+        return Err(late(house, due.txn));
+    }
+    match clash(house.book(), due.txn, due.wrote.as_slice()) {
+        Some(found) => end_by_conflict(alloc, house, &due, found),
+        None => end_by_commit(house, due),
     }
 }
 
 fn commit_writes<D: Shelf>(
     alloc: Global,
     house: &mut House<D>,
-    txn: TxnId,
-    wrote: List<Touch>,
+    due: CommitWrites,
 ) -> Result<Committed, ActFault>
     requires whole { IsWhole D.told house.old }
-    requires small { IsSmall (entry.Commit txn wrote) }
-    requires put { WasPut (trail_of house.old.trail) txn wrote }
-    requires truly { IsToldHouse D.told house.old → IsCommitMeant (trail_of house.old.trail) txn wrote }
-    ensures committed { CommitStep D.told D.faults txn wrote house.old house.new result }
+    requires small { IsSmall (entry.Commit due.txn due.wrote) }
+    requires can { CanBePut (trail_of house.old.trail) due.txn due.wrote due.put.places }
+    requires truly { IsToldHouse D.told house.old
+        → IsCommitDue (trail_of house.old.trail) due.txn due.wrote due.put.places }
+    ensures committed { CommitStep D.told D.faults due.txn due.wrote due.name due.put.places
+        house.old house.new result }
 {
-    if !runs_with(house, txn, 1) {
-        return Err(late(house, txn));
+    if !runs_with(house, due.txn, 1) {
+        return Err(late(house, due.txn));
     }
-    match house.broken(txn) {
+    match house.broken(due.txn) {
         Some((put, count)) => Err(ActFault::Broken { put, count }),
-        None => end_running(alloc, house, txn, wrote),
+        None => end_running(alloc, house, due),
     }
 }
 
 impl<D: Shelf + Drop> Act<D, ToldHouse<D>> for CommitWrites {
     ghost use Rattle.hv_history.specs.declared.entry.Entry.TheVariants as entry;
-    ghost use Rattle.hv_trail.specs.Steps.{Commit};
     ghost use Rattle.hv_house.specs.House.{IsSmall};
     ghost use Rattle.hv_telling.specs.Telling.{IsTold};
-    ghost use Rattle.hv_acts.specs.Meant.{IsCommitMeant};
-    ghost use Rattle.hv_acts.specs.Answers.{answer_call};
-    ghost use Rattle.hv_acts.specs.Committing.{WasPut, commit_outcome, adds_commit, CommitAnswers};
+    ghost use Rattle.hv_acts.specs.Meant.{IsCommitDue};
+    ghost use Rattle.hv_acts.specs.Answers.{answer_outcome, AnswerLeaves};
+    ghost use Rattle.hv_acts.specs.Committing.{CanBePut, call_to_commit, adds_commit, CommitAnswers};
 
     type Answer = Result<Committed, ActFault>;
 
-    ghost can = { λ act house. IsSmall (entry.Commit act.txn act.wrote) × WasPut house.trail act.txn act.wrote
-        × (IsTold D.told house.start → IsCommitMeant house.trail act.txn act.wrote) };
+    ghost can = { λ act house. IsSmall (entry.Commit act.txn act.wrote) × CanBePut house.trail act.txn act.wrote act.put.places
+        × (IsTold D.told house.start → IsCommitDue house.trail act.txn act.wrote act.put.places) };
 
-    ghost call = { λ act house answer. answer_call (Commit act.txn act.wrote) answer };
+    ghost call = { λ act house answer. call_to_commit act.txn act.wrote answer };
 
-    ghost outcome = { λ act answer. commit_outcome answer };
+    ghost outcome = { λ act answer. answer_outcome answer };
 
     ghost adds = { λ act answer. adds_commit act.txn act.wrote answer };
 
-    ghost does = { λ act house answer. CommitAnswers house.trail act.txn act.wrote answer };
+    ghost does = { λ act house now answer. CommitAnswers house.trail act.txn act.wrote act.name act.put.places answer
+        × AnswerLeaves D.told act.txn.0 house now answer };
 
     fn act(self, alloc: Global, house: &mut ToldHouse<D>) -> Result<Committed, ActFault> {
         if house.house.is_closed() {
             Err(ActFault::House(HouseFault::Store))
         } else {
-            commit_writes(alloc, &mut house.house, self.txn, self.wrote)
+            commit_writes(alloc, &mut house.house, self)
         }
     }
 }

@@ -48,7 +48,7 @@ impl<'a, D: Shelf + Drop> Act<D, ToldHouse<D>> for FindTable<'a> {
 
     ghost adds = { λ act answer. [] };
 
-    ghost does = { λ act house answer. FindAnswers house act.place act.name.now answer };
+    ghost does = { λ act house now answer. FindAnswers house act.place act.name.now answer };
 
     fn act(self, alloc: Global, house: &mut ToldHouse<D>) -> Result<Option<TableInfo>, ActFault> {
         if house.house.is_closed() {

@@ -28,11 +28,11 @@ fn get_file<D: Shelf>(
 }
 
 impl<'a, D: Shelf + Drop> Act<D, ToldHouse<D>> for GetFile<'a> {
-    ghost use Rattle.std.specs.Prelude.{Some};
+    ghost use Rattle.std.specs.Prelude.{Some, IfErr};
     ghost use Rattle.hv_trail.specs.declared.trail.Reader.TheVariants.{Txn};
     ghost use Rattle.hv_trail.specs.Steps.{Read};
     ghost use Rattle.hv_house.specs.Listing.{get_outcome};
-    ghost use Rattle.hv_acts.specs.Reading.{GetAnswers, adds_getting};
+    ghost use Rattle.hv_acts.specs.Reading.{GetAnswers, adds_getting, GetLeaves, GetRises};
 
     type Answer = Result<Vec<u8>, GetFault>;
 
@@ -44,7 +44,8 @@ impl<'a, D: Shelf + Drop> Act<D, ToldHouse<D>> for GetFile<'a> {
 
     ghost adds = { λ act answer. adds_getting act.by answer };
 
-    ghost does = { λ act house answer. GetAnswers D.told house act.place.now answer };
+    ghost does = { λ act house now answer. GetAnswers D.told house act.place.now answer
+        × GetLeaves D.told act.by.0 house now answer × IfErr answer (GetRises D.faults house) };
 
     fn act(self, alloc: Global, house: &mut ToldHouse<D>) -> Result<Vec<u8>, GetFault> {
         if house.house.is_closed() {

@@ -1,11 +1,15 @@
-ghost use Rattle.std.specs.Prelude.{◌≡◌, IfOk};
-ghost use Rattle.hv_history.specs.declared.entry.Entry.TheVariants as entry;
+ghost use Rattle.std.specs.Prelude.{◌≡◌};
+ghost use Rattle.hv_history.specs.Legal.{Of, FullFits, profile};
+ghost use Rattle.hv_trail.specs.Trail.{state_at};
 ghost use Rattle.hv_trail.specs.Kept.{trail_of};
-ghost use Rattle.hv_telling.specs.Telling.{IsWhole};
-ghost use Rattle.hv_acts.specs.Answers.{next_id, EntryStep};
+ghost use Rattle.hv_telling.specs.Telling.{IsToldHouse, IsWhole};
+ghost use Rattle.hv_acts.specs.Answers.{next_id};
+ghost use Rattle.hv_acts.specs.Giving.{GiveStep};
+ghost use Rattle.hv_acts.specs.Meant.{RunsWith, IsIdDue};
 
+use crate::aborted::Aborted;
 use crate::fault::ActFault;
-use crate::noting::{is_full, next_place, note_fitting};
+use crate::noting::{abort_full, is_full, late, note_fitting, runs_with};
 use crate::told::ToldHouse;
 use hv_actor::Act;
 use hv_base::{TableId, TxnId, WriteId};
@@ -14,11 +18,19 @@ use hv_house::{House, HouseFault};
 use hv_shelf::Shelf;
 use std::alloc::Global;
 
-/// Gives a transaction the next write id of a table, and answers it.
+/// Gives a transaction that has none the next write id of a table, and answers it. Where there is no room for that, aborts it.
 #[derive(Drop)]
 pub struct GiveId {
     pub txn: TxnId,
     pub table: TableId,
+}
+
+/// What came of a write id that was to be given.
+#[derive(Drop)]
+pub enum Given {
+    Id(WriteId),
+    /// There was no room for it.
+    Aborted(Aborted),
 }
 
 /// The next write id of a table, which is 1 where no table has that number.
@@ -31,52 +43,86 @@ fn next_id<D: Shelf>(house: &House<D>, table: TableId) -> WriteId
     }
 }
 
-#[tactic(auto, using(crate::proofs::Shorts::short_given))]
-fn give_id<D: Shelf>(house: &mut House<D>, txn: TxnId, table: TableId) -> Result<WriteId, ActFault>
+/// Aborts a transaction that runs without a write id, and for which there is no room.
+fn give_none<D: Shelf>(
+    alloc: Global,
+    house: &mut House<D>,
+    txn: TxnId,
+    table: TableId,
+) -> Result<Given, ActFault>
     requires whole { IsWhole D.told house.old }
-    ensures noted { EntryStep D.told D.faults txn
-        (entry.Given txn table (next_id (trail_of house.old.trail) table)) house.old house.new result }
-    ensures next { IfOk result (λ write. write ≡ next_id (trail_of house.old.trail) table) }
+    requires runs { RunsWith (trail_of house.old.trail) txn 0 }
+    requires full { Of (state_at (trail_of house.old.trail)) txn.0
+        (FullFits profile (state_at (trail_of house.old.trail))) }
+    requires truly { IsToldHouse D.told house.old → IsIdDue (trail_of house.old.trail) txn table }
+    ensures given { GiveStep D.told D.faults txn table house.old house.new result }
 {
-    if is_full(house, txn) {
-        let entries = next_place(house);
-        return Err(ActFault::Full { entries });
+    match abort_full(alloc, house, txn) {
+        Ok(aborted) => Ok(Given::Aborted(aborted)),
+        Err(fault) => Err(ActFault::House(fault)),
     }
+}
+
+/// Gives the next write id of a table, where that fits, to a transaction that runs without one, and for which there is room.
+#[tactic(auto, using(crate::proofs::Shorts::short_given))]
+fn give_next<D: Shelf>(house: &mut House<D>, txn: TxnId, table: TableId) -> Result<Given, ActFault>
+    requires whole { IsWhole D.told house.old }
+    requires runs { RunsWith (trail_of house.old.trail) txn 0 }
+    requires room { Of (state_at (trail_of house.old.trail)) txn.0
+        (FullFits profile (state_at (trail_of house.old.trail))) → ⊥ }
+    ensures given { GiveStep D.told D.faults txn table house.old house.new result }
+{
     let write = next_id(house, table);
     match note_fitting(house, txn, Entry::Given { txn, table, write }) {
-        Ok(()) => Ok(write),
+        Ok(()) => Ok(Given::Id(write)),
         Err(fault) => Err(fault),
     }
 }
 
+fn give_id<D: Shelf>(
+    alloc: Global,
+    house: &mut House<D>,
+    txn: TxnId,
+    table: TableId,
+) -> Result<Given, ActFault>
+    requires whole { IsWhole D.told house.old }
+    requires truly { IsToldHouse D.told house.old → IsIdDue (trail_of house.old.trail) txn table }
+    ensures given { GiveStep D.told D.faults txn table house.old house.new result }
+{
+    if !runs_with(house, txn, 0) {
+        return Err(late(house, txn));
+    }
+    if is_full(house, txn) {
+        give_none(alloc, house, txn, table)
+    } else {
+        give_next(house, txn, table)
+    }
+}
+
 impl<D: Shelf + Drop> Act<D, ToldHouse<D>> for GiveId {
-    ghost use Rattle.std.specs.Prelude.{◌≡◌};
-    ghost use Rattle.hv_base.specs.declared.ids.WriteId.{WriteId};
-    ghost use Rattle.hv_history.specs.declared.entry.Entry.TheVariants as entry;
-    ghost use Rattle.hv_history.specs.Legal.{Fits, profile};
-    ghost use Rattle.hv_trail.specs.Trail.{state_at};
-    ghost use Rattle.hv_trail.specs.Steps.{Note};
-    ghost use Rattle.hv_acts.specs.Answers.{next_id, answer_call, answer_outcome, adds_entry, Answers};
+    ghost use Rattle.hv_telling.specs.Telling.{IsTold};
+    ghost use Rattle.hv_acts.specs.Answers.{answer_outcome, AnswerLeaves};
+    ghost use Rattle.hv_acts.specs.Giving.{call_to_give, adds_given, GiveAnswers};
+    ghost use Rattle.hv_acts.specs.Meant.{IsIdDue};
 
-    type Answer = Result<WriteId, ActFault>;
+    type Answer = Result<Given, ActFault>;
 
-    ghost can = { λ act house. Unit {0} };
+    ghost can = { λ act house. IsTold D.told house.start → IsIdDue house.trail act.txn act.table };
 
-    ghost call = { λ act house answer. answer_call (Note (entry.Given act.txn act.table (next_id house.trail act.table))) answer };
+    ghost call = { λ act house answer. call_to_give house.trail act.txn act.table answer };
 
     ghost outcome = { λ act answer. answer_outcome answer };
 
-    ghost adds = { λ act answer. adds_entry (entry.Given act.txn act.table) answer };
+    ghost adds = { λ act answer. adds_given act.txn act.table answer };
 
-    ghost does = { λ act house answer. Answers house.trail act.txn
-        (Fits profile (state_at house.trail) (entry.Given act.txn act.table (next_id house.trail act.table)))
-        (λ (write : WriteId). write ≡ next_id house.trail act.table) answer };
+    ghost does = { λ act house now answer. GiveAnswers house.trail act.txn act.table answer
+        × AnswerLeaves D.told act.txn.0 house now answer };
 
-    fn act(self, _alloc: Global, house: &mut ToldHouse<D>) -> Result<WriteId, ActFault> {
+    fn act(self, alloc: Global, house: &mut ToldHouse<D>) -> Result<Given, ActFault> {
         if house.house.is_closed() {
             Err(ActFault::House(HouseFault::Store))
         } else {
-            give_id(&mut house.house, self.txn, self.table)
+            give_id(alloc, &mut house.house, self.txn, self.table)
         }
     }
 }

@@ -1,4 +1,5 @@
 ghost use Rattle.std.specs.Prelude.{◌≡◌, ℕ, Some, List, [], ◌∷◌, ◌++◌, length, map};
+ghost use Rattle.std.specs.List.{AllByRecursion};
 ghost use Rattle.hv_base.specs.declared.ids.TxnId.{TxnId};
 ghost use Rattle.hv_base.specs.declared.ids.TableId.{TableId};
 ghost use Rattle.hv_base.specs.declared.ids.WriteId.{WriteId};
@@ -11,33 +12,48 @@ ghost use Rattle.hv_route.specs.declared.files.OutFile.{OutFile};
 ghost use Rattle.hv_history.specs.declared.entry.Entry.TheVariants as entry;
 ghost use Rattle.hv_history.specs.declared.entry.Cause.{Cause};
 ghost use Rattle.hv_history.specs.Lasting.{IsFront};
-ghost use Rattle.hv_stands.specs.Running.{Asking, next_number, opening, meant, IsWaiting};
+ghost use Rattle.hv_history.specs.Legal.{Of, IsRunning};
+ghost use Rattle.hv_history.specs.Legal as legal;
+ghost use Rattle.hv_meta.specs.States.{state_in};
+ghost use Rattle.hv_stands.specs.Running.{Asking, AreOf, next_number, opening, meant, IsWaiting};
 ghost use Rattle.hv_trail.specs.declared.trail.TrailItem.{TrailItem};
 ghost use Rattle.hv_trail.specs.declared.trail.TrailItem.TheVariants.{Noted};
-ghost use Rattle.hv_trail.specs.Trail.{book_of};
+ghost use Rattle.hv_trail.specs.Trail.{book_of, state_at};
 ghost use Rattle.hv_trail.specs.Steps.{begun};
-ghost use Rattle.hv_acts.specs.Answers.{HasItsMark};
+ghost use Rattle.hv_acts.specs.Answers.{HasItsMark, HasNotEnded};
 ghost use Rattle.hv_acts.specs.Putting.{HasIdFor};
-ghost use Rattle.hv_acts.specs.Committing.{WasPut};
-ghost use Rattle.hv_acts.specs.Meant.{RunsWith, MeansNow, HasMeant, IsFileMeant, IsCommitMeant, IsMakeMeant, IsCauseTrue, IsSteady};
+ghost use Rattle.hv_acts.specs.Committing.{CanBePut};
+ghost use Rattle.hv_acts.specs.Meant.{RunsWith, MeansNow, HasMeant, IsFileMeant, IsIdDue, IsCommitDue, IsMakeMeant, IsAbortDue, IsNoEnd};
 
-/// What acts ask of a trail is true of every longer one too, whatever its further items are; but for the causes of an abort that
-/// rest on more than what its statement means.
+/// What acts ask of a trail is true of every longer one too, whatever its further items are.
 pub fn what_is_asked_lasts()
     ensures mark { (before now : List TrailItem) (txn : TxnId) (cause : Cause) → IsFront before now
         → HasItsMark before txn cause → HasItsMark now txn cause }
     ensures id { (before now : List TrailItem) (by : TxnId) (place : Place) (file : OutFile) → IsFront before now
         → HasIdFor before by place file → HasIdFor now by place file }
-    ensures put { (before now : List TrailItem) (txn : TxnId) (wrote : List Touch) → IsFront before now
-        → WasPut before txn wrote → WasPut now txn wrote }
+    ensures put { (before now : List TrailItem) (txn : TxnId) (wrote : List Touch) (places : List Place) → IsFront before now
+        → CanBePut before txn wrote places → CanBePut now txn wrote places }
+    ensures due { (before now : List TrailItem) (txn : TxnId) (table : TableId) → IsFront before now
+        → IsIdDue before txn table → IsIdDue now txn table }
     ensures file { (before now : List TrailItem) (by : TxnId) (place : Place) (file : OutFile) → IsFront before now
         → IsFileMeant before by place file → IsFileMeant now by place file }
-    ensures commit { (before now : List TrailItem) (txn : TxnId) (wrote : List Touch) → IsFront before now
-        → IsCommitMeant before txn wrote → IsCommitMeant now txn wrote }
+    ensures commit { (before now : List TrailItem) (txn : TxnId) (wrote : List Touch) (places : List Place) → IsFront before now
+        → IsCommitDue before txn wrote places → IsCommitDue now txn wrote places }
     ensures make { (before now : List TrailItem) (txn : TxnId) → IsFront before now
         → IsMakeMeant before txn → IsMakeMeant now txn }
     ensures cause { (before now : List TrailItem) (txn : TxnId) (cause : Cause) → IsFront before now
-        → IsSteady cause → IsCauseTrue before txn cause → IsCauseTrue now txn cause }
+        → IsAbortDue before txn cause → IsAbortDue now txn cause }
+{}
+
+/// A transaction that runs has not ended behind entries that end none, and runs still. One that waits has not ended behind marks.
+pub fn what_is_open_stays_open()
+    ensures law { (trail items : List TrailItem) (txn : TxnId) → Of (state_at trail) txn.0 IsRunning
+        → AreOf txn.0 (book_of items) → AllByRecursion IsNoEnd (book_of items)
+        → HasNotEnded (state_in (state_at (trail ++ items)) txn.0) }
+    ensures runs { (trail items : List TrailItem) (txn : TxnId) → Of (state_at trail) txn.0 IsRunning
+        → AllByRecursion IsNoEnd (book_of items) → Of (state_at (trail ++ items)) txn.0 IsRunning }
+    ensures waits { (trail items : List TrailItem) (txn : TxnId) → Of (state_at trail) txn.0 legal.IsWaiting
+        → book_of items ≡ [] → HasNotEnded (state_in (state_at (trail ++ items)) txn.0) }
 {}
 
 /// How it comes to be known what the statement of a transaction means, and when it is so still: while it runs, and no write id was

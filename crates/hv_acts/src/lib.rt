@@ -1,8 +1,10 @@
 //! What is done to a house in one hold: each act is one call, with the tests before it that the call needs.
 #![tactic(auto)]
 
+mod aborted;
 mod aborting;
 mod committing;
+mod counting;
 mod fault;
 mod finding;
 mod getting;
@@ -17,19 +19,21 @@ mod reading;
 mod starting;
 mod told;
 
+pub use aborted::{Aborted, PutFiles};
 pub use aborting::AbortFor;
 pub use committing::{CommitWrites, Committed};
+pub use counting::CountDues;
 pub use fault::{ActFault, BeginFault};
 pub use finding::FindTable;
 pub use getting::GetFile;
-pub use giving::GiveId;
-pub use laws::{what_is_asked_lasts, what_was_meant_is_meant};
+pub use giving::{GiveId, Given};
+pub use laws::{what_is_asked_lasts, what_is_open_stays_open, what_was_meant_is_meant};
 pub use listing::ListTable;
-pub use making::MakeTable;
+pub use making::{Made, MakeTable};
 pub use opening::{Begin, Begun};
 pub use putting::PutFile;
 pub use reading::{
     places_last, what_was_found_is_there, what_was_listed_is_got, what_was_listed_stands,
 };
-pub use starting::{OpenTransaction, StartTransaction};
+pub use starting::{OpenTransaction, StartOrAbort, StartTransaction, Started};
 pub use told::ToldHouse;

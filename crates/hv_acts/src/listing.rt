@@ -34,10 +34,10 @@ fn list_table<D: Shelf>(
 }
 
 impl<D: Shelf + Drop> Act<D, ToldHouse<D>> for ListTable {
-    ghost use Rattle.std.specs.Prelude.{Some};
+    ghost use Rattle.std.specs.Prelude.{Some, IfErr};
     ghost use Rattle.hv_trail.specs.declared.trail.Reader.TheVariants.{Txn};
     ghost use Rattle.hv_trail.specs.Steps.{Read};
-    ghost use Rattle.hv_acts.specs.Answers.{answer_outcome};
+    ghost use Rattle.hv_acts.specs.Answers.{answer_outcome, AnswerLeaves, WhyRises};
     ghost use Rattle.hv_acts.specs.Reading.{HasPlace, ListAnswers, adds_listing};
 
     type Answer = Result<Listing, ActFault>;
@@ -50,7 +50,8 @@ impl<D: Shelf + Drop> Act<D, ToldHouse<D>> for ListTable {
 
     ghost adds = { λ act answer. adds_listing act.by answer };
 
-    ghost does = { λ act house answer. ListAnswers D.told house act.place act.table answer };
+    ghost does = { λ act house now answer. ListAnswers D.told house act.place act.table answer
+        × AnswerLeaves D.told act.by.0 house now answer × IfErr answer (WhyRises D.faults house) };
 
     fn act(self, alloc: Global, house: &mut ToldHouse<D>) -> Result<Listing, ActFault> {
         if house.house.is_closed() {

@@ -6,7 +6,7 @@ ghost use Rattle.hv_acts.specs.Making.{MakeStep};
 ghost use Rattle.hv_acts.specs.Answers.{next_table};
 
 use crate::fault::ActFault;
-use crate::noting::{late, note_fitting, runs_with};
+use crate::noting::{late, next_place, note_fitting, runs_with};
 use crate::told::ToldHouse;
 use hv_actor::Act;
 use hv_base::{TableId, TxnId};
@@ -15,10 +15,17 @@ use hv_house::{House, HouseFault};
 use hv_shelf::Shelf;
 use std::alloc::Global;
 
-/// Ends a transaction by the table that its text makes, and answers its number.
+/// Ends a transaction by the table that its text makes, and answers its number and the place of its Create.
 #[derive(Drop)]
 pub struct MakeTable {
     pub txn: TxnId,
+}
+
+/// A table that was made: its number, and the place of its Create in the book.
+#[derive(Clone, Copy, Debug)]
+pub struct Made {
+    pub table: TableId,
+    pub at: u64,
 }
 
 /// The number of the table that is made next.
@@ -29,33 +36,32 @@ fn next_table<D: Shelf>(house: &House<D>) -> TableId
 }
 
 #[tactic(auto, using(crate::proofs::Shorts::short_create))]
-fn make_table<D: Shelf>(house: &mut House<D>, txn: TxnId) -> Result<TableId, ActFault>
+fn make_table<D: Shelf>(house: &mut House<D>, txn: TxnId) -> Result<Made, ActFault>
     requires whole { IsWhole D.told house.old }
     requires truly { IsToldHouse D.told house.old → IsMakeMeant (trail_of house.old.trail) txn }
     ensures made { MakeStep D.told D.faults txn house.old house.new result }
-    ensures next { IfOk result (λ table. table ≡ next_table (trail_of house.old.trail)) }
+    ensures next { IfOk result (λ made. made.table ≡ next_table (trail_of house.old.trail)) }
 {
     if !runs_with(house, txn, 0) {
         return Err(late(house, txn));
     }
+    let at = next_place(house);
     let table = next_table(house);
     match note_fitting(house, txn, Entry::Create { txn, table }) {
-        Ok(()) => Ok(table),
+        Ok(()) => Ok(Made { table, at }),
         Err(fault) => Err(fault),
     }
 }
 
 impl<D: Shelf + Drop> Act<D, ToldHouse<D>> for MakeTable {
-    ghost use Rattle.std.specs.Prelude.{◌≡◌};
-    ghost use Rattle.hv_base.specs.declared.ids.TableId.{TableId};
     ghost use Rattle.hv_history.specs.declared.entry.Entry.TheVariants as entry;
     ghost use Rattle.hv_trail.specs.Steps.{Note};
-    ghost use Rattle.hv_acts.specs.Answers.{next_table, answer_call, answer_outcome, adds_entry, Answers};
     ghost use Rattle.hv_telling.specs.Telling.{IsTold};
+    ghost use Rattle.hv_acts.specs.Answers.{next_table, answer_call, answer_outcome, adds_entry, NoTest, Answers, AnswerLeaves};
     ghost use Rattle.hv_acts.specs.Meant.{IsMakeMeant};
-    ghost use Rattle.hv_acts.specs.Making.{MakeFits};
+    ghost use Rattle.hv_acts.specs.Making.{MakeFits, IsMadeAt, create_of};
 
-    type Answer = Result<TableId, ActFault>;
+    type Answer = Result<Made, ActFault>;
 
     ghost can = { λ act house. IsTold D.told house.start → IsMakeMeant house.trail act.txn };
 
@@ -63,13 +69,12 @@ impl<D: Shelf + Drop> Act<D, ToldHouse<D>> for MakeTable {
 
     ghost outcome = { λ act answer. answer_outcome answer };
 
-    ghost adds = { λ act answer. adds_entry (entry.Create act.txn) answer };
+    ghost adds = { λ act answer. adds_entry (create_of act.txn) answer };
 
-    ghost does = { λ act house answer. Answers house.trail act.txn
-        (MakeFits house.trail act.txn)
-        (λ (table : TableId). table ≡ next_table house.trail) answer };
+    ghost does = { λ act house now answer. Answers NoTest house.trail act.txn (MakeFits house.trail act.txn) (IsMadeAt house.trail) answer
+        × AnswerLeaves D.told act.txn.0 house now answer };
 
-    fn act(self, _alloc: Global, house: &mut ToldHouse<D>) -> Result<TableId, ActFault> {
+    fn act(self, _alloc: Global, house: &mut ToldHouse<D>) -> Result<Made, ActFault> {
         if house.house.is_closed() {
             Err(ActFault::House(HouseFault::Store))
         } else {

@@ -1,24 +1,30 @@
-ghost use Rattle.std.specs.Prelude.{◌≡◌, ◌↔◌, ◌≤◌, None, IsTrue, length};
+ghost use Rattle.std.specs.Prelude.{◌≡◌, ◌↔◌, ◌≤◌, None, IsTrue, IfOk, length};
 ghost use Rattle.hv_book.specs.Briefs.{held_by};
+ghost use Rattle.hv_history.specs.declared.entry.Entry.TheVariants as entry;
+ghost use Rattle.hv_history.specs.declared.entry.Cause.TheVariants as cause;
 ghost use Rattle.hv_history.specs.Book.{tree_of_entry};
 ghost use Rattle.hv_history.specs.Legal.{Of, FullFits, profile};
 ghost use Rattle.hv_fits.specs.Texts.{IsHanded};
+ghost use Rattle.hv_stands.specs.Running.{IsOf};
 ghost use Rattle.hv_trail.specs.Trail.{book_of, state_at};
 ghost use Rattle.hv_trail.specs.Kept.{trail_of};
 ghost use Rattle.hv_house.specs.House.{entries_of, IsReady, IsSmall};
 ghost use Rattle.hv_telling.specs.Telling.{IsToldHouse, IsWhole, IsTrueNow};
 ghost use Rattle.hv_house.specs.Steps.{IsMarked};
-ghost use Rattle.hv_acts.specs.Answers.{IsLate, EntryFits, EntryStep};
-ghost use Rattle.hv_acts.specs.Meant.{RunsWith};
+ghost use Rattle.hv_acts.specs.Answers.{IsLate, EntryFits, EntryStep, HasItsMark, aborted_line};
+ghost use Rattle.hv_acts.specs.Aborting.{AbortStep};
+ghost use Rattle.hv_acts.specs.Meant.{RunsWith, IsCauseTrue};
 
+use crate::aborted::Aborted;
 use crate::fault::ActFault;
-use hv_base::TxnId;
+use hv_base::{List, NoMemory, TxnId};
 use hv_book::Held;
-use hv_history::{Cause, Entry};
-use hv_house::House;
+use hv_history::{Cause, Entry, cause_text};
+use hv_house::{House, HouseFault};
 use hv_meta::{TxnState, is_running, state_of};
 use hv_shelf::Shelf;
 use hv_telling::note;
+use std::alloc::Global;
 
 /// Lets go of a value, in a function without other paths.
 pub(crate) fn let_go<T: Drop>(_value: T) {}
@@ -82,6 +88,7 @@ pub(crate) fn note_fitting<D: Shelf>(
     entry: Entry,
 ) -> Result<(), ActFault>
     requires whole { IsWhole D.told house.old }
+    requires of_it { IsOf txn.0 entry }
     requires tree { tree_of_entry entry ≡ None }
     requires handed { IsHanded entry None }
     requires small { IsSmall entry }
@@ -97,5 +104,68 @@ pub(crate) fn note_fitting<D: Shelf>(
     match note(house, entry, None) {
         Ok(()) => Ok(()),
         Err(fault) => Err(ActFault::House(fault)),
+    }
+}
+
+/// What is told of an abort for this cause by the entry at that place. It isn't for a conflict, whose line has the table's name.
+pub(crate) fn told_abort(alloc: Global, at: u64, cause: Cause) -> Result<Aborted, NoMemory>
+    ensures place { IfOk result (λ aborted. aborted.at ≡ at) }
+    ensures cause { IfOk result (λ aborted. aborted.cause ≡ cause) }
+    ensures line { IfOk result (λ aborted. aborted.text ≡ aborted_line cause) }
+{
+    match cause_text(alloc, &None, &cause) {
+        Ok(text) => Ok(Aborted {
+            at,
+            cause,
+            text: List::from_vec(text),
+        }),
+        Err(NoMemory) => {
+            let_go(cause);
+            Err(NoMemory)
+        }
+    }
+}
+
+/// Notes an abort of this transaction that fits, of which `aborted` tells. Where the house is told its cause is true.
+pub(crate) fn note_abort<D: Shelf>(
+    house: &mut House<D>,
+    txn: TxnId,
+    cause: Cause,
+    aborted: Aborted,
+) -> Result<Aborted, HouseFault>
+    requires whole { IsWhole D.told house.old }
+    requires small { IsSmall (entry.Abort txn cause) }
+    requires fits { EntryFits (trail_of house.old.trail) (entry.Abort txn cause) }
+    requires marked { HasItsMark (trail_of house.old.trail) txn cause }
+    requires truly { IsToldHouse D.told house.old → IsCauseTrue (trail_of house.old.trail) txn cause }
+    requires place { aborted.at ≡ length (book_of (trail_of house.old.trail)) }
+    requires same { aborted.cause ≡ cause }
+    ensures noted { AbortStep D.told D.faults txn cause aborted.text house.old house.new result }
+{
+    match note(house, Entry::Abort { txn, cause }, None) {
+        Ok(()) => Ok(aborted),
+        Err(fault) => {
+            let_go(aborted);
+            Err(fault)
+        }
+    }
+}
+
+/// Aborts a transaction for want of room.
+pub(crate) fn abort_full<D: Shelf>(
+    alloc: Global,
+    house: &mut House<D>,
+    txn: TxnId,
+) -> Result<Aborted, HouseFault>
+    requires whole { IsWhole D.told house.old }
+    requires full { Of (state_at (trail_of house.old.trail)) txn.0
+        (FullFits profile (state_at (trail_of house.old.trail))) }
+    requires truly { IsToldHouse D.told house.old → IsCauseTrue (trail_of house.old.trail) txn cause.Full }
+    ensures noted { AbortStep D.told D.faults txn cause.Full (aborted_line cause.Full) house.old house.new result }
+{
+    let at = next_place(house);
+    match told_abort(alloc, at, Cause::Full) {
+        Ok(aborted) => note_abort(house, txn, Cause::Full, aborted),
+        Err(NoMemory) => Err(HouseFault::NoMemory),
     }
 }

@@ -73,7 +73,7 @@ fn begin_free<D: Shelf>(
 impl<D: Shelf + Drop> Act<D, ToldHouse<D>> for Begin {
     ghost use Rattle.std.specs.Prelude.{◌≤◌, length};
     ghost use Rattle.hv_built.specs.Running.{Runs};
-    ghost use Rattle.hv_acts.specs.Beginning.{begin_call, begin_outcome, adds_beginning, BeginAnswers};
+    ghost use Rattle.hv_acts.specs.Beginning.{begin_call, begin_outcome, adds_beginning, BeginAnswers, BeginLeaves};
 
     type Answer = Result<Begun, BeginFault>;
 
@@ -85,7 +85,8 @@ impl<D: Shelf + Drop> Act<D, ToldHouse<D>> for Begin {
 
     ghost adds = { λ act answer. adds_beginning act.session act.number act.text answer };
 
-    ghost does = { λ act house answer. BeginAnswers house.trail act.tree answer };
+    ghost does = { λ act house now answer. BeginAnswers house.trail act.tree answer
+        × BeginLeaves D.told (record { session = act.session; number = act.number; text = act.text }) house now answer };
 
     fn act(self, _alloc: Global, house: &mut ToldHouse<D>) -> Result<Begun, BeginFault> {
         if house.house.is_closed() {

@@ -46,10 +46,11 @@ fn put_running<D: Shelf>(
 }
 
 impl<'a, D: Shelf + Drop> Act<D, ToldHouse<D>> for PutFile<'a> {
+    ghost use Rattle.std.specs.Prelude.{IfErr};
     ghost use Rattle.hv_tables.specs.Putting.{CanPut, IsEncoded, bytes_of};
     ghost use Rattle.hv_trail.specs.declared.trail.Reader.TheVariants.{Txn};
     ghost use Rattle.hv_trail.specs.Steps.{Put};
-    ghost use Rattle.hv_acts.specs.Answers.{answer_call, answer_outcome, Answers};
+    ghost use Rattle.hv_acts.specs.Answers.{answer_call, answer_outcome, NoTest, Answers, AnswerLeaves, WhyRises};
     ghost use Rattle.hv_telling.specs.Telling.{IsTold};
     ghost use Rattle.hv_acts.specs.Putting.{HasIdFor, adds_file};
     ghost use Rattle.hv_acts.specs.Meant.{RunsWith, IsFileMeant};
@@ -65,8 +66,9 @@ impl<'a, D: Shelf + Drop> Act<D, ToldHouse<D>> for PutFile<'a> {
 
     ghost adds = { λ act answer. adds_file act.by act.place answer };
 
-    ghost does = { λ act house answer. Answers house.trail act.by (RunsWith house.trail act.by 1)
-        (λ done. IsEncoded act.file.now) answer };
+    ghost does = { λ act house now answer. Answers NoTest house.trail act.by (RunsWith house.trail act.by 1)
+        (λ done. IsEncoded act.file.now) answer × AnswerLeaves D.told act.by.0 house now answer
+        × IfErr answer (WhyRises D.faults house) };
 
     fn act(self, alloc: Global, house: &mut ToldHouse<D>) -> Result<(), ActFault> {
         if house.house.is_closed() {

@@ -1,24 +1,31 @@
-//! A transaction that is opened in one hold, and started in another.
-ghost use Rattle.std.specs.Prelude.{◌≡◌, ◌↔◌, ◌≤◌, Some, IfOk, length};
+//! A transaction that is opened in one hold, and started in another, or aborted there for what stands in its way.
+ghost use Rattle.std.specs.Prelude.{◌≡◌, ◌↔◌, ◌≤◌, Some, IsTrue, IfOk, length};
 ghost use Rattle.hv_base.specs.declared.ids.TxnId.{TxnId};
 ghost use Rattle.hv_built.specs.Running.{Runs};
-ghost use Rattle.hv_history.specs.declared.entry.Entry.TheVariants as entry;
-ghost use Rattle.hv_trail.specs.Trail.{book_of};
+ghost use Rattle.hv_history.specs.declared.entry.Cause.TheVariants as cause;
+ghost use Rattle.hv_history.specs.Legal.{Of, IsWaiting, FullFits, profile};
+ghost use Rattle.hv_trail.specs.Trail.{state_at};
 ghost use Rattle.hv_trail.specs.Kept.{trail_of};
 ghost use Rattle.hv_house.specs.House.{IsReady};
 ghost use Rattle.hv_telling.specs.Telling.{IsWhole};
-ghost use Rattle.hv_acts.specs.Answers.{EntryStep};
-ghost use Rattle.hv_acts.specs.Waiting.{next_txn, IsHeld, TellsHolder, OpenStep};
+ghost use Rattle.hv_acts.specs.Answers.{aborted_line};
+ghost use Rattle.hv_acts.specs.Aborting.{AbortStep};
+ghost use Rattle.hv_acts.specs.Starting.{WaitsInFull, StartOrAbortStep};
+ghost use Rattle.hv_acts.specs.Waiting.{next_txn, IsHeld, OpenStep, StartStep};
 
+use crate::aborted::Aborted;
 use crate::fault::ActFault;
-use crate::noting::{is_full, let_go, next_place, note_fitting};
+use crate::noting::{
+    abort_full, is_full, let_go, next_place, note_abort, note_fitting, told_abort,
+};
 use crate::told::ToldHouse;
 use hv_actor::Act;
 use hv_ast::{Stmt, discard};
-use hv_base::{Text, TxnId};
+use hv_base::{NoMemory, Text, TxnId};
 use hv_history::{Cause, Entry};
 use hv_house::{House, HouseFault};
 use hv_locks::LockState;
+use hv_meta::is_running;
 use hv_shelf::Shelf;
 use hv_telling::note;
 use std::alloc::Global;
@@ -38,6 +45,21 @@ pub struct OpenTransaction {
 #[derive(Drop)]
 pub struct StartTransaction {
     pub txn: TxnId,
+}
+
+/// Starts an opened transaction, where no lock is held against its statement and there is room, and answers the place of
+/// its Start. Else it is aborted in the same hold, for the lock or for want of room.
+#[derive(Drop)]
+pub struct StartOrAbort {
+    pub txn: TxnId,
+}
+
+/// What came of a transaction that was to start at once.
+#[derive(Drop)]
+pub enum Started {
+    At(u64),
+    /// A lock stood in its way, or there was no room.
+    Aborted(Aborted),
 }
 
 fn open_transaction<D: Shelf>(
@@ -94,15 +116,12 @@ fn holder<D: Shelf>(house: &House<D>, txn: TxnId) -> Option<TxnId>
     }
 }
 
-fn start_transaction<D: Shelf>(house: &mut House<D>, txn: TxnId) -> Result<u64, ActFault>
+/// Starts a transaction against which nobody holds a lock, where there is room.
+fn start_in_room<D: Shelf>(house: &mut House<D>, txn: TxnId) -> Result<u64, ActFault>
     requires whole { IsWhole D.told house.old }
-    ensures noted { EntryStep D.told D.faults txn (entry.Start txn 0) house.old house.new result }
-    ensures place { IfOk result (λ place. place ≡ length (book_of (trail_of house.old.trail))) }
-    ensures held { (by : TxnId) → IsHeld (trail_of house.old.trail) txn by → TellsHolder by result }
+    requires unheld { (by : TxnId) → IsHeld (trail_of house.old.trail) txn by → ⊥ }
+    ensures started { StartStep D.told D.faults txn house.old house.new result }
 {
-    if let Some(by) = holder(house, txn) {
-        return Err(ActFault::Held { by });
-    }
     let place = next_place(house);
     if is_full(house, txn) {
         return Err(ActFault::Full { entries: place });
@@ -113,13 +132,130 @@ fn start_transaction<D: Shelf>(house: &mut House<D>, txn: TxnId) -> Result<u64, 
     }
 }
 
+fn start_transaction<D: Shelf>(house: &mut House<D>, txn: TxnId) -> Result<u64, ActFault>
+    requires whole { IsWhole D.told house.old }
+    ensures started { StartStep D.told D.faults txn house.old house.new result }
+{
+    match holder(house, txn) {
+        Some(by) => Err(ActFault::Held { by }),
+        None => start_in_room(house, txn),
+    }
+}
+
+/// Whether a transaction waits, and there is no room for an entry more.
+fn waits_in_full<D: Shelf>(house: &House<D>, txn: TxnId) -> bool
+    requires ready { IsReady D.told house.now }
+    ensures full { IsTrue result ↔ WaitsInFull (trail_of house.now.trail) txn }
+{
+    let runs = is_running(house.book(), txn);
+    !runs && is_full(house, txn)
+}
+
+/// Aborts a transaction that waits, for the one that holds a lock against it.
+fn abort_blocked<D: Shelf>(
+    alloc: Global,
+    house: &mut House<D>,
+    txn: TxnId,
+    holder: TxnId,
+) -> Result<Aborted, HouseFault>
+    requires whole { IsWhole D.told house.old }
+    requires held { IsHeld (trail_of house.old.trail) txn holder }
+    ensures noted { AbortStep D.told D.faults txn (cause.Blocked holder)
+        (aborted_line (cause.Blocked holder)) house.old house.new result }
+{
+    let at = next_place(house);
+    match told_abort(alloc, at, Cause::Blocked { holder }) {
+        Ok(aborted) => note_abort(house, txn, Cause::Blocked { holder }, aborted),
+        Err(NoMemory) => Err(HouseFault::NoMemory),
+    }
+}
+
+fn start_blocked<D: Shelf>(
+    alloc: Global,
+    house: &mut House<D>,
+    txn: TxnId,
+    holder: TxnId,
+) -> Result<Started, ActFault>
+    requires whole { IsWhole D.told house.old }
+    requires held { IsHeld (trail_of house.old.trail) txn holder }
+    ensures started { StartOrAbortStep D.told D.faults txn house.old house.new result }
+{
+    match abort_blocked(alloc, house, txn, holder) {
+        Ok(aborted) => Ok(Started::Aborted(aborted)),
+        Err(fault) => Err(ActFault::House(fault)),
+    }
+}
+
+fn start_full<D: Shelf>(
+    alloc: Global,
+    house: &mut House<D>,
+    txn: TxnId,
+) -> Result<Started, ActFault>
+    requires whole { IsWhole D.told house.old }
+    requires unheld { (by : TxnId) → IsHeld (trail_of house.old.trail) txn by → ⊥ }
+    requires full { WaitsInFull (trail_of house.old.trail) txn }
+    ensures started { StartOrAbortStep D.told D.faults txn house.old house.new result }
+{
+    match abort_full(alloc, house, txn) {
+        Ok(aborted) => Ok(Started::Aborted(aborted)),
+        Err(fault) => Err(ActFault::House(fault)),
+    }
+}
+
+/// Starts a transaction in whose way nothing stands.
+fn start_free<D: Shelf>(house: &mut House<D>, txn: TxnId) -> Result<Started, ActFault>
+    requires whole { IsWhole D.told house.old }
+    requires unheld { (by : TxnId) → IsHeld (trail_of house.old.trail) txn by → ⊥ }
+    requires room { WaitsInFull (trail_of house.old.trail) txn → ⊥ }
+    ensures started { StartOrAbortStep D.told D.faults txn house.old house.new result }
+{
+    let place = next_place(house);
+    match note_fitting(house, txn, Entry::Start { txn, statement: 0 }) {
+        Ok(()) => Ok(Started::At(place)),
+        Err(fault) => Err(fault),
+    }
+}
+
+/// Starts a transaction against which nobody holds a lock, or aborts it where it waits and there is no room.
+fn start_unheld<D: Shelf>(
+    alloc: Global,
+    house: &mut House<D>,
+    txn: TxnId,
+) -> Result<Started, ActFault>
+    requires whole { IsWhole D.told house.old }
+    requires unheld { (by : TxnId) → IsHeld (trail_of house.old.trail) txn by → ⊥ }
+    ensures started { StartOrAbortStep D.told D.faults txn house.old house.new result }
+{
+    if waits_in_full(house, txn) {
+        start_full(alloc, house, txn)
+    } else {
+        start_free(house, txn)
+    }
+}
+
+fn start_or_abort<D: Shelf>(
+    alloc: Global,
+    house: &mut House<D>,
+    txn: TxnId,
+) -> Result<Started, ActFault>
+    requires whole { IsWhole D.told house.old }
+    ensures started { StartOrAbortStep D.told D.faults txn house.old house.new result }
+{
+    match holder(house, txn) {
+        Some(by) => start_blocked(alloc, house, txn, by),
+        None => start_unheld(alloc, house, txn),
+    }
+}
+
 impl<D: Shelf + Drop> Act<D, ToldHouse<D>> for OpenTransaction {
     ghost use Rattle.std.specs.Prelude.{◌≤◌, length};
     ghost use Rattle.hv_base.specs.declared.ids.TxnId.{TxnId};
     ghost use Rattle.hv_built.specs.Running.{Runs};
     ghost use Rattle.hv_history.specs.declared.entry.Entry.TheVariants as entry;
     ghost use Rattle.hv_trail.specs.Steps.{Note};
-    ghost use Rattle.hv_acts.specs.Answers.{answer_call, answer_outcome, adds_entry};
+    ghost use Rattle.hv_trail.specs.Trail.{book_of};
+    ghost use Rattle.hv_stands.specs.Running.{next_number};
+    ghost use Rattle.hv_acts.specs.Answers.{answer_call, answer_outcome, adds_entry, AnswerLeaves};
     ghost use Rattle.hv_acts.specs.Waiting.{next_opened, OpenAnswers};
 
     type Answer = Result<TxnId, ActFault>;
@@ -132,7 +268,8 @@ impl<D: Shelf + Drop> Act<D, ToldHouse<D>> for OpenTransaction {
 
     ghost adds = { λ act answer. adds_entry (λ (txn : TxnId). entry.Opened txn act.session act.number act.text) answer };
 
-    ghost does = { λ act house answer. OpenAnswers house.trail answer };
+    ghost does = { λ act house now answer. OpenAnswers house.trail answer
+        × AnswerLeaves D.told (next_number (book_of house.trail)) house now answer };
 
     fn act(self, _alloc: Global, house: &mut ToldHouse<D>) -> Result<TxnId, ActFault> {
         if house.house.is_closed() {
@@ -154,7 +291,7 @@ impl<D: Shelf + Drop> Act<D, ToldHouse<D>> for StartTransaction {
     ghost use Rattle.std.specs.Prelude.{ℕ};
     ghost use Rattle.hv_history.specs.declared.entry.Entry.TheVariants as entry;
     ghost use Rattle.hv_trail.specs.Steps.{Note};
-    ghost use Rattle.hv_acts.specs.Answers.{answer_call, answer_outcome, adds_entry};
+    ghost use Rattle.hv_acts.specs.Answers.{answer_call, answer_outcome, adds_entry, AnswerLeaves};
     ghost use Rattle.hv_acts.specs.Waiting.{StartAnswers};
 
     type Answer = Result<u64, ActFault>;
@@ -167,13 +304,40 @@ impl<D: Shelf + Drop> Act<D, ToldHouse<D>> for StartTransaction {
 
     ghost adds = { λ act answer. adds_entry (λ (place : ℕ). entry.Start act.txn 0) answer };
 
-    ghost does = { λ act house answer. StartAnswers house.trail act.txn answer };
+    ghost does = { λ act house now answer. StartAnswers house.trail act.txn answer
+        × AnswerLeaves D.told act.txn.0 house now answer };
 
     fn act(self, _alloc: Global, house: &mut ToldHouse<D>) -> Result<u64, ActFault> {
         if house.house.is_closed() {
             Err(ActFault::House(HouseFault::Store))
         } else {
             start_transaction(&mut house.house, self.txn)
+        }
+    }
+}
+
+impl<D: Shelf + Drop> Act<D, ToldHouse<D>> for StartOrAbort {
+    ghost use Rattle.hv_acts.specs.Answers.{answer_outcome, AnswerLeaves};
+    ghost use Rattle.hv_acts.specs.Starting.{call_to_start, adds_started, StartOrAbortAnswers};
+
+    type Answer = Result<Started, ActFault>;
+
+    ghost can = { λ act house. Unit {0} };
+
+    ghost call = { λ act house answer. call_to_start house.trail act.txn answer };
+
+    ghost outcome = { λ act answer. answer_outcome answer };
+
+    ghost adds = { λ act answer. adds_started act.txn answer };
+
+    ghost does = { λ act house now answer. StartOrAbortAnswers house.trail act.txn answer
+        × AnswerLeaves D.told act.txn.0 house now answer };
+
+    fn act(self, alloc: Global, house: &mut ToldHouse<D>) -> Result<Started, ActFault> {
+        if house.house.is_closed() {
+            Err(ActFault::House(HouseFault::Store))
+        } else {
+            start_or_abort(alloc, &mut house.house, self.txn)
         }
     }
 }

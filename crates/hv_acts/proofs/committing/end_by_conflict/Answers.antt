@@ -1,32 +1,67 @@
-use Rattle.hv_trail.specs.Kept.{trail_of}
-use Rattle.hv_acts.proofs.Shorts.{short_conflict}
-use Rattle.hv_acts.proofs.Commits.{small-shared, fits-shared, conflict-of, commit-lacks}
-use Rattle.hv_acts.proofs.Truths.{conflict-true}
+use Rattle.std.proofs.Common.{◌≡◌, Some, List, slice_get, sym, ◌∙◌, subst}
+use Rattle.hv_base.specs.declared.ids.Touch.{Touch}
+use Rattle.hv_acts.proofs.Commits.{found-within, found-small, found-fits, found-marked, found-true, found-met, commit-lacks}
 use Rattle.hv_acts.proofs.committing.end_by_conflict.Goals as goal
+
+pub conflict_at-requires : goal.conflict_at-requires
+conflict_at-requires g c = record {
+  within = found-within c.as_slice.result.now c.args.found.at c.requires.clash.touch
+      (subst (λ (ts : List Touch). slice_get ts c.args.found.at ≡ Some c.requires.clash.touch) (sym c.as_slice.ensures) c.requires.clash.found);
+}
 
 pub note_conflict-requires-clause-small : goal.note_conflict-requires-clause-small
 note_conflict-requires-clause-small g c =
-    small-shared c.args.txn c.args.found.by c.requires.clash.touch c.in-Ok.shared (c.in-Ok.ensures.shared c.requires.clash.touch c.requires.clash.found)
-    (short_conflict c.args.txn c.args.found.by c.args.wrote.now c.args.found.at c.requires.clash.touch c.requires.clash.found c.requires.small)
+    let of = c.in-Ok.ensures.conflict c.requires.clash.touch
+    (subst (λ (ts : List Touch). slice_get ts c.args.found.at ≡ Some c.requires.clash.touch) (sym c.as_slice.ensures) c.requires.clash.found) in
+    found-small c.args.house.now c.args.due.now.txn c.args.due.now.wrote c.args.found c.requires.clash c.requires.running c.args.due.now.name
+    c.next_place-at.result c.in-Ok.conflict of c.requires.small
 
 pub note_conflict-requires-clause-fits : goal.note_conflict-requires-clause-fits
 note_conflict-requires-clause-fits g c =
-    fits-shared c.args.house.now c.args.txn c.args.wrote.now c.args.found c.in-Ok.shared c.requires.running c.requires.clash
-    (c.in-Ok.ensures.shared c.requires.clash.touch c.requires.clash.found)
+    let of = c.in-Ok.ensures.conflict c.requires.clash.touch
+    (subst (λ (ts : List Touch). slice_get ts c.args.found.at ≡ Some c.requires.clash.touch) (sym c.as_slice.ensures) c.requires.clash.found) in
+    found-fits c.args.house.now c.args.due.now.txn c.args.due.now.wrote c.args.found c.requires.clash c.requires.running c.args.due.now.name
+    c.next_place-at.result c.in-Ok.conflict of
+
+pub note_conflict-requires-clause-marked : goal.note_conflict-requires-clause-marked
+note_conflict-requires-clause-marked g c =
+    let of = c.in-Ok.ensures.conflict c.requires.clash.touch
+    (subst (λ (ts : List Touch). slice_get ts c.args.found.at ≡ Some c.requires.clash.touch) (sym c.as_slice.ensures) c.requires.clash.found) in
+    found-marked c.args.house.now c.args.due.now.txn c.args.due.now.wrote c.args.found c.requires.clash c.requires.running c.args.due.now.name
+    c.next_place-at.result c.in-Ok.conflict of
 
 pub note_conflict-requires-clause-truly : goal.note_conflict-requires-clause-truly
 note_conflict-requires-clause-truly g c told =
-    let by = c.in-Ok.ensures.shared c.requires.clash.touch c.requires.clash.found in
-    conflict-true (trail_of c.args.house.now.trail) c.args.txn c.requires.running c.args.wrote.now c.args.found.by c.in-Ok.shared.table c.in-Ok.shared.partition (c.requires.truly told)
-    (conflict-of (trail_of c.args.house.now.trail) c.args.txn c.args.wrote.now c.args.found c.in-Ok.shared c.requires.clash by)
+    let of = c.in-Ok.ensures.conflict c.requires.clash.touch
+    (subst (λ (ts : List Touch). slice_get ts c.args.found.at ≡ Some c.requires.clash.touch) (sym c.as_slice.ensures) c.requires.clash.found) in
+    found-true c.args.house.now c.args.due.now.txn c.args.due.now.wrote c.args.found c.requires.clash c.requires.running c.args.due.now.name
+    c.next_place-at.result c.in-Ok.conflict of c.args.due.now.put.places (c.requires.truly told)
 
-pub returns-in-Err : goal.returns-in-Err
-returns-in-Err g c = record { committed = commit-lacks g.D.Shelf.told g.D.Shelf.faults c.args.txn c.args.wrote.now c.args.house.now c.requires.whole }
+pub note_conflict-requires-clause-place : goal.note_conflict-requires-clause-place
+note_conflict-requires-clause-place g c =
+    let of = c.in-Ok.ensures.conflict c.requires.clash.touch
+    (subst (λ (ts : List Touch). slice_get ts c.args.found.at ≡ Some c.requires.clash.touch) (sym c.as_slice.ensures) c.requires.clash.found) in
+    of.place ∙ c.next_place-at.ensures.place
+
+pub note_conflict-requires-clause-same : goal.note_conflict-requires-clause-same
+note_conflict-requires-clause-same g c =
+    let of = c.in-Ok.ensures.conflict c.requires.clash.touch
+    (subst (λ (ts : List Touch). slice_get ts c.args.found.at ≡ Some c.requires.clash.touch) (sym c.as_slice.ensures) c.requires.clash.found) in
+    of.same ∙ sym of.cause_is
 
 pub returns-in-Ok : goal.returns-in-Ok
 returns-in-Ok g c =
-    let by = c.in-Ok.ensures.shared c.requires.clash.touch c.requires.clash.found in
+    let of = c.in-Ok.ensures.conflict c.requires.clash.touch
+    (subst (λ (ts : List Touch). slice_get ts c.args.found.at ≡ Some c.requires.clash.touch) (sym c.as_slice.ensures) c.requires.clash.found) in
     record {
-      committed = c.note_conflict.ensures.committed c.args.wrote.now
-          (conflict-of (trail_of c.args.house.now.trail) c.args.txn c.args.wrote.now c.args.found c.in-Ok.shared c.requires.clash by);
+      committed = c.note_conflict.ensures.committed c.args.due.now.wrote c.args.due.now.name c.args.due.now.put.places
+          (found-met c.args.house.now c.args.due.now.txn c.args.due.now.wrote c.args.found c.requires.clash c.requires.running c.args.due.now.name
+          c.next_place-at.result c.in-Ok.conflict of);
     }
+
+pub returns-in-Err : goal.returns-in-Err
+returns-in-Err g c = record {
+  committed =
+      commit-lacks g.D.Shelf.told g.D.Shelf.faults c.args.due.now.txn c.args.due.now.wrote c.args.due.now.name c.args.due.now.put.places
+      c.args.house.now c.requires.whole;
+}

@@ -11,6 +11,6 @@ returns-in-Ok g c = record {
 pub returns-in-Err : goal.returns-in-Err
 returns-in-Err g c = record {
   listed =
-      list-failed g.D.Shelf.told g.D.Shelf.faults c.args.by c.args.place c.args.table c.in-Err.fault c.args.house.now c.list.new.self c.requires.whole c.in-Err.ensures.stays
-      c.in-Err.ensures.step;
+      list-failed g.D.Shelf.told g.D.Shelf.faults c.args.by c.args.place c.args.table c.in-Err.fault c.args.house.now c.list.new.self c.requires.whole
+      c.in-Err.ensures.asked.book c.in-Err.ensures.stays c.in-Err.ensures.cause.failed c.in-Err.ensures.step;
 }

@@ -21,8 +21,8 @@ note_fitting-requires-clause-truly g c told fits =
 
 pub returns-in-Ok-clause-made : goal.returns-in-Ok-clause-made
 returns-in-Ok-clause-made g c =
-    make-done g.D.Shelf.told g.D.Shelf.faults c.args.txn c.next_table-table.result c.args.house.now c.note_fitting.new.house
-    (c.runs_with.ensures.runs.0 c.if-not-runs_with.false).1
+    make-done g.D.Shelf.told g.D.Shelf.faults c.args.txn c.next_table-table.result c.next_place-at.result c.args.house.now c.note_fitting.new.house
+    (c.runs_with.ensures.runs.0 c.if-not-runs_with.false).1 c.next_table-table.ensures.next c.next_place-at.ensures.place
     (subst (λ (t : TableId). EntryStep {T = Unit {0}} g.D.Shelf.told g.D.Shelf.faults c.args.txn (entry.Create c.args.txn t) c.args.house.now c.note_fitting.new.house (Ok tt))
     c.next_table-table.ensures.next c.in-Ok.ensures.noted)
 

@@ -14,13 +14,14 @@ note-requires-clause-truly g c told = c.requires.truly told (fits-trail c.args.h
 pub returns-in-Ok : goal.returns-in-Ok
 returns-in-Ok g c = record {
   noted =
-      step-done g.D.Shelf.told g.D.Shelf.faults c.args.txn c.args.entry tt c.args.house.now c.note.new.house c.in-Ok.ensures.whole c.in-Ok.ensures.step
+      step-done g.D.Shelf.told g.D.Shelf.faults c.args.txn c.args.entry tt c.args.house.now c.note.new.house c.requires.whole c.in-Ok.ensures.whole c.in-Ok.ensures.step
       (fits-trail c.args.house.now c.args.entry (c.fits.ensures.fits.0 c.if-not-fits.false));
 }
 
 pub returns-in-Err : goal.returns-in-Err
 returns-in-Err g c = record {
   noted =
-      step-failed g.D.Shelf.told g.D.Shelf.faults c.args.txn c.args.entry c.in-Err.fault c.args.house.now c.note.new.house c.requires.whole c.in-Err.ensures.stays
+      step-failed g.D.Shelf.told g.D.Shelf.faults c.args.txn c.args.entry c.in-Err.fault c.args.house.now c.note.new.house c.requires.whole c.requires.of_it
+      (fits-trail c.args.house.now c.args.entry (c.fits.ensures.fits.0 c.if-not-fits.false)) c.in-Err.ensures.stays c.in-Err.ensures.halted
       c.in-Err.ensures.opens c.in-Err.ensures.start c.in-Err.ensures.step;
 }

@@ -25,12 +25,13 @@ pub returns-in-Ok : goal.returns-in-Ok
 returns-in-Ok g c = record {
   put =
       file-done g.D.Shelf.told g.D.Shelf.faults c.args.by c.args.place c.args.file.now c.args.house.now c.put.new.house
-      (c.runs_with.ensures.runs.0 c.if-not-runs_with.false) c.in-Ok.ensures.whole c.in-Ok.ensures.encoded c.in-Ok.ensures.put.step;
+      (c.runs_with.ensures.runs.0 c.if-not-runs_with.false) c.requires.whole c.in-Ok.ensures.whole c.in-Ok.ensures.encoded c.in-Ok.ensures.put.step;
 }
 
 pub returns-in-Err : goal.returns-in-Err
 returns-in-Err g c = record {
   put =
       file-failed g.D.Shelf.told g.D.Shelf.faults c.args.by c.args.place c.args.file.now c.in-Err.fault c.args.house.now c.put.new.house
-      c.requires.whole c.in-Err.ensures.stays c.in-Err.ensures.opens c.in-Err.ensures.start c.in-Err.ensures.put.step;
+      c.requires.whole c.in-Err.ensures.stays c.in-Err.ensures.opens c.in-Err.ensures.start c.in-Err.ensures.put.book
+      c.in-Err.ensures.put.stays c.in-Err.ensures.put.cause.failed c.in-Err.ensures.put.step;
 }
