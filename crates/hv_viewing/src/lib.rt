@@ -7,6 +7,8 @@ mod laws;
 mod reading;
 mod seeing;
 
+pub use counting::{check_counts, counted_records};
+pub use damage::damaged;
 pub use laws::none_amiss;
 pub use reading::read_rows;
 pub use seeing::see;
