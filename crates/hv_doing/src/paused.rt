@@ -1,0 +1,36 @@
+use crate::reply::Done;
+use hv_ast::Stmt;
+use hv_ending::{Ready, Way};
+use hv_logic::Meaning;
+
+/// How far a held statement has come.
+#[derive(Drop)]
+pub enum Point {
+    /// It has its snapshot.
+    Started,
+    /// What it comes to is known.
+    Meant(Meaning),
+    /// Its files are put; its end is to be noted.
+    Ready(Ready),
+}
+
+/// A statement that is held: its transaction was open and has its snapshot.
+#[derive(Drop)]
+pub struct Paused {
+    pub way: Way,
+    pub tree: Stmt,
+    pub point: Point,
+}
+
+/// What taking up a statement answers.
+#[derive(Drop)]
+pub enum Taken {
+    /// It was opened, and has ended.
+    Ended(Done),
+    /// It is held where it was to be.
+    Kept(Paused),
+    /// There was no room for it, and nothing was opened: the book has so many entries.
+    Full { entries: u64 },
+    /// Memory lacked before it was opened.
+    NoMemory,
+}
