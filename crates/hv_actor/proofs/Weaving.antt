@@ -1,8 +1,9 @@
 -- Rows of steps, put together.
-use Rattle.std.proofs.Common.{◌≡◌, ℕ, zero, suc, ◌+◌, ◌-◌, ◌≤◌, ◌<◌, min, Some, List, [], ◌∷◌, ◌++◌, length, map, refl, sym, ap, ◌∙◌, subst, append_assoc, le_trans, arith}
-use Rattle.std.specs.Prelude.{slice_get}
+use Rattle.std.proofs.Common.{◌≡◌, true, false, ℕ, zero, suc, ◌+◌, ◌-◌, ◌≤◌, ◌<◌, min, Some, List, [], ◌∷◌, ◌++◌, length, map, refl, sym, ap, ◌∙◌, subst, append_assoc, le_trans, arith}
+use Rattle.std.specs.Prelude.{Bool, slice_get}
 use Rattle.std.specs.Option.{option_to_list}
 use Rattle.std.proofs.lemmas.List.{append-nil}
+use Rattle.hv_base.specs.Faults.{Rose}
 use Rattle.hv_trail.specs.declared.trail.TrailItem.{TrailItem}
 use Rattle.hv_trail.specs.Steps.{HouseSeen, Call, Outcome, gains}
 use Rattle.hv_trail.specs.Own.{RiseWithin, items_at}
@@ -157,6 +158,12 @@ alone-more before now gained within same adds =
 
 -- ---- houses go on
 
+pub rose-from : (low mid high : ℕ) → low ≤ mid → Rose mid high → Rose low high
+rose-from low mid high below rose = grind (arith, below, rose)
+
+pub rose-upto : (low mid high : ℕ) → Rose low mid → mid ≤ high → Rose low high
+rose-upto low mid high rose below = grind (arith, below, rose)
+
 pub later-further : {D : Type 0} (faults : D → ℕ) (a b c : HouseSeen D) → IsLater faults a b → IsLater faults b c → IsLater faults a c
 later-further faults a b c first next = record {
   added = first.added ++ next.added;
@@ -168,7 +175,12 @@ later-further faults a b c first next = record {
   };
   count = le_trans first.count next.count;
   closed = λ e. next.closed (first.closed e);
+  rises = λ was is. by was is b.closed refl;
 }
+  where
+    by : a.closed ≡ false → c.closed ≡ true → (shut : Bool) → b.closed ≡ shut → Rose (faults a.shelf) (faults c.shelf)
+    by was is true e = rose-upto (faults a.shelf) (faults b.shelf) (faults c.shelf) (first.rises was e) next.count
+    by was is false e = rose-from (faults a.shelf) (faults b.shelf) (faults c.shelf) first.count (next.rises e is)
 
 -- ---- own places rise, and have the items
 

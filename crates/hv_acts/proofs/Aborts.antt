@@ -15,6 +15,7 @@ use Rattle.hv_trail.specs.Steps.{Note, Done, Step}
 use Rattle.hv_house.specs.declared.house.House.{House}
 use Rattle.hv_house.specs.declared.fault.HouseFault.{HouseFault}
 use Rattle.hv_house.specs.declared.fault.HouseFault.TheVariants as fault
+use Rattle.hv_house.specs.Faults.{HasRisen}
 use Rattle.hv_house.specs.House.{entries_of, IsHalted}
 use Rattle.hv_house.specs.Steps.{seen_of, fault_outcome, IsMarked}
 use Rattle.hv_telling.specs.Telling.{IsToldHouse, IsWhole, StaysWhole, StillOpens, IsTrueNow}
@@ -67,15 +68,15 @@ module _ {D : Type 0} (told : D → Option Store) (faults : D → ℕ) (txn : Tx
   }
 
   pub abort-failed : (line : List ℕ) (fault : HouseFault) (before now : House D) → IsWhole told before → EntryFits (trail_of before.trail) (entry.Abort txn why)
-      → StaysWhole told fault now → IsHalted told (entry.Abort txn why) fault before now → (IsToldHouse told before → StillOpens told now)
-      → now.start ≡ before.start → Step told faults (Note (entry.Abort txn why)) (fault_outcome fault) (seen_of before) (seen_of now)
+      → StaysWhole told fault now → IsHalted told (entry.Abort txn why) fault before now → HasRisen (faults before.shelf) (faults now.shelf) fault
+      → (IsToldHouse told before → StillOpens told now) → now.start ≡ before.start → Step told faults (Note (entry.Abort txn why)) (fault_outcome fault) (seen_of before) (seen_of now)
       → AbortStep told faults txn why line before now (Err fault)
-  abort-failed line fault before now was fits stays halted opens start step = record {
+  abort-failed line fault before now was fits stays halted risen opens start step = record {
     running = was.ready.kept.running;
     keeps = keeps-behind told before now fault was stays opens start step.closed;
     step = step;
     tells = tt;
-    leaves = noted-leaves told txn.0 (entry.Abort txn why) fault before now was.ready.kept.running refl fits halted;
+    leaves = noted-leaves told faults txn.0 (entry.Abort txn why) fault before now was.ready.kept.running refl fits halted risen;
   }
 
   -- memory lacked for its line

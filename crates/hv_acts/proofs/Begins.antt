@@ -12,7 +12,7 @@ use Rattle.hv_trail.specs.Steps.{Begin, Done, Step}
 use Rattle.hv_house.specs.declared.fault.HouseFault.{HouseFault}
 use Rattle.hv_house.specs.declared.house.House.{House}
 use Rattle.hv_house.specs.declared.fault.HouseFault.TheVariants as fault
-use Rattle.hv_house.specs.Faults.{EndsRun}
+use Rattle.hv_house.specs.Faults.{HasRisen, EndsRun}
 use Rattle.hv_house.specs.House.{entries_of, Leaves, BeginFits, beginning_of, AreHalted}
 use Rattle.hv_locks.specs.declared.table.LockState.{LockState}
 use Rattle.hv_locks.specs.declared.table.LockState.TheVariants.{Granted, Waiting}
@@ -65,26 +65,29 @@ module _ {D : Type 0} (told : D → Option Store) (faults : D → ℕ) (session 
 
   -- both entries were to be noted
   begin-leaves : (why : HouseFault) (before now : House D) → before.trail.closed ≡ false → BeginFits (entries_of before) asking
-      → AreHalted told (beginning_of (entries_of before) asking) why before now → EndsRun why
-      → BeginLeaves told asking (seen_of before) (seen_of now) (Err (hindered.House why))
-  begin-leaves fault.Store before now running fits halted ends = λ open_. record {
-    fits = subst (λ (book : List Entry). BeginFits book asking) (sym (book-is before)) fits;
-    leaves = subst (λ (book : List Entry). Leaves fault.Store (beginning_of book asking) (told now.shelf) book) (sym (book-is before)) halted.leaves;
-  }
-  begin-leaves fault.NoMemory before now running fits halted ends = running
-  begin-leaves (fault.Failed count) before now running fits halted ends = ends
+      → AreHalted told (beginning_of (entries_of before) asking) why before now → HasRisen (faults before.shelf) (faults now.shelf) why → EndsRun why
+      → BeginLeaves told faults asking (seen_of before) (seen_of now) (Err (hindered.House why))
+  begin-leaves fault.Store before now running fits halted risen ends = λ open_. (
+    record {
+      fits = subst (λ (book : List Entry). BeginFits book asking) (sym (book-is before)) fits;
+      leaves = subst (λ (book : List Entry). Leaves fault.Store (beginning_of book asking) (told now.shelf) book) (sym (book-is before)) halted.leaves;
+    },
+    risen,
+  )
+  begin-leaves fault.NoMemory before now running fits halted risen ends = running
+  begin-leaves (fault.Failed count) before now running fits halted risen ends = ends
 
   pub begin-failed : (why : HouseFault) (before now : House D) → IsWhole told before → BeginFits (entries_of before) asking
-      → StaysWhole told why now → AreHalted told (beginning_of (entries_of before) asking) why before now → EndsRun why
+      → StaysWhole told why now → AreHalted told (beginning_of (entries_of before) asking) why before now → HasRisen (faults before.shelf) (faults now.shelf) why → EndsRun why
       → (IsToldHouse told before → StillOpens told now) → now.start ≡ before.start
       → Step told faults (Begin (record { 0 = next_number (entries_of before) }) session number text) (fault_outcome why) (seen_of before) (seen_of now)
       → BeginStep told faults session number text tree before now (Err (hindered.House why))
-  begin-failed why before now was fits stays halted ends opens start step = record {
+  begin-failed why before now was fits stays halted risen ends opens start step = record {
     keeps = keeps-behind told before now why was stays opens start step.closed;
     step = subst (λ (book : List Entry). Step told faults (Begin (record { 0 = next_number book }) session number text) (fault_outcome why) (seen_of before) (seen_of now))
         (sym (book-is before)) step;
     answers = tt;
-    leaves = begin-leaves why before now was.ready.kept.running fits halted ends;
+    leaves = begin-leaves why before now was.ready.kept.running fits halted risen ends;
   }
 
   pub begin-hindered : (why : BeginFault) (house : House D) → IsWhole told house → IsHindered (trail_of house.trail) tree why → (CanBegin profile (entries_of house) tree → ⊥)

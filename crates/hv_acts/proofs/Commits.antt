@@ -269,7 +269,7 @@ module _ {D : Type 0} (told : D → Option Store) (faults : D → ℕ) (txn : Tx
     keeps = whole-keeps told house whole;
     step = asked-late told faults (seen_of house) (trail_of house.trail) txn (Commit txn wrote) why late;
     answers = why-of FilesTest (trail_of house.trail) txn (CommitsAlone (trail_of house.trail) txn wrote places) why late not;
-    leaves = late-leaves told (trail_of house.trail) txn why (seen_of house) (seen_of house) late whole.ready.kept.running;
+    leaves = late-leaves told faults (trail_of house.trail) txn why (seen_of house) (seen_of house) late whole.ready.kept.running;
   }
 
   pub commit-not-running : (why : ActFault) (house : House D) → IsWhole told house → IsLate (trail_of house.trail) txn why

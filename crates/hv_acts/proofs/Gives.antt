@@ -130,5 +130,5 @@ module _ {D : Type 0} (told : D → Option Store) (faults : D → ℕ) (txn : Tx
     keeps = whole-keeps told house whole;
     step = asked-late told faults (seen_of house) (trail_of house.trail) txn (Note (to_give (trail_of house.trail) txn table)) why late;
     answers = why-of NoTest (trail_of house.trail) txn (GivenFits (trail_of house.trail) txn table) why late (λ fits. not (give-runs (trail_of house.trail) txn table fits));
-    leaves = late-leaves told (trail_of house.trail) txn why (seen_of house) (seen_of house) late whole.ready.kept.running;
+    leaves = late-leaves told faults (trail_of house.trail) txn why (seen_of house) (seen_of house) late whole.ready.kept.running;
   }

@@ -38,7 +38,7 @@ module _ {D : Type 0} (told : D → Option Store) (faults : D → ℕ) (txn : Tx
     keeps = whole-keeps told house whole;
     step = asked-late told faults (seen_of house) (trail_of house.trail) txn (Note (entry.Create txn (next_table (trail_of house.trail)))) why late;
     answers = why-of NoTest (trail_of house.trail) txn (MakeFits (trail_of house.trail) txn) why late (λ fits. not (make-runs (trail_of house.trail) txn fits));
-    leaves = late-leaves told (trail_of house.trail) txn why (seen_of house) (seen_of house) late whole.ready.kept.running;
+    leaves = late-leaves told faults (trail_of house.trail) txn why (seen_of house) (seen_of house) late whole.ready.kept.running;
   }
 
   pub make-done : (table : TableId) (at : ℕ) (before now : House D) → HasAtMost (trail_of before.trail) txn 0 → table ≡ next_table (trail_of before.trail)

@@ -22,6 +22,7 @@ use Rattle.hv_trail.specs.Kept.{trail_of}
 use Rattle.hv_trail.specs.Steps.{Call, Note, Done, HouseSeen, Step}
 use Rattle.hv_house.specs.declared.house.House.{House}
 use Rattle.hv_house.specs.declared.fault.HouseFault.{HouseFault}
+use Rattle.hv_house.specs.Faults.{HasRisen}
 use Rattle.hv_house.specs.House.{entries_of, IsHalted}
 use Rattle.hv_house.specs.Steps.{seen_of, fault_outcome}
 use Rattle.hv_telling.specs.Telling.{IsToldHouse, IsWhole, StaysWhole, StillOpens}
@@ -151,15 +152,16 @@ module _ {D : Type 0} (told : D → Option Store) (faults : D → ℕ) (txn : Tx
     keeps = whole-keeps told house whole;
     step = asked-late told faults (seen_of house) (trail_of house.trail) txn (Note event) why late;
     answers = why-of NoTest (trail_of house.trail) txn (EntryFits (trail_of house.trail) event) why late not;
-    leaves = late-leaves told (trail_of house.trail) txn why (seen_of house) (seen_of house) late whole.ready.kept.running;
+    leaves = late-leaves told faults (trail_of house.trail) txn why (seen_of house) (seen_of house) late whole.ready.kept.running;
   }
 
   pub step-failed : {T : Type 0} (why : HouseFault) (before now : House D) → IsWhole told before → IsOf txn.0 event → EntryFits (trail_of before.trail) event
-      → StaysWhole told why now → IsHalted told event why before now → (IsToldHouse told before → StillOpens told now) → now.start ≡ before.start
+      → StaysWhole told why now → IsHalted told event why before now → HasRisen (faults before.shelf) (faults now.shelf) why
+      → (IsToldHouse told before → StillOpens told now) → now.start ≡ before.start
       → Step told faults (Note event) (fault_outcome why) (seen_of before) (seen_of now) → EntryStep {T = T} told faults txn event before now (Err (act.House why))
-  step-failed why before now was of_it fits stays halted opens start step = record {
+  step-failed why before now was of_it fits stays halted risen opens start step = record {
     keeps = keeps-behind told before now why was stays opens start step.closed;
     step = step;
     answers = tt;
-    leaves = noted-leaves told txn.0 event why before now was.ready.kept.running of_it fits halted;
+    leaves = noted-leaves told faults txn.0 event why before now was.ready.kept.running of_it fits halted risen;
   }

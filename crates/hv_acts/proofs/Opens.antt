@@ -20,6 +20,7 @@ use Rattle.hv_trail.specs.Kept.{trail_of}
 use Rattle.hv_trail.specs.Steps.{Note, Done, Step}
 use Rattle.hv_house.specs.declared.fault.HouseFault.{HouseFault}
 use Rattle.hv_house.specs.declared.house.House.{House}
+use Rattle.hv_house.specs.Faults.{HasRisen}
 use Rattle.hv_house.specs.House.{entries_of, IsReady, IsHalted}
 use Rattle.hv_locks.specs.declared.table.LockState.TheVariants.{Granted, Waiting}
 use Rattle.hv_house.specs.Asking.{holder_against, lock_state}
@@ -151,14 +152,14 @@ module _ {D : Type 0} (told : D → Option Store) (faults : D → ℕ) (session 
 
   pub open-failed : (why : HouseFault) (before now : House D) → IsWhole told before → txn.0 ≡ next_number (entries_of before)
       → Fits profile (state_of (entries_of before)) event → StaysWhole told why now → IsHalted told event why before now
-      → (IsToldHouse told before → StillOpens told now) → now.start ≡ before.start
+      → HasRisen (faults before.shelf) (faults now.shelf) why → (IsToldHouse told before → StillOpens told now) → now.start ≡ before.start
       → Step told faults (Note event) (fault_outcome why) (seen_of before) (seen_of now)
       → OpenStep told faults session number text before now (Err (act.House why))
-  open-failed why before now was next fits stays halted opens start step = record {
+  open-failed why before now was next fits stays halted risen opens start step = record {
     keeps = keeps-behind told before now why was stays opens start step.closed;
     step = subst (λ (e : Entry). Step told faults (Note e) (fault_outcome why) (seen_of before) (seen_of now)) (event-is before next) step;
     answers = tt;
     leaves =
-        noted-leaves told (next_number (book_of (trail_of before.trail))) event why before now was.ready.kept.running
-        (ap Some (next ∙ ap next_number (sym (book-is before)))) (fits-trail before event fits) halted;
+        noted-leaves told faults (next_number (book_of (trail_of before.trail))) event why before now was.ready.kept.running
+        (ap Some (next ∙ ap next_number (sym (book-is before)))) (fits-trail before event fits) halted risen;
   }

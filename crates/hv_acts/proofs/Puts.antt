@@ -100,7 +100,7 @@ module _ {D : Type 0} (told : D → Option Store) (faults : D → ℕ) (by : Txn
     keeps = whole-keeps told house whole;
     step = asked-late told faults (seen_of house) (trail_of house.trail) by (Put (Txn by) place (bytes_of file)) why late;
     answers = why-of NoTest (trail_of house.trail) by (RunsWith (trail_of house.trail) by 1) why late not;
-    leaves = late-leaves told (trail_of house.trail) by why (seen_of house) (seen_of house) late whole.ready.kept.running;
+    leaves = late-leaves told faults (trail_of house.trail) by why (seen_of house) (seen_of house) late whole.ready.kept.running;
     rises = late-rises faults (seen_of house) (trail_of house.trail) by why late;
   }
 
@@ -112,6 +112,6 @@ module _ {D : Type 0} (told : D → Option Store) (faults : D → ℕ) (by : Txn
     keeps = keeps-behind told before now why was stays opens start step.closed;
     step = step;
     answers = tt;
-    leaves = held-leaves told by.0 why before now was.ready.kept.running same put;
+    leaves = held-leaves told faults by.0 why before now was.ready.kept.running same put risen;
     rises = rises-by faults (seen_of before) (faults now.shelf) why risen;
   }

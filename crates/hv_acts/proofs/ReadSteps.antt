@@ -146,7 +146,7 @@ module _ {D : Type 0} (told : D → Option Store) (faults : D → ℕ) (by : Txn
     keeps = keeps-read why before now was stays step;
     step = step;
     answers = tt;
-    leaves = held-leaves told by.0 why before now was.ready.kept.running same stays;
+    leaves = held-leaves told faults by.0 why before now was.ready.kept.running same stays risen;
     rises = rises-by faults (seen_of before) (faults now.shelf) why risen;
   }
 
@@ -197,6 +197,6 @@ module _ {D : Type 0} (told : D → Option Store) (faults : D → ℕ) (by : Txn
     keeps = keeps-read why before now was stays step;
     step = step;
     answers = tt;
-    leaves = held-leaves told by.0 why before now was.ready.kept.running same stays;
+    leaves = held-leaves told faults by.0 why before now was.ready.kept.running same stays risen;
     rises = rises-by faults (seen_of before) (faults now.shelf) why risen;
   }

@@ -30,7 +30,7 @@ pub record AbortStep {D : Type 0} (told : D → Option Store) (faults : D → �
   pub keeps : IsWholeOrClosed told now
   pub step : Step told faults (Note (entry.Abort txn why)) (outcome_of result) (seen_of before) (seen_of now)
   pub tells : IfOk result (TellsNext (trail_of before.trail) why line)
-  pub leaves : IfErr result (FaultLeaves told txn.0 (seen_of before) (seen_of now))
+  pub leaves : IfErr result (FaultLeaves told faults txn.0 (seen_of before) (seen_of now))
 
 -- no entry more that asks for room would fit
 abbrev pub is_full : State → Bool

@@ -1,5 +1,6 @@
 -- What an act answers: the call that was made, how it ended, what it added, and why it was refused.
 use Rattle.std.specs.Prelude.{◌≡◌, ℕ, ◌+◌, ◌<◌, ◌≤◌, true, false, Option, Some, None, List, [], ◌∷◌, length, Contains, Result, Ok, Err}
+use Rattle.hv_base.specs.Faults.{Rose}
 use Rattle.hv_base.specs.declared.ids.TxnId.{TxnId}
 use Rattle.hv_base.specs.declared.ids.TableId.{TableId}
 use Rattle.hv_base.specs.declared.ids.WriteId.{WriteId}
@@ -119,19 +120,19 @@ pub record IsCutShort {D : Type 0} (told : D → Option Store) (txn : ℕ) (befo
   pub fit : AllFit profile (state_at before.trail) further
   pub leaves : Leaves fault.Store further (told now.shelf) (book_of before.trail)
 
--- only a closed house, or one whose store fails now, answers that the store failed
-abbrev pub FaultLeaves : {D : Type 0} → (D → Option Store) → ℕ → HouseSeen D → HouseSeen D → HouseFault → Type 0
-FaultLeaves told txn before now fault.Store = before.closed ≡ false → IsCutShort told txn before now
-FaultLeaves told txn before now fault.NoMemory = before.closed ≡ false
-FaultLeaves told txn before now (fault.Failed count) = before.closed ≡ false
+-- only a closed house, or one whose store fails now, answers that the store failed; then its count of faults rose
+abbrev pub FaultLeaves : {D : Type 0} → (D → Option Store) → (D → ℕ) → ℕ → HouseSeen D → HouseSeen D → HouseFault → Type 0
+FaultLeaves told faults txn before now fault.Store = before.closed ≡ false → IsCutShort told txn before now × Rose (faults before.shelf) (faults now.shelf)
+FaultLeaves told faults txn before now fault.NoMemory = before.closed ≡ false
+FaultLeaves told faults txn before now (fault.Failed count) = before.closed ≡ false
 
-abbrev pub WhyLeaves : {D : Type 0} → (D → Option Store) → ℕ → HouseSeen D → HouseSeen D → ActFault → Type 0
-WhyLeaves told txn before now (act.House why) = FaultLeaves told txn before now why
-WhyLeaves told txn before now why = before.closed ≡ false
+abbrev pub WhyLeaves : {D : Type 0} → (D → Option Store) → (D → ℕ) → ℕ → HouseSeen D → HouseSeen D → ActFault → Type 0
+WhyLeaves told faults txn before now (act.House why) = FaultLeaves told faults txn before now why
+WhyLeaves told faults txn before now why = before.closed ≡ false
 
-abbrev pub AnswerLeaves : {D T : Type 0} → (D → Option Store) → ℕ → HouseSeen D → HouseSeen D → Result T ActFault → Type 0
-AnswerLeaves told txn before now (Ok x) = before.closed ≡ false
-AnswerLeaves told txn before now (Err why) = WhyLeaves told txn before now why
+abbrev pub AnswerLeaves : {D T : Type 0} → (D → Option Store) → (D → ℕ) → ℕ → HouseSeen D → HouseSeen D → Result T ActFault → Type 0
+AnswerLeaves told faults txn before now (Ok x) = before.closed ≡ false
+AnswerLeaves told faults txn before now (Err why) = WhyLeaves told faults txn before now why
 
 -- a fault of a call on files that has a count: the store's count of faults rose to it in this call
 abbrev pub FaultRises : {D : Type 0} → (D → ℕ) → HouseSeen D → HouseFault → Type 0
@@ -153,7 +154,7 @@ pub record EntryStep {D T : Type 0} (told : D → Option Store) (faults : D → 
   pub keeps : IsWholeOrClosed told now
   pub step : Step told faults (answer_call (Note event) result) (answer_outcome result) (seen_of before) (seen_of now)
   pub answers : Answers NoTest (trail_of before.trail) txn (EntryFits (trail_of before.trail) event) (λ x. Unit {0}) result
-  pub leaves : AnswerLeaves told txn.0 (seen_of before) (seen_of now) result
+  pub leaves : AnswerLeaves told faults txn.0 (seen_of before) (seen_of now) result
 
 -- ---- numbers that are given next
 

@@ -1,5 +1,6 @@
 -- A statement that is begun.
 use Rattle.std.specs.Prelude.{◌≡◌, false, ℕ, ◌+◌, Option, Some, None, List, [], length, map, Result, Ok, Err}
+use Rattle.hv_base.specs.Faults.{Rose}
 use Rattle.hv_ast.specs.declared.statement.Stmt.{Stmt}
 use Rattle.hv_shelf.specs.Disk.{Store}
 use Rattle.hv_history.specs.declared.entry.Entry.{Entry}
@@ -76,13 +77,13 @@ pub record IsBeginningCut {D : Type 0} (told : D → Option Store) (asking : Ask
   pub fits : BeginFits (book_of before.trail) asking
   pub leaves : Leaves fault.Store (beginning_of (book_of before.trail) asking) (told now.shelf) (book_of before.trail)
 
-abbrev pub BeginLeaves : {D : Type 0} → (D → Option Store) → Asking → HouseSeen D → HouseSeen D → Result Begun BeginFault → Type 0
-BeginLeaves told asking before now (Ok start) = before.closed ≡ false
-BeginLeaves told asking before now (Err (hindered.Held by)) = before.closed ≡ false
-BeginLeaves told asking before now (Err (hindered.Full entries)) = before.closed ≡ false
-BeginLeaves told asking before now (Err (hindered.House fault.Store)) = before.closed ≡ false → IsBeginningCut told asking before now
-BeginLeaves told asking before now (Err (hindered.House fault.NoMemory)) = before.closed ≡ false
-BeginLeaves told asking before now (Err (hindered.House (fault.Failed count))) = ⊥
+abbrev pub BeginLeaves : {D : Type 0} → (D → Option Store) → (D → ℕ) → Asking → HouseSeen D → HouseSeen D → Result Begun BeginFault → Type 0
+BeginLeaves told faults asking before now (Ok start) = before.closed ≡ false
+BeginLeaves told faults asking before now (Err (hindered.Held by)) = before.closed ≡ false
+BeginLeaves told faults asking before now (Err (hindered.Full entries)) = before.closed ≡ false
+BeginLeaves told faults asking before now (Err (hindered.House fault.Store)) = before.closed ≡ false → IsBeginningCut told asking before now × Rose (faults before.shelf) (faults now.shelf)
+BeginLeaves told faults asking before now (Err (hindered.House fault.NoMemory)) = before.closed ≡ false
+BeginLeaves told faults asking before now (Err (hindered.House (fault.Failed count))) = ⊥
 
 -- all that is promised of a statement that was to begin
 pub record BeginStep {D : Type 0} (told : D → Option Store) (faults : D → ℕ) (session : List ℕ) (number : ℕ) (text : List ℕ) (tree : Stmt) (before now : House D)
@@ -90,4 +91,4 @@ pub record BeginStep {D : Type 0} (told : D → Option Store) (faults : D → �
   pub keeps : IsWholeOrClosed told now
   pub step : Step told faults (begin_call (trail_of before.trail) session number text result) (begin_outcome result) (seen_of before) (seen_of now)
   pub answers : BeginAnswers (trail_of before.trail) tree result
-  pub leaves : BeginLeaves told (record { session = session; number = number; text = text }) (seen_of before) (seen_of now) result
+  pub leaves : BeginLeaves told faults (record { session = session; number = number; text = text }) (seen_of before) (seen_of now) result

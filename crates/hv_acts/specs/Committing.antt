@@ -134,4 +134,4 @@ pub record CommitStep {D : Type 0} (told : D → Option Store) (faults : D → �
   pub keeps : IsWholeOrClosed told now
   pub step : Step told faults (call_to_commit txn wrote result) (answer_outcome result) (seen_of before) (seen_of now)
   pub answers : CommitAnswers (trail_of before.trail) txn wrote name places result
-  pub leaves : AnswerLeaves told txn.0 (seen_of before) (seen_of now) result
+  pub leaves : AnswerLeaves told faults txn.0 (seen_of before) (seen_of now) result

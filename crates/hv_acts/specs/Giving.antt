@@ -60,4 +60,4 @@ pub record GiveStep {D : Type 0} (told : D → Option Store) (faults : D → ℕ
   pub keeps : IsWholeOrClosed told now
   pub step : Step told faults (call_to_give (trail_of before.trail) txn table result) (answer_outcome result) (seen_of before) (seen_of now)
   pub answers : GiveAnswers (trail_of before.trail) txn table result
-  pub leaves : AnswerLeaves told txn.0 (seen_of before) (seen_of now) result
+  pub leaves : AnswerLeaves told faults txn.0 (seen_of before) (seen_of now) result

@@ -51,6 +51,7 @@ pub record IsShutNow {D : Type 0} (told : D → Option Store) (txn : ℕ) (now :
   pub house : ToldHouse D
   pub kept : IsWholeOrClosed told house.house
   pub was : IsOpenHouse house
+  pub is : IsShutHouse now
   pub same : trail_in now ≡ trail_in house
   pub cut : IsCutShort told txn (seen_in house) (seen_in now)
 

@@ -34,4 +34,4 @@ pub record MakeStep {D : Type 0} (told : D → Option Store) (faults : D → ℕ
   pub keeps : IsWholeOrClosed told now
   pub step : Step told faults (answer_call (Note (entry.Create txn (next_table (trail_of before.trail)))) result) (answer_outcome result) (seen_of before) (seen_of now)
   pub answers : Answers NoTest (trail_of before.trail) txn (MakeFits (trail_of before.trail) txn) (IsMadeAt (trail_of before.trail)) result
-  pub leaves : AnswerLeaves told txn.0 (seen_of before) (seen_of now) result
+  pub leaves : AnswerLeaves told faults txn.0 (seen_of before) (seen_of now) result

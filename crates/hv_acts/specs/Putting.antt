@@ -60,5 +60,5 @@ pub record FileStep {D : Type 0} (told : D → Option Store) (faults : D → ℕ
   pub keeps : IsWholeOrClosed told now
   pub step : Step told faults (answer_call (Put (Txn by) place (bytes_of file)) result) (answer_outcome result) (seen_of before) (seen_of now)
   pub answers : Answers NoTest (trail_of before.trail) by (RunsWith (trail_of before.trail) by 1) (λ done. IsEncoded file) result
-  pub leaves : AnswerLeaves told by.0 (seen_of before) (seen_of now) result
+  pub leaves : AnswerLeaves told faults by.0 (seen_of before) (seen_of now) result
   pub rises : IfErr result (WhyRises faults (seen_of before))

@@ -134,7 +134,7 @@ pub record ListStep {D : Type 0} (told : D → Option Store) (faults : D → ℕ
   pub keeps : IsWholeOrClosed told now
   pub step : Step told faults (Read (Some (Txn by))) (answer_outcome result) (seen_of before) (seen_of now)
   pub answers : ListAnswers told (seen_of before) place table result
-  pub leaves : AnswerLeaves told by.0 (seen_of before) (seen_of now) result
+  pub leaves : AnswerLeaves told faults by.0 (seen_of before) (seen_of now) result
   pub rises : IfErr result (WhyRises faults (seen_of before))
 
 -- ---- the bytes of a file
@@ -176,10 +176,10 @@ abbrev pub adds_getting : {T : Type 0} → TxnId → Result T GetFault → List 
 adds_getting by (Ok x) = []
 adds_getting by (Err why) = adds_missed by why
 
-abbrev pub GetLeaves : {D T : Type 0} → (D → Option Store) → ℕ → HouseSeen D → HouseSeen D → Result T GetFault → Type 0
-GetLeaves told txn before now (Ok x) = before.closed ≡ false
-GetLeaves told txn before now (Err get_fault.NotFound) = before.closed ≡ false
-GetLeaves told txn before now (Err (get_fault.House why)) = FaultLeaves told txn before now why
+abbrev pub GetLeaves : {D T : Type 0} → (D → Option Store) → (D → ℕ) → ℕ → HouseSeen D → HouseSeen D → Result T GetFault → Type 0
+GetLeaves told faults txn before now (Ok x) = before.closed ≡ false
+GetLeaves told faults txn before now (Err get_fault.NotFound) = before.closed ≡ false
+GetLeaves told faults txn before now (Err (get_fault.House why)) = FaultLeaves told faults txn before now why
 
 abbrev pub GetRises : {D : Type 0} → (D → ℕ) → HouseSeen D → GetFault → Type 0
 GetRises faults before get_fault.NotFound = Unit {0}
@@ -191,7 +191,7 @@ pub record GetStep {D : Type 0} (told : D → Option Store) (faults : D → ℕ)
   pub keeps : IsWholeOrClosed told now
   pub step : Step told faults (Read (Some (Txn by))) (get_outcome result) (seen_of before) (seen_of now)
   pub answers : GetAnswers told (seen_of before) place result
-  pub leaves : GetLeaves told by.0 (seen_of before) (seen_of now) result
+  pub leaves : GetLeaves told faults by.0 (seen_of before) (seen_of now) result
   pub rises : IfErr result (GetRises faults (seen_of before))
 
 -- ---- one reading over several acts

@@ -78,4 +78,4 @@ pub record StartOrAbortStep {D : Type 0} (told : D → Option Store) (faults : D
   pub keeps : IsWholeOrClosed told now
   pub step : Step told faults (call_to_start (trail_of before.trail) txn result) (answer_outcome result) (seen_of before) (seen_of now)
   pub answers : StartOrAbortAnswers (trail_of before.trail) txn result
-  pub leaves : AnswerLeaves told txn.0 (seen_of before) (seen_of now) result
+  pub leaves : AnswerLeaves told faults txn.0 (seen_of before) (seen_of now) result

@@ -41,7 +41,7 @@ pub record OpenStep {D : Type 0} (told : D → Option Store) (faults : D → ℕ
   pub keeps : IsWholeOrClosed told now
   pub step : Step told faults (answer_call (Note (next_opened (trail_of before.trail) session number text)) result) (answer_outcome result) (seen_of before) (seen_of now)
   pub answers : OpenAnswers (trail_of before.trail) result
-  pub leaves : AnswerLeaves told (next_number (book_of (trail_of before.trail))) (seen_of before) (seen_of now) result
+  pub leaves : AnswerLeaves told faults (next_number (book_of (trail_of before.trail))) (seen_of before) (seen_of now) result
 
 -- ---- its Start
 
@@ -65,4 +65,4 @@ pub record StartStep {D : Type 0} (told : D → Option Store) (faults : D → �
   pub keeps : IsWholeOrClosed told now
   pub step : Step told faults (answer_call (Note (entry.Start txn 0)) result) (answer_outcome result) (seen_of before) (seen_of now)
   pub answers : StartAnswers (trail_of before.trail) txn result
-  pub leaves : AnswerLeaves told txn.0 (seen_of before) (seen_of now) result
+  pub leaves : AnswerLeaves told faults txn.0 (seen_of before) (seen_of now) result

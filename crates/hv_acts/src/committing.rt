@@ -258,7 +258,7 @@ impl<D: Shelf + Drop> Act<D, ToldHouse<D>> for CommitWrites {
     ghost adds = { λ act answer. adds_commit act.txn act.wrote answer };
 
     ghost does = { λ act house now answer. CommitAnswers house.trail act.txn act.wrote act.name act.put.places answer
-        × AnswerLeaves D.told act.txn.0 house now answer };
+        × AnswerLeaves D.told D.faults act.txn.0 house now answer };
 
     fn act(self, alloc: Global, house: &mut ToldHouse<D>) -> Result<Committed, ActFault> {
         if house.house.is_closed() {

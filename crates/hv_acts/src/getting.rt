@@ -45,7 +45,7 @@ impl<'a, D: Shelf + Drop> Act<D, ToldHouse<D>> for GetFile<'a> {
     ghost adds = { λ act answer. adds_getting act.by answer };
 
     ghost does = { λ act house now answer. GetAnswers D.told house act.place.now answer
-        × GetLeaves D.told act.by.0 house now answer × IfErr answer (GetRises D.faults house) };
+        × GetLeaves D.told D.faults act.by.0 house now answer × IfErr answer (GetRises D.faults house) };
 
     fn act(self, alloc: Global, house: &mut ToldHouse<D>) -> Result<Vec<u8>, GetFault> {
         if house.house.is_closed() {

@@ -116,7 +116,7 @@ impl<D: Shelf + Drop> Act<D, ToldHouse<D>> for GiveId {
     ghost adds = { λ act answer. adds_given act.txn act.table answer };
 
     ghost does = { λ act house now answer. GiveAnswers house.trail act.txn act.table answer
-        × AnswerLeaves D.told act.txn.0 house now answer };
+        × AnswerLeaves D.told D.faults act.txn.0 house now answer };
 
     fn act(self, alloc: Global, house: &mut ToldHouse<D>) -> Result<Given, ActFault> {
         if house.house.is_closed() {

@@ -51,7 +51,7 @@ impl<D: Shelf + Drop> Act<D, ToldHouse<D>> for ListTable {
     ghost adds = { λ act answer. adds_listing act.by answer };
 
     ghost does = { λ act house now answer. ListAnswers D.told house act.place act.table answer
-        × AnswerLeaves D.told act.by.0 house now answer × IfErr answer (WhyRises D.faults house) };
+        × AnswerLeaves D.told D.faults act.by.0 house now answer × IfErr answer (WhyRises D.faults house) };
 
     fn act(self, alloc: Global, house: &mut ToldHouse<D>) -> Result<Listing, ActFault> {
         if house.house.is_closed() {

@@ -67,7 +67,7 @@ impl<'a, D: Shelf + Drop> Act<D, ToldHouse<D>> for PutFile<'a> {
     ghost adds = { λ act answer. adds_file act.by act.place answer };
 
     ghost does = { λ act house now answer. Answers NoTest house.trail act.by (RunsWith house.trail act.by 1)
-        (λ done. IsEncoded act.file.now) answer × AnswerLeaves D.told act.by.0 house now answer
+        (λ done. IsEncoded act.file.now) answer × AnswerLeaves D.told D.faults act.by.0 house now answer
         × IfErr answer (WhyRises D.faults house) };
 
     fn act(self, alloc: Global, house: &mut ToldHouse<D>) -> Result<(), ActFault> {

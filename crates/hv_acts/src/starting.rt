@@ -269,7 +269,7 @@ impl<D: Shelf + Drop> Act<D, ToldHouse<D>> for OpenTransaction {
     ghost adds = { λ act answer. adds_entry (λ (txn : TxnId). entry.Opened txn act.session act.number act.text) answer };
 
     ghost does = { λ act house now answer. OpenAnswers house.trail answer
-        × AnswerLeaves D.told (next_number (book_of house.trail)) house now answer };
+        × AnswerLeaves D.told D.faults (next_number (book_of house.trail)) house now answer };
 
     fn act(self, _alloc: Global, house: &mut ToldHouse<D>) -> Result<TxnId, ActFault> {
         if house.house.is_closed() {
@@ -305,7 +305,7 @@ impl<D: Shelf + Drop> Act<D, ToldHouse<D>> for StartTransaction {
     ghost adds = { λ act answer. adds_entry (λ (place : ℕ). entry.Start act.txn 0) answer };
 
     ghost does = { λ act house now answer. StartAnswers house.trail act.txn answer
-        × AnswerLeaves D.told act.txn.0 house now answer };
+        × AnswerLeaves D.told D.faults act.txn.0 house now answer };
 
     fn act(self, _alloc: Global, house: &mut ToldHouse<D>) -> Result<u64, ActFault> {
         if house.house.is_closed() {
@@ -331,7 +331,7 @@ impl<D: Shelf + Drop> Act<D, ToldHouse<D>> for StartOrAbort {
     ghost adds = { λ act answer. adds_started act.txn answer };
 
     ghost does = { λ act house now answer. StartOrAbortAnswers house.trail act.txn answer
-        × AnswerLeaves D.told act.txn.0 house now answer };
+        × AnswerLeaves D.told D.faults act.txn.0 house now answer };
 
     fn act(self, alloc: Global, house: &mut ToldHouse<D>) -> Result<Started, ActFault> {
         if house.house.is_closed() {

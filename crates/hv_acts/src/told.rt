@@ -23,6 +23,13 @@ impl<D: Shelf> ToldHouse<D> {
         ToldHouse { house }
     }
 
+    /// Whether the house's journal failed: then every act is refused.
+    pub fn is_closed(&self) -> bool
+        ensures closed { result ≡ self.now.house.trail.closed }
+    {
+        self.house.is_closed()
+    }
+
     /// The house, when all is done.
     pub fn into_house(self) -> House<D>
         ensures house { result ≡ self.house }

@@ -23,5 +23,6 @@ pub returns-in-Err : goal.returns-in-Err
 returns-in-Err g c = record {
   noted =
       abort-failed g.D.Shelf.told g.D.Shelf.faults c.args.txn c.args.cause c.args.aborted.text c.in-Err.fault c.args.house.now c.note.new.house c.requires.whole
-      c.requires.fits c.in-Err.ensures.stays c.in-Err.ensures.halted c.in-Err.ensures.opens c.in-Err.ensures.start c.in-Err.ensures.step;
+      c.requires.fits c.in-Err.ensures.stays c.in-Err.ensures.halted c.in-Err.ensures.cause.failed
+      c.in-Err.ensures.opens c.in-Err.ensures.start c.in-Err.ensures.step;
 }

@@ -23,5 +23,5 @@ returns-in-Err g c = record {
   noted =
       step-failed g.D.Shelf.told g.D.Shelf.faults c.args.txn c.args.entry c.in-Err.fault c.args.house.now c.note.new.house c.requires.whole c.requires.of_it
       (fits-trail c.args.house.now c.args.entry (c.fits.ensures.fits.0 c.if-not-fits.false)) c.in-Err.ensures.stays c.in-Err.ensures.halted
-      c.in-Err.ensures.opens c.in-Err.ensures.start c.in-Err.ensures.step;
+      c.in-Err.ensures.cause.failed c.in-Err.ensures.opens c.in-Err.ensures.start c.in-Err.ensures.step;
 }

@@ -26,5 +26,6 @@ returns-in-Err g c = record {
       begin-failed g.D.Shelf.told g.D.Shelf.faults c.args.session c.args.number c.args.text c.args.tree c.in-Err.fault c.args.house.now c.begin.new.house
       c.requires.whole
       (c.can_begin.ensures.fits c.if-not-can_begin.false (record { session = c.args.session; number = c.args.number; text = c.args.text }) c.requires.runs)
-      c.in-Err.ensures.stays c.in-Err.ensures.halted c.in-Err.ensures.ends c.in-Err.ensures.opens c.in-Err.ensures.start c.in-Err.ensures.step;
+      c.in-Err.ensures.stays c.in-Err.ensures.halted c.in-Err.ensures.cause.failed c.in-Err.ensures.ends
+      c.in-Err.ensures.opens c.in-Err.ensures.start c.in-Err.ensures.step;
 }

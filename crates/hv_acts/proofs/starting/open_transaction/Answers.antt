@@ -33,4 +33,5 @@ returns-in-Ok-clause-next g c = next-of c.args.house.now c.next_txn-txn.result c
 pub returns-in-Err-clause-opened : goal.returns-in-Err-clause-opened
 returns-in-Err-clause-opened g c =
     open-failed g.D.Shelf.told g.D.Shelf.faults c.args.session c.args.number c.args.text c.next_txn-txn.result c.in-Err.fault c.args.house.now c.note.new.house
-    c.requires.whole c.next_txn-txn.ensures.next (c.fits.ensures.fits.0 c.if-not-fits.false) c.in-Err.ensures.stays c.in-Err.ensures.halted c.in-Err.ensures.opens c.in-Err.ensures.start c.in-Err.ensures.step
+    c.requires.whole c.next_txn-txn.ensures.next (c.fits.ensures.fits.0 c.if-not-fits.false) c.in-Err.ensures.stays c.in-Err.ensures.halted
+    c.in-Err.ensures.cause.failed c.in-Err.ensures.opens c.in-Err.ensures.start c.in-Err.ensures.step
