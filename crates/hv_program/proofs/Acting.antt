@@ -27,8 +27,9 @@ use Rattle.hv_house.specs.House.{entries_of, BeginFits, beginning_of, Leaves}
 use Rattle.hv_telling.specs.Telling.{IsWhole, IsToldHouse, StillOpens}
 use Rattle.hv_telling.proofs.Told.{told-stays}
 use Rattle.hv_telling.proofs.Opens.{whole-opens}
-use Rattle.hv_ending.specs.Ending.{AddsOf, HasStopped, KeepsCount, IsUndamaged, HasReplied}
-use Rattle.hv_ending.specs.declared.ready.Reply.{Reply}
+use Rattle.hv_session.specs.Ending.{AddsOf, HasStopped, KeepsCount, IsUndamaged, HasReplied}
+use Rattle.hv_session.specs.declared.ready.Reply.{Reply}
+use Rattle.hv_session.specs.declared.reply.Done.TheVariants as done
 use Rattle.hv_session.specs.declared.paused.Paused.{Paused}
 use Rattle.hv_session.specs.declared.paused.Taken.{Taken}
 use Rattle.hv_session.specs.declared.paused.Taken.TheVariants as taken
@@ -48,19 +49,19 @@ use Rattle.hv_program.proofs.Counted.{grown-transactions}
 
 apart-next : (before : List Entry) (held : Held) → IsHeldIn before held → IsApart (next_number before) held
 apart-next before held is = λ e.
-    let within = numbered-within (state_of before).transactions held.paused.txn.0 _ is.1.under_way.here in
+    let within = numbered-within (state_of before).transactions held.paused.way.txn.0 _ is.1.under_way.here in
     absurd (omega (arith, within.1, e))
 
 below-next : (before : List Entry) (txn : ℕ) → txn ≡ next_number before → (held : Held) → IsHeldIn before held → IsBelow txn held
 below-next before txn at held is =
-    let within = numbered-within (state_of before).transactions held.paused.txn.0 _ is.1.under_way.here in
+    let within = numbered-within (state_of before).transactions held.paused.way.txn.0 _ is.1.under_way.here in
     omega (arith, within.1, at)
 
 pub next-apart : (before : List Entry) (helds : List Held) → AreHeld before helds → AllByRecursion (IsApart (next_number before)) helds
 next-apart before helds h = all-map (IsHeldIn before) (IsApart (next_number before)) helds (apart-next before) h.each
 
 leaves-alone : (txn : ℕ) (more : List Entry) (helds : List Held) → AreOf txn more → AllByRecursion (IsApart txn) helds → AllByRecursion (LeavesAlone more) helds
-leaves-alone txn more helds of_it apart = all-map (IsApart txn) (LeavesAlone more) helds (λ held is. others txn held.paused.txn.0 is more of_it) apart
+leaves-alone txn more helds of_it apart = all-map (IsApart txn) (LeavesAlone more) helds (λ held is. others txn held.paused.way.txn.0 is more of_it) apart
 
 begun-after : (before now : List Entry) (helds : List Held) (txn low high : ℕ) → AddsOf txn low high before now
     → (helds ≡ []) ⊎ ((state_of before).openings.only_lost ≡ false) → (helds ≡ []) ⊎ ((state_of now).openings.only_lost ≡ false)
@@ -86,7 +87,7 @@ truly-after before now helds txn low high fits adds apart truly =
 -- ---- one more that is held
 
 begun-here : (before now : List Entry) (asking : Asking) (paused : Paused) (low high : ℕ) → AddsOf (next_number before) low high before now
-    → paused.txn.0 ≡ next_number before → IsHeld now asking paused → (state_of now).openings.only_lost ≡ false
+    → paused.way.txn.0 ≡ next_number before → IsHeld now asking paused → (state_of now).openings.only_lost ≡ false
 begun-here before now asking paused low high adds at h =
     by (unlost-or-none (state_of before) (next_number before) adds.added adds.of_it)
   where
@@ -98,18 +99,18 @@ begun-here before now asking paused low high adds at h =
         → (state_of now).openings.only_lost ≡ false
     by (inl unlost) = ap (λ (s : State). s.openings.only_lost) behind ∙ unlost
     by (inr few) =
-        let within = numbered-within (state_of now).transactions paused.txn.0 _ h.under_way.here in
+        let within = numbered-within (state_of now).transactions paused.way.txn.0 _ h.under_way.here in
         absurd (omega (arith, few, within.1, at, ap (λ (s : State). length s.transactions) behind))
 
 pub held-one-more : (before now : List Entry) (helds : List Held) (held : Held) (asking : Asking) (low high : ℕ) → AllFitting now
     → AddsOf (next_number before) low high before now → AreHeld before helds
-    → (held.paused.txn.0 ≡ next_number before) × IsHeld now asking held.paused → AreHeld now (helds ++ held ∷ [])
+    → (held.paused.way.txn.0 ≡ next_number before) × IsHeld now asking held.paused → AreHeld now (helds ++ held ∷ [])
 held-one-more before now helds held asking low high fit adds h kept =
     let all = held-after before now helds (next_number before) low high fit adds (next-apart before helds h) h in
     record {
       each = all-last (IsHeldIn now) helds held all.each (asking, kept.1);
       apart = order-last helds held h.apart
-          (all-map (IsHeldIn before) (IsBelow held.paused.txn.0) helds (below-next before held.paused.txn.0 kept.0) h.each);
+          (all-map (IsHeldIn before) (IsBelow held.paused.way.txn.0) helds (below-next before held.paused.way.txn.0 kept.0) h.each);
       begun = inr (begun-here before now asking held.paused low high adds kept.0 kept.1);
     }
 
@@ -265,7 +266,7 @@ pub acts-kept : (low high : ℕ) (before now : List Entry) (helds : List Held) (
 acts-kept low high before now helds statement held fit adds named k =
     let is = quiet statement.hold (next_number before) k.added k.at_hold in
     let one : waiting_of held ≡ record { session = statement.session.name; txn = next_number before } =
-    ap (λ session. record { session = session; txn = held.paused.txn.0 }) named
+    ap (λ session. record { session = session; txn = held.paused.way.txn.0 }) named
     ∙ ap (λ txn. record { session = statement.session.name; txn = txn }) k.txn_is in
     record {
       grows = record {
@@ -307,8 +308,8 @@ all-waiting P name [] w all e = cc
 all-waiting P name (first ∷ ws) w all e = waiting-by P (is_session name first) first (waiting_in name ws) w all.0 (all-waiting P name ws w all.1) e
 
 pub acts-finished : (low high : ℕ) (before now : List Entry) (helds : List Held) (session : Session) (paused : Paused) (reply : List ℕ) (refused : Bool) (ended : Option ℕ)
-    → AllFitting now → AreHeld before helds → paused_in session.name helds ≡ Some paused → AddsOf paused.txn.0 low high before now
-    → IsFinished before now paused.txn.0 reply refused ended
+    → AllFitting now → AreHeld before helds → paused_in session.name helds ≡ Some paused → AddsOf paused.way.txn.0 low high before now
+    → IsFinished before now paused.way.txn.0 reply refused ended
     → Acts low high (record { book = before; waiting = map waiting_of helds }) (record { book = now; waiting = map waiting_of (held_without session.name helds) })
     (action.Release session) reply refused
 acts-finished low high before now helds session paused reply refused ended fit h found adds f =
@@ -321,7 +322,7 @@ acts-finished low high before now helds session paused reply refused ended fit h
         more = f.added;
         book_is = f.book;
         of_run = of-run low high f.added counts f.undamaged
-            (not-lost (state_of before) paused.txn.0 f.added unlost f.of_it (more-fits before f.added now f.book fit));
+            (not-lost (state_of before) paused.way.txn.0 f.added unlost f.of_it (more-fits before f.added now f.book fit));
       };
       done = λ start behind.
           subst (λ (o : Option Waiting). ReleasesOne start now (record { book = before; waiting = map waiting_of helds })
@@ -428,7 +429,7 @@ stops-residual {T = T} told before now waiting statement why (Err w) left stops 
     (stops-taken {T = T} told before now waiting statement (Err why) stops)
 
 pub number-found : (book : List Entry) (helds : List Held) (session : Session) (paused : Paused) → paused_in session.name helds ≡ Some paused
-    → number_of (record { book = book; waiting = map waiting_of helds }) (action.Release session) ≡ Some paused.txn.0
+    → number_of (record { book = book; waiting = map waiting_of helds }) (action.Release session) ≡ Some paused.way.txn.0
 number-found book helds session paused found =
     let waits = found-waits session.name helds paused found in
     ap (option_map txn_of_waiting) waits.is ∙ ap Some waits.txn_is
@@ -467,7 +468,7 @@ replied-truly told before now helds helds' low high same start fits adds h truly
     (truly (told-stays told now before (sym start) is)))
 
 pub replied-acts : (before now : List Entry) (helds helds' : List Held) (low high : ℕ) (statement : Statement) (found : Taken) (reply : Reply)
-    → helds' ≡ helds → found ≡ taken.Replied reply → AllFitting now → AddsOf (next_number before) low high before now
+    → helds' ≡ helds → found ≡ taken.Ended (done.Replied reply) → AllFitting now → AddsOf (next_number before) low high before now
     → IsTakenAs before now (asking_of statement) statement.hold found
     → Acts low high (record { book = before; waiting = map waiting_of helds }) (record { book = now; waiting = map waiting_of helds' })
     (action.Run statement) reply.text reply.refused
@@ -521,30 +522,30 @@ ok-three (Err why) P Q S R f p q s = tt
 
 module _ {D : Type 0} (told : D → Option Store) (r : Result Reply HouseFault) (before now : House D) (helds helds' : List Held) (session : Session) (paused : Paused) (low high : ℕ)
     (found : paused_in session.name helds ≡ Some paused) (left : helds' ≡ held_without session.name helds) (h : AreHeld (entries_of before) helds)
-    (whole : IfOk r (λ _. IsWhole told now)) (adds : IfOk r (λ _. AddsOf paused.txn.0 low high (entries_of before) (entries_of now))) where
+    (whole : IfOk r (λ _. IsWhole told now)) (adds : IfOk r (λ _. AddsOf paused.way.txn.0 low high (entries_of before) (entries_of now))) where
   pub released-held : IfOk r (λ _. AreHeld (entries_of now) helds')
   released-held =
-      ok-both r (IsWhole told now) (AddsOf paused.txn.0 low high (entries_of before) (entries_of now)) (λ _. AreHeld (entries_of now) helds')
+      ok-both r (IsWhole told now) (AddsOf paused.way.txn.0 low high (entries_of before) (entries_of now)) (λ _. AreHeld (entries_of now) helds')
       (λ is added reply.
       subst (AreHeld (entries_of now)) (sym left)
-      (held-after (entries_of before) (entries_of now) (held_without session.name helds) paused.txn.0 low high is.ready.fit added (found-apart session.name helds paused h.apart found)
+      (held-after (entries_of before) (entries_of now) (held_without session.name helds) paused.way.txn.0 low high is.ready.fit added (found-apart session.name helds paused h.apart found)
       (let-go-held (entries_of before) session.name helds h)))
       whole adds
 
   pub released-truly : now.start ≡ before.start → AreTrulyHeld told before helds → IfOk r (λ _. AreTrulyHeld told now helds')
   released-truly start truly =
-      ok-both r (IsWhole told now) (AddsOf paused.txn.0 low high (entries_of before) (entries_of now)) (λ _. AreTrulyHeld told now helds')
+      ok-both r (IsWhole told now) (AddsOf paused.way.txn.0 low high (entries_of before) (entries_of now)) (λ _. AreTrulyHeld told now helds')
       (λ is added reply told_now.
       subst (AllByRecursion (IsTrulyHeldIn (entries_of now))) (sym left)
-      (truly-after (entries_of before) (entries_of now) (held_without session.name helds) paused.txn.0 low high is.ready.fit added (found-apart session.name helds paused h.apart found)
+      (truly-after (entries_of before) (entries_of now) (held_without session.name helds) paused.way.txn.0 low high is.ready.fit added (found-apart session.name helds paused h.apart found)
       (all-without (IsTrulyHeldIn (entries_of before)) session.name helds (truly (told-stays told now before (sym start) told_now)))))
       whole adds
 
-  pub released-acts : IfOk r (λ reply. IsFinished (entries_of before) (entries_of now) paused.txn.0 reply.text reply.refused reply.ended)
+  pub released-acts : IfOk r (λ reply. IsFinished (entries_of before) (entries_of now) paused.way.txn.0 reply.text reply.refused reply.ended)
       → IfOk r (λ reply. Acts low high (standing_of before helds) (standing_of now helds') (action.Release session) reply.text reply.refused)
   released-acts finished =
-      ok-three r (IsWhole told now) (AddsOf paused.txn.0 low high (entries_of before) (entries_of now))
-      (λ reply. IsFinished (entries_of before) (entries_of now) paused.txn.0 reply.text reply.refused reply.ended)
+      ok-three r (IsWhole told now) (AddsOf paused.way.txn.0 low high (entries_of before) (entries_of now))
+      (λ reply. IsFinished (entries_of before) (entries_of now) paused.way.txn.0 reply.text reply.refused reply.ended)
       (λ reply. Acts low high (standing_of before helds) (standing_of now helds') (action.Release session) reply.text reply.refused)
       (λ is added reply f.
       subst (λ (hs : List Held). Acts low high (standing_of before helds) (standing_of now hs) (action.Release session) reply.text reply.refused) (sym left)
@@ -556,11 +557,11 @@ err-map (Ok x) P Q f p = tt
 err-map (Err why) P Q f p = f why p
 
 pub released-stops : {D : Type 0} (told : D → Option Store) (r : Result Reply HouseFault) (before now : House D) (helds : List Held) (session : Session) (paused : Paused)
-    → paused_in session.name helds ≡ Some paused → IfErr r (λ why. HasStopped told paused.txn.0 why before now)
+    → paused_in session.name helds ≡ Some paused → IfErr r (λ why. HasStopped told paused.way.txn.0 why before now)
     → IfErr r (λ why. Stops why (told now.shelf) (standing_of before helds) (action.Release session) (entries_of now))
 released-stops told r before now helds session paused found stopped =
-    err-map r (λ why. HasStopped told paused.txn.0 why before now) (λ why. Stops why (told now.shelf) (standing_of before helds) (action.Release session) (entries_of now))
-    (λ why h. stops-in told paused.txn.0 why before now (map waiting_of helds) (action.Release session) (number-found (entries_of before) helds session paused found) h) stopped
+    err-map r (λ why. HasStopped told paused.way.txn.0 why before now) (λ why. Stops why (told now.shelf) (standing_of before helds) (action.Release session) (entries_of now))
+    (λ why h. stops-in told paused.way.txn.0 why before now (map waiting_of helds) (action.Release session) (number-found (entries_of before) helds session paused found) h) stopped
 
 -- ---- where none is held in the session
 

@@ -13,7 +13,7 @@ use Rattle.hv_directives.specs.declared.kinds.Kind.TheVariants.{Statement, Sessi
 use Rattle.hv_directives.specs.Kinds.{behind, directive_of, hold_of, is_name, is_name_byte, kind_of, named, or_else, same_text, without_trail}
 use Rattle.hv_directives.specs.Standing.{Standing, first_standing, is_faulty, is_held, after}
 use Rattle.hv_directives.specs.Actions.{action_for, actions_from, actions_of, stage_of_pending}
-use Rattle.hv_session.specs.Taking.{IsHold}
+use Rattle.hv_session.specs.Doing.{IsHold}
 use Rattle.hv_program.specs.Running.{IsFine}
 
 -- ---- what a directive may name

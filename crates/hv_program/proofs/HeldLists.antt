@@ -18,14 +18,14 @@ pub record WaitsAs (found : Option Waiting) (txn : ℕ) : Type 0 where
   pub is : found ≡ Some waiting
   pub txn_is : waiting.txn ≡ txn
 
-waits-by : (b : Bool) (first : Held) (rest : Option Paused) (more : Option Waiting) (paused : Paused) → (rest ≡ Some paused → WaitsAs more paused.txn.0)
-    → cond b (Some first.paused) rest ≡ Some paused → WaitsAs (cond b (Some (waiting_of first)) more) paused.txn.0
+waits-by : (b : Bool) (first : Held) (rest : Option Paused) (more : Option Waiting) (paused : Paused) → (rest ≡ Some paused → WaitsAs more paused.way.txn.0)
+    → cond b (Some first.paused) rest ≡ Some paused → WaitsAs (cond b (Some (waiting_of first)) more) paused.way.txn.0
 waits-by true first rest more paused next e =
-    record { waiting = waiting_of first; is = refl; txn_is = ap (λ (p : Paused). p.txn.0) (some-same first.paused paused e) }
+    record { waiting = waiting_of first; is = refl; txn_is = ap (λ (p : Paused). p.way.txn.0) (some-same first.paused paused e) }
 waits-by false first rest more paused next e = next e
 
 pub found-waits : (name : List ℕ) (helds : List Held) (paused : Paused) → paused_in name helds ≡ Some paused
-    → WaitsAs (waiting_in name (map waiting_of helds)) paused.txn.0
+    → WaitsAs (waiting_in name (map waiting_of helds)) paused.way.txn.0
 found-waits name [] paused e = cc
 found-waits name (first ∷ helds) paused e =
     waits-by (is_of_session name first) first (paused_in name helds) (waiting_in name (map waiting_of helds)) paused (found-waits name helds paused) e
@@ -110,36 +110,36 @@ order-without name (first ∷ helds) order =
     (order-without name helds order.1)
 
 abbrev pub IsBelow : ℕ → Held → Type 0
-IsBelow txn held = held.paused.txn.0 < txn
+IsBelow txn held = held.paused.way.txn.0 < txn
 
-pub order-last : (helds : List Held) (held : Held) → AreInOrder helds → AllByRecursion (IsBelow held.paused.txn.0) helds → AreInOrder (helds ++ held ∷ [])
+pub order-last : (helds : List Held) (held : Held) → AreInOrder helds → AllByRecursion (IsBelow held.paused.way.txn.0) helds → AreInOrder (helds ++ held ∷ [])
 order-last [] held order below = (tt, tt)
 order-last (first ∷ helds) held order below =
     (all-last (ComesBefore first) helds held order.0 below.0, order-last helds held order.1 below.1)
 
 -- the one that is let go has a transaction of its own
 abbrev pub IsApart : ℕ → Held → Type 0
-IsApart txn held = txn ≡ held.paused.txn.0 → ⊥
+IsApart txn held = txn ≡ held.paused.way.txn.0 → ⊥
 
-less-apart : (first : Held) (paused : Paused) → first.paused ≡ paused → (held : Held) → ComesBefore first held → IsApart paused.txn.0 held
-less-apart first paused same held less = λ e. absurd (omega (arith, less, ap (λ (p : Paused). p.txn.0) same, e))
+less-apart : (first : Held) (paused : Paused) → first.paused ≡ paused → (held : Held) → ComesBefore first held → IsApart paused.way.txn.0 held
+less-apart first paused same held less = λ e. absurd (omega (arith, less, ap (λ (p : Paused). p.way.txn.0) same, e))
 
 apart-by : (b : Bool) (first : Held) (rest : Option Paused) (helds more : List Held) (paused : Paused)
-    → AllByRecursion (ComesBefore first) helds → (rest ≡ Some paused → first.paused.txn.0 < paused.txn.0)
-    → (rest ≡ Some paused → AllByRecursion (IsApart paused.txn.0) more)
-    → cond b (Some first.paused) rest ≡ Some paused → AllByRecursion (IsApart paused.txn.0) (cond b helds (first ∷ more))
+    → AllByRecursion (ComesBefore first) helds → (rest ≡ Some paused → first.paused.way.txn.0 < paused.way.txn.0)
+    → (rest ≡ Some paused → AllByRecursion (IsApart paused.way.txn.0) more)
+    → cond b (Some first.paused) rest ≡ Some paused → AllByRecursion (IsApart paused.way.txn.0) (cond b helds (first ∷ more))
 apart-by true first rest helds more paused before less next e =
-    all-map (ComesBefore first) (IsApart paused.txn.0) helds (less-apart first paused (some-same first.paused paused e)) before
+    all-map (ComesBefore first) (IsApart paused.way.txn.0) helds (less-apart first paused (some-same first.paused paused e)) before
 apart-by false first rest helds more paused before less next e =
-    let below : first.paused.txn.0 < paused.txn.0 = less e in
+    let below : first.paused.way.txn.0 < paused.way.txn.0 = less e in
     ((λ same. absurd (omega (arith, below, same))), next e)
 
 pub found-apart : (name : List ℕ) (helds : List Held) (paused : Paused) → AreInOrder helds → paused_in name helds ≡ Some paused
-    → AllByRecursion (IsApart paused.txn.0) (held_without name helds)
+    → AllByRecursion (IsApart paused.way.txn.0) (held_without name helds)
 found-apart name [] paused order e = cc
 found-apart name (first ∷ helds) paused order e =
     apart-by (is_of_session name first) first (paused_in name helds) helds (held_without name helds) paused order.0
-    (all-found (λ (p : Paused). first.paused.txn.0 < p.txn.0) name helds paused order.0) (found-apart name helds paused order.1) e
+    (all-found (λ (p : Paused). first.paused.way.txn.0 < p.way.txn.0) name helds paused order.0) (found-apart name helds paused order.1) e
 
 -- ---- the place of the first of a session
 

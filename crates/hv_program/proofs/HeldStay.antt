@@ -8,10 +8,10 @@ use Rattle.hv_history.specs.declared.entry.Entry.{Entry}
 use Rattle.hv_stands.specs.Running.{Asking, AreOf, AreNotOf, IsOf, IsNotOf, meant}
 use Rattle.hv_stands.specs.Statements.{AllFitting}
 use Rattle.hv_stands.proofs.Others.{others-leave-it}
-use Rattle.hv_ending.specs.declared.ready.End.{End}
-use Rattle.hv_ending.specs.declared.ready.End.TheVariants as end
-use Rattle.hv_ending.specs.Ending.{CanEnd, IsOfChange, EndCanBeNoted}
-use Rattle.hv_ending.proofs.Books.{change-stays}
+use Rattle.hv_session.specs.declared.ready.End.{End}
+use Rattle.hv_session.specs.declared.ready.End.TheVariants as end
+use Rattle.hv_session.specs.Ending.{CanEnd, IsOfChange, EndCanBeNoted}
+use Rattle.hv_session.proofs.Standing.{change-stays}
 use Rattle.hv_session.specs.declared.paused.Point.{Point}
 use Rattle.hv_session.specs.declared.paused.Point.TheVariants as point
 use Rattle.hv_session.specs.declared.paused.Paused.{Paused}
@@ -62,28 +62,28 @@ point-can before more txn given (point.Ready ready) fit can = last-stays before 
 
 -- ---- one that is held
 
-held-by : (before more : List Entry) (asking : Asking) (paused : Paused) → AllFitting (before ++ more) → AreNotOf paused.txn.0 more
+held-by : (before more : List Entry) (asking : Asking) (paused : Paused) → AllFitting (before ++ more) → AreNotOf paused.way.txn.0 more
     → IsHeld before asking paused → IsHeld (before ++ more) asking paused
 held-by before more asking paused fit alone h = record {
   given = h.given;
-  under_way = others-leave-it before more asking paused.txn.0 paused.place paused.tree h.given alone h.under_way;
+  under_way = others-leave-it before more asking paused.way.txn.0 paused.way.place paused.tree h.given alone h.under_way;
   none = h.none;
-  can = point-can before more paused.txn.0 h.given paused.point fit h.can;
+  can = point-can before more paused.way.txn.0 h.given paused.point fit h.can;
   unrefused = h.unrefused;
 }
 
-held-stays : (before more : List Entry) (paused : Paused) → AllFitting (before ++ more) → AreNotOf paused.txn.0 more
+held-stays : (before more : List Entry) (paused : Paused) → AllFitting (before ++ more) → AreNotOf paused.way.txn.0 more
     → IsHeldBySome before paused → IsHeldBySome (before ++ more) paused
 held-stays before more paused fit alone h = (h.0, held-by before more h.0 paused fit alone h.1)
 
 -- ---- and what it will say
 
-truly-stays : (before more : List Entry) (paused : Paused) → AllFitting (before ++ more) → AreNotOf paused.txn.0 more
+truly-stays : (before more : List Entry) (paused : Paused) → AllFitting (before ++ more) → AreNotOf paused.way.txn.0 more
     → IsTrulyHeld before paused → IsTrulyHeld (before ++ more) paused
 unfolding held-by
 truly-stays before more paused fits alone h =
-    let early : paused.place < length before = h.held.under_way.early in
-    let place : take paused.place (before ++ more) ≡ take paused.place before = take-append-le paused.place before more (omega arith) in
+    let early : paused.way.place < length before = h.held.under_way.early in
+    let place : take paused.way.place (before ++ more) ≡ take paused.way.place before = take-append-le paused.way.place before more (omega arith) in
     record {
       asking = h.asking;
       held = held-by before more h.asking paused fits alone h.held;
@@ -93,7 +93,7 @@ truly-stays before more paused fits alone h =
 -- ---- a list of them
 
 abbrev pub LeavesAlone : List Entry → Held → Type 0
-LeavesAlone more held = AreNotOf held.paused.txn.0 more
+LeavesAlone more held = AreNotOf held.paused.way.txn.0 more
 
 pub all-stay : (before more : List Entry) (helds : List Held) → AllFitting (before ++ more) → AllByRecursion (LeavesAlone more) helds
     → AllByRecursion (IsHeldIn before) helds → AllByRecursion (IsHeldIn (before ++ more)) helds

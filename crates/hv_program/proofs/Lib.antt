@@ -4,6 +4,7 @@ pub mod HeldLists
 pub mod Counted
 pub mod OwnEntries
 pub mod Acting
+pub mod Sessions
 pub mod Unasked
 pub mod Turns
 pub mod CutOpenings

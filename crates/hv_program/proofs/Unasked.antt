@@ -11,8 +11,9 @@ use Rattle.hv_house.specs.declared.fault.HouseFault.{HouseFault}
 use Rattle.hv_house.specs.declared.fault.HouseFault.TheVariants as fault
 use Rattle.hv_house.specs.declared.house.House.{House}
 use Rattle.hv_house.specs.House.{entries_of}
-use Rattle.hv_ending.specs.declared.ready.Reply.{Reply}
-use Rattle.hv_ending.specs.Ending.{AddsOf}
+use Rattle.hv_session.specs.declared.ready.Reply.{Reply}
+use Rattle.hv_session.specs.Ending.{AddsOf}
+use Rattle.hv_session.specs.declared.reply.Done.TheVariants as done
 use Rattle.hv_session.specs.declared.paused.Taken.TheVariants as taken
 use Rattle.hv_session.specs.Lines.{IsLine}
 use Rattle.hv_session.specs.Taking.{IsTakenAs}
@@ -22,7 +23,7 @@ pub still-adds : (txn low high : ℕ) (book : List Entry) → AddsOf txn low hig
 still-adds txn low high book = record { added = []; book = sym (append-nil book); of_it = tt; counts = tt }
 
 pub lacking-taken : (book : List Entry) (asking : Asking) (hold : Option Stage) (reply : Reply) → IsLine (cause_text None cause.Memory) reply
-    → IsTakenAs book book asking hold (taken.Replied reply)
+    → IsTakenAs book book asking hold (taken.Ended (done.Replied reply))
 lacking-taken book asking hold reply line = inr (inr (inr (record { book = refl; unended = line.unended; is_refused = line.refusal; line = line.line_is })))
 
 pub still-stops : {D T : Type 0} (told : D → Option Store) (house : House D) (asking : Asking) (result : Result T HouseFault) → IsErrAnd result (λ e. e ≡ fault.NoMemory)

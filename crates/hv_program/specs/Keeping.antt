@@ -8,7 +8,9 @@ use Rattle.hv_history.specs.State.{state_of}
 use Rattle.hv_house.specs.declared.house.House.{House}
 use Rattle.hv_house.specs.House.{entries_of}
 use Rattle.hv_telling.specs.Telling.{IsToldHouse}
+use Rattle.hv_acts.specs.declared.told.ToldHouse.{ToldHouse}
 use Rattle.hv_session.specs.declared.paused.Paused.{Paused}
+use Rattle.hv_session.specs.Doing.{CanFinish}
 use Rattle.hv_session.specs.Taking.{IsHeldBySome, IsTrulyHeld}
 use Rattle.hv_program.specs.declared.held.Held.{Held}
 use Rattle.hv_program.specs.Doing.{Waiting, Standing}
@@ -16,7 +18,7 @@ use Rattle.hv_program.specs.Doing.{Waiting, Standing}
 -- ---- the list
 
 abbrev pub waiting_of : Held → Waiting
-waiting_of held = record { session = held.session; txn = held.paused.txn.0 }
+waiting_of held = record { session = held.session; txn = held.paused.way.txn.0 }
 
 abbrev pub is_of_session : List ℕ → Held → Bool
 is_of_session name held = pointwise nat_eq held.session name
@@ -39,7 +41,7 @@ standing_of house helds = record { book = entries_of house; waiting = map waitin
 
 -- its transaction was opened before that one
 abbrev pub ComesBefore : Held → Held → Type 0
-ComesBefore first other = first.paused.txn.0 < other.paused.txn.0
+ComesBefore first other = first.paused.way.txn.0 < other.paused.way.txn.0
 
 abbrev pub AreInOrder : List Held → Type 0
 AreInOrder [] = Unit {0}
@@ -60,3 +62,10 @@ IsTrulyHeldIn book held = IsTrulyHeld book held.paused
 -- in a told house each that is held will end as it means
 abbrev pub AreTrulyHeld : {D : Type 0} → (D → Option Store) → House D → List Held → Type 0
 AreTrulyHeld told house helds = IsToldHouse told house → AllByRecursion (IsTrulyHeldIn (entries_of house)) helds
+
+-- each that is held can be finished
+abbrev pub CanFinishHeld : {D : Type 0} → (D → Option Store) → ToldHouse D → Held → Type 0
+CanFinishHeld told house held = CanFinish told house held.paused
+
+abbrev pub CanAllFinish : {D : Type 0} → (D → Option Store) → ToldHouse D → List Held → Type 0
+CanAllFinish told house helds = AllByRecursion (CanFinishHeld told house) helds

@@ -12,6 +12,7 @@ ghost use Rattle.hv_program.specs.Serving.{ran_status, Serves, BlamesOf, IsSaid,
 use crate::reading::read_front;
 use crate::run::run;
 use crate::stop::Stop;
+use hv_acts::ToldHouse;
 use hv_base::{Gate, Limits, Sink, Source, write_all};
 use hv_directives::{Action, read_actions};
 use hv_house::{BootFault, House};
@@ -108,11 +109,12 @@ fn serve<O: Sink, D: Shelf + Drop>(
     ensures heard { StaysTold (O.written sink.old) (O.written sink.new) }
 {
     match House::boot(alloc, shelf, LIMITS) {
-        Ok(mut house) => {
-            let ran = run(alloc, &mut house, sink, actions);
+        Ok(house) => {
+            let mut told = ToldHouse::new(house);
+            let ran = run(alloc, &mut told, sink, actions);
             Ended {
                 status: status_of(ran),
-                shelf: house.close(),
+                shelf: told.into_house().close(),
             }
         }
         Err((BootFault::BadJournal { at }, shelf)) => Ended {

@@ -9,35 +9,35 @@ ghost use Rattle.hv_program.specs.Stops.{status_of_stop, Blames};
 
 use crate::action::act;
 use crate::stop::Stop;
+use hv_acts::ToldHouse;
 use hv_base::{Sink, write_all};
 use hv_directives::Action;
-use hv_house::House;
 use hv_shelf::Shelf;
 use std::alloc::Global;
 
 /// Does the actions of a script, one after another, and writes their replies. Whether one of them
 /// was refused.
-pub fn run<O: Sink, D: Shelf>(
+pub fn run<O: Sink, D: Shelf + Drop>(
     alloc: Global,
-    house: &mut House<D>,
+    house: &mut ToldHouse<D>,
     sink: &mut O,
     actions: &[Action],
 ) -> Result<bool, Stop>
-    requires whole { IsWhole D.told house.old }
+    requires whole { IsWhole D.told house.old.house }
     requires fine { AllByRecursion IsFine actions.now }
-    ensures whole { IfOk result (λ _. IsWhole D.told house.new) }
-    ensures prints { IsToldHouse D.told house.old → IfOk result (PrintsAll
-        (D.faults house.old.shelf) (D.faults house.new.shelf) (entries_of house.old) (entries_of house.new)
+    ensures whole { IfOk result (λ _. IsWhole D.told house.new.house) }
+    ensures prints { IsToldHouse D.told house.old.house → IfOk result (PrintsAll
+        (D.faults house.old.house.shelf) (D.faults house.new.house.shelf) (entries_of house.old.house) (entries_of house.new.house)
         actions.now (O.written sink.old) (O.written sink.new)) }
-    ensures halts { IsToldHouse D.told house.old → IfErr result (λ stop. Halts stop
-        (D.faults house.old.shelf) (D.faults house.new.shelf) (entries_of house.old) (entries_of house.new)
-        actions.now (O.written sink.old) (O.written sink.new) (D.told house.new.shelf)) }
-    ensures start { house.new.start ≡ house.old.start }
+    ensures halts { IsToldHouse D.told house.old.house → IfErr result (λ stop. Halts stop
+        (D.faults house.old.house.shelf) (D.faults house.new.house.shelf) (entries_of house.old.house) (entries_of house.new.house)
+        actions.now (O.written sink.old) (O.written sink.new) (D.told house.new.house.shelf)) }
+    ensures start { house.new.house.start ≡ house.old.house.start }
     ensures heard { StaysTold (O.written sink.old) (O.written sink.new) }
-    ensures later_store { D.faults house.old.shelf ≤ D.faults house.new.shelf }
+    ensures later_store { D.faults house.old.house.shelf ≤ D.faults house.new.house.shelf }
     ensures later_sink { O.faults sink.old ≤ O.faults sink.new }
     ensures blames { IfErr result (λ stop. Blames stop (O.faults sink.old) (O.faults sink.new)
-        (D.faults house.old.shelf) (D.faults house.new.shelf)) }
+        (D.faults house.old.house.shelf) (D.faults house.new.house.shelf)) }
     ensures why { IfErr result (λ stop. IsTrue (is_one_of (4 ∷ 5 ∷ 7 ∷ []) (status_of_stop stop))) }
 {
     let mut held = Vec::new(alloc);

@@ -8,7 +8,7 @@ use Rattle.hv_history.specs.declared.entry.Cause.TheVariants as cause
 use Rattle.hv_history.specs.State.{State, after, state_of, nothing_yet}
 use Rattle.hv_history.specs.Legal.{AllFit, AllTruthful, IsTruthful, IsLegalFrom, profile}
 use Rattle.hv_stands.specs.Statements.{AllFitting}
-use Rattle.hv_ending.specs.Ending.{KeepsCount, IsNoEnd}
+use Rattle.hv_session.specs.Ending.{KeepsCount, IsNoEnd}
 
 -- ---- facts of each entry
 

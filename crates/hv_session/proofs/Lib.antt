@@ -1,12 +1,40 @@
-mod Books
-mod Shorts
-mod Passing
-mod Again
-mod SeenTables
-mod Looked
-mod Orders
-mod Cutting
-mod Going
-mod Keeping
-mod Beginning
-mod Held
+pub mod Aborts
+pub mod Acts
+pub mod AloneBegins
+pub mod AloneBooks
+pub mod AloneCarries
+pub mod AloneConcludes
+pub mod AloneEnds
+pub mod AloneFinishes
+pub mod AloneHolds
+pub mod AlonePrepares
+pub mod AloneReady
+pub mod AloneStops
+pub mod Books
+pub mod Commits
+pub mod Ends
+pub mod FileActs
+pub mod Files
+pub mod Holds
+pub mod IdActs
+pub mod Ids
+pub mod Joining
+pub mod Lastings
+pub mod Looks
+pub mod Moments
+pub mod Openings
+pub mod Orders
+pub mod Parts
+pub mod Passing
+pub mod Replied
+pub mod SeenMeanings
+pub mod SeenNames
+pub mod Shorts
+pub mod Standing
+pub mod Statements
+pub mod TableLooks
+pub mod TableRows
+pub mod Takings
+pub mod Touched
+pub mod Unseen
+pub mod Waits

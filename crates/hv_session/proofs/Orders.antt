@@ -1,5 +1,4 @@
--- A statement's entries come in the order of its way: a write id only for a change of rows, in its table, a conflict only behind it, and
--- no want of room where a lock stands against it.
+-- A statement's entries come in the order of its way: a write id only for a change of rows, in its table, and a conflict only behind it.
 use Rattle.std.proofs.Common.{◌≡◌, ◌⊎◌, inl, inr, ℕ, ◌<◌, Option, Some, None, List, [], ◌∷◌, ◌++◌, fold, take, refl, sym, ap, ◌∙◌, subst, append-nil, arith}
 use Rattle.std.specs.Prelude.{Bool, true, false, nat_lt, IsSomeAnd}
 use Rattle.std.specs.List.{AllByRecursion}
@@ -12,7 +11,6 @@ use Rattle.hv_base.specs.declared.ids.TableId.{TableId}
 use Rattle.hv_base.specs.declared.ids.WriteId.{WriteId}
 use Rattle.hv_base.specs.declared.ids.Touch.{Touch}
 use Rattle.hv_ast.specs.declared.statement.Stmt.{Stmt}
-use Rattle.hv_locks.specs.declared.table.Lock.{Lock}
 use Rattle.hv_grammar.specs.Texts.{tree_of}
 use Rattle.hv_logic.specs.Names.{names_in}
 use Rattle.hv_logic.specs.declared.meaning.Meaning.{Meaning}
@@ -23,26 +21,23 @@ use Rattle.hv_history.specs.declared.entry.Cause.{Cause}
 use Rattle.hv_history.specs.declared.entry.Cause.TheVariants as cause
 use Rattle.hv_history.specs.declared.state.Transaction.{Transaction}
 use Rattle.hv_history.specs.State.{State, numbered, meaning, opened, after, state_of}
-use Rattle.hv_history.specs.Legal.{Of, IsMake, TouchesAreMeant, is_started, first_holder, locks_of, locks_of_tree}
+use Rattle.hv_history.specs.Legal.{Of, IsMake, TouchesAreMeant, is_started, locks_of, locks_of_tree}
 use Rattle.hv_stands.specs.Laws.{changes_in}
 use Rattle.hv_stands.specs.Running.{Asking, next_number, opening, starting, IsOf, AreOf, meant, IsWaiting, IsUnderWay}
 use Rattle.hv_stands.proofs.Numbers.{one_value}
 use Rattle.hv_stands.proofs.Begun.{ids-given}
 use Rattle.hv_stands.proofs.Behind.{one-behind}
-use Rattle.hv_house.specs.Asking.{holder_against}
 use Rattle.hv_next.specs.Next.{needs_id}
 use Rattle.hv_next.specs.Order.{IsOfTable, AsksForId, CauseInOrder, IsInOrder, AllInOrder}
 use Rattle.hv_next.specs.Carrying.{IsUnrefused as IsUnrefusedMeaning, IsToCommit, IsAtHold}
-use Rattle.hv_ending.specs.declared.ready.End.{End}
-use Rattle.hv_ending.specs.declared.ready.End.TheVariants as end
-use Rattle.hv_ending.specs.declared.ready.Ready.{Ready}
-use Rattle.hv_ending.specs.declared.ready.Prepared.TheVariants as prepared
-use Rattle.hv_ending.specs.Ending.{aborting, giving, IsNoEnd, IsOneEnd, EndsUncommitted, AddsNoneOrId, AddsAbort, IsOfRows, IsAskedBy, AddsAsked, IsChangeReady, EndIsTrue, Prepares, Concludes, IsTrulyReady}
-use Rattle.hv_ending.proofs.Touched.{some-touched}
+use Rattle.hv_session.specs.declared.ready.End.{End}
+use Rattle.hv_session.specs.declared.ready.End.TheVariants as end
+use Rattle.hv_session.specs.Ending.{aborting, giving, IsNoEnd, IsOneEnd, EndsUncommitted, AddsNoneOrId, AddsAbort, IsOfRows, IsAskedBy, AddsAsked, IsChangeReady, EndIsTrue}
+use Rattle.hv_session.proofs.Touched.{some-touched}
 use Rattle.hv_session.specs.declared.paused.Point.{Point}
 use Rattle.hv_session.specs.declared.paused.Point.TheVariants as point
-use Rattle.hv_session.specs.Taking.{EndsEarly, IsUnrefused, WaitsUnrefused, IsAtPlace, PointIsTrue}
-use Rattle.hv_session.specs.Ways.{hindrance_of}
+use Rattle.hv_session.specs.Doing.{IsUnrefused}
+use Rattle.hv_session.specs.Taking.{EndsEarly, WaitsUnrefused, IsAtPlace, PointIsTrue}
 use Rattle.hv_session.proofs.Books.{state-behind}
 
 -- ---- entries behind others
@@ -188,24 +183,6 @@ needs-no-id [] (Some (Listing names rows)) to_commit = refl
 needs-no-id [] (Some Plain) to_commit = refl
 needs-no-id [] None to_commit = refl
 
--- its end, with what was noted to prepare it
-pub ready-in-order : (book now : List Entry) (asking : Asking) (txn place : ℕ) (said : Stmt) (low high : ℕ) (ready : Ready)
-    → IsTrulyReady book asking txn place said ready → (ends : Concludes txn low high book now) → AllInOrder (state_of book) ends.added
-ready-in-order book now asking txn place said low high ready is ends =
-    ended-in-order book asking txn place said is.to_end.given is.to_end.under_way
-    (needs-no-id is.to_end.given (meant (take place book) said) (true-to-commit (meant (take place book) said) is.to_end.given ready.end ready.text is.truly))
-    ends.added ends.of_it ends.ends
-
-pub concluded-in-order : (book between now : List Entry) (asking : Asking) (txn place : ℕ) (said : Stmt) (low mid high : ℕ) (found : Meaning) (ready : Ready)
-    → IsUnderWay book asking txn place said [] → meant (take place book) said ≡ Some found → AddsAsked found book between
-    → (prepares : Prepares txn low mid book between (prepared.Ready ready)) → IsTrulyReady between asking txn place said ready
-    → (ends : Concludes txn mid high between now) → AllInOrder (state_of book) (prepares.added ++ ends.added)
-concluded-in-order book between now asking txn place said low mid high found ready under means asks prepares is ends =
-    order-behind (state_of book) prepares.added ends.added
-    (prepared-in-order book asking txn place said under found means between prepares.added prepares.book asks prepares.shape)
-    (subst (λ (s : State). AllInOrder s ends.added) (ap (λ (b : List Entry). state_of b) prepares.book ∙ state-behind book prepares.added)
-    (ready-in-order between now asking txn place said mid high ready is ends))
-
 -- ---- at its hold
 
 read-unrefused : (found : Meaning) → IsUnrefused found → IsUnrefusedMeaning (Some found)
@@ -232,7 +209,7 @@ pub begun-in-order : (book : List Entry) (asking : Asking) (more : List Entry)
 begun-in-order book asking more rest =
     (tt, (tt, subst (λ (s : State). AllInOrder s more) (state-behind book (opening book asking ∷ starting (next_number book) ∷ [])) rest))
 
--- or it is aborted for what stands in its way
+-- one that waits for its Start
 module _ (book : List Entry) (asking : Asking) (txn : ℕ) (said : Stmt) (waits : IsWaiting book asking txn said) where
   pub of-waiting : (P : Transaction → Type 0) → P (opened asking.session asking.number asking.text) → Of (state_of book) txn P
   of-waiting P p = subst (λ (o : Option Transaction). IsSomeAnd o P) (sym waits.here) p
@@ -240,17 +217,3 @@ module _ (book : List Entry) (asking : Asking) (txn : ℕ) (said : Stmt) (waits 
   -- the lock set of a text is what its tree names
   pub locks-are : locks_of (opened asking.session asking.number asking.text) ≡ names_in said
   locks-are = append-nil (locks_of_tree (tree_of asking.text)) ∙ ap locks_of_tree waits.runs.read
-
-  pub hindered-in-order : (holder : Option ℕ) → holder_against book said ≡ holder → (why : Cause) → (why ≡ hindrance_of holder) ⊎ (why ≡ cause.Memory)
-      → AllInOrder (state_of book) (aborting txn why ∷ [])
-  hindered-in-order holder here why (inr memory) =
-      subst (λ (w : Cause). AllInOrder (state_of book) (aborting txn w ∷ [])) (sym memory) (of-waiting (CauseInOrder (state_of book) cause.Memory) tt, tt)
-  hindered-in-order None here why (inl is) =
-      subst (λ (w : Cause). AllInOrder (state_of book) (aborting txn w ∷ [])) (sym is) (
-        of-waiting (CauseInOrder (state_of book) cause.Full)
-            (λ unstarted. ap (λ (locks : List Lock). first_holder locks 1 (state_of book).transactions) locks-are ∙ here),
-        tt,
-      )
-  hindered-in-order (Some holder) here why (inl is) =
-      subst (λ (w : Cause). AllInOrder (state_of book) (aborting txn w ∷ [])) (sym is)
-      (of-waiting (CauseInOrder (state_of book) (cause.Blocked (record { 0 = holder }))) tt, tt)

@@ -1,6 +1,5 @@
 -- One part of a statement's way behind another.
-use Rattle.std.proofs.Common.{◌≡◌, ℕ, ◌<◌, ◌≤◌, Option, List, [], ◌++◌, Result, Ok, Err, inl, refl, sym, ap, ◌∙◌, subst, arith, append_assoc, append-nil}
-use Rattle.std.specs.Prelude.{IsErrAnd}
+use Rattle.std.proofs.Common.{◌≡◌, ℕ, ◌≤◌, Option, List, [], ◌++◌, Result, Ok, Err, inl, refl, sym, ap, ◌∙◌, subst, arith, append_assoc, append-nil}
 use Rattle.std.specs.List.{AllByRecursion}
 use Rattle.hv_base.specs.Faults.{Rose}
 use Rattle.hv_shelf.specs.Disk.{Store}
@@ -11,15 +10,12 @@ use Rattle.hv_stands.specs.Running.{Asking, next_number, IsOf, AreOf}
 use Rattle.hv_stands.specs.Statements.{AllFitting}
 use Rattle.hv_house.specs.declared.fault.HouseFault.{HouseFault}
 use Rattle.hv_house.specs.declared.fault.HouseFault.TheVariants as fault
-use Rattle.hv_house.specs.declared.fault.RowFault.{RowFault}
-use Rattle.hv_house.specs.declared.fault.RowFault.TheVariants as row_fault
 use Rattle.hv_house.specs.declared.house.House.{House}
-use Rattle.hv_house.specs.Faults.{FileCause, ReadCause, HasRisen, HasRisenReading}
+use Rattle.hv_house.specs.Faults.{FileCause, HasRisen}
 use Rattle.hv_house.specs.House.{entries_of}
 use Rattle.hv_telling.specs.Telling.{IsWhole}
 use Rattle.hv_telling.proofs.Told.{told-stays}
-use Rattle.hv_telling.proofs.Opens.{whole-opens}
-use Rattle.hv_ending.specs.Ending.{KeepsCount, IsNoEnd, HasStopped}
+use Rattle.hv_session.specs.Ending.{KeepsCount, IsNoEnd, HasStopped}
 use Rattle.hv_session.specs.Ways.{IsDone, IsPart, IsTaking}
 use Rattle.hv_session.proofs.Books.{all-append, all-map, IsBegun, begun-counts, begun-unended, begun-legal, counts-from, legal-from, state-behind}
 
@@ -28,27 +24,12 @@ use Rattle.hv_session.proofs.Books.{all-append, all-map, IsBegun, begun-counts, 
 rose-from : (low mid high : ℕ) → low ≤ mid → Rose mid high → Rose low high
 rose-from low mid high below rose = grind (arith, below, rose)
 
-pub risen-store : (low high : ℕ) → low < high → Rose low high
-risen-store low high above = grind (arith, above)
-
-pub risen-from : (low mid high : ℕ) → low ≤ mid → (why : HouseFault) → HasRisen mid high why → HasRisen low high why
+risen-from : (low mid high : ℕ) → low ≤ mid → (why : HouseFault) → HasRisen mid high why → HasRisen low high why
 risen-from low mid high below fault.Store rose = rose-from low mid high below rose
 risen-from low mid high below fault.NoMemory rose = tt
 risen-from low mid high below (fault.Failed count) rose = (rose.0, omega (arith, below, rose.1))
 
-risen-reading : (low mid high : ℕ) → low ≤ mid → (why : RowFault) → HasRisenReading mid high why → HasRisenReading low high why
-risen-reading low mid high below (row_fault.Damaged place) rose = tt
-risen-reading low mid high below (row_fault.House why) rose = risen-from low mid high below why rose
-
-pub read-from : {T U : Type 0} (low mid high : ℕ) → low ≤ mid → (why : RowFault) (r : Result U RowFault) → IsErrAnd r (λ y. y ≡ why) → ReadCause {T = T} mid high (Err why) → ReadCause low high r
-read-from low mid high below why (Ok x) left cause = absurd left
-read-from low mid high below why (Err y) left cause =
-    let later = cause.later in record {
-      later = omega (arith, below, later);
-      failed = subst (HasRisenReading low high) (sym left) (risen-reading low mid high below why cause.failed);
-    }
-
-pub cause-from : {T : Type 0} (low mid high : ℕ) → low ≤ mid → (result : Result T HouseFault) → FileCause mid high result → FileCause low high result
+cause-from : {T : Type 0} (low mid high : ℕ) → low ≤ mid → (result : Result T HouseFault) → FileCause mid high result → FileCause low high result
 cause-from low mid high below (Ok x) cause = let later = cause.later in record { later = omega (arith, below, later); failed = tt }
 cause-from low mid high below (Err why) cause =
     let later = cause.later in record { later = omega (arith, below, later); failed = risen-from low mid high below why cause.failed }
@@ -119,37 +100,6 @@ module _ {D : Type 0} (told : D → Option Store) (faults : D → ℕ) (txn : �
     cause = cause-from (faults before.shelf) (faults between.shelf) (faults now.shelf) passed.later (Err why) part.cause;
   }
 
--- ---- the same part, with another answer
-
-module _ {D T U : Type 0} (told : D → Option Store) (faults : D → ℕ) (txn : ℕ) (before now : House D) where
-  pub part-ok : (x : T) (y : U) → IsPart told faults txn before now (Ok x) → IsPart told faults txn before now (Ok y)
-  part-ok x y part = record {
-    done = part.done;
-    start = part.start;
-    stopped = tt;
-    opens = λ is. tt;
-    ends = tt;
-    cause = record { later = part.cause.later; failed = tt };
-  }
-
-  pub part-err : (why : HouseFault) → IsPart {T = T} told faults txn before now (Err why) → IsPart {T = U} told faults txn before now (Err why)
-  part-err why part = record {
-    done = tt;
-    start = part.start;
-    stopped = part.stopped;
-    opens = part.opens;
-    ends = part.ends;
-    cause = record { later = part.cause.later; failed = part.cause.failed };
-  }
-
--- what a call that failed leaves is what is handed on
-pub part-residual : {D T U : Type 0} (told : D → Option Store) (faults : D → ℕ) (txn : ℕ) (before now : House D) (why : HouseFault) (r : Result U HouseFault)
-    → IsErrAnd r (λ y. y ≡ why) → IsPart {T = T} told faults txn before now (Err why) → IsPart told faults txn before now r
-part-residual told faults txn before now why (Ok x) left part = absurd left
-part-residual {T = T} {U = U} told faults txn before now why (Err y) left part =
-    subst (λ (w : HouseFault). IsPart {T = U} told faults txn before now (Err w)) (sym left)
-    (part-err {T = T} {U = U} told faults txn before now why part)
-
 -- a part that was passed is done
 pub passed-part : {D T : Type 0} (told : D → Option Store) (faults : D → ℕ) (txn : ℕ) (before now : House D) (x : T)
     → HasPassed told faults txn before now → IsPart told faults txn before now (Ok x)
@@ -190,22 +140,6 @@ module _ {D T : Type 0} (told : D → Option Store) (faults : D → ℕ) (asking
     cause = record { later = taking.cause.later; failed = tt };
   }
 
-  taking-err : {U : Type 0} (why : HouseFault) → IsTaking {T = U} told faults asking before now (Err why) → IsTaking {T = T} told faults asking before now (Err why)
-  taking-err why taking = record {
-    done = tt;
-    start = taking.start;
-    stopped = taking.stopped;
-    opens = taking.opens;
-    ends = taking.ends;
-    cause = record { later = taking.cause.later; failed = taking.cause.failed };
-  }
-
-  pub taking-residual : {U : Type 0} (why : HouseFault) (r : Result T HouseFault) → IsErrAnd r (λ y. y ≡ why)
-      → IsTaking {T = U} told faults asking before now (Err why) → IsTaking told faults asking before now r
-  taking-residual why (Ok x) left taking = absurd left
-  taking-residual {U = U} why (Err y) left taking =
-      subst (λ (w : HouseFault). IsTaking {T = T} told faults asking before now (Err w)) (sym left) (taking-err {U = U} why taking)
-
 -- ---- nothing was noted
 
 pub nothing-passed : {D : Type 0} (told : D → Option Store) (faults : D → ℕ) (txn : ℕ) (before now : House D)
@@ -225,25 +159,3 @@ nothing-passed told faults txn before now same start whole later = record {
 module _ {D : Type 0} (told : D → Option Store) (faults : D → ℕ) (txn : ℕ) (house : House D) (whole : IsWhole told house) where
   pub still-part : {T : Type 0} (x : T) → IsPart told faults txn house house (Ok x)
   still-part x = passed-part told faults txn house house x (nothing-passed told faults txn house house refl refl whole (omega arith))
-
-  -- and memory lacked
-  pub still-halts : {T : Type 0} → IsPart {T = T} told faults txn house house (Err fault.NoMemory)
-  still-halts = record {
-    done = tt;
-    start = refl;
-    stopped = record {
-      added = [];
-      book = sym (append-nil (entries_of house));
-      of_it = tt;
-      legal = record { fit = tt; truthful = tt };
-      unended = tt;
-      further = [];
-      further_of_it = tt;
-      few = omega arith;
-      fit = tt;
-      leaves = whole.ready.kept.reads;
-    };
-    opens = λ is. whole-opens told house whole is;
-    ends = tt;
-    cause = record { later = omega arith; failed = tt };
-  }

@@ -1,40 +1,87 @@
--- What ends a statement on its way is a short entry.
-use Rattle.std.proofs.Common.{◌≡◌, sym, subst, List, ℕ, ◌+◌, ◌≤◌, length, arith}
+-- What ends a statement is a short entry.
+use Rattle.std.proofs.Common.{◌≡◌, ℕ, ◌+◌, ◌*◌, ◌≤◌, Bool, true, false, if◌then◌else◌, List, [], ◌∷◌, length, Ok, Err, refl, sym, ap, ◌∙◌, subst, arith}
+use Rattle.std.specs.Prelude.{nat_lt}
+use Rattle.std.specs.List.{flat_map, list_all, list_any}
+use Rattle.std.proofs.lemmas.Bool.{or_parts}
+use Rattle.std.proofs.lemmas.Bool.Decides.{nat_tests}
 use Rattle.std.proofs.lemmas.List.{length-append}
-use Rattle.hv_base.specs.declared.ids.TxnId.{TxnId}
-use Rattle.hv_history.specs.declared.entry.Entry.TheVariants as entry
+use Rattle.std.proofs.lemmas.List.Concat.{flat_map-cons}
+use Rattle.hv_base.specs.declared.ids.Touch.{Touch}
+use Rattle.hv_logic.specs.declared.catalog.TableInfo.{TableInfo}
+use Rattle.hv_logic.specs.declared.effect.Effect.{Effect}
+use Rattle.hv_route.specs.Touching.{touches_of, touched, stored_fits, is_long, is_above, within_limits}
+use Rattle.hv_route.specs.declared.fault.RouteFault.TheVariants as fault
 use Rattle.hv_history.specs.declared.entry.Cause.TheVariants as cause
-use Rattle.hv_history.specs.declared.entry.FilePlace.{FilePlace}
-use Rattle.hv_history.specs.declared.entry.Entry.{Entry}
-use Rattle.hv_stands.specs.Running.{Asking, next_number, opening}
-use Rattle.hv_history.specs.Spelling.{place_spelling, entry_spelling}
+use Rattle.hv_house.specs.House.{IsSmall}
+use Rattle.hv_session.specs.Ending.{aborting, committing}
+use Rattle.hv_history.specs.Spelling.{touch_spelling}
 use Rattle.hv_bytes.proofs.Lengths.{length-four, length-eight, length-text}
+use Rattle.hv_journal.proofs.Lengths.{length-touches}
 
-pub short_refused : (txn : TxnId) (number : ℕ) → length (entry_spelling (entry.Abort txn (cause.Refused number))) ≤ 65536
+pub short_idle : (txn : ℕ) → IsSmall (committing txn [])
+short_idle txn = grind (arith, length-append, length-eight, length-touches)
+
+pub short_refused : (txn number : ℕ) → IsSmall (aborting txn (cause.Refused number))
 short_refused txn number = grind (arith, length-append, length-eight, length-four)
 
-pub short_memory : (txn : TxnId) → length (entry_spelling (entry.Abort txn cause.Memory)) ≤ 65536
+pub short_limit : (txn : ℕ) → IsSmall (aborting txn cause.RowLimit)
+short_limit txn = grind (arith, length-append, length-eight)
+
+pub short_many : (txn : ℕ) → IsSmall (aborting txn cause.PartitionLimit)
+short_many txn = grind (arith, length-append, length-eight)
+
+pub short_memory : (txn : ℕ) → IsSmall (aborting txn cause.Memory)
 short_memory txn = grind (arith, length-append, length-eight)
 
-pub short_full : (txn : TxnId) → length (entry_spelling (entry.Abort txn cause.Full)) ≤ 65536
-short_full txn = grind (arith, length-append, length-eight)
-
-pub short_blocked : (txn holder : TxnId) → length (entry_spelling (entry.Abort txn (cause.Blocked holder))) ≤ 65536
-short_blocked txn holder = grind (arith, length-append, length-eight)
-
-pub short_fault : (txn : TxnId) (count : ℕ) → length (entry_spelling (entry.Abort txn (cause.ReadFault count))) ≤ 65536
+pub short_fault : (txn count : ℕ) → IsSmall (aborting txn (cause.WriteFault count))
 short_fault txn count = grind (arith, length-append, length-eight)
 
-pub short_damage : (txn : TxnId) (place : FilePlace) → length place.partition + length place.dir ≤ 1000
-    → length (entry_spelling (entry.Abort txn (cause.Damaged place))) ≤ 65536
-unfolding place_spelling
-short_damage txn place short = grind (arith, length-append, length-eight, length-four, length-text)
+-- ---- the commit of a change that is within its limits
 
-pub short_opened : (txn : TxnId) (session : List ℕ) (number : ℕ) (text : List ℕ) → length session ≤ 32 → length text ≤ 32768
-    → length (entry_spelling (entry.Opened txn session number text)) ≤ 65536
-short_opened txn session number text named short = grind (arith, length-append, length-eight, length-text, named, short)
+-- a touch whose partition has a text of at most 240 bytes
+touch_length : (t : Touch) → is_long t ≡ false → length (touch_spelling t) ≤ 268
+unfolding touch_spelling
+touch_length t short = grind (arith, length-append, length-eight, length-text, nat_tests, short)
 
-pub small-opened : (book : List Entry) (asking : Asking) (event : Entry) → event ≡ opening book asking → length asking.session ≤ 32 → length asking.text ≤ 32768
-    → length (entry_spelling event) ≤ 65536
-small-opened book asking event is named short =
-    subst (λ (e : Entry). length (entry_spelling e) ≤ 65536) (sym is) (short_opened (record { 0 = next_number book }) asking.session asking.number asking.text named short)
+touches_length : (ts : List Touch) → list_any is_long ts ≡ false → length (flat_map touch_spelling ts) ≤ 268 * length ts
+touches_length [] short = omega arith
+touches_length (t ∷ ts) short =
+    let both = or_parts (is_long t) (list_any is_long ts) short in
+    let here = touch_length t both.0 in
+    let rest = touches_length ts both.1 in
+    let cons : length (flat_map touch_spelling (t ∷ ts)) ≡ length (touch_spelling t) + length (flat_map touch_spelling ts) =
+    ap length (flat_map-cons touch_spelling t ts) ∙ length-append (touch_spelling t) (flat_map touch_spelling ts) in
+    omega (arith, here, rest, cons)
+
+record AreShort (ts : List Touch) : Type 0 where
+  texts : list_any is_long ts ≡ false
+  count : length ts ≤ 100
+
+are_short : (ts wrote : List Touch) → within_limits ts ≡ Ok wrote → AreShort ts
+are_short ts wrote e = by (is_above ts) refl e
+  where
+    by : (b : Bool) → is_above ts ≡ b → (if b then Err fault.PartitionLimit else Ok ts) ≡ Ok wrote → AreShort ts
+    by true above is = cc
+    by false above is =
+        let both = or_parts (list_any is_long ts) (nat_lt 100 (length ts)) above in
+        record { texts = both.0; count = grind (arith, nat_tests, both.1) }
+
+within_short : (info : TableInfo) (effect : Effect) (wrote : List Touch) → touched info effect ≡ Ok wrote → AreShort (touches_of info effect)
+unfolding touched
+within_short info effect wrote e = by (list_all (stored_fits info.shape) effect.inserts) e
+  where
+    by : (b : Bool) → (if b then within_limits (touches_of info effect) else Err fault.RowLimit) ≡ Ok wrote → AreShort (touches_of info effect)
+    by true is = are_short (touches_of info effect) wrote is
+    by false is = cc
+
+short_commit : (txn : ℕ) (ts : List Touch) → AreShort ts → IsSmall (committing txn ts)
+short_commit txn ts short =
+    let count = short.count in
+    let all = touches_length ts short.texts in
+    grind (arith, length-append, length-eight, length-touches ts, count, all)
+
+pub short_change : (txn : ℕ) (info : TableInfo) (effect : Effect) (wrote : List Touch) → touched info effect ≡ Ok (touches_of info effect)
+    → wrote ≡ touches_of info effect → IsSmall (committing txn wrote)
+short_change txn info effect wrote within e =
+    subst (λ (ts : List Touch). IsSmall (committing txn ts)) (sym e)
+    (short_commit txn (touches_of info effect) (within_short info effect (touches_of info effect) within))

@@ -20,10 +20,12 @@ use Rattle.hv_history.specs.Answers.{cause_text}
 use Rattle.hv_stands.specs.Running.{Asking, next_number, opening, starting, AreOf, meant, IsUnderWay}
 use Rattle.hv_next.specs.Order.{AllInOrder}
 use Rattle.hv_next.specs.Carrying.{IsAtHold}
-use Rattle.hv_ending.specs.Ending.{IsUndamaged, EndsUncommitted, CanEnd, EndCanBeNoted, EndIsTrue, aborting, HasReplied}
+use Rattle.hv_session.specs.Ending.{IsUndamaged, EndsUncommitted, CanEnd, EndCanBeNoted, EndIsTrue, aborting, HasReplied}
 use Rattle.hv_house.specs.Asking.{holder_against, CanBegin}
+use Rattle.hv_session.specs.Doing.{IsUnrefused}
 use Rattle.hv_session.specs.Faults.{IsFaultLine}
 use Rattle.hv_session.specs.declared.asking.Asking.{Asking as Handed}
+use Rattle.hv_session.specs.declared.reply.Done.TheVariants as done
 use Rattle.hv_session.specs.declared.paused.Point.{Point}
 use Rattle.hv_session.specs.declared.paused.Point.TheVariants as point
 use Rattle.hv_session.specs.declared.paused.Paused.{Paused}
@@ -99,14 +101,6 @@ HoldsAt (Some stage.Read) txn added = HasJustStarted txn added
 HoldsAt (Some stage.Commit) txn added = HasJustStarted txn added ⊎ HasItsId txn added
 HoldsAt other txn added = ⊥
 
--- a hold that a script may ask for
-abbrev pub IsHold : Option Stage → Type 0
-IsHold None = Unit {0}
-IsHold (Some stage.Start) = Unit {0}
-IsHold (Some stage.Read) = Unit {0}
-IsHold (Some stage.Commit) = Unit {0}
-IsHold (Some other) = ⊥
-
 -- ---- a statement that is held
 
 -- where it was to be held, there it is
@@ -127,20 +121,15 @@ CanEndAt book txn given point.Started = Unit {0}
 CanEndAt book txn given (point.Meant meaning) = CanEnd book meaning
 CanEndAt book txn given (point.Ready ready) = EndCanBeNoted book txn given ready.end
 
--- what is refused doesn't wait
-abbrev pub IsUnrefused : Meaning → Type 0
-IsUnrefused (Refused why) = ⊥
-IsUnrefused meaning = Unit {0}
-
 abbrev pub WaitsUnrefused : Point → Type 0
 WaitsUnrefused (point.Meant meaning) = IsUnrefused meaning
 WaitsUnrefused other = Unit {0}
 
 pub record IsHeld (book : List Entry) (asking : Asking) (paused : Paused) : Type 0 where
   pub given : List (ℕ × ℕ)
-  pub under_way : IsUnderWay book asking paused.txn.0 paused.place paused.tree given
+  pub under_way : IsUnderWay book asking paused.way.txn.0 paused.way.place paused.tree given
   pub none : HasNone paused.point given
-  pub can : CanEndAt book paused.txn.0 given paused.point
+  pub can : CanEndAt book paused.way.txn.0 given paused.point
   pub unrefused : WaitsUnrefused paused.point
 
 abbrev pub IsHeldBySome : List Entry → Paused → Type 0
@@ -155,7 +144,7 @@ PointIsTrue meaning given (point.Ready ready) = EndIsTrue meaning given ready.en
 pub record IsTrulyHeld (book : List Entry) (paused : Paused) : Type 0 where
   pub asking : Asking
   pub held : IsHeld book asking paused
-  pub truly : PointIsTrue (meant (take paused.place book) paused.tree) held.given paused.point
+  pub truly : PointIsTrue (meant (take paused.way.place book) paused.tree) held.given paused.point
 
 -- ---- what a statement that was taken up comes to, in a told house
 
@@ -204,7 +193,7 @@ IsReplied before now asking hold reply refused ended =
 pub record IsKept (before now : List Entry) (asking : Asking) (hold : Option Stage) (paused : Paused) : Type 0 where
   pub added : List Entry
   pub book : now ≡ before ++ opening before asking ∷ added
-  pub txn_is : paused.txn.0 ≡ next_number before
+  pub txn_is : paused.way.txn.0 ≡ next_number before
   pub runs : Runs asking.text paused.tree
   pub can : CanBegin profile before paused.tree
   pub at_hold : HoldsAt hold (next_number before) added
@@ -213,13 +202,15 @@ pub record IsKept (before now : List Entry) (asking : Asking) (hold : Option Sta
   pub up_to_hold : Of (state_of now) (next_number before) (λ transaction. IsAtHold hold transaction.given (meaning transaction))
 
 abbrev pub IsTakenAs : List Entry → List Entry → Asking → Option Stage → Taken → Type 0
-IsTakenAs before now asking hold (taken.Replied reply) = IsReplied before now asking hold reply.text reply.refused reply.ended
+IsTakenAs before now asking hold (taken.Ended (done.Replied reply)) = IsReplied before now asking hold reply.text reply.refused reply.ended
+IsTakenAs before now asking hold (taken.Ended (done.Gone at)) = ⊥
 IsTakenAs before now asking hold (taken.Kept paused) = IsKept before now asking hold paused
 
 -- what stands of one that is held whatever is told
 abbrev pub IsKeptIn : List Entry → List Entry → Asking → Taken → Type 0
-IsKeptIn before now asking (taken.Replied reply) = Unit {0}
-IsKeptIn before now asking (taken.Kept paused) = (paused.txn.0 ≡ next_number before) × IsHeld now asking paused
+IsKeptIn before now asking (taken.Ended (done.Replied reply)) = Unit {0}
+IsKeptIn before now asking (taken.Ended (done.Gone at)) = ⊥
+IsKeptIn before now asking (taken.Kept paused) = (paused.way.txn.0 ≡ next_number before) × IsHeld now asking paused
 
 -- a started statement went on to its end, by entries of it alone, in order, none of which says that a file is damaged
 pub record IsFinished (before now : List Entry) (txn : ℕ) (reply : List ℕ) (refused : Bool) (ended : Option ℕ) : Type 0 where

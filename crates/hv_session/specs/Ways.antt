@@ -1,37 +1,44 @@
--- A part of a statement's way: what is noted by it, and what stands behind it.
-use Rattle.std.specs.Prelude.{◌≡◌, ◌⊎◌, ℕ, ◌+◌, ◌<◌, ◌≤◌, Option, Some, None, List, [], ◌∷◌, ◌++◌, take, Result, IfOk, IfErr}
+-- What a part of a statement's way comes to where nobody else acts on the house: what is noted by it, and what stands behind it.
+-- Source: Hive Transactions; that each act is one hold of the house is this project's profile.
+use Rattle.std.specs.Prelude.{◌≡◌, ◌⊎◌, ℕ, ◌+◌, ◌<◌, ◌≤◌, Option, Some, List, [], ◌∷◌, ◌++◌, length, take, Result, Err, IfOk, IfErr}
 use Rattle.hv_base.specs.declared.gate.Stage.{Stage}
 use Rattle.hv_shelf.specs.Disk.{Store}
 use Rattle.hv_ast.specs.declared.statement.Stmt.{Stmt}
 use Rattle.hv_logic.specs.declared.meaning.Meaning.{Meaning}
 use Rattle.hv_history.specs.declared.entry.Entry.{Entry}
 use Rattle.hv_history.specs.declared.entry.Cause.{Cause}
-use Rattle.hv_history.specs.declared.entry.Cause.TheVariants as cause
 use Rattle.hv_history.specs.State.{state_of}
 use Rattle.hv_history.specs.Legal.{load, profile}
-use Rattle.hv_stands.specs.Running.{Asking, next_number, starting, meant, IsWaiting, IsUnderWay}
+use Rattle.hv_stands.specs.Running.{Asking, next_number, opening, starting, meant, IsUnderWay}
+use Rattle.hv_trail.specs.declared.trail.TrailItem.{TrailItem}
 use Rattle.hv_next.specs.Order.{AllInOrder}
+use Rattle.hv_actor.specs.Acting.{IsAlone}
 use Rattle.hv_house.specs.declared.fault.HouseFault.{HouseFault}
-use Rattle.hv_house.specs.declared.fault.HouseFault.TheVariants as fault
-use Rattle.hv_house.specs.declared.fault.RowFault.{RowFault}
-use Rattle.hv_house.specs.declared.fault.RowFault.TheVariants as row_fault
 use Rattle.hv_house.specs.declared.house.House.{House}
-use Rattle.hv_house.specs.Faults.{FileCause, EndsRun, HasRisenReading}
+use Rattle.hv_house.specs.Faults.{FileCause, EndsRun}
 use Rattle.hv_house.specs.House.{entries_of, Leaves, BeginFits, beginning_of}
-use Rattle.hv_house.specs.Asking.{holder_against}
+use Rattle.hv_house.specs.Asking.{CanBegin}
 use Rattle.hv_telling.specs.Telling.{IsWhole, IsToldHouse, StillOpens}
-use Rattle.hv_ending.specs.declared.ready.Way.{Way}
-use Rattle.hv_ending.specs.declared.ready.Reply.{Reply}
-use Rattle.hv_ending.specs.declared.ready.Prepared.{Prepared}
-use Rattle.hv_ending.specs.declared.ready.Prepared.TheVariants as prepared
-use Rattle.hv_ending.specs.Ending.{AddsOf, CanEnd, HasStopped, IsAborted, PreparesBy, IsTrulyPrepared, aborting, HasReplied}
-use Rattle.hv_session.specs.declared.ends.Outcome.{Outcome}
-use Rattle.hv_session.specs.declared.ends.Outcome.TheVariants as outcome
-use Rattle.hv_session.specs.declared.paused.Point.{Point}
-use Rattle.hv_session.specs.declared.paused.Point.TheVariants as point
+use Rattle.hv_acts.specs.declared.told.ToldHouse.{ToldHouse}
+use Rattle.hv_acts.specs.Told.{IsWholeOrClosed}
+use Rattle.hv_session.specs.declared.ready.Way.{Way}
+use Rattle.hv_session.specs.declared.reply.Done.{Done}
+use Rattle.hv_session.specs.declared.reply.Done.TheVariants as done
+use Rattle.hv_session.specs.declared.reply.Opened.{Opened}
+use Rattle.hv_session.specs.declared.reply.Opened.TheVariants as opened
+use Rattle.hv_session.specs.declared.paused.Carried.{Carried}
+use Rattle.hv_session.specs.declared.paused.Carried.TheVariants as carried
 use Rattle.hv_session.specs.declared.paused.Taken.{Taken}
-use Rattle.hv_session.specs.declared.paused.Taken.TheVariants as taken
-use Rattle.hv_session.specs.Taking.{EndsEarly, EndsBefore, HoldsAt, IsHold, IsAtPlace, IsHeld, IsTrulyHeld, IsReplied, IsFinished, IsUnrefused}
+use Rattle.hv_session.specs.Ending.{AddsOf, HasStopped, HasReplied, IsUndamaged, aborting}
+use Rattle.hv_session.specs.Alone.{AddsNothing}
+use Rattle.hv_session.specs.Going.{IsOpenHouse, faults_in, Goes, GainsSome}
+use Rattle.hv_session.specs.Phases.{Begins, HaltsBeginning}
+use Rattle.hv_session.specs.Taking.{EndsBefore, HoldsAt, IsAtPlace, IsHeld, IsTrulyHeld, WentThrough, IsKept, IsKeptIn, IsTakenAs, IsFinished, IsWhyNot}
+
+-- nobody else acts on the house: others add nothing to its trail, and do nothing to it
+pub record ActsAlone {D : Type 0} (between : List TrailItem → Type 0) (meanwhile : ToldHouse D → ToldHouse D → Type 0) : Type 0 where
+  pub nothing : AddsNothing between
+  pub alone : IsAlone meanwhile
 
 -- ---- whatever is told
 
@@ -49,8 +56,6 @@ pub record IsPart {D T : Type 0} (told : D → Option Store) (faults : D → ℕ
   pub ends : IfErr result EndsRun
   pub cause : FileCause (faults before.shelf) (faults now.shelf) result
 
--- ---- an abort
-
 -- somebody asked for the statement, and it is under way
 abbrev pub IsOnWay : List Entry → Way → Stmt → Type 0
 IsOnWay book way said = (asking : Asking) × IsUnderWay book asking way.txn.0 way.place said []
@@ -60,109 +65,93 @@ abbrev pub IsOnWayAs : {D : Type 0} → (D → Option Store) → House D → Way
 IsOnWayAs told house way meaning =
     (said : Stmt) × IsOnWay (entries_of house) way said × (IsToldHouse told house → meant (take way.place (entries_of house)) said ≡ Some meaning)
 
--- a started statement is aborted for this cause, or since memory lacked for that
-pub record CutsOff {D : Type 0} (told : D → Option Store) (faults : D → ℕ) (way : Way) (why : Cause) (before now : House D) (result : Result Reply HouseFault) : Type 0 where
-  pub whole : IfOk result (λ _. IsWhole told now)
-  pub aborted : IfOk result (λ _. IsAborted way.txn.0 why (entries_of before) (entries_of now))
-  pub answered : (asking : Asking) (said : Stmt) (given : List (ℕ × ℕ)) → IsUnderWay (entries_of before) asking way.txn.0 way.place said given
-      → IfOk result (λ reply. HasReplied (entries_of now) way.txn.0 reply.text reply.refused reply.ended)
-  pub start : now.start ≡ before.start
-  pub stopped : IfErr result (λ failed. HasStopped told way.txn.0 failed before now)
-  pub opens : IsToldHouse told before → IfErr result (λ _. StillOpens told now)
-  pub ends : IfErr result EndsRun
-  pub cause : FileCause (faults before.shelf) (faults now.shelf) result
+-- ---- a started statement that ends
 
--- the cause by which a statement is aborted for a fault; none where the run ends
-abbrev pub IsCauseOf : HouseFault → Cause → Type 0
-IsCauseOf (fault.Failed count) why = why ≡ cause.ReadFault count
-IsCauseOf fault.NoMemory why = why ≡ cause.Memory
-IsCauseOf fault.Store why = ⊥
+-- nobody else ended it
+abbrev pub IsOwnEnd : Done → Type 0
+IsOwnEnd (done.Replied reply) = Unit {0}
+IsOwnEnd (done.Gone at) = ⊥
 
-abbrev pub IsCauseOfRows : RowFault → Cause → Type 0
-IsCauseOfRows (row_fault.Damaged place) why = why ≡ cause.Damaged place
-IsCauseOfRows (row_fault.House fault) why = IsCauseOf fault why
+abbrev pub IsFinishedAs : List Entry → List Entry → ℕ → Done → Type 0
+IsFinishedAs before now txn (done.Replied reply) = IsFinished before now txn reply.text reply.refused reply.ended
+IsFinishedAs before now txn (done.Gone at) = ⊥
 
-pub record IsAbortedFor (txn : ℕ) (fault : RowFault) (before now : List Entry) : Type 0 where
-  pub why : Cause
-  pub is_cause : IsCauseOfRows fault why
-  pub aborted : IsAborted txn why before now
+-- all that is promised of one that was to end; in a told house as its text means
+pub record EndsAlone {D : Type 0} (told : D → Option Store) (faults : D → ℕ) (txn : ℕ) (before now : House D) (result : Result Done HouseFault) : Type 0 where
+  pub part : IsPart told faults txn before now result
+  pub own : IfOk result IsOwnEnd
+  pub truly : IsToldHouse told before → IfOk result (IsFinishedAs (entries_of before) (entries_of now) txn)
 
--- a started statement is aborted for a fault by which its tables couldn't be seen, or the run ends
-pub record EndsFor {D : Type 0} (told : D → Option Store) (faults : D → ℕ) (way : Way) (fault : RowFault) (before now : House D) (result : Result Reply HouseFault) : Type 0 where
-  pub whole : IfOk result (λ _. IsWhole told now)
-  pub aborted : IfOk result (λ _. IsAbortedFor way.txn.0 fault (entries_of before) (entries_of now))
-  pub answered : (asking : Asking) (said : Stmt) (given : List (ℕ × ℕ)) → IsUnderWay (entries_of before) asking way.txn.0 way.place said given
-      → IfOk result (λ reply. HasReplied (entries_of now) way.txn.0 reply.text reply.refused reply.ended)
-  pub start : now.start ≡ before.start
-  pub stopped : IfErr result (λ failed. HasStopped told way.txn.0 failed before now)
-  pub opens : IsToldHouse told before → IfErr result (λ _. StillOpens told now)
-  pub ends : IfErr result EndsRun
-  pub later : faults before.shelf ≤ faults now.shelf
-  pub cause : (low : ℕ) → low ≤ faults before.shelf → HasRisenReading low (faults before.shelf) fault → FileCause low (faults now.shelf) result
-
--- ---- the parts of a started statement's way
-
--- it means this, and nothing was noted; or it was aborted
-abbrev pub ComesTo : ℕ → List Entry → List Entry → Outcome → Type 0
-ComesTo txn before now (outcome.Means meaning) = (now ≡ before) × CanEnd now meaning
-ComesTo txn before now (outcome.Ended reply) = (why : Cause) × EndsEarly why × (now ≡ before ++ aborting txn why ∷ [])
-
-abbrev pub ComesTruly : List Entry → List Entry → Way → Stmt → Outcome → Type 0
-ComesTruly before now way said (outcome.Means meaning) = meant (take way.place now) said ≡ Some meaning
-ComesTruly before now way said (outcome.Ended reply) = IsFinished before now way.txn.0 reply.text reply.refused reply.ended
-
-abbrev pub ComesUnrefused : Outcome → Type 0
-ComesUnrefused (outcome.Means meaning) = IsUnrefused meaning
-ComesUnrefused (outcome.Ended reply) = Unit {0}
-
--- all of it but its end was done, or it has ended
-pub record GoesToCommit (txn : ℕ) (before now : List Entry) (found : Prepared) : Type 0 where
-  pub added : List Entry
-  pub book : now ≡ before ++ added
-  pub shape : PreparesBy txn found added
+-- ---- where it is held
 
 -- what was added comes in the order of its way
 abbrev pub AddsInOrder : List Entry → List Entry → Type 0
 AddsInOrder before now = (added : List Entry) × (now ≡ before ++ added) × AllInOrder (state_of before) added
 
-abbrev pub GoesTruly : List Entry → List Entry → Asking → Way → Stmt → Prepared → Type 0
-GoesTruly before now asking way said (prepared.Ready ready) =
-    IsTrulyPrepared now asking way.txn.0 way.place said (prepared.Ready ready) × AddsInOrder before now
-GoesTruly before now asking way said (prepared.Ended reply) = IsFinished before now way.txn.0 reply.text reply.refused reply.ended
-
--- ---- where it is held
-
-abbrev pub keep : Way → Stmt → Point → Taken
-keep way tree at = taken.Kept (record { txn = way.txn; place = way.place; tree = tree; point = at })
-
-abbrev pub held_meant : Way → Stmt → Outcome → Taken
-held_meant way tree (outcome.Means meaning) = keep way tree (point.Meant meaning)
-held_meant way tree (outcome.Ended reply) = taken.Replied reply
-
-abbrev pub held_ready : Way → Stmt → Prepared → Taken
-held_ready way tree (prepared.Ready ready) = keep way tree (point.Ready ready)
-held_ready way tree (prepared.Ended reply) = taken.Replied reply
-
 -- it came to the place where it was to be held, or ended before that
-abbrev pub IsInTime : Option Stage → ℕ → List Entry → Taken → Type 0
-IsInTime hold txn added (taken.Replied reply) = EndsBefore hold txn (starting txn ∷ added)
-IsInTime hold txn added (taken.Kept paused) = (paused.txn.0 ≡ txn) × HoldsAt hold txn (starting txn ∷ added) × IsAtPlace hold paused.point
+abbrev pub IsInTime : Option Stage → ℕ → List Entry → Carried → Type 0
+IsInTime hold txn added (carried.Ended found) = IsOwnEnd found × EndsBefore hold txn (starting txn ∷ added)
+IsInTime hold txn added (carried.Kept paused) = (paused.way.txn.0 ≡ txn) × HoldsAt hold txn (starting txn ∷ added) × IsAtPlace hold paused.point
+IsInTime hold txn added (carried.Full entries) = ⊥
+IsInTime hold txn added carried.NoMemory = ⊥
 
-pub record GoesInTime (hold : Option Stage) (txn : ℕ) (before now : List Entry) (way : Taken) : Type 0 where
+pub record GoesInTime (hold : Option Stage) (txn : ℕ) (before now : List Entry) (found : Carried) : Type 0 where
   pub added : List Entry
   pub book : now ≡ before ++ added
-  pub in_time : IsInTime hold txn added way
+  pub in_time : IsInTime hold txn added found
 
 -- what stands of it there
-abbrev pub StandsHeld : List Entry → Asking → Taken → Type 0
-StandsHeld now asking (taken.Replied reply) = Unit {0}
-StandsHeld now asking (taken.Kept paused) = IsHeld now asking paused
+abbrev pub StandsHeld : List Entry → Asking → Carried → Type 0
+StandsHeld now asking (carried.Kept paused) = IsHeld now asking paused
+StandsHeld now asking found = Unit {0}
 
-abbrev pub StandsTruly : List Entry → List Entry → ℕ → Taken → Type 0
-StandsTruly before now txn (taken.Replied reply) = IsFinished before now txn reply.text reply.refused reply.ended
-StandsTruly before now txn (taken.Kept paused) = IsTrulyHeld now paused × AddsInOrder before now
+abbrev pub StandsTruly : List Entry → List Entry → ℕ → Carried → Type 0
+StandsTruly before now txn (carried.Ended found) = IsFinishedAs before now txn found
+StandsTruly before now txn (carried.Kept paused) = IsTrulyHeld now paused × AddsInOrder before now
+StandsTruly before now txn (carried.Full entries) = ⊥
+StandsTruly before now txn carried.NoMemory = ⊥
 
--- ---- the parts of a statement that is taken up
+-- all that is promised of a started statement that was to go on to its end or its hold
+pub record GoesAlone {D : Type 0} (told : D → Option Store) (faults : D → ℕ) (way : Way) (said : Stmt) (hold : Option Stage) (before now : House D)
+    (result : Result Carried HouseFault) : Type 0 where
+  pub part : IsPart told faults way.txn.0 before now result
+  pub goes : IfOk result (GoesInTime hold way.txn.0 (entries_of before) (entries_of now))
+  pub stands : (asking : Asking) → IsUnderWay (entries_of before) asking way.txn.0 way.place said [] → IfOk result (StandsHeld (entries_of now) asking)
+  pub truly : IsToldHouse told before → IfOk result (StandsTruly (entries_of before) (entries_of now) way.txn.0)
+
+-- ---- its beginning
+
+-- it began at once, under the next number
+pub record HasStarted (before now : List Entry) (asking : Asking) (said : Stmt) (way : Way) : Type 0 where
+  pub txn_is : way.txn.0 ≡ next_number before
+  pub place_is : way.place ≡ length before + 1
+  pub can : CanBegin profile before said
+  pub book : now ≡ before ++ beginning_of before asking
+
+-- it could not begin, and was opened and aborted, for what stood in its way or for want of memory
+pub record IsTurnedAway (before now : List Entry) (asking : Asking) (said : Stmt) (found : Done) : Type 0 where
+  pub why : Cause
+  pub is : IsWhyNot before said why
+  pub book : now ≡ before ++ opening before asking ∷ aborting (next_number before) why ∷ []
+  pub own : IsOwnEnd found
+  pub undamaged : IsUndamaged (aborting (next_number before) why)
+  pub in_order : AllInOrder (state_of before) (opening before asking ∷ aborting (next_number before) why ∷ [])
+
+-- and that is its answer
+abbrev pub IsAnswered : List Entry → ℕ → Done → Type 0
+IsAnswered now txn (done.Replied reply) = HasReplied now txn reply.text reply.refused reply.ended
+IsAnswered now txn (done.Gone at) = ⊥
+
+-- there is no room for its opening and its end
+pub record IsUnopened (before now : List Entry) : Type 0 where
+  pub book : now ≡ before
+  pub lacks : profile.entries < load (state_of before) + 2
+
+abbrev pub BeginsSo : List Entry → List Entry → Asking → Stmt → Opened → Type 0
+BeginsSo before now asking said (opened.Started way) = HasStarted before now asking said way
+BeginsSo before now asking said (opened.Full entries) = IsUnopened before now
+BeginsSo before now asking said opened.NoMemory = now ≡ before
+BeginsSo before now asking said (opened.Ended found) = IsTurnedAway before now asking said found × IsAnswered now (next_number before) found
 
 -- The run stopped where the statement was to be opened and started at once: the journal reads to the book, or where the store failed,
 -- to the book or to it with just these two entries, which fit.
@@ -175,6 +164,8 @@ abbrev pub StopsTaken : {D : Type 0} → (D → Option Store) → Asking → Hou
 StopsTaken told asking why before now =
     HasStopped told (next_number (entries_of before)) why before now ⊎ StopsAtBeginning told asking why before now
 
+-- ---- one that is taken up
+
 -- a statement was taken up, or the run stopped in that
 pub record IsTaking {D T : Type 0} (told : D → Option Store) (faults : D → ℕ) (asking : Asking) (before now : House D) (result : Result T HouseFault) : Type 0 where
   pub done : IfOk result (λ _. IsDone told faults (next_number (entries_of before)) before now)
@@ -184,23 +175,64 @@ pub record IsTaking {D T : Type 0} (told : D → Option Store) (faults : D → �
   pub ends : IfErr result EndsRun
   pub cause : FileCause (faults before.shelf) (faults now.shelf) result
 
--- it isn't opened, or it is opened and aborted
-abbrev pub IsTurnedAway : List Entry → List Entry → Asking → Reply → Type 0
-IsTurnedAway before now asking reply =
-    (hold : Option Stage) → IsHold hold → IsReplied before now asking hold reply.text reply.refused reply.ended
+-- what stands of it whatever is told
+abbrev pub IsCarriedIn : List Entry → List Entry → Asking → Carried → Type 0
+IsCarriedIn before now asking (carried.Ended found) = IsOwnEnd found
+IsCarriedIn before now asking (carried.Kept paused) = (paused.way.txn.0 ≡ next_number before) × IsHeld now asking paused
+IsCarriedIn before now asking (carried.Full entries) = IsUnopened before now
+IsCarriedIn before now asking carried.NoMemory = now ≡ before
 
--- the cause by which an opened statement that can't start is aborted: the lock that this transaction holds, or want of room
-abbrev pub hindrance_of : Option ℕ → Cause
-hindrance_of None = cause.Full
-hindrance_of (Some holder) = cause.Blocked (record { 0 = holder })
+-- and in a told house
+abbrev pub EndsThrough : List Entry → List Entry → Asking → Option Stage → Done → Type 0
+EndsThrough before now asking hold (done.Replied reply) = WentThrough before now asking hold reply.text reply.refused reply.ended
+EndsThrough before now asking hold (done.Gone at) = ⊥
 
--- it can't start: where no lock is held against it there is no room for its Start
-abbrev pub LacksRoom : List Entry → Stmt → Type 0
-LacksRoom book tree = holder_against book tree ≡ None → profile.entries < load (state_of book) + 1
+abbrev pub IsCarriedAs : List Entry → List Entry → Asking → Option Stage → Carried → Type 0
+IsCarriedAs before now asking hold (carried.Ended found) = EndsThrough before now asking hold found
+IsCarriedAs before now asking hold (carried.Kept paused) = IsKept before now asking hold paused
+IsCarriedAs before now asking hold (carried.Full entries) = Unit {0}
+IsCarriedAs before now asking hold carried.NoMemory = Unit {0}
 
--- an opened statement is aborted for what stands in its way
-pub record AbortsOpened {D : Type 0} (told : D → Option Store) (faults : D → ℕ) (tree : Stmt) (txn : ℕ) (before now : House D) (result : Result Reply HouseFault) : Type 0 where
-  pub part : IsPart told faults txn before now result
-  pub aborted : IfOk result (λ _. IsAborted txn (hindrance_of (holder_against (entries_of before) tree)) (entries_of before) (entries_of now))
-  pub answered : (asking : Asking) (said : Stmt) → IsWaiting (entries_of before) asking txn said
-      → IfOk result (λ reply. HasReplied (entries_of now) txn reply.text reply.refused reply.ended)
+-- all that is promised of a statement of a tree that is carried to its end or its hold
+pub record CarriesAlone {D : Type 0} (told : D → Option Store) (faults : D → ℕ) (asking : Asking) (hold : Option Stage) (before now : House D)
+    (result : Result Carried HouseFault) : Type 0 where
+  pub taking : IsTaking told faults asking before now result
+  pub held : IfOk result (IsCarriedIn (entries_of before) (entries_of now) asking)
+  pub truly : IsToldHouse told before → IfOk result (IsCarriedAs (entries_of before) (entries_of now) asking hold)
+
+-- and of one that is taken up
+pub record TakesAlone {D : Type 0} (told : D → Option Store) (faults : D → ℕ) (asking : Asking) (hold : Option Stage) (before now : House D)
+    (result : Result Taken HouseFault) : Type 0 where
+  pub taking : IsTaking told faults asking before now result
+  pub held : IfOk result (IsKeptIn (entries_of before) (entries_of now) asking)
+  pub truly : IsToldHouse told before → IfOk result (IsTakenAs (entries_of before) (entries_of now) asking hold)
+
+-- ---- what the parts over an actor promise then
+
+-- nothing is said of what it adds
+abbrev pub Anyhow : {T : Type 0} → T → List Entry → Type 0
+Anyhow x added = Unit {0}
+
+-- a part of a started statement is one over a house alone, whatever it answers and adds
+abbrev pub PartsAlone : {D : Type 0} → Type 0 → (D → Option Store) → (D → ℕ) → (List TrailItem → Type 0) → (ToldHouse D → ToldHouse D → Type 0) → Type 0
+PartsAlone {D = D} T told faults between meanwhile =
+    (txn : ℕ) (own own' : List ℕ) (before now : ToldHouse D) (result : Result T HouseFault)
+    → IsOpenHouse before → IsWholeOrClosed told now.house
+    → Goes told faults between meanwhile (faults_in faults before) txn own own' before now (Anyhow {T = T}) result
+    → IsPart told faults txn before.house now.house result
+
+-- a statement begins at once where it can, and else is turned away for what stood in its way
+abbrev pub BeginsAlone : {D : Type 0} → (D → Option Store) → (D → ℕ) → (List TrailItem → Type 0) → Type 0
+BeginsAlone {D = D} told faults between =
+    (asking : Asking) (said : Stmt) (own own' : List ℕ) (before now : ToldHouse D) (found : Opened)
+    → IsWhole told before.house → IsWholeOrClosed told now.house
+    → GainsSome faults between (faults_in faults before) own own' before now (Begins before now asking said found)
+    → BeginsSo (entries_of before.house) (entries_of now.house) asking said found
+
+-- and where the run stops in that
+abbrev pub HaltsAlone : {D : Type 0} → Type 0 → (D → Option Store) → (D → ℕ) → (List TrailItem → Type 0) → (ToldHouse D → ToldHouse D → Type 0) → Type 0
+HaltsAlone {D = D} T told faults between meanwhile =
+    (asking : Asking) (own own' : List ℕ) (before now : ToldHouse D) (why : HouseFault)
+    → IsOpenHouse before → IsWholeOrClosed told now.house
+    → HaltsBeginning told faults between meanwhile asking own own' before now why
+    → IsTaking {T = T} told faults asking before.house now.house (Err why)

@@ -1,17 +1,35 @@
-//! A statement of a session: taken up, held where it is to be, and ended, beside others that are open.
+//! A statement of a session over whoever acts on the house: taken up, held where it is to be, and ended act by act, so that others may act on
+//! the house between.
 #![tactic(auto)]
 
+mod acting;
+mod alone;
 mod asking;
-mod ends;
-mod holds;
+mod concluding;
+mod laws;
 mod lines;
 mod opening;
 mod paused;
+mod preparing;
+mod putting;
+mod reading;
+mod ready;
+mod refusing;
+mod reply;
 mod seeing;
 mod statement;
+mod tables;
+mod taking;
 
+pub use alone::{
+    alone_adds, alone_begins, alone_concludes, alone_goes, alone_prepares, alone_refuses,
+    alone_sees, alone_stops, who_acts_alone,
+};
 pub use asking::{Asking, How};
-pub use hv_ending::Reply;
+pub use laws::what_is_held_can_be_finished;
 pub use lines::memory_reply;
 pub use paused::{Paused, Point, Taken};
-pub use statement::{finish, take_up};
+pub use ready::{End, PutFiles, Ready, Reply, Way};
+pub use reply::Done;
+pub use statement::take_up;
+pub use taking::finish;

@@ -7,8 +7,8 @@ ghost use Rattle.hv_reading.specs.Faults.{IsRefusalOf};
 ghost use Rattle.hv_session.specs.Faults.{IsFaultLine, placed_line};
 ghost use Rattle.hv_session.specs.Lines.{IsLine, IsTextLine, IsFullLine};
 
+use crate::ready::Reply;
 use hv_base::{List, NoMemory, Refusal};
-use hv_ending::Reply;
 use hv_history::{Cause, cause_text};
 use hv_reading::TextFault;
 use std::alloc::Global;

@@ -1,226 +1,351 @@
 //! How a statement is opened: with its Start at once, or, where something stands in the way, with its abort.
-
-ghost use Rattle.std.specs.Prelude.{◌≡◌, ◌≤◌, None, length, IfOk, IfErr};
+ghost use Rattle.std.specs.Prelude.{◌≡◌, ◌≤◌, ℕ, List, length, Err, IfOk, IfErr};
+ghost use Rattle.hv_ast.specs.declared.statement.Stmt.{Stmt as Tree};
 ghost use Rattle.hv_built.specs.Running.{Runs};
-ghost use Rattle.hv_history.specs.declared.entry.Cause.TheVariants as cause;
-ghost use Rattle.hv_history.specs.Answers.{cause_text};
-ghost use Rattle.hv_history.specs.Legal.{Fits, profile};
-ghost use Rattle.hv_history.specs.State.{state_of};
-ghost use Rattle.hv_stands.specs.Running.{Asking as Asked, next_number, opening, IsWaiting};
+ghost use Rattle.hv_stands.specs.Running.{Asking};
 ghost use Rattle.hv_house.specs.Faults.{EndsRun};
-ghost use Rattle.hv_house.specs.House.{entries_of, BeginFits, IsReady};
-ghost use Rattle.hv_house.specs.Asking.{CanBegin, holder_against};
-ghost use Rattle.hv_telling.specs.Telling.{IsWhole, IsToldHouse};
-ghost use Rattle.hv_house.specs.declared.fault.HouseFault.TheVariants.{NoMemory as OutOfMemory};
-ghost use Rattle.hv_session.specs.Lines.{IsLine};
-ghost use Rattle.hv_session.specs.Taking.{asked_of, IsHold, IsKeptIn, IsTakenAs};
-ghost use Rattle.hv_session.specs.Ways.{IsPart, IsTaking, IsTurnedAway, hindrance_of, LacksRoom, AbortsOpened};
+ghost use Rattle.hv_acts.specs.declared.told.ToldHouse.{ToldHouse as House};
+ghost use Rattle.hv_acts.specs.Told.{trail_in};
+ghost use Rattle.hv_session.specs.Going.{IsOpenHouse, faults_in, GainsSome, WasOpened};
+ghost use Rattle.hv_session.specs.Leaving.{IsLeftFor, EndsAct};
+ghost use Rattle.hv_session.specs.Phases.{Begins, HaltsBeginning};
+ghost use Rattle.hv_session.specs.Beginnings.{GoesBeginning, lacking, WasHindered, BeginsAtOnce, IsLeftRunning, OpenedFirst, unopened, OpensSo, WaitsIn, reply_of, started_as, StartsSo};
 
-use crate::asking::Asking;
-use crate::holds::go;
-use crate::lines::{full_reply, memory_reply};
-use crate::paused::Taken;
+use crate::ready::{Reply, Way};
+use crate::refusing::end_without;
+use crate::reply::{Done, Opened};
+use hv_actor::Actor;
+use hv_acts::{
+    Aborted, ActFault, Begin, BeginFault, Begun, OpenTransaction, StartOrAbort, Started, ToldHouse,
+};
 use hv_ast::{Stmt, discard};
-use hv_base::TxnId;
-use hv_ending::{Reply, Way, refuse};
-use hv_history::{Cause, Entry};
-use hv_house::{House, HouseFault};
-use hv_locks::LockState;
+use hv_base::{Duplicate, NoMemory, Text, TxnId};
+use hv_house::HouseFault;
 use hv_reading::read_statement;
 use hv_shelf::Shelf;
-use hv_telling::{begin as begin_in, note};
 use std::alloc::Global;
 
-/// Replies where the statement wasn't opened: for want of memory, where it was that.
-fn unopened(alloc: Global, fault: HouseFault) -> Result<Reply, HouseFault>
-    requires ends { EndsRun fault }
-    ensures memory { IfOk result (λ reply. (fault ≡ OutOfMemory) × IsLine (cause_text None cause.Memory) reply) }
-    ensures failed { IfErr result (λ why. why ≡ fault) }
+/// The session and the text of a statement once more.
+fn copy_asked(alloc: Global, session: &Text, text: &Text) -> Result<(Text, Text), NoMemory>
+    ensures session { IfOk result (λ copies. copies.0 ≡ session.now) }
+    ensures text { IfOk result (λ copies. copies.1 ≡ text.now) }
+{
+    let name = session.duplicate(alloc)?;
+    let words = text.duplicate(alloc)?;
+    Ok((name, words))
+}
+
+/// What a statement comes to where the house's call failed and nothing was noted.
+fn lacking(fault: HouseFault) -> Result<Opened, HouseFault>
+    ensures lacks { result ≡ lacking fault }
 {
     match fault {
-        HouseFault::NoMemory => Ok(memory_reply(alloc)?),
-        other => Err(other),
+        HouseFault::NoMemory => Ok(Opened::NoMemory),
+        HouseFault::Store => Err(HouseFault::Store),
+        HouseFault::Failed { count } => Err(HouseFault::Failed { count }),
     }
 }
 
-/// What stands in the way of an opened statement that can't start: a lock, or else want of room.
-fn hindrance<D: Shelf>(house: &House<D>, tree: &Stmt) -> Cause
-    requires ready { IsReady D.told house.now }
-    ensures cause { result ≡ hindrance_of (holder_against (entries_of house.now) tree.now) }
-{
-    match house.check(tree) {
-        LockState::Waiting { blocker } => Cause::Blocked { holder: blocker },
-        LockState::Granted => Cause::Full,
-    }
-}
-
-/// Aborts an opened statement for what stands in its way.
-fn abort_opened<D: Shelf>(
+/// Opens a statement and starts it, both at once, where nothing stands in its way.
+fn begin_at_once<D: Shelf + Drop, W: Actor<D, ToldHouse<D>>>(
     alloc: Global,
-    house: &mut House<D>,
+    actor: &mut W,
+    session: Text,
+    number: u64,
+    text: Text,
+    tree: Stmt,
+) -> Result<Begun, BeginFault>
+    requires keeps { W.keeps actor.old }
+    requires running { IsOpenHouse (W.house actor.old) }
+    requires runs { Runs text tree }
+    requires short { length text ≤ 32768 }
+    requires named { length session ≤ 32 }
+    ensures keeps { W.keeps actor.new }
+    ensures begins { BeginsAtOnce D.told D.faults W.between W.meanwhile (record { session = session; number = number; text = text }) tree
+        (W.own actor.old) (W.own actor.new) (W.house actor.old) (W.house actor.new) result }
+{
+    actor.hold(
+        alloc,
+        Begin {
+            session,
+            number,
+            text,
+            tree,
+        },
+    )
+}
+
+/// Opens a statement, which waits then for its Start.
+fn open_waiting<D: Shelf + Drop, W: Actor<D, ToldHouse<D>>>(
+    alloc: Global,
+    actor: &mut W,
+    session: Text,
+    number: u64,
+    text: Text,
+    tree: Stmt,
+) -> Result<TxnId, ActFault>
+    requires keeps { W.keeps actor.old }
+    requires running { IsOpenHouse (W.house actor.old) }
+    requires runs { Runs text tree }
+    requires short { length text ≤ 32768 }
+    requires named { length session ≤ 32 }
+    ensures keeps { W.keeps actor.new }
+    ensures waits { IfOk result (λ txn. WaitsIn (W.house actor.new) (record { session = session; number = number; text = text }) tree txn.0) }
+    ensures opens { (first : House D) (own : List ℕ) → WasHindered D.faults W.between tree own (W.own actor.old) first (W.house actor.old)
+        → OpensSo D.told D.faults W.between W.meanwhile (record { session = session; number = number; text = text }) tree
+        own (W.own actor.new) first (W.house actor.new) result }
+{
+    actor.hold(
+        alloc,
+        OpenTransaction {
+            session,
+            number,
+            text,
+            tree,
+        },
+    )
+}
+
+/// Starts a statement that waits, or aborts it for what stands in its way.
+fn start_waiting<D: Shelf + Drop, W: Actor<D, ToldHouse<D>>>(
+    alloc: Global,
+    actor: &mut W,
     txn: TxnId,
-    tree: &Stmt,
-) -> Result<Reply, HouseFault>
-    requires whole { IsWhole D.told house.old }
-    requires waiting { (asking : Asked) × IsWaiting (entries_of house.old) asking txn.0 tree.now }
-    requires lacks { LacksRoom (entries_of house.old) tree.now }
-    ensures aborts { AbortsOpened D.told D.faults tree.now txn.0 house.old house.new result }
+) -> Result<Started, ActFault>
+    requires keeps { W.keeps actor.old }
+    requires running { IsOpenHouse (W.house actor.old) }
+    requires was { WasOpened (trail_in (W.house actor.old)) txn.0 }
+    ensures keeps { W.keeps actor.new }
+    ensures was { WasOpened (trail_in (W.house actor.new)) txn.0 }
+    ensures left { IfErr result (IsLeftFor D.told W.meanwhile txn.0 (W.house actor.new)) }
+    ensures ends { IfErr result EndsAct }
+    ensures starts { (first : House D) (own : List ℕ) (asking : Asking) (said : Tree)
+        → OpenedFirst D.faults W.between asking txn.0 said own (W.own actor.old) first (W.house actor.old)
+        → StartsSo D.faults W.between asking txn said own (W.own actor.new) first (W.house actor.new) result }
 {
-    let cause = hindrance(house, tree);
-    refuse(alloc, house, txn, cause)
+    actor.hold(alloc, StartOrAbort { txn })
 }
 
-/// Notes the Opened of a statement that can't start, and then its abort.
-fn note_and_abort<D: Shelf>(
-    alloc: Global,
-    house: &mut House<D>,
-    opened: Entry,
-    kept: Stmt,
-    tree: &Stmt,
-) -> Result<Reply, HouseFault>
-    requires whole { IsWhole D.told house.old }
-    requires opened { (asking : Asked) × (opened ≡ opening (entries_of house.old) asking)
-        × Runs asking.text kept × Runs asking.text tree.now × (length asking.text ≤ 32768) × (length asking.session ≤ 32) }
-    requires cannot { CanBegin profile (entries_of house.old) tree.now → ⊥ }
-    requires fits { Fits profile (state_of (entries_of house.old)) opened }
-    ensures part { IsPart D.told D.faults (next_number (entries_of house.old))
-        house.old house.new result }
-    ensures turned { (asking : Asked) → opened ≡ opening (entries_of house.old) asking
-        → IfOk result (IsTurnedAway (entries_of house.old) (entries_of house.new) asking) }
+/// What is replied for a statement that was aborted where it was to start.
+fn reply_of(aborted: Aborted) -> Reply
+    ensures reply { result ≡ reply_of aborted }
 {
-    let txn = house.next_txn();
-    match note(house, opened, Some(kept)) {
-        Ok(()) => abort_opened(alloc, house, txn, tree),
-        Err(fault) => unopened(alloc, fault),
+    let Aborted {
+        at,
+        cause: _cause,
+        text,
+    } = aborted;
+    Reply {
+        text,
+        refused: true,
+        ended: Some(at),
     }
 }
 
-/// Turns away a statement that can't start: it is opened and aborted, where there is room for that. `kept` is its
-/// tree once more, for the book.
-fn turn_away<D: Shelf>(
+/// Ends an opened statement that was neither started nor aborted where it was to start.
+fn end_unstarted<D: Shelf + Drop, W: Actor<D, ToldHouse<D>>>(
     alloc: Global,
-    house: &mut House<D>,
-    asking: Asking,
-    kept: Stmt,
-    tree: &Stmt,
-) -> Result<Reply, HouseFault>
-    requires whole { IsWhole D.told house.old }
-    requires kept { Runs asking.text kept }
-    requires tree { Runs asking.text tree.now }
-    requires short { length asking.text ≤ 32768 }
-    requires named { length asking.session ≤ 32 }
-    requires cannot { CanBegin profile (entries_of house.old) tree.now → ⊥ }
-    ensures part { IsPart D.told D.faults (next_number (entries_of house.old))
-        house.old house.new result }
-    ensures turned { IfOk result (IsTurnedAway
-        (entries_of house.old) (entries_of house.new) (asked_of asking)) }
+    actor: &mut W,
+    txn: TxnId,
+    why: ActFault,
+) -> Result<Opened, HouseFault>
+    requires keeps { W.keeps actor.old }
+    requires left { IsLeftFor D.told W.meanwhile txn.0 (W.house actor.old) why }
+    requires ends { EndsAct why }
+    requires was { WasOpened (trail_in (W.house actor.old)) txn.0 }
+    ensures keeps { W.keeps actor.new }
+    ensures goes { (first : House D) (own : List ℕ) (asking : Asking) (said : Tree)
+        → OpenedFirst D.faults W.between asking txn.0 said own (W.own actor.old) first (W.house actor.old)
+        → GoesBeginning D.told D.faults W.between W.meanwhile asking said own (W.own actor.new) first (W.house actor.new) result }
 {
-    let Asking {
-        session,
-        number,
-        text,
-        ..
-    } = asking;
-    let opened = Entry::Opened {
-        txn: house.next_txn(),
-        session,
-        number,
-        text,
-    };
-    if house.fits(&opened, Some(tree)) {
-        note_and_abort(alloc, house, opened, kept, tree)
-    } else {
-        discard(kept);
-        Ok(full_reply(alloc)?)
+    match end_without(alloc, actor, txn, why) {
+        Ok(done) => Ok(Opened::Ended(done)),
+        Err(fault) => Err(fault),
     }
 }
 
-/// Opens and starts a statement, and goes on with it. `kept` is its tree once more, for the book.
-fn begin<D: Shelf>(
+/// Starts an opened statement or ends it.
+fn start_or_end<D: Shelf + Drop, W: Actor<D, ToldHouse<D>>>(
     alloc: Global,
-    house: &mut House<D>,
-    asking: Asking,
-    kept: Stmt,
+    actor: &mut W,
+    txn: TxnId,
+) -> Result<Opened, HouseFault>
+    requires keeps { W.keeps actor.old }
+    requires running { IsOpenHouse (W.house actor.old) }
+    requires was { WasOpened (trail_in (W.house actor.old)) txn.0 }
+    ensures keeps { W.keeps actor.new }
+    ensures goes { (first : House D) (own : List ℕ) (asking : Asking) (said : Tree)
+        → OpenedFirst D.faults W.between asking txn.0 said own (W.own actor.old) first (W.house actor.old)
+        → GoesBeginning D.told D.faults W.between W.meanwhile asking said own (W.own actor.new) first (W.house actor.new) result }
+{
+    match start_waiting(alloc, actor, txn) {
+        Ok(found) => Ok(started_as(txn, found)),
+        Err(why) => end_unstarted(alloc, actor, txn, why),
+    }
+}
+
+/// What a statement comes to that started, or was aborted where it was to start.
+fn started_as(txn: TxnId, found: Started) -> Opened
+    ensures opened { result ≡ started_as txn found }
+{
+    match found {
+        Started::At(place) => Opened::Started(Way { txn, place }),
+        Started::Aborted(aborted) => Opened::Ended(Done::Replied(reply_of(aborted))),
+    }
+}
+
+/// What a statement comes to that wasn't opened. Only the lack of room or a call that failed is an answer there.
+fn unopened(why: ActFault) -> Result<Opened, HouseFault>
+    ensures unopened { result ≡ unopened why }
+{
+    match why {
+        ActFault::Full { entries } => Ok(Opened::Full { entries }),
+        ActFault::House(fault) => lacking(fault),
+        ActFault::Ended { .. } => Err(HouseFault::Store),
+        ActFault::Held { .. } => Err(HouseFault::Store),
+        ActFault::Broken { .. } => Err(HouseFault::Store),
+        ActFault::Unfit => Err(HouseFault::Store),
+    }
+}
+
+/// Opens a statement, and then starts it or ends it.
+fn open_and_start<D: Shelf + Drop, W: Actor<D, ToldHouse<D>>>(
+    alloc: Global,
+    actor: &mut W,
+    session: Text,
+    number: u64,
+    text: Text,
     tree: Stmt,
-) -> Result<Taken, HouseFault>
-    requires whole { IsWhole D.told house.old }
-    requires kept { Runs asking.text kept }
-    requires tree { Runs asking.text tree }
-    requires short { length asking.text ≤ 32768 }
-    requires named { length asking.session ≤ 32 }
-    requires hold { IsHold asking.hold }
-    requires can { CanBegin profile (entries_of house.old) tree }
-    requires fits { BeginFits (entries_of house.old) (asked_of asking) }
-    ensures taking { IsTaking D.told D.faults (asked_of asking) house.old house.new result }
-    ensures held { IfOk result (IsKeptIn (entries_of house.old) (entries_of house.new) (asked_of asking)) }
-    ensures truly { IsToldHouse D.told house.old → IfOk result (IsTakenAs
-        (entries_of house.old) (entries_of house.new) (asked_of asking) asking.hold) }
+) -> Result<Opened, HouseFault>
+    requires keeps { W.keeps actor.old }
+    requires running { IsOpenHouse (W.house actor.old) }
+    requires runs { Runs text tree }
+    requires short { length text ≤ 32768 }
+    requires named { length session ≤ 32 }
+    ensures keeps { W.keeps actor.new }
+    ensures goes { (first : House D) (own : List ℕ) → WasHindered D.faults W.between tree own (W.own actor.old) first (W.house actor.old)
+        → GoesBeginning D.told D.faults W.between W.meanwhile (record { session = session; number = number; text = text }) tree
+        own (W.own actor.new) first (W.house actor.new) result }
 {
-    let Asking {
-        session,
-        number,
-        text,
-        hold,
-        ..
-    } = asking;
-    match begin_in(house, session, number, text, kept) {
-        Ok((txn, place)) => go(alloc, house, Way { txn, place }, tree, hold),
-        Err(fault) => {
+    match open_waiting(alloc, actor, session, number, text, tree) {
+        Ok(txn) => start_or_end(alloc, actor, txn),
+        Err(why) => unopened(why),
+    }
+}
+
+/// Opens a statement that could not begin. It is read once more, for the book: since its text runs, only memory may lack there.
+fn open_hindered<D: Shelf + Drop, W: Actor<D, ToldHouse<D>>>(
+    alloc: Global,
+    actor: &mut W,
+    session: Text,
+    number: u64,
+    text: Text,
+) -> Result<Opened, HouseFault>
+    requires keeps { W.keeps actor.old }
+    requires running { IsOpenHouse (W.house actor.old) }
+    requires short { length text ≤ 32768 }
+    requires named { length session ≤ 32 }
+    ensures keeps { W.keeps actor.new }
+    ensures goes { (first : House D) (own : List ℕ) (said : Tree) → Runs text said
+        → WasHindered D.faults W.between said own (W.own actor.old) first (W.house actor.old)
+        → GoesBeginning D.told D.faults W.between W.meanwhile (record { session = session; number = number; text = text }) said
+        own (W.own actor.new) first (W.house actor.new) result }
+{
+    match read_statement(alloc, &text) {
+        Ok(tree) => open_and_start(alloc, actor, session, number, text, tree),
+        Err(_) => Ok(Opened::NoMemory),
+    }
+}
+
+/// Goes on where a statement was not begun at once.
+fn not_begun<D: Shelf + Drop, W: Actor<D, ToldHouse<D>>>(
+    alloc: Global,
+    actor: &mut W,
+    session: Text,
+    number: u64,
+    text: Text,
+    why: BeginFault,
+) -> Result<Opened, HouseFault>
+    requires keeps { W.keeps actor.old }
+    requires running { IsLeftRunning (W.house actor.old) why }
+    requires short { length text ≤ 32768 }
+    requires named { length session ≤ 32 }
+    ensures keeps { W.keeps actor.new }
+    ensures goes { (first : House D) (own : List ℕ) (said : Tree) → Runs text said
+        → BeginsAtOnce D.told D.faults W.between W.meanwhile (record { session = session; number = number; text = text }) said
+        own (W.own actor.old) first (W.house actor.old) (Err why)
+        → GoesBeginning D.told D.faults W.between W.meanwhile (record { session = session; number = number; text = text }) said
+        own (W.own actor.new) first (W.house actor.new) result }
+{
+    match why {
+        BeginFault::Held { .. } => open_hindered(alloc, actor, session, number, text),
+        BeginFault::Full { .. } => open_hindered(alloc, actor, session, number, text),
+        BeginFault::House(fault) => lacking(fault),
+    }
+}
+
+/// Begins a statement, or opens it, of which the session and the text are there once more.
+fn begin_or_open<D: Shelf + Drop, W: Actor<D, ToldHouse<D>>>(
+    alloc: Global,
+    actor: &mut W,
+    session: Text,
+    number: u64,
+    text: Text,
+    tree: Stmt,
+    name: Text,
+    words: Text,
+) -> Result<Opened, HouseFault>
+    requires keeps { W.keeps actor.old }
+    requires running { IsOpenHouse (W.house actor.old) }
+    requires runs { Runs text tree }
+    requires short { length text ≤ 32768 }
+    requires named { length session ≤ 32 }
+    requires name { name ≡ session }
+    requires words { words ≡ text }
+    ensures keeps { W.keeps actor.new }
+    ensures goes { GoesBeginning D.told D.faults W.between W.meanwhile (record { session = session; number = number; text = text }) tree
+        (W.own actor.old) (W.own actor.new) (W.house actor.old) (W.house actor.new) result }
+{
+    match begin_at_once(alloc, actor, session, number, text, tree) {
+        Ok(start) => Ok(Opened::Started(Way {
+            txn: start.txn,
+            place: start.place,
+        })),
+        Err(why) => not_begun(alloc, actor, name, number, words, why),
+    }
+}
+
+/// Opens a statement and starts it, both at once; or, where something stands in its way, opens it and then starts or aborts it in one hold.
+/// `tree` is that of its text.
+///
+/// # Errors
+/// `Store` where the journal failed or others closed the house, and `NoMemory` where memory lacked even for an abort.
+pub fn begin<D: Shelf + Drop, W: Actor<D, ToldHouse<D>>>(
+    alloc: Global,
+    actor: &mut W,
+    session: Text,
+    number: u64,
+    text: Text,
+    tree: Stmt,
+) -> Result<Opened, HouseFault>
+    requires keeps { W.keeps actor.old }
+    requires running { IsOpenHouse (W.house actor.old) }
+    requires runs { Runs text tree }
+    requires short { length text ≤ 32768 }
+    requires named { length session ≤ 32 }
+    ensures keeps { W.keeps actor.new }
+    ensures begins { (said : Tree) → Runs text said → IfOk result (λ opened. GainsSome D.faults W.between (faults_in D.faults (W.house actor.old))
+        (W.own actor.old) (W.own actor.new) (W.house actor.old) (W.house actor.new)
+        (Begins (W.house actor.old) (W.house actor.new) (record { session = session; number = number; text = text }) said opened)) }
+    ensures halts { IfErr result (HaltsBeginning D.told D.faults W.between W.meanwhile (record { session = session; number = number; text = text })
+        (W.own actor.old) (W.own actor.new) (W.house actor.old) (W.house actor.new)) }
+    ensures ends { IfErr result EndsRun }
+{
+    match copy_asked(alloc, &session, &text) {
+        Ok((name, words)) => begin_or_open(alloc, actor, session, number, text, tree, name, words),
+        Err(NoMemory) => {
             discard(tree);
-            Ok(Taken::Replied(unopened(alloc, fault)?))
-        }
-    }
-}
-
-/// Opens a statement whose tree was read for the book too.
-fn take_read<D: Shelf>(
-    alloc: Global,
-    house: &mut House<D>,
-    asking: Asking,
-    kept: Stmt,
-    tree: Stmt,
-) -> Result<Taken, HouseFault>
-    requires whole { IsWhole D.told house.old }
-    requires kept { Runs asking.text kept }
-    requires tree { Runs asking.text tree }
-    requires short { length asking.text ≤ 32768 }
-    requires named { length asking.session ≤ 32 }
-    requires hold { IsHold asking.hold }
-    ensures taking { IsTaking D.told D.faults (asked_of asking) house.old house.new result }
-    ensures held { IfOk result (IsKeptIn (entries_of house.old) (entries_of house.new) (asked_of asking)) }
-    ensures truly { IsToldHouse D.told house.old → IfOk result (IsTakenAs
-        (entries_of house.old) (entries_of house.new) (asked_of asking) asking.hold) }
-{
-    if house.can_begin(&tree) {
-        return begin(alloc, house, asking, kept, tree);
-    }
-    let result = turn_away(alloc, house, asking, kept, &tree);
-    discard(tree);
-    Ok(Taken::Replied(result?))
-}
-
-/// Takes up a statement of this tree. It is read once more, for the book: since its text runs, only memory may lack there.
-pub fn take_statement<D: Shelf>(
-    alloc: Global,
-    house: &mut House<D>,
-    asking: Asking,
-    tree: Stmt,
-) -> Result<Taken, HouseFault>
-    requires whole { IsWhole D.told house.old }
-    requires tree { Runs asking.text tree }
-    requires short { length asking.text ≤ 32768 }
-    requires named { length asking.session ≤ 32 }
-    requires hold { IsHold asking.hold }
-    ensures taking { IsTaking D.told D.faults (asked_of asking) house.old house.new result }
-    ensures held { IfOk result (IsKeptIn (entries_of house.old) (entries_of house.new) (asked_of asking)) }
-    ensures truly { IsToldHouse D.told house.old → IfOk result (IsTakenAs
-        (entries_of house.old) (entries_of house.new) (asked_of asking) asking.hold) }
-{
-    match read_statement(alloc, &asking.text) {
-        Ok(kept) => take_read(alloc, house, asking, kept, tree),
-        Err(_) => {
-            discard(tree);
-            Ok(Taken::Replied(memory_reply(alloc)?))
+            Ok(Opened::NoMemory)
         }
     }
 }

@@ -1,8 +1,6 @@
-//! A statement that is held, and what taking one up answers.
-
+use crate::ready::{Ready, Way};
+use crate::reply::Done;
 use hv_ast::Stmt;
-use hv_base::TxnId;
-use hv_ending::{Ready, Reply};
 use hv_logic::Meaning;
 
 /// How far a held statement has come.
@@ -16,21 +14,32 @@ pub enum Point {
     Ready(Ready),
 }
 
-/// A statement that is held: its transaction is open and has its snapshot.
+/// A statement that is held: its transaction was open and has its snapshot.
 #[derive(Drop)]
 pub struct Paused {
-    pub txn: TxnId,
-    /// The place of its Start in the book.
-    pub place: u64,
+    pub way: Way,
     pub tree: Stmt,
     pub point: Point,
+}
+
+/// How far a statement of a tree was carried.
+#[derive(Drop)]
+pub enum Carried {
+    /// It was opened, and has ended.
+    Ended(Done),
+    /// It is held where it was to be.
+    Kept(Paused),
+    /// There was no room for it, and nothing was opened: the book has so many entries.
+    Full { entries: u64 },
+    /// Memory lacked before it was opened.
+    NoMemory,
 }
 
 /// What taking up a statement answers.
 #[derive(Drop)]
 pub enum Taken {
-    /// It was done to its end.
-    Replied(Reply),
+    /// It has ended, or was never opened.
+    Ended(Done),
     /// It is held where it was to be.
     Kept(Paused),
 }

@@ -1,31 +1,45 @@
 //! What a started statement sees, and what it comes to.
 
-ghost use Rattle.std.specs.Prelude.{◌≡◌, ◌≤◌, ◌++◌, ◌∷◌, [], Some, IfOk, OnOk, IfErr, IsSome, length, take, true};
+ghost use Rattle.std.specs.Prelude.{◌≡◌, ◌≤◌, ◌<◌, ℕ, ◌++◌, ◌∷◌, [], Some, IfOk, OnOk, IfErr, IsSome, length, take, true};
+ghost use Rattle.hv_base.specs.declared.ids.TxnId.{TxnId};
+ghost use Rattle.hv_ast.specs.declared.statement.Stmt.{Stmt};
 ghost use Rattle.hv_built.specs.Built.{IsBuilt};
 ghost use Rattle.hv_changes.specs.Columns.{columns_of};
 ghost use Rattle.hv_meaning.specs.Meaning.{meaning_in};
 ghost use Rattle.hv_meaning.specs.Laws.{MeansSomething, are_values, reads_rows};
-ghost use Rattle.hv_stands.specs.Running.{meant};
-ghost use Rattle.hv_house.specs.Faults.{ReadCause, IsShortDamage, IsDamage};
-ghost use Rattle.hv_house.specs.House.{entries_of, IsReady};
-ghost use Rattle.hv_house.specs.Steps.{IsMarkedFor};
-ghost use Rattle.hv_house.specs.Seeing.{IsSeenOf};
-ghost use Rattle.hv_viewing.specs.Counting.{IsAmiss};
-ghost use Rattle.hv_viewing.specs.Looking.{Looks};
-ghost use Rattle.hv_telling.specs.Telling.{IsWhole, IsToldHouse};
 ghost use Rattle.hv_logic.specs.Tables.{named};
+ghost use Rattle.hv_history.specs.declared.entry.Cause.TheVariants.{ReadFault};
+ghost use Rattle.hv_stands.specs.Running.{Asking};
 ghost use Rattle.hv_stands.specs.Reading.{table_of_name};
-ghost use Rattle.hv_ending.specs.Ending.{CanEnd};
-ghost use Rattle.hv_session.specs.Seeing.{AddsSeen, AreSeenOfSome, IsSeen, IsNarrow, LeavesRead, state_at};
+ghost use Rattle.hv_house.specs.Faults.{EndsRun};
+ghost use Rattle.hv_house.specs.House.{IsSmall};
+ghost use Rattle.hv_house.specs.declared.fault.HouseFault.TheVariants as fault;
+ghost use Rattle.hv_house.specs.declared.fault.RowFault.TheVariants as row_fault;
+ghost use Rattle.hv_telling.specs.Telling.{IsToldHouse};
+ghost use Rattle.hv_acts.specs.Told.{trail_in};
+ghost use Rattle.hv_acts.specs.Answers.{HasItsMark};
+ghost use Rattle.hv_acts.specs.Meant.{IsAbortDue};
+ghost use Rattle.hv_acts.specs.Reading.{HasPlace};
+ghost use Rattle.hv_session.specs.Ending.{aborting, EndsUncommitted};
+ghost use Rattle.hv_session.specs.Tables.{RisesTo};
+ghost use Rattle.hv_session.specs.Going.{IsOpenHouse, faults_in, Goes, WasOnWay, WasOpened, CauseKeeps};
+ghost use Rattle.hv_session.specs.Phases.{ComesTo, Sees};
+ghost use Rattle.hv_session.specs.Seeing.{tables_then, IsSeenAs, AreSeenOfSome, AddsSeen, IsSeen, Looks, IsUnseen, IsNarrow, EndsFor, EndsUnseen};
 
+use crate::ready::Way;
+use crate::refusing::refuse;
+use crate::reply::Outcome;
+use crate::tables::see_table;
+use hv_actor::Actor;
+use hv_acts::ToldHouse;
 use hv_ast::{Rows, Stmt};
 use hv_base::{Duplicate, NoMemory, Text, TxnId};
 use hv_effect::meaning_in;
-use hv_house::{House, RowFault};
+use hv_history::Cause;
+use hv_house::{HouseFault, RowFault};
 use hv_logic::{Meaning, Seen, TableInfo, named};
 use hv_names::names_in;
 use hv_shelf::Shelf;
-use hv_viewing::see;
 use std::alloc::Global;
 
 fn are_values(rows: &Rows) -> bool
@@ -68,53 +82,76 @@ fn seen_before(alloc: Global, name: &Text, seen: &[Seen]) -> Result<Option<Seen>
     }
 }
 
+/// The table of a name, as it stood at a place of the book, for a transaction.
+fn look_now<D: Shelf + Drop, W: Actor<D, ToldHouse<D>>>(
+    alloc: Global,
+    actor: &mut W,
+    by: TxnId,
+    place: u64,
+    name: &Text,
+    reads: bool,
+) -> Result<Option<Seen>, RowFault>
+    requires keeps { W.keeps actor.old }
+    requires running { IsOpenHouse (W.house actor.old) }
+    requires place { HasPlace (trail_in (W.house actor.old)) place }
+    ensures keeps { W.keeps actor.new }
+    ensures looks { Looks D.told D.faults W.between W.meanwhile by (W.own actor.old) (W.own actor.new)
+        (W.house actor.old) (W.house actor.new) result }
+    ensures seen { IfOk result (IsSeenAs (IsToldHouse D.told (W.house actor.old).house) reads
+        (table_of_name name.now (tables_then (W.house actor.old) place))) }
+{
+    see_table(alloc, actor, by, place, name, reads)
+}
+
 /// The table of a name, as it stood at a place of the book, for a transaction. Where it was seen for an earlier name
 /// its rows are copied, and no file is read again.
-fn look<D: Shelf>(
+fn look<D: Shelf + Drop, W: Actor<D, ToldHouse<D>>>(
     alloc: Global,
-    house: &mut House<D>,
+    actor: &mut W,
     by: TxnId,
     place: u64,
     name: &Text,
     reads: bool,
     seen: &[Seen],
 ) -> Result<Option<Seen>, RowFault>
-    requires ready { IsReady D.told house.old }
-    requires seen { AreSeenOfSome (D.told house.old.shelf) (state_at (entries_of house.old) place) reads seen.now }
-    ensures looks { Looks D.told D.faults by house.old house.new result }
-    ensures short { IfErr result IsShortDamage }
-    ensures seen { IfOk result (λ found. IsSeenOf (D.told house.old.shelf) reads (state_at (entries_of house.old) place)
-        (table_of_name name.now (state_at (entries_of house.old) place).tables) found) }
-    ensures once { IsSome (named name.now seen.now) → house.new ≡ house.old }
-    ensures damage { IfErr result (λ fault. IsDamage fault
-        → IsAmiss (D.told house.old.shelf) (state_at (entries_of house.old) place)) }
+    requires keeps { W.keeps actor.old }
+    requires running { IsOpenHouse (W.house actor.old) }
+    requires place { HasPlace (trail_in (W.house actor.old)) place }
+    requires seen { AreSeenOfSome (IsToldHouse D.told (W.house actor.old).house) reads (tables_then (W.house actor.old) place) seen.now }
+    ensures keeps { W.keeps actor.new }
+    ensures looks { Looks D.told D.faults W.between W.meanwhile by (W.own actor.old) (W.own actor.new)
+        (W.house actor.old) (W.house actor.new) result }
+    ensures seen { IfOk result (IsSeenAs (IsToldHouse D.told (W.house actor.old).house) reads
+        (table_of_name name.now (tables_then (W.house actor.old) place))) }
+    ensures once { IsSome (named name.now seen.now) → actor.new ≡ actor.old }
 {
     match seen_before(alloc, name, seen)? {
         Some(table) => Ok(Some(table)),
-        None => see(alloc, house, by, place, name, reads),
+        None => look_now(alloc, actor, by, place, name, reads),
     }
 }
 
 /// Looks at the table of one more name, as it stood at a place of the book, for a transaction.
-fn see_next<D: Shelf>(
+fn see_next<D: Shelf + Drop, W: Actor<D, ToldHouse<D>>>(
     alloc: Global,
-    house: &mut House<D>,
+    actor: &mut W,
     by: TxnId,
     place: u64,
     name: &Text,
     reads: bool,
     seen: &mut Vec<Seen>,
 ) -> Result<(), RowFault>
-    requires ready { IsReady D.told house.old }
-    requires seen { AreSeenOfSome (D.told house.old.shelf) (state_at (entries_of house.old) place) reads seen.old.items }
-    ensures looks { Looks D.told D.faults by house.old house.new result }
-    ensures short { IfErr result IsShortDamage }
-    ensures seen { OnOk result (AddsSeen (D.told house.old.shelf) (state_at (entries_of house.old) place) reads
+    requires keeps { W.keeps actor.old }
+    requires running { IsOpenHouse (W.house actor.old) }
+    requires place { HasPlace (trail_in (W.house actor.old)) place }
+    requires seen { AreSeenOfSome (IsToldHouse D.told (W.house actor.old).house) reads (tables_then (W.house actor.old) place) seen.old.items }
+    ensures keeps { W.keeps actor.new }
+    ensures looks { Looks D.told D.faults W.between W.meanwhile by (W.own actor.old) (W.own actor.new)
+        (W.house actor.old) (W.house actor.new) result }
+    ensures seen { OnOk result (AddsSeen (IsToldHouse D.told (W.house actor.old).house) reads (tables_then (W.house actor.old) place)
         name.now seen.old.items seen.new.items) }
-    ensures damage { IfErr result (λ fault. IsDamage fault
-        → IsAmiss (D.told house.old.shelf) (state_at (entries_of house.old) place)) }
 {
-    if let Some(table) = look(alloc, house, by, place, name, reads, seen)? {
+    if let Some(table) = look(alloc, actor, by, place, name, reads, seen)? {
         put(table, seen)?;
     }
     Ok(())
@@ -122,26 +159,33 @@ fn see_next<D: Shelf>(
 
 /// The tables that a statement names, as they stood at a place of the book, each with its rows where the statement reads rows.
 /// A table's files are read once, however often it is named.
-fn seen<D: Shelf>(
+fn seen<D: Shelf + Drop, W: Actor<D, ToldHouse<D>>>(
     alloc: Global,
-    house: &mut House<D>,
-    by: TxnId,
-    place: u64,
+    actor: &mut W,
+    way: Way,
     tree: &Stmt,
 ) -> Result<Vec<Seen>, RowFault>
-    requires ready { IsReady D.told house.old }
-    ensures looks { Looks D.told D.faults by house.old house.new result }
-    ensures short { IfErr result IsShortDamage }
-    ensures seen { IfOk result (λ seen. IsSeen (D.told house.old.shelf)
-        (state_at (entries_of house.old) place) tree.now seen.items) }
-    ensures damage { IfErr result (λ fault. IsDamage fault
-        → IsAmiss (D.told house.old.shelf) (state_at (entries_of house.old) place)) }
+    requires keeps { W.keeps actor.old }
+    requires running { IsOpenHouse (W.house actor.old) }
+    requires place { HasPlace (trail_in (W.house actor.old)) way.place }
+    ensures keeps { W.keeps actor.new }
+    ensures looks { Looks D.told D.faults W.between W.meanwhile way.txn (W.own actor.old) (W.own actor.new)
+        (W.house actor.old) (W.house actor.new) result }
+    ensures seen { IfOk result (λ seen. IsSeen D.told (W.house actor.new) way.place tree.now seen.items) }
 {
     let names = names_in(alloc, tree)?;
     let reads = reads_rows(tree);
     let mut seen = Vec::new(alloc);
     for i in 0..names.len() {
-        see_next(alloc, house, by, place, &names[i].name, reads, &mut seen)?;
+        see_next(
+            alloc,
+            actor,
+            way.txn,
+            way.place,
+            &names[i].name,
+            reads,
+            &mut seen,
+        )?;
     }
     Ok(seen)
 }
@@ -187,28 +231,116 @@ fn meaning(alloc: Global, tree: &Stmt, seen: Vec<Seen>) -> Result<Meaning, NoMem
     }
 }
 
-/// What a statement comes to over the tables that it names, as they stood at a place of the book.
-pub fn see_meaning<D: Shelf>(
+/// What a statement comes to over the tables that it names, as they stood at its Start.
+fn see_meaning<D: Shelf + Drop, W: Actor<D, ToldHouse<D>>>(
     alloc: Global,
-    house: &mut House<D>,
-    by: TxnId,
-    place: u64,
+    actor: &mut W,
+    way: Way,
     tree: &Stmt,
 ) -> Result<Meaning, RowFault>
-    requires whole { IsWhole D.told house.old }
+    requires keeps { W.keeps actor.old }
+    requires running { IsOpenHouse (W.house actor.old) }
+    requires place { HasPlace (trail_in (W.house actor.old)) way.place }
     requires built { IsBuilt tree.now }
-    ensures book { entries_of house.new ≡ entries_of house.old }
-    ensures start { house.new.start ≡ house.old.start }
-    ensures short { IfErr result IsShortDamage }
-    ensures can { IfOk result (CanEnd (entries_of house.old)) }
-    ensures means { IsToldHouse D.told house.old → IfOk result (λ meaning.
-        meant (take place (entries_of house.old)) tree.now ≡ Some meaning) }
-    ensures undamaged { IsToldHouse D.told house.old → IfErr result (λ fault. IsDamage fault → ⊥) }
-    ensures whole { IfOk result (λ _. IsWhole D.told house.new) }
-    ensures left { IfErr result (λ why. LeavesRead D.told why house.new) }
-    ensures marked { IfErr result (IsMarkedFor house.new by) }
-    ensures cause { ReadCause (D.faults house.old.shelf) (D.faults house.new.shelf) result }
+    ensures keeps { W.keeps actor.new }
+    ensures looks { Looks D.told D.faults W.between W.meanwhile way.txn (W.own actor.old) (W.own actor.new)
+        (W.house actor.old) (W.house actor.new) result }
+    ensures comes { IfOk result (ComesTo D.told (W.house actor.new) way tree.now) }
 {
-    let tables = seen(alloc, house, by, place, tree)?;
+    let tables = seen(alloc, actor, way, tree)?;
     Ok(meaning(alloc, tree, tables)?)
+}
+
+/// Aborts a started statement for this cause.
+fn cut_off<D: Shelf + Drop, W: Actor<D, ToldHouse<D>>>(
+    alloc: Global,
+    actor: &mut W,
+    txn: TxnId,
+    cause: Cause,
+) -> Result<Outcome, HouseFault>
+    requires keeps { W.keeps actor.old }
+    requires running { IsOpenHouse (W.house actor.old) }
+    requires small { IsSmall (aborting txn.0 cause) }
+    requires marked { HasItsMark (trail_in (W.house actor.old)) txn cause }
+    requires due { IsToldHouse D.told (W.house actor.old).house → IsAbortDue (trail_in (W.house actor.old)) txn cause }
+    requires uncommitted { EndsUncommitted cause }
+    requires was { WasOpened (trail_in (W.house actor.old)) txn.0 }
+    ensures keeps { W.keeps actor.new }
+    ensures goes { (low : ℕ) → low ≤ faults_in D.faults (W.house actor.old) → CauseKeeps low (faults_in D.faults (W.house actor.old)) cause
+        → Goes D.told D.faults W.between W.meanwhile low txn.0 (W.own actor.old) (W.own actor.new) (W.house actor.old) (W.house actor.new)
+        (EndsFor txn.0 (W.house actor.new) cause) result }
+    ensures ends { IfErr result EndsRun }
+{
+    Ok(Outcome::Ended(refuse(alloc, actor, txn, cause)?))
+}
+
+/// Aborts a statement for a fault of the house.
+fn end_halted<D: Shelf + Drop, W: Actor<D, ToldHouse<D>>>(
+    alloc: Global,
+    actor: &mut W,
+    txn: TxnId,
+    fault: HouseFault,
+) -> Result<Outcome, HouseFault>
+    requires keeps { W.keeps actor.old }
+    requires unseen { IsUnseen D.told W.meanwhile txn (W.house actor.old) (row_fault.House fault) }
+    requires was { WasOpened (trail_in (W.house actor.old)) txn.0 }
+    ensures keeps { W.keeps actor.new }
+    ensures goes { (low : ℕ) → low ≤ faults_in D.faults (W.house actor.old)
+        → RisesTo low (faults_in D.faults (W.house actor.old)) (row_fault.House fault)
+        → Goes D.told D.faults W.between W.meanwhile low txn.0 (W.own actor.old) (W.own actor.new) (W.house actor.old) (W.house actor.new)
+        (EndsUnseen D.told (W.house actor.new) txn.0) result }
+    ensures ends { IfErr result EndsRun }
+{
+    match fault {
+        HouseFault::Failed { count } => cut_off(alloc, actor, txn, Cause::ReadFault { count }),
+        HouseFault::NoMemory => cut_off(alloc, actor, txn, Cause::Memory),
+        HouseFault::Store => Err(HouseFault::Store),
+    }
+}
+
+/// Aborts a statement whose tables could not be seen.
+fn end_unseen<D: Shelf + Drop, W: Actor<D, ToldHouse<D>>>(
+    alloc: Global,
+    actor: &mut W,
+    txn: TxnId,
+    fault: RowFault,
+) -> Result<Outcome, HouseFault>
+    requires keeps { W.keeps actor.old }
+    requires unseen { IsUnseen D.told W.meanwhile txn (W.house actor.old) fault }
+    requires was { WasOpened (trail_in (W.house actor.old)) txn.0 }
+    ensures keeps { W.keeps actor.new }
+    ensures goes { (low : ℕ) → low ≤ faults_in D.faults (W.house actor.old) → RisesTo low (faults_in D.faults (W.house actor.old)) fault
+        → Goes D.told D.faults W.between W.meanwhile low txn.0 (W.own actor.old) (W.own actor.new) (W.house actor.old) (W.house actor.new)
+        (EndsUnseen D.told (W.house actor.new) txn.0) result }
+    ensures ends { IfErr result EndsRun }
+{
+    match fault {
+        RowFault::Damaged(place) => cut_off(alloc, actor, txn, Cause::Damaged { place }),
+        RowFault::House(fault) => end_halted(alloc, actor, txn, fault),
+    }
+}
+
+/// What a started statement comes to over the tables that it names, as they stood at its Start. Where they can't be seen it is aborted.
+///
+/// # Errors
+/// `Store` where the journal failed or others closed the house, and `NoMemory` where memory lacked even for an abort.
+pub fn see<D: Shelf + Drop, W: Actor<D, ToldHouse<D>>>(
+    alloc: Global,
+    actor: &mut W,
+    way: Way,
+    tree: &Stmt,
+) -> Result<Outcome, HouseFault>
+    requires keeps { W.keeps actor.old }
+    requires running { IsOpenHouse (W.house actor.old) }
+    requires was { (asking : Asking) × WasOnWay (trail_in (W.house actor.old)) asking way tree.now }
+    ensures keeps { W.keeps actor.new }
+    ensures goes { Goes D.told D.faults W.between W.meanwhile (faults_in D.faults (W.house actor.old)) way.txn.0
+        (W.own actor.old) (W.own actor.new) (W.house actor.old) (W.house actor.new)
+        (Sees D.told (W.house actor.new) way tree.now) result }
+    ensures ends { IfErr result EndsRun }
+{
+    match see_meaning(alloc, actor, way, tree) {
+        Ok(meaning) => Ok(Outcome::Means(meaning)),
+        Err(fault) => end_unseen(alloc, actor, way.txn, fault),
+    }
 }

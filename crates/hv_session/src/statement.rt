@@ -1,102 +1,143 @@
+//! A statement from its text to its end, or to the place where it is to be held, over any actor.
 ghost use Rattle.std.specs.Prelude.{◌≡◌, ◌≤◌, false, length, IfOk, IfErr};
-ghost use Rattle.hv_stands.specs.Running.{next_number};
-ghost use Rattle.hv_house.specs.Faults.{FileCause, EndsRun};
-ghost use Rattle.hv_house.specs.House.{entries_of};
-ghost use Rattle.hv_telling.specs.Telling.{IsWhole, IsToldHouse, StillOpens};
-ghost use Rattle.hv_ending.specs.Ending.{AddsOf, HasStopped};
-ghost use Rattle.hv_session.specs.Taking.{asked_of, IsHold, IsHeldBySome, IsTrulyHeld, IsKeptIn, IsTakenAs, IsFinished};
-ghost use Rattle.hv_session.specs.Ways.{StopsTaken};
+ghost use Rattle.hv_built.specs.Running.{Runs};
+ghost use Rattle.hv_house.specs.Faults.{EndsRun};
+ghost use Rattle.hv_session.specs.Going.{IsOpenHouse, faults_in, GainsSome};
+ghost use Rattle.hv_session.specs.Phases.{HaltsBeginning};
+ghost use Rattle.hv_session.specs.Doing.{IsHold, IsSaidFor, WasNeverOpened, TakesText, CanFinishTaken};
+ghost use Rattle.hv_session.specs.Taking.{asked_of};
+ghost use Rattle.hv_session.specs.Ways.{ActsAlone, TakesAlone};
 
 use crate::asking::{Asking, How};
-use crate::ends::end_as;
-use crate::holds::end_started;
-use crate::lines::text_reply;
-use crate::opening::take_statement;
-use crate::paused::{Paused, Point, Taken};
-use hv_ast::discard;
-use hv_ending::{Reply, Way, conclude};
-use hv_house::{House, HouseFault};
+use crate::lines::{full_reply, memory_reply, text_reply};
+use crate::paused::{Carried, Taken};
+use crate::reply::Done;
+use crate::taking::carry;
+use hv_actor::Actor;
+use hv_acts::ToldHouse;
+use hv_ast::{Stmt, discard};
+use hv_base::NoMemory;
+use hv_house::HouseFault;
 use hv_reading::read_statement;
 use hv_shelf::Shelf;
 use std::alloc::Global;
 
-/// Takes up a statement, and does it to its end, or to the place where it is to be held. Nobody else acts on the
-/// house meanwhile, so one that has to wait for a lock is refused.
+/// What is replied to a statement that was carried so far. Only memory may lack for it, where it was never opened.
+fn said(alloc: Global, found: Carried) -> Result<Taken, NoMemory>
+    ensures said { IfOk result (IsSaidFor found) }
+    ensures unopened { IfErr result (λ _. WasNeverOpened found) }
+{
+    match found {
+        Carried::Ended(done) => Ok(Taken::Ended(done)),
+        Carried::Kept(paused) => Ok(Taken::Kept(paused)),
+        Carried::Full { .. } => Ok(Taken::Ended(Done::Replied(full_reply(alloc)?))),
+        Carried::NoMemory => Ok(Taken::Ended(Done::Replied(memory_reply(alloc)?))),
+    }
+}
+
+/// Takes up a statement of this tree, of which `kept` is the same for the book.
+fn take_read<D: Shelf + Drop, W: Actor<D, ToldHouse<D>>>(
+    alloc: Global,
+    actor: &mut W,
+    asking: Asking,
+    kept: Stmt,
+    tree: Stmt,
+) -> Result<Taken, HouseFault>
+    requires keeps { W.keeps actor.old }
+    requires running { IsOpenHouse (W.house actor.old) }
+    requires kept { Runs asking.text kept }
+    requires tree { Runs asking.text tree }
+    requires short { length asking.text ≤ 32768 }
+    requires named { length asking.session ≤ 32 }
+    requires hold { IsHold asking.hold }
+    ensures keeps { W.keeps actor.new }
+    ensures takes { IfOk result (λ answer. GainsSome D.faults W.between (faults_in D.faults (W.house actor.old))
+        (W.own actor.old) (W.own actor.new) (W.house actor.old) (W.house actor.new)
+        (TakesText D.told (W.house actor.old) (W.house actor.new) (asked_of asking) asking.hold answer)) }
+    ensures halts { IfErr result (HaltsBeginning D.told D.faults W.between W.meanwhile (asked_of asking)
+        (W.own actor.old) (W.own actor.new) (W.house actor.old) (W.house actor.new)) }
+    ensures can { IfOk result (CanFinishTaken D.told (W.house actor.new)) }
+    ensures alone { ActsAlone W.between W.meanwhile
+        → TakesAlone D.told D.faults (asked_of asking) asking.hold (W.house actor.old).house (W.house actor.new).house result }
+    ensures ends { IfErr result EndsRun }
+{
+    let Asking {
+        session,
+        number,
+        text,
+        hold,
+        ..
+    } = asking;
+    match carry(alloc, actor, session, number, text, kept, tree, hold) {
+        Ok(found) => Ok(said(alloc, found)?),
+        Err(why) => Err(why),
+    }
+}
+
+/// Takes up a statement of this tree. It is read once more, for the book: since its text runs, only memory may lack there.
+fn take_statement<D: Shelf + Drop, W: Actor<D, ToldHouse<D>>>(
+    alloc: Global,
+    actor: &mut W,
+    asking: Asking,
+    tree: Stmt,
+) -> Result<Taken, HouseFault>
+    requires keeps { W.keeps actor.old }
+    requires running { IsOpenHouse (W.house actor.old) }
+    requires tree { Runs asking.text tree }
+    requires short { length asking.text ≤ 32768 }
+    requires named { length asking.session ≤ 32 }
+    requires hold { IsHold asking.hold }
+    ensures keeps { W.keeps actor.new }
+    ensures takes { IfOk result (λ answer. GainsSome D.faults W.between (faults_in D.faults (W.house actor.old))
+        (W.own actor.old) (W.own actor.new) (W.house actor.old) (W.house actor.new)
+        (TakesText D.told (W.house actor.old) (W.house actor.new) (asked_of asking) asking.hold answer)) }
+    ensures halts { IfErr result (HaltsBeginning D.told D.faults W.between W.meanwhile (asked_of asking)
+        (W.own actor.old) (W.own actor.new) (W.house actor.old) (W.house actor.new)) }
+    ensures can { IfOk result (CanFinishTaken D.told (W.house actor.new)) }
+    ensures alone { ActsAlone W.between W.meanwhile
+        → TakesAlone D.told D.faults (asked_of asking) asking.hold (W.house actor.old).house (W.house actor.new).house result }
+    ensures ends { IfErr result EndsRun }
+{
+    match read_statement(alloc, &asking.text) {
+        Ok(kept) => take_read(alloc, actor, asking, kept, tree),
+        Err(_) => {
+            discard(tree);
+            Ok(Taken::Ended(Done::Replied(memory_reply(alloc)?)))
+        }
+    }
+}
+
+/// Takes up a statement, and does it to its end, or to the place where it is to be held, act by act: others may act on the house between.
+/// One that has to wait for a lock is refused.
 ///
 /// # Errors
-/// `Store` where the journal failed, `NoMemory` where memory lacked even for a refusal; no `Failed`: a fault of files ends the statement.
-pub fn take_up<D: Shelf>(
+/// `Store` where the journal failed or others closed the house, `NoMemory` where memory lacked even for a refusal; no `Failed`: a fault of
+/// files ends the statement.
+pub fn take_up<D: Shelf + Drop, W: Actor<D, ToldHouse<D>>>(
     alloc: Global,
-    house: &mut House<D>,
+    actor: &mut W,
     asking: Asking,
     how: How,
 ) -> Result<Taken, HouseFault>
-    requires whole { IsWhole D.told house.old }
+    requires keeps { W.keeps actor.old }
+    requires running { IsOpenHouse (W.house actor.old) }
     requires short { length asking.text ≤ 32768 }
     requires named { length asking.session ≤ 32 }
     requires hold { IsHold asking.hold }
     requires run { how.waits ≡ false }
-    ensures whole { IfOk result (λ _. IsWhole D.told house.new) }
-    ensures added { IfOk result (λ _. AddsOf (next_number (entries_of house.old))
-        (D.faults house.old.shelf) (D.faults house.new.shelf)
-        (entries_of house.old) (entries_of house.new)) }
-    ensures held { IfOk result (IsKeptIn (entries_of house.old) (entries_of house.new) (asked_of asking)) }
-    ensures taken { IsToldHouse D.told house.old → IfOk result (IsTakenAs
-        (entries_of house.old) (entries_of house.new) (asked_of asking) asking.hold) }
-    ensures start { house.new.start ≡ house.old.start }
-    ensures stopped { IfErr result (λ why. StopsTaken D.told (asked_of asking) why house.old house.new) }
-    ensures opens { IsToldHouse D.told house.old → IfErr result (λ _. StillOpens D.told house.new) }
+    ensures keeps { W.keeps actor.new }
+    ensures takes { IfOk result (λ answer. GainsSome D.faults W.between (faults_in D.faults (W.house actor.old))
+        (W.own actor.old) (W.own actor.new) (W.house actor.old) (W.house actor.new)
+        (TakesText D.told (W.house actor.old) (W.house actor.new) (asked_of asking) asking.hold answer)) }
+    ensures halts { IfErr result (HaltsBeginning D.told D.faults W.between W.meanwhile (asked_of asking)
+        (W.own actor.old) (W.own actor.new) (W.house actor.old) (W.house actor.new)) }
+    ensures can { IfOk result (CanFinishTaken D.told (W.house actor.new)) }
+    ensures alone { ActsAlone W.between W.meanwhile
+        → TakesAlone D.told D.faults (asked_of asking) asking.hold (W.house actor.old).house (W.house actor.new).house result }
     ensures ends { IfErr result EndsRun }
-    ensures cause { FileCause (D.faults house.old.shelf) (D.faults house.new.shelf) result }
 {
     match read_statement(alloc, &asking.text) {
-        Ok(tree) => take_statement(alloc, house, asking, tree),
-        Err(fault) => Ok(Taken::Replied(text_reply(alloc, fault)?)),
-    }
-}
-
-/// Does a held statement to its end.
-///
-/// # Errors
-/// As `take_up`.
-pub fn finish<D: Shelf>(
-    alloc: Global,
-    house: &mut House<D>,
-    paused: Paused,
-    how: How,
-) -> Result<Reply, HouseFault>
-    requires whole { IsWhole D.told house.old }
-    requires run { how.waits ≡ false }
-    requires held { IsHeldBySome (entries_of house.old) paused }
-    requires truly { IsToldHouse D.told house.old → IsTrulyHeld (entries_of house.old) paused }
-    ensures whole { IfOk result (λ _. IsWhole D.told house.new) }
-    ensures added { IfOk result (λ _. AddsOf paused.txn.0
-        (D.faults house.old.shelf) (D.faults house.new.shelf)
-        (entries_of house.old) (entries_of house.new)) }
-    ensures finished { IsToldHouse D.told house.old → IfOk result (λ reply. IsFinished
-        (entries_of house.old) (entries_of house.new) paused.txn.0 reply.text reply.refused reply.ended) }
-    ensures start { house.new.start ≡ house.old.start }
-    ensures stopped { IfErr result (λ why. HasStopped D.told paused.txn.0 why house.old house.new) }
-    ensures opens { IsToldHouse D.told house.old → IfErr result (λ _. StillOpens D.told house.new) }
-    ensures ends { IfErr result EndsRun }
-    ensures cause { FileCause (D.faults house.old.shelf) (D.faults house.new.shelf) result }
-{
-    let Paused {
-        txn,
-        place,
-        tree,
-        point,
-    } = paused;
-    let way = Way { txn, place };
-    match point {
-        Point::Started => end_started(alloc, house, way, tree),
-        Point::Meant(meaning) => {
-            discard(tree);
-            end_as(alloc, house, way, meaning)
-        }
-        Point::Ready(ready) => {
-            discard(tree);
-            conclude(alloc, house, way, ready)
-        }
+        Ok(tree) => take_statement(alloc, actor, asking, tree),
+        Err(fault) => Ok(Taken::Ended(Done::Replied(text_reply(alloc, fault)?))),
     }
 }

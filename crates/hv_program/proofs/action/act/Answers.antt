@@ -3,7 +3,7 @@ use Rattle.hv_program.proofs.action.act.Goals as goal
 
 pub returns-in_err-announce-in-Announce-clause-stopped : goal.returns-in_err-announce-in-Announce-clause-stopped
 returns-in_err-announce-in-Announce-clause-stopped g c =
-    stops-first g.D.Shelf.told c.args.house.now _ _ c.from_residual.result c.from_residual.ensures.1 c.requires.whole.ready.kept.reads
+    stops-first g.D.Shelf.told c.args.house.now.house _ _ c.from_residual.result c.from_residual.ensures.1 c.requires.whole.ready.kept.reads
 
 pub returns-in_err-announce-in-Announce-clause-opens : goal.returns-in_err-announce-in-Announce-clause-opens
-returns-in_err-announce-in-Announce-clause-opens g c = opens-first g.D.Shelf.told c.args.house.now c.from_residual.result c.requires.whole
+returns-in_err-announce-in-Announce-clause-opens g c = opens-first g.D.Shelf.told c.args.house.now.house c.from_residual.result c.requires.whole

@@ -1,25 +1,43 @@
 use Rattle.hv_base.proofs.ToldLemmas.{stays_same}
-use Rattle.std.proofs.Common.{ap, refl}
+use Rattle.std.proofs.Common.{◌≤◌, ap, refl, ◌∙◌}
+use Rattle.hv_history.specs.Legal.{profile}
 use Rattle.hv_telling.proofs.Opening.{opened-is-whole}
 use Rattle.hv_program.proofs.Ends.{Serves-run, Serves-store, Serves-memory, Serves-full}
 use Rattle.hv_program.proofs.Refusing.{opens-run, opens-store, opens-memory, full-found}
 use Rattle.hv_program.proofs.Blaming.{blames-run, blames-store, blames-memory}
 use Rattle.hv_house.specs.House.{entries_of}
+use Rattle.hv_house.specs.Steps.{IsOpenedOver}
+use Rattle.hv_house.specs.Booting.{Opens}
+use Rattle.hv_telling.specs.Telling.{IsWhole}
+use Rattle.hv_program.proofs.Sessions.{again}
 use Rattle.hv_program.proofs.program.serve.Goals as goal
 
 pub run-ran-requires-clause-whole : goal.run-ran-requires-clause-whole
 run-ran-requires-clause-whole g c =
-    opened-is-whole g.D.Shelf.told c.args.shelf c.in-Ok.house c.in-Ok.ensures.ready c.in-Ok.ensures.opened c.in-Ok.ensures.over c.in-Ok.ensures.tree
+    again c.in-Ok.house c.new-told.result.house c.new-told.ensures.house (λ h. IsWhole g.D.Shelf.told h)
+    (opened-is-whole g.D.Shelf.told c.args.shelf c.in-Ok.house c.in-Ok.ensures.ready c.in-Ok.ensures.opened c.in-Ok.ensures.over c.in-Ok.ensures.tree)
+
+pub new-told-requires : goal.new-told-requires
+new-told-requires g c = record {
+  whole = opened-is-whole g.D.Shelf.told c.args.shelf c.in-Ok.house c.in-Ok.ensures.ready c.in-Ok.ensures.opened c.in-Ok.ensures.over c.in-Ok.ensures.tree;
+}
 
 pub returns-in-Ok : goal.returns-in-Ok
-returns-in-Ok g c = record {
-  served = Serves-run g.D.Shelf.told c.args.shelf c.in-Ok.house c.run-ran.new.house _ _ _ _ _ _ _ c.run-ran.result _ _ _
-      c.status_of.ensures.value c.in-Ok.ensures.later (ap g.D.Shelf.faults c.close.ensures) refl (ap g.D.Shelf.told c.close.ensures)
-      c.in-Ok.ensures.opened c.in-Ok.ensures.over c.run-ran.ensures.start c.run-ran.ensures.whole c.run-ran.ensures.prints c.run-ran.ensures.halts c.run-ran.ensures.heard;
-  opened = opens-run c.run-ran.result _ _ _ _ _ (entries_of c.in-Ok.house) c.status_of.ensures.value c.in-Ok.ensures.opened c.run-ran.ensures.why;
-  blames = blames-run c.run-ran.result _ _ _ _ _ _ _ c.status_of.ensures.value c.in-Ok.ensures.later (ap g.D.Shelf.faults c.close.ensures) c.run-ran.ensures.blames;
-  heard = c.run-ran.ensures.heard;
-}
+returns-in-Ok g c =
+    let told_house = c.new-told.result.house in
+    let same = c.new-told.ensures.house in
+    let shelf_is = c.close.ensures ∙ ap (λ h. h.shelf) c.into_house.ensures.house in
+    let opened = again c.in-Ok.house told_house same (λ h. Opens profile (g.D.Shelf.told c.args.shelf) (entries_of h)) c.in-Ok.ensures.opened in
+    let over = again c.in-Ok.house told_house same (λ h. IsOpenedOver c.args.shelf h) c.in-Ok.ensures.over in
+    let later = again c.in-Ok.house told_house same (λ h. g.D.Shelf.faults c.args.shelf ≤ g.D.Shelf.faults h.shelf) c.in-Ok.ensures.later in
+    record {
+      served = Serves-run g.D.Shelf.told c.args.shelf told_house c.run-ran.new.house.house _ _ _ _ _ _ _ c.run-ran.result _ _ _
+          c.status_of.ensures.value later (ap g.D.Shelf.faults shelf_is) refl (ap g.D.Shelf.told shelf_is)
+          opened over c.run-ran.ensures.start c.run-ran.ensures.whole c.run-ran.ensures.prints c.run-ran.ensures.halts c.run-ran.ensures.heard;
+      opened = opens-run c.run-ran.result _ _ _ _ _ (entries_of told_house) c.status_of.ensures.value opened c.run-ran.ensures.why;
+      blames = blames-run c.run-ran.result _ _ _ _ _ _ _ c.status_of.ensures.value later (ap g.D.Shelf.faults shelf_is) c.run-ran.ensures.blames;
+      heard = c.run-ran.ensures.heard;
+    }
 
 pub returns-in-Err-Store-default : goal.returns-in-Err-Store-default
 returns-in-Err-Store-default g c = record {

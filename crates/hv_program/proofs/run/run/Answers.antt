@@ -11,11 +11,12 @@ loop-action-preserved g c = record {
   whole = c.in_ok-reply.ensures.whole;
   held = c.in_ok-reply.ensures.held;
   truly = c.in_ok-reply.ensures.truly;
+  can = c.in_ok-reply.ensures.can;
   prints = λ is. Prints-next _ _ _ c.loop-action.invariant.later_store c.in_ok-reply.ensures.cause.later _
-      (standing_of c.loop-action.house c.loop-action.held.items) (standing_of c.act.new.house c.act.new.held.items) c.args.actions.now c.loop-action.action-index
+      (standing_of c.loop-action.house.house c.loop-action.held.items) (standing_of c.act.new.house.house c.act.new.held.items) c.args.actions.now c.loop-action.action-index
       _ _ _ _ _ _ _ _ c.loop-action-test.true c.action-item.is c.as_slice.ensures c.in_ok-write_all.ensures.done
       (c.loop-action.invariant.prints is)
-      (c.in_ok-reply.ensures.acted (told-stays g.D.Shelf.told c.args.house.now c.loop-action.house c.loop-action.invariant.start is));
+      (c.in_ok-reply.ensures.acted (told-stays g.D.Shelf.told c.args.house.now.house c.loop-action.house.house c.loop-action.invariant.start is));
   start = c.in_ok-reply.ensures.start ∙ c.loop-action.invariant.start;
   heard = stays_stays _ _ _ c.loop-action.invariant.heard (stays_by _ _ _ c.in_ok-write_all.ensures.done);
   later_store = omega (arith, c.loop-action.invariant.later_store, c.in_ok-reply.ensures.cause.later);
@@ -24,20 +25,20 @@ loop-action-preserved g c = record {
 
 pub returns-in_err-reply-clause-halts : goal.returns-in_err-reply-clause-halts
 returns-in_err-reply-clause-halts g c = λ is.
-    let here = told-stays g.D.Shelf.told c.args.house.now c.loop-action.house c.loop-action.invariant.start is in
-    Halts-stopped g.D.Shelf.told c.in_err-reply.field-0.0 c.from_residual.result _ _ _ _ c.loop-action.house c.act.new.house c.loop-action.held.items c.args.actions.now
+    let here = told-stays g.D.Shelf.told c.args.house.now.house c.loop-action.house.house c.loop-action.invariant.start is in
+    Halts-stopped g.D.Shelf.told c.in_err-reply.field-0.0 c.from_residual.result _ _ _ _ c.loop-action.house.house c.act.new.house.house c.loop-action.held.items c.args.actions.now
     c.loop-action.action-index _ _ _ _ c.from_residual.ensures.1 c.loop-action.invariant.later_store c.in_err-reply.ensures.cause.later c.in_err-reply.ensures.ends
     c.loop-action-test.true c.action-item.is (c.loop-action.invariant.prints is) c.loop-action.invariant.whole here
     c.in_err-reply.ensures.stopped (c.in_err-reply.ensures.opens here)
 
 pub returns-in_err-write_all-clause-halts : goal.returns-in_err-write_all-clause-halts
 returns-in_err-write_all-clause-halts g c = λ is.
-    let here = told-stays g.D.Shelf.told c.args.house.now c.loop-action.house c.loop-action.invariant.start is in
-    Halts-cut g.D.Shelf.told c.from_residual-in_err-write_all.result _ _ _ _ (standing_of c.loop-action.house c.loop-action.held.items) c.act.new.house
+    let here = told-stays g.D.Shelf.told c.args.house.now.house c.loop-action.house.house c.loop-action.invariant.start is in
+    Halts-cut g.D.Shelf.told c.from_residual-in_err-write_all.result _ _ _ _ (standing_of c.loop-action.house.house c.loop-action.held.items) c.act.new.house.house
     c.act.new.held.items c.args.actions.now c.loop-action.action-index _ _ _ _ _ _ _ _ c.from_residual-in_err-write_all.ensures.1 c.loop-action.invariant.later_store
     c.in_ok-reply.ensures.cause.later c.loop-action-test.true c.action-item.is c.as_slice.ensures c.in_err-write_all.ensures.failed
     (c.loop-action.invariant.prints is) (c.in_ok-reply.ensures.acted here) c.in_ok-reply.ensures.whole
-    (told-stays g.D.Shelf.told c.loop-action.house c.act.new.house c.in_ok-reply.ensures.start here)
+    (told-stays g.D.Shelf.told c.loop-action.house.house c.act.new.house.house c.in_ok-reply.ensures.start here)
 
 pub returns-clause-prints : goal.returns-clause-prints
 returns-clause-prints g c = λ is.

@@ -2,19 +2,20 @@ use Rattle.std.proofs.Common.{◌≡◌, ◌≤◌, take}
 use Rattle.hv_base.specs.Told.{StaysTold}
 use Rattle.hv_house.specs.House.{entries_of}
 use Rattle.hv_telling.specs.Telling.{IsWhole, IsToldHouse}
-use Rattle.hv_program.specs.Keeping.{standing_of, AreHeld, AreTrulyHeld}
+use Rattle.hv_program.specs.Keeping.{standing_of, AreHeld, AreTrulyHeld, CanAllFinish}
 use Rattle.hv_program.specs.Running.{Prints}
 use Rattle.hv_program.proofs.run.run.Given as goal
 
 abbrev pub invariant-loop-action : goal.invariant-loop-action
 invariant-loop-action g l = record {
-  whole : IsWhole g.D.Shelf.told l.house;
-  held : AreHeld (entries_of l.house) l.held.items;
-  truly : AreTrulyHeld g.D.Shelf.told l.house l.held.items;
-  prints : IsToldHouse g.D.Shelf.told l.initial.house → Prints (g.D.Shelf.faults l.initial.house.shelf) (g.D.Shelf.faults l.house.shelf) (entries_of l.initial.house)
-      (standing_of l.house l.held.items) (take l.action-index l.actions) (g.O.Sink.written l.initial.sink) (g.O.Sink.written l.sink) l.refused;
-  start : l.house.start ≡ l.initial.house.start;
+  whole : IsWhole g.D.Shelf.told l.house.house;
+  held : AreHeld (entries_of l.house.house) l.held.items;
+  truly : AreTrulyHeld g.D.Shelf.told l.house.house l.held.items;
+  can : CanAllFinish g.D.Shelf.told l.house l.held.items;
+  prints : IsToldHouse g.D.Shelf.told l.initial.house.house → Prints (g.D.Shelf.faults l.initial.house.house.shelf) (g.D.Shelf.faults l.house.house.shelf) (entries_of l.initial.house.house)
+      (standing_of l.house.house l.held.items) (take l.action-index l.actions) (g.O.Sink.written l.initial.sink) (g.O.Sink.written l.sink) l.refused;
+  start : l.house.house.start ≡ l.initial.house.house.start;
   heard : StaysTold (g.O.Sink.written l.initial.sink) (g.O.Sink.written l.sink);
-  later_store : g.D.Shelf.faults l.initial.house.shelf ≤ g.D.Shelf.faults l.house.shelf;
+  later_store : g.D.Shelf.faults l.initial.house.house.shelf ≤ g.D.Shelf.faults l.house.house.shelf;
   later_sink : g.O.Sink.faults l.initial.sink ≤ g.O.Sink.faults l.sink;
 }

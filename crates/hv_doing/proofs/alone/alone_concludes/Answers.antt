@@ -1,5 +1,0 @@
-use Rattle.hv_doing.proofs.AloneConcludes.{concludes-alone}
-use Rattle.hv_doing.proofs.alone.alone_concludes.Goals as goal
-
-pub returns : goal.returns
-returns g c = record { law = concludes-alone g.D.Shelf.told g.D.Shelf.faults g.W.Actor.between }

@@ -1,5 +1,0 @@
-use Rattle.hv_doing.proofs.AlonePrepares.{prepares-alone}
-use Rattle.hv_doing.proofs.alone.alone_prepares.Goals as goal
-
-pub returns : goal.returns
-returns g c = record { law = prepares-alone g.D.Shelf.told g.D.Shelf.faults g.W.Actor.between }

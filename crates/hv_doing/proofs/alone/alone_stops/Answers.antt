@@ -1,8 +1,0 @@
-use Rattle.hv_doing.proofs.AloneStops.{stops-alone, opens-alone}
-use Rattle.hv_doing.proofs.alone.alone_stops.Goals as goal
-
-pub returns : goal.returns
-returns g c = record {
-  stopped = λ none alone. stops-alone g.D.Shelf.told g.D.Shelf.faults g.W.Actor.between none g.W.Actor.meanwhile alone;
-  opens = λ none alone. opens-alone g.D.Shelf.told g.D.Shelf.faults g.W.Actor.between none g.W.Actor.meanwhile alone;
-}

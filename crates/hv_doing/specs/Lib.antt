@@ -1,9 +1,0 @@
-pub mod Alone
-pub mod Beginnings
-pub mod Ends
-pub mod Going
-pub mod Leaving
-pub mod Phases
-pub mod Preparing
-pub mod Seeing
-pub mod Taking

@@ -1,0 +1,107 @@
+-- What is promised of a statement over a house on which nobody else acts.
+use Rattle.std.proofs.Common.{◌≡◌, ℕ, Option, Some, None, Result, Ok, Err, IfOk, List, [], ◌∷◌, ◌++◌, sym, ap, ◌∙◌, subst}
+use Rattle.hv_shelf.specs.Disk.{Store}
+use Rattle.hv_history.specs.declared.entry.Entry.{Entry}
+use Rattle.hv_trail.specs.declared.trail.TrailItem.{TrailItem}
+use Rattle.hv_stands.specs.Running.{Asking, next_number}
+use Rattle.hv_actor.specs.Acting.{IsLater, Nothing, Untouched}
+use Rattle.hv_house.specs.declared.fault.HouseFault.{HouseFault}
+use Rattle.hv_house.specs.declared.house.House.{House}
+use Rattle.hv_house.specs.House.{entries_of}
+use Rattle.hv_telling.specs.Telling.{IsWhole}
+use Rattle.hv_telling.proofs.Opens.{whole-opens}
+use Rattle.hv_acts.specs.declared.told.ToldHouse.{ToldHouse}
+use Rattle.hv_acts.specs.Told.{IsWholeOrClosed, seen_in}
+use Rattle.hv_session.specs.declared.reply.Done.{Done}
+use Rattle.hv_session.specs.declared.reply.Done.TheVariants as done
+use Rattle.hv_session.specs.declared.ready.Reply.{Reply}
+use Rattle.hv_session.specs.declared.paused.Paused.{Paused}
+use Rattle.hv_session.specs.declared.paused.Taken.{Taken}
+use Rattle.hv_session.specs.declared.paused.Taken.TheVariants as taken
+use Rattle.hv_session.specs.Ending.{AddsOf}
+use Rattle.hv_session.specs.Going.{GainsSome}
+use Rattle.hv_session.specs.Doing.{CanFinish, CanFinishTaken}
+use Rattle.hv_session.specs.Taking.{IsKeptIn, IsFinished}
+use Rattle.hv_session.specs.Ways.{ActsAlone, IsDone, IsTaking, IsOwnEnd, IsFinishedAs}
+use Rattle.hv_session.proofs.Lastings.{later-finishes}
+use Rattle.hv_program.specs.declared.held.Held.{Held}
+use Rattle.hv_program.specs.Keeping.{paused_in, held_without, CanFinishHeld, CanAllFinish}
+use Rattle.hv_program.proofs.HeldLists.{none-left, all-without, all-found, all-last, all-map}
+
+-- ---- nobody else acts
+
+pub acts-alone : {D : Type 0} → ActsAlone {D = D} Nothing Untouched
+acts-alone = record { nothing = λ xs none. none; alone = λ before now same. same }
+
+pub whole-keeps : {D : Type 0} (told : D → Option Store) (house : House D) → IsWhole told house → IsWholeOrClosed told house
+whole-keeps told house whole = record { whole = λ _. whole; opens = whole-opens told house whole }
+
+-- what is true of a house is so of the same one among acts
+pub again : {D : Type 0} (house told : House D) → told ≡ house → (P : House D → Type 0) → P house → P told
+again house told same P p = subst P (sym same) p
+
+pub ok-map : {T : Type 0} (r : Result T HouseFault) (P Q : T → Type 0) → ((x : T) → P x → Q x) → IfOk r P → IfOk r Q
+ok-map (Ok x) P Q f p = f x p
+ok-map (Err why) P Q f p = tt
+
+-- ---- one that was taken up
+
+module _ {D : Type 0} (told : D → Option Store) (faults : D → ℕ) (asking : Asking) (before now : House D) (r : Result Taken HouseFault)
+    (taking : IsTaking told faults asking before now r) where
+  pub taking-whole : IfOk r (λ _. IsWhole told now)
+  taking-whole = ok-map r (λ _. IsDone told faults (next_number (entries_of before)) before now) (λ _. IsWhole told now) (λ x is. is.whole) taking.done
+
+  pub taking-added : IfOk r (λ _. AddsOf (next_number (entries_of before)) (faults before.shelf) (faults now.shelf) (entries_of before) (entries_of now))
+  taking-added =
+      ok-map r (λ _. IsDone told faults (next_number (entries_of before)) before now)
+      (λ _. AddsOf (next_number (entries_of before)) (faults before.shelf) (faults now.shelf) (entries_of before) (entries_of now)) (λ x is. is.added) taking.done
+
+pub taking-later : {D : Type 0} (faults : D → ℕ) (between : List TrailItem → Type 0) (low : ℕ) (own own' : List ℕ) (before now : ToldHouse D) (r : Result Taken HouseFault)
+    (Is : Taken → List Entry → Type 0) → IfOk r (λ answer. GainsSome faults between low own own' before now (Is answer))
+    → IfOk r (λ _. IsLater faults (seen_in before) (seen_in now))
+taking-later faults between low own own' before now r Is gains =
+    ok-map r (λ answer. GainsSome faults between low own own' before now (Is answer)) (λ _. IsLater faults (seen_in before) (seen_in now))
+    (λ answer is. is.1.adds.later) gains
+
+-- nobody else ended it
+pub kept-own : (before now : List Entry) (asking : Asking) (found : Done) → IsKeptIn before now asking (taken.Ended found) → IsOwnEnd found
+kept-own before now asking (done.Replied reply) kept = tt
+kept-own before now asking (done.Gone at) kept = absurd kept
+
+pub own-finished : (before now : List Entry) (txn : ℕ) (found : Done) (reply : Reply) → found ≡ done.Replied reply → IsFinishedAs before now txn found
+    → IsFinished before now txn reply.text reply.refused reply.ended
+own-finished before now txn found reply is finished = subst (IsFinishedAs before now txn) is finished
+
+-- ---- those that are held can be finished still
+
+module _ {D : Type 0} (told : D → Option Store) (faults : D → ℕ) (before now : ToldHouse D) where
+  pub later-can : IsLater faults (seen_in before) (seen_in now) → (helds : List Held) → CanAllFinish told before helds → CanAllFinish told now helds
+  later-can later helds can =
+      all-map (CanFinishHeld told before) (CanFinishHeld told now) helds (λ held is. later-finishes told faults before now later held.paused is) can
+
+  pub replied-can : (helds helds' : List Held) → helds' ≡ helds → IsLater faults (seen_in before) (seen_in now) → CanAllFinish told before helds
+      → CanAllFinish told now helds'
+  replied-can helds helds' same later can = subst (CanAllFinish told now) (sym same) (later-can later helds can)
+
+  pub kept-can : (helds helds' helds'' : List Held) (held : Held) (found : Taken) → helds' ≡ helds → helds'' ≡ helds' ++ held ∷ [] → found ≡ taken.Kept held.paused
+      → IsLater faults (seen_in before) (seen_in now) → CanFinishTaken told now found → CanAllFinish told before helds → CanAllFinish told now helds''
+  kept-can helds helds' helds'' held found same one is later taken_can can =
+      subst (CanAllFinish told now) (sym (one ∙ ap (λ (hs : List Held). hs ++ held ∷ []) same))
+      (all-last (CanFinishHeld told now) helds held (later-can later helds can) (subst (CanFinishTaken told now) is taken_can))
+
+  pub released-can : {T : Type 0} (r : Result T HouseFault) (helds helds' : List Held) (name : List ℕ) → helds' ≡ held_without name helds
+      → IfOk r (λ _. IsLater faults (seen_in before) (seen_in now)) → CanAllFinish told before helds → IfOk r (λ _. CanAllFinish told now helds')
+  released-can r helds helds' name left later can =
+      ok-map r (λ _. IsLater faults (seen_in before) (seen_in now)) (λ _. CanAllFinish told now helds')
+      (λ x is.
+      subst (CanAllFinish told now) (sym left)
+      (later-can is (held_without name helds) (all-without (CanFinishHeld told before) name helds can)))
+      later
+
+pub let-go-can : {D : Type 0} (told : D → Option Store) (house : ToldHouse D) (name : List ℕ) (helds : List Held) (paused : Paused)
+    → CanAllFinish told house helds → paused_in name helds ≡ Some paused → CanFinish told house paused
+let-go-can told house name helds paused can found = all-found (CanFinish told house) name helds paused can found
+
+pub none-can : {D : Type 0} (told : D → Option Store) (house : ToldHouse D) (helds helds' : List Held) (name : List ℕ) → paused_in name helds ≡ None
+    → helds' ≡ held_without name helds → CanAllFinish told house helds → CanAllFinish told house helds'
+none-can told house helds helds' name none left can = subst (CanAllFinish told house) (sym (left ∙ none-left name helds none)) can

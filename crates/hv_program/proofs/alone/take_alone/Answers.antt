@@ -1,0 +1,47 @@
+use Rattle.hv_session.specs.Going.{faults_in}
+use Rattle.hv_session.specs.Doing.{TakesText}
+use Rattle.hv_session.specs.Taking.{asked_of}
+use Rattle.hv_program.proofs.Sessions.{acts-alone, whole-keeps, taking-whole, taking-added, taking-later}
+use Rattle.hv_program.proofs.alone.take_alone.Goals as goal
+
+pub take_up-requires-clause-keeps : goal.take_up-requires-clause-keeps
+take_up-requires-clause-keeps g c = whole-keeps g.D.Shelf.told c.args.house.now.house c.requires.whole
+
+pub take_up-requires-clause-running : goal.take_up-requires-clause-running
+take_up-requires-clause-running g c = c.requires.whole.ready.kept.running
+
+pub returns-clause-whole : goal.returns-clause-whole
+returns-clause-whole g c =
+    taking-whole g.D.Shelf.told g.D.Shelf.faults (asked_of c.args.asking) c.args.house.now.house c.take_up.new.actor.house c.take_up.result
+    (c.take_up.ensures.alone acts-alone).taking
+
+pub returns-clause-added : goal.returns-clause-added
+returns-clause-added g c =
+    taking-added g.D.Shelf.told g.D.Shelf.faults (asked_of c.args.asking) c.args.house.now.house c.take_up.new.actor.house c.take_up.result
+    (c.take_up.ensures.alone acts-alone).taking
+
+pub returns-clause-later : goal.returns-clause-later
+returns-clause-later g c =
+    taking-later g.D.Shelf.faults _ (faults_in g.D.Shelf.faults c.args.house.now) _ _ c.args.house.now c.take_up.new.actor c.take_up.result
+    (TakesText g.D.Shelf.told c.args.house.now c.take_up.new.actor (asked_of c.args.asking) c.args.asking.hold) c.take_up.ensures.takes
+
+pub returns-clause-held : goal.returns-clause-held
+returns-clause-held g c = (c.take_up.ensures.alone acts-alone).held
+
+pub returns-clause-can : goal.returns-clause-can
+returns-clause-can g c = c.take_up.ensures.can
+
+pub returns-clause-taken : goal.returns-clause-taken
+returns-clause-taken g c = (c.take_up.ensures.alone acts-alone).truly
+
+pub returns-clause-start : goal.returns-clause-start
+returns-clause-start g c = (c.take_up.ensures.alone acts-alone).taking.start
+
+pub returns-clause-stopped : goal.returns-clause-stopped
+returns-clause-stopped g c = (c.take_up.ensures.alone acts-alone).taking.stopped
+
+pub returns-clause-opens : goal.returns-clause-opens
+returns-clause-opens g c = (c.take_up.ensures.alone acts-alone).taking.opens
+
+pub returns-clause-cause : goal.returns-clause-cause
+returns-clause-cause g c = (c.take_up.ensures.alone acts-alone).taking.cause

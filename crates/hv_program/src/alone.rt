@@ -1,0 +1,93 @@
+//! A statement of a session, over a house on which nobody else acts: all that is promised of it then.
+ghost use Rattle.std.specs.Prelude.{◌≡◌, ◌≤◌, length, IfOk, IfErr};
+ghost use Rattle.hv_actor.specs.Acting.{IsLater};
+ghost use Rattle.hv_acts.specs.Told.{seen_in};
+ghost use Rattle.hv_house.specs.Faults.{EndsRun, FileCause};
+ghost use Rattle.hv_house.specs.House.{entries_of};
+ghost use Rattle.hv_stands.specs.Running.{next_number};
+ghost use Rattle.hv_telling.specs.Telling.{IsWhole, IsToldHouse, StillOpens};
+ghost use Rattle.hv_session.specs.declared.reply.Done.TheVariants as done;
+ghost use Rattle.hv_session.specs.Doing.{IsHold, CanFinish, CanFinishTaken};
+ghost use Rattle.hv_session.specs.Ending.{AddsOf, HasStopped};
+ghost use Rattle.hv_session.specs.Taking.{asked_of, IsHeldBySome, IsTrulyHeld, IsKeptIn, IsTakenAs, IsFinished};
+ghost use Rattle.hv_session.specs.Ways.{IsOwnEnd, StopsTaken};
+
+use hv_acts::ToldHouse;
+use hv_house::HouseFault;
+use hv_session::{Asking, Done, How, Paused, Reply, Taken, finish, take_up};
+use hv_shelf::Shelf;
+use std::alloc::Global;
+
+/// How a script's statements are taken up: nobody waits, and there is one worker.
+const HOW: How = How {
+    waits: false,
+    workers: 1,
+};
+
+/// The reply of a statement that nobody else ended.
+pub fn own_reply(found: Done) -> Reply
+    requires own { IsOwnEnd found }
+    ensures reply { found ≡ done.Replied result }
+{
+    match found {
+        Done::Replied(reply) => reply,
+        Done::Gone { .. } => unreachable!(),
+    }
+}
+
+/// Takes up a statement.
+pub fn take_alone<D: Shelf + Drop>(
+    alloc: Global,
+    house: &mut ToldHouse<D>,
+    asking: Asking,
+) -> Result<Taken, HouseFault>
+    requires whole { IsWhole D.told house.old.house }
+    requires short { length asking.text ≤ 32768 }
+    requires named { length asking.session ≤ 32 }
+    requires hold { IsHold asking.hold }
+    ensures whole { IfOk result (λ _. IsWhole D.told house.new.house) }
+    ensures added { IfOk result (λ _. AddsOf (next_number (entries_of house.old.house))
+        (D.faults house.old.house.shelf) (D.faults house.new.house.shelf)
+        (entries_of house.old.house) (entries_of house.new.house)) }
+    ensures later { IfOk result (λ _. IsLater D.faults (seen_in house.old) (seen_in house.new)) }
+    ensures held { IfOk result (IsKeptIn (entries_of house.old.house) (entries_of house.new.house) (asked_of asking)) }
+    ensures can { IfOk result (CanFinishTaken D.told house.new) }
+    ensures taken { IsToldHouse D.told house.old.house → IfOk result (IsTakenAs
+        (entries_of house.old.house) (entries_of house.new.house) (asked_of asking) asking.hold) }
+    ensures start { house.new.house.start ≡ house.old.house.start }
+    ensures stopped { IfErr result (λ why. StopsTaken D.told (asked_of asking) why house.old.house house.new.house) }
+    ensures opens { IsToldHouse D.told house.old.house → IfErr result (λ _. StillOpens D.told house.new.house) }
+    ensures ends { IfErr result EndsRun }
+    ensures cause { FileCause (D.faults house.old.house.shelf) (D.faults house.new.house.shelf) result }
+{
+    take_up(alloc, house, asking, HOW)
+}
+
+/// Does a held statement to its end.
+pub fn finish_alone<D: Shelf + Drop>(
+    alloc: Global,
+    house: &mut ToldHouse<D>,
+    paused: Paused,
+) -> Result<Reply, HouseFault>
+    requires whole { IsWhole D.told house.old.house }
+    requires can { CanFinish D.told house.old paused }
+    requires held { IsHeldBySome (entries_of house.old.house) paused }
+    requires truly { IsToldHouse D.told house.old.house → IsTrulyHeld (entries_of house.old.house) paused }
+    ensures whole { IfOk result (λ _. IsWhole D.told house.new.house) }
+    ensures added { IfOk result (λ _. AddsOf paused.way.txn.0
+        (D.faults house.old.house.shelf) (D.faults house.new.house.shelf)
+        (entries_of house.old.house) (entries_of house.new.house)) }
+    ensures later { IfOk result (λ _. IsLater D.faults (seen_in house.old) (seen_in house.new)) }
+    ensures finished { IsToldHouse D.told house.old.house → IfOk result (λ reply. IsFinished
+        (entries_of house.old.house) (entries_of house.new.house) paused.way.txn.0 reply.text reply.refused reply.ended) }
+    ensures start { house.new.house.start ≡ house.old.house.start }
+    ensures stopped { IfErr result (λ why. HasStopped D.told paused.way.txn.0 why house.old.house house.new.house) }
+    ensures opens { IsToldHouse D.told house.old.house → IfErr result (λ _. StillOpens D.told house.new.house) }
+    ensures ends { IfErr result EndsRun }
+    ensures cause { FileCause (D.faults house.old.house.shelf) (D.faults house.new.house.shelf) result }
+{
+    match finish(alloc, house, paused) {
+        Ok(found) => Ok(own_reply(found)),
+        Err(why) => Err(why),
+    }
+}

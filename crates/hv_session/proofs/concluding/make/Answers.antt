@@ -1,0 +1,40 @@
+use Rattle.hv_acts.specs.Told.{trail_in}
+use Rattle.hv_acts.specs.Answers.{NoTest}
+use Rattle.hv_acts.specs.Making.{MakeFits, create_of}
+use Rattle.hv_acts.proofs.Lasting.{make-lasts}
+use Rattle.hv_session.proofs.Joining.{reached-front, found-told, held-adds, act-left, act-risen, answers-name, note-ends, ends-rise}
+use Rattle.hv_session.proofs.Aborts.{book-added}
+use Rattle.hv_session.proofs.Commits.{make-replied}
+use Rattle.hv_session.proofs.concluding.make.Goals as goal
+
+pub hold-requires-clause-can : goal.hold-requires-clause-can
+hold-requires-clause-can g c = λ house kept reached told.
+    let before = g.W.Actor.house c.args.actor.now in
+    let front = reached-front g.D.Shelf.told g.D.Shelf.faults g.W.Actor.meanwhile g.met.W.Actor.goes_on before house reached in
+    make-lasts (trail_in before) (trail_in house) front c.args.txn
+    (c.requires.due (found-told g.D.Shelf.told g.D.Shelf.faults g.W.Actor.meanwhile g.met.W.Actor.goes_on before house house reached told))
+
+pub returns-clause-adds : goal.returns-clause-adds
+returns-clause-adds g c =
+    held-adds g.D.Shelf.told g.D.Shelf.faults g.W.Actor.meanwhile g.met.W.Actor.goes_on (g.W.Actor.house c.args.actor.now) (g.W.Actor.house c.hold.new.self)
+    g.W.Actor.between _ _ _ _ _ (g.W.Actor.own c.args.actor.now) (g.W.Actor.own c.hold.new.self) c.hold.ensures.held c.hold.ensures.went
+    (book-added (create_of c.args.txn) c.hold.result)
+    (ends-rise c.hold.result _ _ (note-ends _ c.hold.result c.hold.ensures.held.step.may))
+    (act-risen g.D.Shelf.told g.D.Shelf.faults g.W.Actor.meanwhile g.met.W.Actor.goes_on (g.W.Actor.house c.args.actor.now) (g.W.Actor.house c.hold.new.self)
+    _ c.hold.result _ c.args.txn.0 c.hold.ensures.held c.hold.ensures.held.does_it.1)
+
+pub returns-clause-replied : goal.returns-clause-replied
+returns-clause-replied g c =
+    make-replied g.D.Shelf.told g.D.Shelf.faults g.W.Actor.meanwhile (g.W.Actor.house c.args.actor.now) (g.W.Actor.house c.hold.new.self) c.args.txn c.hold.result
+    c.hold.ensures.held
+
+pub returns-clause-left : goal.returns-clause-left
+returns-clause-left g c =
+    let held = c.hold.ensures.held in
+    let trail = trail_in held.house in
+    act-left g.D.Shelf.told g.D.Shelf.faults g.W.Actor.meanwhile g.met.W.Actor.goes_on (g.W.Actor.house c.args.actor.now) (g.W.Actor.house c.hold.new.self)
+    _ c.hold.result _ c.args.txn.0 held c.requires.running
+    (answers-name NoTest trail c.args.txn (MakeFits trail c.args.txn) _ c.hold.result held.does_it.0) held.does_it.1
+
+pub returns-clause-ends : goal.returns-clause-ends
+returns-clause-ends g c = note-ends _ c.hold.result c.hold.ensures.held.step.may

@@ -1,5 +1,0 @@
-use Rattle.hv_history.specs.Legal.{profile}
-use Rattle.hv_session.proofs.ends.fault_fits.Given as goal
-
-abbrev pub ghost-fits : goal.ghost-fits
-ghost-fits g a = profile

@@ -1,0 +1,78 @@
+use Rattle.std.proofs.Common.{subst, Ok, Err}
+use Rattle.hv_acts.specs.Told.{trail_in}
+use Rattle.hv_session.specs.Going.{faults_in}
+use Rattle.hv_session.specs.Phases.{Prepares, CanConcludeIn}
+use Rattle.hv_session.specs.Doing.{EndsFrom}
+use Rattle.hv_session.specs.declared.reply.Prepared.TheVariants as prepared
+use Rattle.hv_session.proofs.Joining.{on-way-opened}
+use Rattle.hv_session.proofs.Takings.{goes-said, ready-ends, ended-ends, halted-so, ended-truly, done-told, done-way}
+use Rattle.hv_session.proofs.AloneFinishes.{from-alone}
+use Rattle.hv_session.proofs.taking.end_as.Goals as goal
+
+pub conclude-requires-clause-was : goal.conclude-requires-clause-was
+conclude-requires-clause-was g c =
+    let was = c.requires.was in
+    let before = g.W.Actor.house c.args.actor.now in
+    let now = g.W.Actor.house c.prepare.new.actor in
+    on-way-opened (trail_in now) was.0 c.args.way was.1
+    (done-way g.D.Shelf.told g.D.Shelf.faults g.W.Actor.between g.met.W.Actor.rows g.W.Actor.meanwhile c.args.way.txn.0 (faults_in g.D.Shelf.faults before)
+    (g.W.Actor.own c.args.actor.now) (g.W.Actor.own c.prepare.new.actor) before now (Prepares c.args.way.txn.0 now c.args.meaning) (prepared.Ready c.in-Ok-Ready.ready)
+    was.0 c.args.way was.1 (goes-said c.in-Ok-Ready.field-0-is c.in-Ok-Ready.ensures.goes) was.2)
+
+pub conclude-requires-clause-can : goal.conclude-requires-clause-can
+conclude-requires-clause-can g c =
+    subst (CanConcludeIn g.D.Shelf.told (g.W.Actor.house c.prepare.new.actor) c.args.way) c.in-Ok-Ready.field-0-is c.in-Ok-Ready.ensures.can
+
+pub returns-in-Ok-Ready-clause-goes : goal.returns-in-Ok-Ready-clause-goes
+returns-in-Ok-Ready-clause-goes g c =
+    ready-ends g.D.Shelf.told g.D.Shelf.faults g.W.Actor.between g.met.W.Actor.rows g.W.Actor.meanwhile c.args.way.txn.0
+    (g.W.Actor.own c.args.actor.now) (g.W.Actor.own c.prepare.new.actor) (g.W.Actor.own c.conclude.new.actor)
+    (g.W.Actor.house c.args.actor.now) (g.W.Actor.house c.prepare.new.actor) (g.W.Actor.house c.conclude.new.actor)
+    c.args.meaning c.in-Ok-Ready.ready c.conclude.result (goes-said c.in-Ok-Ready.field-0-is c.in-Ok-Ready.ensures.goes) c.conclude.ensures.goes
+
+pub returns-in-Ok-Ready-clause-answered : goal.returns-in-Ok-Ready-clause-answered
+returns-in-Ok-Ready-clause-answered g c = λ told.
+    let before = g.W.Actor.house c.args.actor.now in
+    let now = g.W.Actor.house c.prepare.new.actor in
+    c.conclude.ensures.answered
+    (done-told g.D.Shelf.told g.D.Shelf.faults g.W.Actor.between g.met.W.Actor.rows g.W.Actor.meanwhile c.args.way.txn.0 (faults_in g.D.Shelf.faults before)
+    (g.W.Actor.own c.args.actor.now) (g.W.Actor.own c.prepare.new.actor) before now (Prepares c.args.way.txn.0 now c.args.meaning) (prepared.Ready c.in-Ok-Ready.ready)
+    (goes-said c.in-Ok-Ready.field-0-is c.in-Ok-Ready.ensures.goes) told)
+
+pub returns-in-Ok-Ended-clause-goes : goal.returns-in-Ok-Ended-clause-goes
+returns-in-Ok-Ended-clause-goes g c =
+    ended-ends g.D.Shelf.told g.D.Shelf.faults g.W.Actor.between g.met.W.Actor.rows g.W.Actor.meanwhile c.args.way.txn.0
+    (faults_in g.D.Shelf.faults (g.W.Actor.house c.args.actor.now)) (g.W.Actor.own c.args.actor.now) (g.W.Actor.own c.prepare.new.actor)
+    (g.W.Actor.house c.args.actor.now) (g.W.Actor.house c.prepare.new.actor) c.args.meaning c.in-Ok-Ended.found (goes-said c.in-Ok-Ended.field-0-is c.in-Ok-Ended.ensures.goes)
+
+pub returns-in-Ok-Ended-clause-answered : goal.returns-in-Ok-Ended-clause-answered
+returns-in-Ok-Ended-clause-answered g c = λ told.
+    ended-truly g.D.Shelf.told g.D.Shelf.faults g.W.Actor.between g.met.W.Actor.rows g.W.Actor.meanwhile c.args.way.txn.0
+    (faults_in g.D.Shelf.faults (g.W.Actor.house c.args.actor.now)) (g.W.Actor.own c.args.actor.now) (g.W.Actor.own c.prepare.new.actor)
+    (g.W.Actor.house c.args.actor.now) (g.W.Actor.house c.prepare.new.actor) c.args.meaning c.in-Ok-Ended.found (goes-said c.in-Ok-Ended.field-0-is c.in-Ok-Ended.ensures.goes)
+
+pub returns-in-Err-clause-goes : goal.returns-in-Err-clause-goes
+returns-in-Err-clause-goes g c =
+    let before = g.W.Actor.house c.args.actor.now in
+    let now = g.W.Actor.house c.prepare.new.actor in
+    halted-so g.D.Shelf.told g.D.Shelf.faults g.W.Actor.between g.met.W.Actor.rows g.W.Actor.meanwhile c.args.way.txn.0 (faults_in g.D.Shelf.faults before)
+    (g.W.Actor.own c.args.actor.now) (g.W.Actor.own c.prepare.new.actor) before now (Prepares c.args.way.txn.0 now c.args.meaning)
+    (EndsFrom c.args.way.txn.0 now c.args.meaning) c.in-Err.why c.in-Err.ensures.goes
+
+pub returns-in-Ok-Ready-clause-alone : goal.returns-in-Ok-Ready-clause-alone
+returns-in-Ok-Ready-clause-alone g c = λ alone on can.
+    from-alone g.D.Shelf.told g.D.Shelf.faults g.W.Actor.between g.W.Actor.meanwhile alone (g.W.Actor.own c.args.actor.now) (g.W.Actor.own c.conclude.new.actor)
+    (g.W.Actor.house c.args.actor.now) (g.W.Actor.house c.conclude.new.actor) c.requires.running (g.met.W.Actor.kept c.conclude.new.actor c.conclude.ensures.keeps)
+    c.args.way c.args.meaning c.conclude.result (returns-in-Ok-Ready-clause-goes g c) (returns-in-Ok-Ready-clause-answered g c) on
+
+pub returns-in-Ok-Ended-clause-alone : goal.returns-in-Ok-Ended-clause-alone
+returns-in-Ok-Ended-clause-alone g c = λ alone on can.
+    from-alone g.D.Shelf.told g.D.Shelf.faults g.W.Actor.between g.W.Actor.meanwhile alone (g.W.Actor.own c.args.actor.now) (g.W.Actor.own c.prepare.new.actor)
+    (g.W.Actor.house c.args.actor.now) (g.W.Actor.house c.prepare.new.actor) c.requires.running (g.met.W.Actor.kept c.prepare.new.actor c.in-Ok-Ended.ensures.keeps)
+    c.args.way c.args.meaning (Ok c.in-Ok-Ended.found) (returns-in-Ok-Ended-clause-goes g c) (returns-in-Ok-Ended-clause-answered g c) on
+
+pub returns-in-Err-clause-alone : goal.returns-in-Err-clause-alone
+returns-in-Err-clause-alone g c = λ alone on can.
+    from-alone g.D.Shelf.told g.D.Shelf.faults g.W.Actor.between g.W.Actor.meanwhile alone (g.W.Actor.own c.args.actor.now) (g.W.Actor.own c.prepare.new.actor)
+    (g.W.Actor.house c.args.actor.now) (g.W.Actor.house c.prepare.new.actor) c.requires.running (g.met.W.Actor.kept c.prepare.new.actor c.in-Err.ensures.keeps)
+    c.args.way c.args.meaning (Err c.in-Err.why) (returns-in-Err-clause-goes g c) (λ is. tt) on

@@ -1,0 +1,79 @@
+use Rattle.std.proofs.Common.{Ok, Err}
+use Rattle.hv_session.specs.Going.{faults_in}
+use Rattle.hv_session.specs.Phases.{Sees}
+use Rattle.hv_session.specs.Doing.{EndsAs}
+use Rattle.hv_session.specs.declared.reply.Outcome.TheVariants as outcome
+use Rattle.hv_session.proofs.Takings.{goes-said, seen-comes, seen-ends, unseen-ends, unseen-truly, halted-so, done-told, done-way}
+use Rattle.hv_session.proofs.AloneFinishes.{as-alone}
+use Rattle.hv_session.proofs.taking.go_to_end.Goals as goal
+
+pub end_as-requires-clause-was : goal.end_as-requires-clause-was
+end_as-requires-clause-was g c =
+    let was = c.requires.was in
+    let before = g.W.Actor.house c.args.actor.now in
+    let now = g.W.Actor.house c.see.new.actor in
+    let low = faults_in g.D.Shelf.faults before in (
+      was.0,
+      c.args.tree.now,
+      done-way g.D.Shelf.told g.D.Shelf.faults g.W.Actor.between g.met.W.Actor.rows g.W.Actor.meanwhile c.args.way.txn.0 low
+          (g.W.Actor.own c.args.actor.now) (g.W.Actor.own c.see.new.actor) before now (Sees g.D.Shelf.told now c.args.way c.args.tree.now) (outcome.Means c.in-Ok-Means.meaning)
+          was.0 c.args.way c.args.tree.now (goes-said c.in-Ok-Means.field-0-is c.in-Ok-Means.ensures.goes) was.1,
+      seen-comes g.D.Shelf.told g.D.Shelf.faults g.W.Actor.between g.met.W.Actor.rows g.W.Actor.meanwhile c.args.way.txn.0 low
+          (g.W.Actor.own c.args.actor.now) (g.W.Actor.own c.see.new.actor) before now c.args.way c.args.tree.now c.in-Ok-Means.meaning
+          (goes-said c.in-Ok-Means.field-0-is c.in-Ok-Means.ensures.goes),
+    )
+
+pub returns-in-Ok-Means-clause-goes : goal.returns-in-Ok-Means-clause-goes
+returns-in-Ok-Means-clause-goes g c =
+    seen-ends g.D.Shelf.told g.D.Shelf.faults g.W.Actor.between g.met.W.Actor.rows g.W.Actor.meanwhile
+    (g.W.Actor.own c.args.actor.now) (g.W.Actor.own c.see.new.actor) (g.W.Actor.own c.end_as.new.actor)
+    (g.W.Actor.house c.args.actor.now) (g.W.Actor.house c.see.new.actor) (g.W.Actor.house c.end_as.new.actor)
+    c.requires.was.0 c.args.way c.args.tree.now c.in-Ok-Means.meaning c.end_as.result c.requires.was.1
+    (goes-said c.in-Ok-Means.field-0-is c.in-Ok-Means.ensures.goes) c.end_as.ensures.goes
+
+pub returns-in-Ok-Means-clause-answered : goal.returns-in-Ok-Means-clause-answered
+returns-in-Ok-Means-clause-answered g c = λ told.
+    let before = g.W.Actor.house c.args.actor.now in
+    let now = g.W.Actor.house c.see.new.actor in
+    c.end_as.ensures.answered
+    (done-told g.D.Shelf.told g.D.Shelf.faults g.W.Actor.between g.met.W.Actor.rows g.W.Actor.meanwhile c.args.way.txn.0 (faults_in g.D.Shelf.faults before)
+    (g.W.Actor.own c.args.actor.now) (g.W.Actor.own c.see.new.actor) before now (Sees g.D.Shelf.told now c.args.way c.args.tree.now) (outcome.Means c.in-Ok-Means.meaning)
+    (goes-said c.in-Ok-Means.field-0-is c.in-Ok-Means.ensures.goes) told)
+
+pub returns-in-Ok-Ended-clause-goes : goal.returns-in-Ok-Ended-clause-goes
+returns-in-Ok-Ended-clause-goes g c =
+    unseen-ends g.D.Shelf.told g.D.Shelf.faults g.W.Actor.between g.met.W.Actor.rows g.W.Actor.meanwhile (faults_in g.D.Shelf.faults (g.W.Actor.house c.args.actor.now))
+    (g.W.Actor.own c.args.actor.now) (g.W.Actor.own c.see.new.actor) (g.W.Actor.house c.args.actor.now) (g.W.Actor.house c.see.new.actor)
+    c.args.way c.args.tree.now c.in-Ok-Ended.found (goes-said c.in-Ok-Ended.field-0-is c.in-Ok-Ended.ensures.goes)
+
+pub returns-in-Ok-Ended-clause-answered : goal.returns-in-Ok-Ended-clause-answered
+returns-in-Ok-Ended-clause-answered g c = λ told.
+    unseen-truly g.D.Shelf.told g.D.Shelf.faults g.W.Actor.between g.met.W.Actor.rows g.W.Actor.meanwhile (faults_in g.D.Shelf.faults (g.W.Actor.house c.args.actor.now))
+    (g.W.Actor.own c.args.actor.now) (g.W.Actor.own c.see.new.actor) (g.W.Actor.house c.args.actor.now) (g.W.Actor.house c.see.new.actor)
+    c.args.way c.args.tree.now c.in-Ok-Ended.found (goes-said c.in-Ok-Ended.field-0-is c.in-Ok-Ended.ensures.goes)
+
+pub returns-in-Err-clause-goes : goal.returns-in-Err-clause-goes
+returns-in-Err-clause-goes g c =
+    let before = g.W.Actor.house c.args.actor.now in
+    let now = g.W.Actor.house c.see.new.actor in
+    halted-so g.D.Shelf.told g.D.Shelf.faults g.W.Actor.between g.met.W.Actor.rows g.W.Actor.meanwhile c.args.way.txn.0 (faults_in g.D.Shelf.faults before)
+    (g.W.Actor.own c.args.actor.now) (g.W.Actor.own c.see.new.actor) before now (Sees g.D.Shelf.told now c.args.way c.args.tree.now)
+    (EndsAs g.D.Shelf.told now c.args.way c.args.tree.now) c.in-Err.why c.in-Err.ensures.goes
+
+pub returns-in-Ok-Means-clause-alone : goal.returns-in-Ok-Means-clause-alone
+returns-in-Ok-Means-clause-alone g c = λ alone on.
+    as-alone g.D.Shelf.told g.D.Shelf.faults g.W.Actor.between g.W.Actor.meanwhile alone (g.W.Actor.own c.args.actor.now) (g.W.Actor.own c.end_as.new.actor)
+    (g.W.Actor.house c.args.actor.now) (g.W.Actor.house c.end_as.new.actor) c.requires.running (g.met.W.Actor.kept c.end_as.new.actor c.end_as.ensures.keeps)
+    c.args.way c.args.tree.now c.end_as.result (returns-in-Ok-Means-clause-goes g c) (returns-in-Ok-Means-clause-answered g c) on
+
+pub returns-in-Ok-Ended-clause-alone : goal.returns-in-Ok-Ended-clause-alone
+returns-in-Ok-Ended-clause-alone g c = λ alone on.
+    as-alone g.D.Shelf.told g.D.Shelf.faults g.W.Actor.between g.W.Actor.meanwhile alone (g.W.Actor.own c.args.actor.now) (g.W.Actor.own c.see.new.actor)
+    (g.W.Actor.house c.args.actor.now) (g.W.Actor.house c.see.new.actor) c.requires.running (g.met.W.Actor.kept c.see.new.actor c.in-Ok-Ended.ensures.keeps)
+    c.args.way c.args.tree.now (Ok c.in-Ok-Ended.found) (returns-in-Ok-Ended-clause-goes g c) (returns-in-Ok-Ended-clause-answered g c) on
+
+pub returns-in-Err-clause-alone : goal.returns-in-Err-clause-alone
+returns-in-Err-clause-alone g c = λ alone on.
+    as-alone g.D.Shelf.told g.D.Shelf.faults g.W.Actor.between g.W.Actor.meanwhile alone (g.W.Actor.own c.args.actor.now) (g.W.Actor.own c.see.new.actor)
+    (g.W.Actor.house c.args.actor.now) (g.W.Actor.house c.see.new.actor) c.requires.running (g.met.W.Actor.kept c.see.new.actor c.in-Err.ensures.keeps)
+    c.args.way c.args.tree.now (Err c.in-Err.why) (returns-in-Err-clause-goes g c) (λ is. tt) on

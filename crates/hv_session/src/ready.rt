@@ -1,0 +1,41 @@
+use hv_base::{List, Text, Touch, TxnId};
+use hv_shelf::Place;
+
+/// What is printed for a statement, whether it was refused, and the place in the book of the entry that ended its
+/// transaction; None for a statement that was never opened.
+#[derive(Debug, Drop)]
+pub struct Reply {
+    pub text: List<u8>,
+    pub refused: bool,
+    pub ended: Option<u64>,
+}
+
+/// A started statement: its transaction, and the place of its Start in the book.
+#[derive(Clone, Copy, Debug)]
+pub struct Way {
+    pub txn: TxnId,
+    pub place: u64,
+}
+
+/// The files that a statement put, one after another: how many marks the house had before them, and their places.
+#[derive(Drop)]
+pub struct PutFiles {
+    pub since: u64,
+    pub places: List<Place>,
+}
+
+/// What is noted where a statement ends.
+#[derive(Drop)]
+pub enum End {
+    /// A commit with these touches, in the table of that name, of these files.
+    Commit(List<Touch>, Text, PutFiles),
+    /// The table that it makes.
+    Create,
+}
+
+/// A statement of which all is done but its end: what is to be noted, and its reply then.
+#[derive(Drop)]
+pub struct Ready {
+    pub end: End,
+    pub text: List<u8>,
+}

@@ -1,0 +1,432 @@
+//! A statement from its tree to its end, or to the place where it is to be held, over any actor.
+ghost use Rattle.std.specs.Prelude.{◌≡◌, ◌≤◌, ℕ, List, Some, None, length, take, IfOk, IfErr};
+ghost use Rattle.hv_base.specs.declared.gate.Stage.TheVariants as stage;
+ghost use Rattle.hv_ast.specs.declared.statement.Stmt.{Stmt as Tree};
+ghost use Rattle.hv_built.specs.Running.{Runs};
+ghost use Rattle.hv_stands.specs.Running.{Asking, meant};
+ghost use Rattle.hv_house.specs.Faults.{EndsRun};
+ghost use Rattle.hv_house.specs.House.{entries_of};
+ghost use Rattle.hv_telling.specs.Telling.{IsToldHouse, IsWhole};
+ghost use Rattle.hv_acts.specs.declared.told.ToldHouse.{ToldHouse as House};
+ghost use Rattle.hv_acts.specs.Told.{trail_in};
+ghost use Rattle.hv_session.specs.Ending.{CanEnd};
+ghost use Rattle.hv_session.specs.Taking.{IsHeldBySome, IsTrulyHeld};
+ghost use Rattle.hv_session.specs.Ways.{ActsAlone, IsOnWay, IsOnWayAs, EndsAlone, GoesAlone, CarriesAlone};
+ghost use Rattle.hv_session.specs.Going.{IsOpenHouse, faults_in, Goes, GainsSome, WasOnWay};
+ghost use Rattle.hv_session.specs.Phases.{ComesTo, AnswersTruly, Begins, HaltsBeginning};
+ghost use Rattle.hv_session.specs.Doing.{EndsFrom, EndsAs, IsHold, is_refused, carried_of, CanFinish, CanFinishSome, Finishes, Takes, GoesToHold, GoesTaking, WasStarted};
+
+use crate::concluding::conclude;
+use crate::opening::begin;
+use crate::paused::{Carried, Paused, Point};
+use crate::preparing::prepare;
+use crate::ready::Way;
+use crate::reply::{Done, Opened, Outcome, Prepared};
+use crate::seeing::see;
+use hv_actor::Actor;
+use hv_acts::ToldHouse;
+use hv_ast::{Stmt, discard};
+use hv_base::{Stage, Text};
+use hv_house::HouseFault;
+use hv_logic::Meaning;
+use hv_shelf::Shelf;
+use std::alloc::Global;
+
+/// What has ended, as what taking up a statement answers.
+fn taken(found: Result<Done, HouseFault>) -> Result<Carried, HouseFault>
+    ensures taken { result ≡ carried_of found }
+{
+    match found {
+        Ok(found) => Ok(Carried::Ended(found)),
+        Err(why) => Err(why),
+    }
+}
+
+/// Whether a statement is refused for what it says.
+fn is_refused(meaning: &Meaning) -> bool
+    ensures refused { result ≡ is_refused meaning.now }
+{
+    matches!(meaning, Meaning::Refused(_))
+}
+
+/// Ends a started statement by what it means.
+fn end_as<D: Shelf + Drop, W: Actor<D, ToldHouse<D>>>(
+    alloc: Global,
+    actor: &mut W,
+    way: Way,
+    meaning: Meaning,
+) -> Result<Done, HouseFault>
+    requires keeps { W.keeps actor.old }
+    requires running { IsOpenHouse (W.house actor.old) }
+    requires was { (asking : Asking) × (said : Tree) × WasOnWay (trail_in (W.house actor.old)) asking way said
+        × ComesTo D.told (W.house actor.old) way said meaning }
+    ensures keeps { W.keeps actor.new }
+    ensures goes { Goes D.told D.faults W.between W.meanwhile (faults_in D.faults (W.house actor.old)) way.txn.0
+        (W.own actor.old) (W.own actor.new) (W.house actor.old) (W.house actor.new) (EndsFrom way.txn.0 (W.house actor.new) meaning) result }
+    ensures answered { IsToldHouse D.told (W.house actor.old).house → IfOk result (AnswersTruly way.txn.0 (W.house actor.new)) }
+    ensures alone { ActsAlone W.between W.meanwhile → IsOnWayAs D.told (W.house actor.old).house way meaning
+        → CanEnd (entries_of (W.house actor.old).house) meaning
+        → EndsAlone D.told D.faults way.txn.0 (W.house actor.old).house (W.house actor.new).house result }
+    ensures ends { IfErr result EndsRun }
+{
+    match prepare(alloc, actor, way, meaning) {
+        Ok(Prepared::Ready(ready)) => conclude(alloc, actor, way, ready),
+        Ok(Prepared::Ended(found)) => Ok(found),
+        Err(why) => Err(why),
+    }
+}
+
+/// Does a started statement to its end.
+fn go_to_end<D: Shelf + Drop, W: Actor<D, ToldHouse<D>>>(
+    alloc: Global,
+    actor: &mut W,
+    way: Way,
+    tree: &Stmt,
+) -> Result<Done, HouseFault>
+    requires keeps { W.keeps actor.old }
+    requires running { IsOpenHouse (W.house actor.old) }
+    requires was { (asking : Asking) × WasOnWay (trail_in (W.house actor.old)) asking way tree.now }
+    ensures keeps { W.keeps actor.new }
+    ensures goes { Goes D.told D.faults W.between W.meanwhile (faults_in D.faults (W.house actor.old)) way.txn.0
+        (W.own actor.old) (W.own actor.new) (W.house actor.old) (W.house actor.new) (EndsAs D.told (W.house actor.new) way tree.now) result }
+    ensures answered { IsToldHouse D.told (W.house actor.old).house → IfOk result (AnswersTruly way.txn.0 (W.house actor.new)) }
+    ensures alone { ActsAlone W.between W.meanwhile → IsOnWay (entries_of (W.house actor.old).house) way tree.now
+        → EndsAlone D.told D.faults way.txn.0 (W.house actor.old).house (W.house actor.new).house result }
+    ensures ends { IfErr result EndsRun }
+{
+    match see(alloc, actor, way, tree) {
+        Ok(Outcome::Means(meaning)) => end_as(alloc, actor, way, meaning),
+        Ok(Outcome::Ended(found)) => Ok(found),
+        Err(why) => Err(why),
+    }
+}
+
+/// Keeps a statement of which it is known what it comes to; one that is refused ends at once.
+fn keep_meant<D: Shelf + Drop, W: Actor<D, ToldHouse<D>>>(
+    alloc: Global,
+    actor: &mut W,
+    way: Way,
+    tree: Stmt,
+    meaning: Meaning,
+) -> Result<Carried, HouseFault>
+    requires keeps { W.keeps actor.old }
+    requires running { IsOpenHouse (W.house actor.old) }
+    requires was { (asking : Asking) × WasOnWay (trail_in (W.house actor.old)) asking way tree }
+    requires comes { ComesTo D.told (W.house actor.old) way tree meaning }
+    ensures keeps { W.keeps actor.new }
+    ensures goes { GoesToHold D.told D.faults W.between W.meanwhile way tree (Some stage.Read)
+        (W.own actor.old) (W.own actor.new) (W.house actor.old) (W.house actor.new) result }
+    ensures alone { ActsAlone W.between W.meanwhile → IsOnWay (entries_of (W.house actor.old).house) way tree
+        → CanEnd (entries_of (W.house actor.old).house) meaning
+        → (IsToldHouse D.told (W.house actor.old).house → meant (take way.place (entries_of (W.house actor.old).house)) tree ≡ Some meaning)
+        → GoesAlone D.told D.faults way tree (Some stage.Read) (W.house actor.old).house (W.house actor.new).house result }
+    ensures ends { IfErr result EndsRun }
+{
+    if is_refused(&meaning) {
+        discard(tree);
+        taken(end_as(alloc, actor, way, meaning))
+    } else {
+        Ok(Carried::Kept(Paused {
+            way,
+            tree,
+            point: Point::Meant(meaning),
+        }))
+    }
+}
+
+/// Does a started statement to its reads, and keeps it there.
+fn hold_read<D: Shelf + Drop, W: Actor<D, ToldHouse<D>>>(
+    alloc: Global,
+    actor: &mut W,
+    way: Way,
+    tree: Stmt,
+) -> Result<Carried, HouseFault>
+    requires keeps { W.keeps actor.old }
+    requires running { IsOpenHouse (W.house actor.old) }
+    requires was { (asking : Asking) × WasOnWay (trail_in (W.house actor.old)) asking way tree }
+    ensures keeps { W.keeps actor.new }
+    ensures goes { GoesToHold D.told D.faults W.between W.meanwhile way tree (Some stage.Read)
+        (W.own actor.old) (W.own actor.new) (W.house actor.old) (W.house actor.new) result }
+    ensures alone { ActsAlone W.between W.meanwhile → IsOnWay (entries_of (W.house actor.old).house) way tree
+        → GoesAlone D.told D.faults way tree (Some stage.Read) (W.house actor.old).house (W.house actor.new).house result }
+    ensures ends { IfErr result EndsRun }
+{
+    match see(alloc, actor, way, &tree) {
+        Ok(Outcome::Means(meaning)) => keep_meant(alloc, actor, way, tree, meaning),
+        Ok(Outcome::Ended(found)) => {
+            discard(tree);
+            Ok(Carried::Ended(found))
+        }
+        Err(why) => {
+            discard(tree);
+            Err(why)
+        }
+    }
+}
+
+/// Prepares a statement of which it is known what it comes to, and keeps it where it is ready.
+fn keep_ready<D: Shelf + Drop, W: Actor<D, ToldHouse<D>>>(
+    alloc: Global,
+    actor: &mut W,
+    way: Way,
+    tree: Stmt,
+    meaning: Meaning,
+) -> Result<Carried, HouseFault>
+    requires keeps { W.keeps actor.old }
+    requires running { IsOpenHouse (W.house actor.old) }
+    requires was { (asking : Asking) × WasOnWay (trail_in (W.house actor.old)) asking way tree }
+    requires comes { ComesTo D.told (W.house actor.old) way tree meaning }
+    ensures keeps { W.keeps actor.new }
+    ensures goes { GoesToHold D.told D.faults W.between W.meanwhile way tree (Some stage.Commit)
+        (W.own actor.old) (W.own actor.new) (W.house actor.old) (W.house actor.new) result }
+    ensures alone { ActsAlone W.between W.meanwhile → IsOnWay (entries_of (W.house actor.old).house) way tree
+        → CanEnd (entries_of (W.house actor.old).house) meaning
+        → (IsToldHouse D.told (W.house actor.old).house → meant (take way.place (entries_of (W.house actor.old).house)) tree ≡ Some meaning)
+        → GoesAlone D.told D.faults way tree (Some stage.Commit) (W.house actor.old).house (W.house actor.new).house result }
+    ensures ends { IfErr result EndsRun }
+{
+    match prepare(alloc, actor, way, meaning) {
+        Ok(Prepared::Ready(ready)) => Ok(Carried::Kept(Paused {
+            way,
+            tree,
+            point: Point::Ready(ready),
+        })),
+        Ok(Prepared::Ended(found)) => {
+            discard(tree);
+            Ok(Carried::Ended(found))
+        }
+        Err(why) => {
+            discard(tree);
+            Err(why)
+        }
+    }
+}
+
+/// Does a started statement to its commit, and keeps it there.
+fn hold_commit<D: Shelf + Drop, W: Actor<D, ToldHouse<D>>>(
+    alloc: Global,
+    actor: &mut W,
+    way: Way,
+    tree: Stmt,
+) -> Result<Carried, HouseFault>
+    requires keeps { W.keeps actor.old }
+    requires running { IsOpenHouse (W.house actor.old) }
+    requires was { (asking : Asking) × WasOnWay (trail_in (W.house actor.old)) asking way tree }
+    ensures keeps { W.keeps actor.new }
+    ensures goes { GoesToHold D.told D.faults W.between W.meanwhile way tree (Some stage.Commit)
+        (W.own actor.old) (W.own actor.new) (W.house actor.old) (W.house actor.new) result }
+    ensures alone { ActsAlone W.between W.meanwhile → IsOnWay (entries_of (W.house actor.old).house) way tree
+        → GoesAlone D.told D.faults way tree (Some stage.Commit) (W.house actor.old).house (W.house actor.new).house result }
+    ensures ends { IfErr result EndsRun }
+{
+    match see(alloc, actor, way, &tree) {
+        Ok(Outcome::Means(meaning)) => keep_ready(alloc, actor, way, tree, meaning),
+        Ok(Outcome::Ended(found)) => {
+            discard(tree);
+            Ok(Carried::Ended(found))
+        }
+        Err(why) => {
+            discard(tree);
+            Err(why)
+        }
+    }
+}
+
+/// Does a started statement to its end.
+fn go_unheld<D: Shelf + Drop, W: Actor<D, ToldHouse<D>>>(
+    alloc: Global,
+    actor: &mut W,
+    way: Way,
+    tree: Stmt,
+) -> Result<Carried, HouseFault>
+    requires keeps { W.keeps actor.old }
+    requires running { IsOpenHouse (W.house actor.old) }
+    requires was { (asking : Asking) × WasOnWay (trail_in (W.house actor.old)) asking way tree }
+    ensures keeps { W.keeps actor.new }
+    ensures goes { GoesToHold D.told D.faults W.between W.meanwhile way tree (None)
+        (W.own actor.old) (W.own actor.new) (W.house actor.old) (W.house actor.new) result }
+    ensures alone { ActsAlone W.between W.meanwhile → IsOnWay (entries_of (W.house actor.old).house) way tree
+        → GoesAlone D.told D.faults way tree None (W.house actor.old).house (W.house actor.new).house result }
+    ensures ends { IfErr result EndsRun }
+{
+    let found = go_to_end(alloc, actor, way, &tree);
+    discard(tree);
+    taken(found)
+}
+
+/// Does a started statement to this place, and keeps it there.
+fn hold_at<D: Shelf + Drop, W: Actor<D, ToldHouse<D>>>(
+    alloc: Global,
+    actor: &mut W,
+    way: Way,
+    tree: Stmt,
+    at: Stage,
+) -> Result<Carried, HouseFault>
+    requires keeps { W.keeps actor.old }
+    requires running { IsOpenHouse (W.house actor.old) }
+    requires was { (asking : Asking) × WasOnWay (trail_in (W.house actor.old)) asking way tree }
+    requires hold { IsHold (Some at) }
+    ensures keeps { W.keeps actor.new }
+    ensures goes { GoesToHold D.told D.faults W.between W.meanwhile way tree (Some at)
+        (W.own actor.old) (W.own actor.new) (W.house actor.old) (W.house actor.new) result }
+    ensures alone { ActsAlone W.between W.meanwhile → IsOnWay (entries_of (W.house actor.old).house) way tree
+        → GoesAlone D.told D.faults way tree (Some at) (W.house actor.old).house (W.house actor.new).house result }
+    ensures ends { IfErr result EndsRun }
+{
+    match at {
+        Stage::Start => Ok(Carried::Kept(Paused {
+            way,
+            tree,
+            point: Point::Started,
+        })),
+        Stage::Read => hold_read(alloc, actor, way, tree),
+        Stage::Commit => hold_commit(alloc, actor, way, tree),
+        Stage::Taken => unreachable!(),
+        Stage::Replied => unreachable!(),
+    }
+}
+
+/// Does a started statement to its end, or to the place where it is to be held.
+fn go<D: Shelf + Drop, W: Actor<D, ToldHouse<D>>>(
+    alloc: Global,
+    actor: &mut W,
+    way: Way,
+    tree: Stmt,
+    hold: Option<Stage>,
+) -> Result<Carried, HouseFault>
+    requires keeps { W.keeps actor.old }
+    requires running { IsOpenHouse (W.house actor.old) }
+    requires was { (asking : Asking) × WasOnWay (trail_in (W.house actor.old)) asking way tree }
+    requires hold { IsHold hold }
+    ensures keeps { W.keeps actor.new }
+    ensures goes { GoesToHold D.told D.faults W.between W.meanwhile way tree hold
+        (W.own actor.old) (W.own actor.new) (W.house actor.old) (W.house actor.new) result }
+    ensures alone { ActsAlone W.between W.meanwhile → IsOnWay (entries_of (W.house actor.old).house) way tree
+        → GoesAlone D.told D.faults way tree hold (W.house actor.old).house (W.house actor.new).house result }
+    ensures ends { IfErr result EndsRun }
+{
+    match hold {
+        None => go_unheld(alloc, actor, way, tree),
+        Some(at) => hold_at(alloc, actor, way, tree, at),
+    }
+}
+
+/// Goes on with a statement that was opened.
+fn go_opened<D: Shelf + Drop, W: Actor<D, ToldHouse<D>>>(
+    alloc: Global,
+    actor: &mut W,
+    opened: Opened,
+    tree: Stmt,
+    hold: Option<Stage>,
+) -> Result<Carried, HouseFault>
+    requires keeps { W.keeps actor.old }
+    requires running { IsOpenHouse (W.house actor.old) }
+    requires was { WasStarted (trail_in (W.house actor.old)) tree opened }
+    requires hold { IsHold hold }
+    ensures keeps { W.keeps actor.new }
+    ensures goes { (first : House D) (own : List ℕ) (asking : Asking)
+        → GainsSome D.faults W.between (faults_in D.faults first) own (W.own actor.old) first (W.house actor.old) (Begins first (W.house actor.old) asking tree opened)
+        → GoesTaking D.told D.faults W.between W.meanwhile asking tree hold own (W.own actor.new) first (W.house actor.new) result }
+    ensures can { IfOk result (CanFinishSome D.told (W.house actor.new)) }
+    ensures alone { ActsAlone W.between W.meanwhile → (first : House D) (own : List ℕ) (asking : Asking) → Runs asking.text tree
+        → IsOpenHouse first → IsWhole D.told first.house
+        → GainsSome D.faults W.between (faults_in D.faults first) own (W.own actor.old) first (W.house actor.old) (Begins first (W.house actor.old) asking tree opened)
+        → CarriesAlone D.told D.faults asking hold first.house (W.house actor.new).house result }
+    ensures ends { IfErr result EndsRun }
+{
+    match opened {
+        Opened::Started(way) => go(alloc, actor, way, tree, hold),
+        Opened::Full { entries } => {
+            discard(tree);
+            Ok(Carried::Full { entries })
+        }
+        Opened::NoMemory => {
+            discard(tree);
+            Ok(Carried::NoMemory)
+        }
+        Opened::Ended(found) => {
+            discard(tree);
+            Ok(Carried::Ended(found))
+        }
+    }
+}
+
+/// Carries a statement of this tree to its end, or to the place where it is to be held. `kept` is its tree once more, for the book.
+///
+/// # Errors
+/// `Store` where the journal failed or others closed the house, and `NoMemory` where memory lacked even for an abort.
+pub fn carry<D: Shelf + Drop, W: Actor<D, ToldHouse<D>>>(
+    alloc: Global,
+    actor: &mut W,
+    session: Text,
+    number: u64,
+    text: Text,
+    kept: Stmt,
+    tree: Stmt,
+    hold: Option<Stage>,
+) -> Result<Carried, HouseFault>
+    requires keeps { W.keeps actor.old }
+    requires running { IsOpenHouse (W.house actor.old) }
+    requires kept { Runs text kept }
+    requires tree { Runs text tree }
+    requires short { length text ≤ 32768 }
+    requires named { length session ≤ 32 }
+    requires hold { IsHold hold }
+    ensures keeps { W.keeps actor.new }
+    ensures takes { IfOk result (λ found. GainsSome D.faults W.between (faults_in D.faults (W.house actor.old))
+        (W.own actor.old) (W.own actor.new) (W.house actor.old) (W.house actor.new)
+        (Takes D.told (W.house actor.old) (W.house actor.new) (record { session = session; number = number; text = text }) tree hold found)) }
+    ensures halts { IfErr result (HaltsBeginning D.told D.faults W.between W.meanwhile (record { session = session; number = number; text = text })
+        (W.own actor.old) (W.own actor.new) (W.house actor.old) (W.house actor.new)) }
+    ensures can { IfOk result (CanFinishSome D.told (W.house actor.new)) }
+    ensures alone { ActsAlone W.between W.meanwhile → CarriesAlone D.told D.faults (record { session = session; number = number; text = text }) hold
+        (W.house actor.old).house (W.house actor.new).house result }
+    ensures ends { IfErr result EndsRun }
+{
+    match begin(alloc, actor, session, number, text, kept) {
+        Ok(opened) => go_opened(alloc, actor, opened, tree, hold),
+        Err(why) => {
+            discard(tree);
+            Err(why)
+        }
+    }
+}
+
+/// Does a held statement to its end.
+///
+/// # Errors
+/// As `carry`.
+pub fn finish<D: Shelf + Drop, W: Actor<D, ToldHouse<D>>>(
+    alloc: Global,
+    actor: &mut W,
+    paused: Paused,
+) -> Result<Done, HouseFault>
+    requires keeps { W.keeps actor.old }
+    requires running { IsOpenHouse (W.house actor.old) }
+    requires can { CanFinish D.told (W.house actor.old) paused }
+    ensures keeps { W.keeps actor.new }
+    ensures goes { Goes D.told D.faults W.between W.meanwhile (faults_in D.faults (W.house actor.old)) paused.way.txn.0
+        (W.own actor.old) (W.own actor.new) (W.house actor.old) (W.house actor.new) (Finishes D.told (W.house actor.new) paused) result }
+    ensures answered { IsToldHouse D.told (W.house actor.old).house → IfOk result (AnswersTruly paused.way.txn.0 (W.house actor.new)) }
+    ensures alone { ActsAlone W.between W.meanwhile → IsHeldBySome (entries_of (W.house actor.old).house) paused
+        → (IsToldHouse D.told (W.house actor.old).house → IsTrulyHeld (entries_of (W.house actor.old).house) paused)
+        → EndsAlone D.told D.faults paused.way.txn.0 (W.house actor.old).house (W.house actor.new).house result }
+    ensures ends { IfErr result EndsRun }
+{
+    let Paused { way, tree, point } = paused;
+    match point {
+        Point::Started => {
+            let result = go_to_end(alloc, actor, way, &tree);
+            discard(tree);
+            result
+        }
+        Point::Meant(meaning) => {
+            discard(tree);
+            end_as(alloc, actor, way, meaning)
+        }
+        Point::Ready(ready) => {
+            discard(tree);
+            conclude(alloc, actor, way, ready)
+        }
+    }
+}
