@@ -1,8 +1,10 @@
 //! A house with room for few entries, up to its last one. The entries are counted by hand:
 //! the Boot is the first; a table takes three more (Opened, Start, Create: 4), an insert four (Opened, Start, Given, Commit: 8), and
-//! the beginning of a second insert two (10). That one is open, so that the load is 11, and a write id asks for one more: with
-//! room for 11 it is refused at 10 entries, and the abort is the eleventh; with room for 12 it is the eleventh, and the abort the twelfth.
-//! Then there is no room for another Boot.
+//! the Opened and the Start of a second insert, noted one by one, two (10). That one is open, so that the load is 11, and a write id
+//! asks for one more: with room for 11 it is refused at 10 entries, and the abort is the eleventh; with room for 12 it is the eleventh,
+//! and the abort the twelfth. Then there is no room for another Boot.
+//! With room for 3 nothing can begin at once behind the Boot. An insert is opened by the second entry, which makes the load 3: there
+//! is no room for its Start, and the abort is the third. With room for 2 it isn't opened: its end would be the third.
 ghost use Rattle.std.specs.Prelude.{◌≤◌, IfOk, length};
 ghost use Rattle.hv_base.specs.declared.ids.Limits.{Limits};
 ghost use Rattle.hv_built.specs.Running.{Runs};
@@ -13,6 +15,7 @@ use crate::ending::commit_put;
 use crate::opening::{MOST_TEXT, answer, session};
 use hv_ast::{Stmt, discard};
 use hv_base::{Limits, NoMemory, TableId, Text, TxnId};
+use hv_fits::start_fits;
 use hv_history::{Cause, Entry};
 use hv_house::{BootFault, EntryFault, House, HouseFault};
 use hv_meta::given_fits;
@@ -26,7 +29,7 @@ const UNBOUNDED: Limits = Limits { entries: u64::MAX };
 /// What a call was answered that notes an entry by its name.
 #[derive(Drop)]
 enum Answer {
-    /// This number: of a write id, a table or a place.
+    /// This number: of a transaction, a write id, a table or a place.
     Done(u64),
     NotOpen(u64),
     Full(u64),
@@ -85,6 +88,52 @@ fn begin<D: Shelf>(
             discard(tree);
             Ok(None)
         }
+    }
+}
+
+/// Opens a transaction for a statement.
+fn open_one<D: Shelf>(alloc: Global, house: &mut House<D>, text: Text) -> Result<Answer, HouseFault>
+    ghost limits: { Limits }
+    requires ready { IsReadyWithin limits D.told house.old }
+    ensures ready { IfOk result (λ _. IsReadyWithin limits D.told house.new) }
+{
+    let session = session(alloc)?;
+    if text.len() > MOST_TEXT {
+        return Ok(Answer::Unasked);
+    }
+    let Ok(tree) = read_statement(alloc, &text) else {
+        return Ok(Answer::Unasked);
+    };
+    match house.open_txn(session, 1, text, tree) {
+        Ok(txn) => Ok(Answer::Done(txn.0)),
+        Err(EntryFault::NotOpen { at }) => Ok(Answer::NotOpen(at)),
+        Err(EntryFault::Full { entries }) => Ok(Answer::Full(entries)),
+        Err(EntryFault::House(fault)) => Err(fault),
+    }
+}
+
+/// The transaction that was opened. None has the number 0.
+fn opened_txn(answered: &Answer) -> TxnId {
+    match answered {
+        Answer::Done(number) => TxnId(*number),
+        _ => TxnId(0),
+    }
+}
+
+/// Starts an opened transaction.
+fn start<D: Shelf>(house: &mut House<D>, txn: TxnId) -> Result<Answer, HouseFault>
+    ghost limits: { Limits }
+    requires ready { IsReadyWithin limits D.told house.old }
+    ensures ready { IfOk result (λ _. IsReadyWithin limits D.told house.new) }
+{
+    if !start_fits(house.book(), &UNBOUNDED, txn, 0) {
+        return Ok(Answer::Unasked);
+    }
+    match house.start(txn) {
+        Ok(place) => Ok(Answer::Done(place)),
+        Err(EntryFault::NotOpen { at }) => Ok(Answer::NotOpen(at)),
+        Err(EntryFault::Full { entries }) => Ok(Answer::Full(entries)),
+        Err(EntryFault::House(fault)) => Err(fault),
     }
 }
 
@@ -178,19 +227,33 @@ fn insert<D: Shelf>(alloc: Global, house: &mut House<D>) -> Result<String, House
     }
 }
 
-/// Begins one more insert, asks for its write id, and aborts it.
-fn give_up<D: Shelf>(alloc: Global, house: &mut House<D>) -> Result<(Answer, Answer), HouseFault>
+/// What the calls of one more insert were answered.
+#[derive(Drop)]
+struct GivenUp {
+    opened: Answer,
+    started: Answer,
+    given: Answer,
+    ended: Answer,
+}
+
+/// Opens one more insert and starts it, asks for its write id, and aborts it.
+fn give_up<D: Shelf>(alloc: Global, house: &mut House<D>) -> Result<GivenUp, HouseFault>
     ghost limits: { Limits }
     requires ready { IsReadyWithin limits D.told house.old }
     ensures ready { IfOk result (λ _. IsReadyWithin limits D.told house.new) }
 {
     let text = Text::of(alloc, "INSERT INTO t VALUES (8, 'a')")?;
-    let Some(txn) = begin(alloc, house, text)? else {
-        return Ok((Answer::Unasked, Answer::Unasked));
-    };
+    let opened = open_one(alloc, house, text)?;
+    let txn = opened_txn(&opened);
+    let started = start(house, txn)?;
     let given = give(house, txn, TableId(1))?;
     let ended = abort(house, txn)?;
-    Ok((given, ended))
+    Ok(GivenUp {
+        opened,
+        started,
+        given,
+        ended,
+    })
 }
 
 fn answer_text(alloc: Global, answered: Answer) -> Result<String, NoMemory> {
@@ -203,6 +266,14 @@ fn answer_text(alloc: Global, answered: Answer) -> Result<String, NoMemory> {
     Ok(text)
 }
 
+fn given_up_text(alloc: Global, answered: GivenUp) -> Result<String, NoMemory> {
+    let opened = answer_text(alloc, answered.opened)?;
+    let started = answer_text(alloc, answered.started)?;
+    let given = answer_text(alloc, answered.given)?;
+    let ended = answer_text(alloc, answered.ended)?;
+    Ok(format!(in alloc; "opened {opened}, start {started}, write id {given}, abort {ended}")?)
+}
+
 /// Fills a house that was opened over an empty store.
 fn fill<D: Shelf>(alloc: Global, house: &mut House<D>) -> Result<String, HouseFault>
     ghost limits: { Limits }
@@ -211,10 +282,8 @@ fn fill<D: Shelf>(alloc: Global, house: &mut House<D>) -> Result<String, HouseFa
 {
     let made = answer_text(alloc, make(alloc, house)?)?;
     let inserted = insert(alloc, house)?;
-    let (given, ended) = give_up(alloc, house)?;
-    let given = answer_text(alloc, given)?;
-    let ended = answer_text(alloc, ended)?;
-    Ok(format!(in alloc; "table {made}, insert {inserted}, write id {given}, abort {ended}")?)
+    let given_up = given_up_text(alloc, give_up(alloc, house)?)?;
+    Ok(format!(in alloc; "table {made}, insert {inserted}, {given_up}")?)
 }
 
 /// The bytes of a store's journal and files.

@@ -1,7 +1,10 @@
 use Rattle.tests_house.proofs.room.give_up.Given as goal
 
-abbrev pub ghost-begin : goal.ghost-begin
-ghost-begin g a = g.limits
+abbrev pub ghost-open_one : goal.ghost-open_one
+ghost-open_one g a = g.limits
+
+abbrev pub ghost-start : goal.ghost-start
+ghost-start g a = g.limits
 
 abbrev pub ghost-give : goal.ghost-give
 ghost-give g a = g.limits
