@@ -1,46 +1,20 @@
 //! Whole statements.
 
 ghost use Rattle.std.specs.Prelude.{◌≡◌};
-ghost use Rattle.hv_types.specs.Faults.{Types};
-ghost use Rattle.hv_analysis.specs.Analysis.{are_windowless, is_form, query_analysed, change_analysed, form_analysed, analysed};
+ghost use Rattle.hv_typing.specs.Faults.{Types};
+ghost use Rattle.hv_typing.specs.Analysis.{query_analysed, change_analysed, form_analysed, analysed};
 
 use crate::changes::change_of;
 use crate::creates::created;
-use crate::logic::Logic;
 use crate::queries::selected;
-use crate::windows::is_windowless;
-use hv_ast::{Query, Rows, Stmt};
+use hv_ast::{Query, Stmt};
 use hv_base::{Refusal, Text};
+use hv_built::is_built;
 use hv_logic::TableInfo;
-use hv_types::TypeFault;
+use hv_typing::{Logic, TypeFault};
 use std::alloc::Global;
 
 const SYNTAX: TypeFault = TypeFault::Refused(Refusal::Syntax);
-
-fn are_windowless(rows: &Rows) -> bool
-    ensures { result ≡ are_windowless rows.now }
-{
-    match rows {
-        Rows::Values(_) => true,
-        Rows::Query(query) => is_windowless(query),
-    }
-}
-
-/// Whether statements of this form are analysed.
-#[tactic(auto, unfolding(crate::specs::Analysis::is_form))]
-pub fn is_form(stmt: &Stmt) -> bool
-    ensures { result ≡ is_form stmt.now }
-{
-    match stmt {
-        Stmt::Query(query) => is_windowless(query),
-        Stmt::Insert(insert) => are_windowless(&insert.rows),
-        Stmt::Update(_) => true,
-        Stmt::Delete(_) => true,
-        Stmt::Truncate(_) => true,
-        Stmt::CreateTable(_) => true,
-        _ => false,
-    }
-}
 
 fn query_analysed(alloc: Global, tables: &[TableInfo], query: &Query) -> Result<Logic, TypeFault>
     ensures { Types result (query_analysed tables.now query.now) }
@@ -60,7 +34,7 @@ fn change_analysed(
     Ok(Logic::Change(change_of(alloc, tables, name, stmt)?))
 }
 
-#[tactic(auto, unfolding(crate::specs::Analysis::form_analysed))]
+#[tactic(auto, unfolding(hv_typing::specs::Analysis::form_analysed))]
 fn form_analysed(alloc: Global, tables: &[TableInfo], stmt: &Stmt) -> Result<Logic, TypeFault>
     ensures { Types result (form_analysed tables.now stmt.now) }
 {
@@ -77,11 +51,11 @@ fn form_analysed(alloc: Global, tables: &[TableInfo], stmt: &Stmt) -> Result<Log
 
 /// The typed statement over the live tables, or its first fault. A form that isn't built yet is refused
 /// as Syntax.
-#[tactic(auto, unfolding(crate::specs::Analysis::analysed))]
+#[tactic(auto, unfolding(hv_typing::specs::Analysis::analysed))]
 pub fn analyse(alloc: Global, tables: &[TableInfo], stmt: &Stmt) -> Result<Logic, TypeFault>
     ensures { Types result (analysed tables.now stmt.now) }
 {
-    if is_form(stmt) {
+    if is_built(stmt) {
         form_analysed(alloc, tables, stmt)
     } else {
         Err(SYNTAX)

@@ -1,23 +1,21 @@
 //! INSERT, UPDATE, DELETE and TRUNCATE over the live tables.
 
 ghost use Rattle.std.specs.Prelude.{◌≡◌, Some};
-ghost use Rattle.hv_types.specs.Faults.{Types};
-ghost use Rattle.hv_analysis.specs.Changes.{source_inserted, inserted, changing, changing_table, change_of};
+ghost use Rattle.hv_typing.specs.Faults.{Types};
+ghost use Rattle.hv_typing.specs.Changes.{source_inserted, inserted, changing, changing_table, change_of};
 
 use crate::creates::place_of;
 use crate::queries::selected;
 use hv_ast::{Insert, Rows, Stmt};
 use hv_base::{Refusal, Text};
-use hv_changes::{
-    TypedChange, deleted, query_inserted, rows_inserted, targets_of, truncated, updated,
-};
+use hv_changes::{deleted, query_inserted, rows_inserted, targets_of, truncated, updated};
 use hv_logic::{Column, Shape, TableInfo};
-use hv_types::TypeFault;
+use hv_typing::{TypeFault, TypedChange};
 use std::alloc::Global;
 
 const NO_TABLE: TypeFault = TypeFault::Refused(Refusal::NoTable);
 
-#[tactic(auto, unfolding(crate::specs::Changes::source_inserted))]
+#[tactic(auto, unfolding(hv_typing::specs::Changes::source_inserted))]
 fn source_inserted(
     alloc: Global,
     tables: &[TableInfo],
@@ -37,7 +35,7 @@ fn source_inserted(
     }
 }
 
-#[tactic(auto, unfolding(crate::specs::Changes::inserted))]
+#[tactic(auto, unfolding(hv_typing::specs::Changes::inserted))]
 fn inserted(
     alloc: Global,
     tables: &[TableInfo],
@@ -52,7 +50,7 @@ fn inserted(
     source_inserted(alloc, tables, place, shape, insert, targets.as_slice())
 }
 
-#[tactic(auto, unfolding(crate::specs::Changes::changing))]
+#[tactic(auto, unfolding(hv_typing::specs::Changes::changing))]
 fn changing(
     alloc: Global,
     tables: &[TableInfo],
@@ -88,7 +86,7 @@ fn changing_table(
 }
 
 /// The typed change of the table of that name, or its first fault.
-#[tactic(auto, unfolding(crate::specs::Changes::change_of))]
+#[tactic(auto, unfolding(hv_typing::specs::Changes::change_of))]
 pub(crate) fn change_of(
     alloc: Global,
     tables: &[TableInfo],

@@ -3,14 +3,13 @@
 ghost use Rattle.std.specs.Prelude.{◌≡◌, IfOk, map, position, is_some};
 ghost use Rattle.std.specs.List.{list_all, list_any};
 ghost use Rattle.hv_logic.specs.Shapes.{is_column, bucket_names, bucket_place, shape_of};
-ghost use Rattle.hv_types.specs.Faults.{Types};
-ghost use Rattle.hv_analysis.specs.Creates.{place_of, is_table, is_among, repeats, names_repeat, is_bucket_column, is_array, has_array, is_array_named, arrays_route, buckets_fit, numbers_fit, is_property, is_unkept, fault_of, created};
+ghost use Rattle.hv_typing.specs.Faults.{Types};
+ghost use Rattle.hv_typing.specs.Creates.{place_of, is_table, is_among, repeats, names_repeat, is_bucket_column, is_array, has_array, is_array_named, arrays_route, buckets_fit, numbers_fit, is_property, is_unkept, fault_of, created};
 
-use crate::logic::Logic;
 use hv_ast::{Clustering, ColumnDefinition, CreateTable, Property, TypeName};
 use hv_base::{Refusal, Text};
 use hv_logic::{TableInfo, bucket_names, bucket_place, shape_of};
-use hv_types::TypeFault;
+use hv_typing::{Logic, TypeFault};
 use std::alloc::Global;
 
 const MOST_COLUMNS: usize = 64;
@@ -192,7 +191,7 @@ fn fault_of(exists: bool, create: &CreateTable) -> Option<Refusal>
 }
 
 /// The shape of the new table, or the first fault.
-#[tactic(auto, unfolding(crate::specs::Creates::created))]
+#[tactic(auto, unfolding(hv_typing::specs::Creates::created))]
 pub(crate) fn created(
     alloc: Global,
     tables: &[TableInfo],

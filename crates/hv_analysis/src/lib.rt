@@ -4,10 +4,6 @@
 mod analysis;
 mod changes;
 mod creates;
-mod logic;
 mod queries;
-mod windows;
 
-pub use analysis::{analyse, is_form};
-pub use logic::Logic;
-pub use windows::is_windowless;
+pub use analysis::analyse;

@@ -1,11 +1,11 @@
 //! Queries over the live tables, with their subqueries.
 
 ghost use Rattle.std.specs.Prelude.{◌≡◌, IfOk};
-ghost use Rattle.hv_types.specs.Faults.{Types};
-ghost use Rattle.hv_select.specs.Sources.{all_joined, opened};
-ghost use Rattle.hv_select.specs.Queries.{select_typed, all_united, query_typed};
-ghost use Rattle.hv_analysis.specs.Creates.{place_of};
-ghost use Rattle.hv_analysis.specs.Sources.{or_name, table_brought, place_brought, brought, selected};
+ghost use Rattle.hv_typing.specs.Faults.{Types};
+ghost use Rattle.hv_typing.specs.Sources.{all_joined, opened};
+ghost use Rattle.hv_typing.specs.Queries.{select_typed, all_united, query_typed};
+ghost use Rattle.hv_typing.specs.Creates.{place_of};
+ghost use Rattle.hv_typing.specs.Subqueries.{or_name, table_brought, place_brought, brought, selected};
 
 use crate::creates::place_of;
 use hv_ast::{From, Join, Query, Select, Source, Union};
@@ -13,11 +13,8 @@ use hv_base::{Boxed, Duplicate, NoMemory, Refusal, Text};
 use hv_changes::{columns_of, fields_named};
 use hv_logic::{Column, TableInfo};
 use hv_query::{TypedQuery, TypedSource};
-use hv_select::{
-    Brought, Listed, Opened, Sources, United, all_viewed, alone, first_source, join_onto,
-    opened_none, opened_of, query_brought, query_over, select_over, unite,
-};
-use hv_types::TypeFault;
+use hv_select::{all_viewed, alone, first_source, join_onto, opened_none, opened_of, query_brought, query_over, select_over, unite};
+use hv_typing::{Brought, Listed, Opened, Sources, TypeFault, United};
 use std::alloc::Global;
 
 const NO_TABLE: TypeFault = TypeFault::Refused(Refusal::NoTable);
@@ -78,7 +75,7 @@ fn table_named(
 }
 
 #[cycle(queries)]
-#[tactic(auto, using(crate::proofs::Layers::sources))]
+#[tactic(auto, using(hv_typing::proofs::Layers::sources))]
 fn brought(
     alloc: Global,
     source: &Source,
@@ -96,7 +93,7 @@ fn brought(
 }
 
 #[cycle(queries)]
-#[tactic(auto, unfolding(hv_select::specs::Sources::all_joined))]
+#[tactic(auto, unfolding(hv_typing::specs::Sources::all_joined))]
 fn all_joined(
     alloc: Global,
     joins: &[Join],
@@ -114,7 +111,7 @@ fn all_joined(
 }
 
 #[cycle(queries)]
-#[tactic(auto, using(crate::proofs::Layers::opens))]
+#[tactic(auto, using(hv_typing::proofs::Layers::opens))]
 fn opened(
     alloc: Global,
     from: &Option<From>,
@@ -134,7 +131,7 @@ fn opened(
 }
 
 #[cycle(queries)]
-#[tactic(auto, using(crate::proofs::Layers::selects))]
+#[tactic(auto, using(hv_typing::proofs::Layers::selects))]
 fn select_typed(
     alloc: Global,
     select: &Select,
@@ -147,7 +144,7 @@ fn select_typed(
 }
 
 #[cycle(queries)]
-#[tactic(auto, unfolding(hv_select::specs::Queries::all_united))]
+#[tactic(auto, unfolding(hv_typing::specs::Queries::all_united))]
 fn all_united(
     alloc: Global,
     unions: &[Union],
@@ -166,7 +163,7 @@ fn all_united(
 }
 
 #[cycle(queries)]
-#[tactic(auto, using(crate::proofs::Layers::queries))]
+#[tactic(auto, using(hv_typing::proofs::Layers::queries))]
 fn query_typed(
     alloc: Global,
     query: &Query,

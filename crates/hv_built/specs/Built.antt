@@ -2,7 +2,7 @@
 -- definition of the language rests on this one.
 use Rattle.std.specs.Prelude.{Bool, IsTrue}
 use Rattle.hv_ast.specs.declared.statement.Stmt.{Stmt}
-use Rattle.hv_analysis.specs.Analysis.{is_form}
+use Rattle.hv_typing.specs.Analysis.{is_form}
 
 -- the forms that are analysed
 abbrev pub is_built : Stmt → Bool

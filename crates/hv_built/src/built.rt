@@ -3,7 +3,7 @@
 ghost use Rattle.std.specs.Prelude.{◌≡◌};
 ghost use Rattle.hv_built.specs.Built.{is_built};
 
-use hv_analysis::is_form;
+use crate::forms::is_form;
 use hv_ast::Stmt;
 
 /// Whether statements of this form run today: those that are analysed. The other forms are refused as

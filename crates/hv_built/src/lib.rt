@@ -2,5 +2,7 @@
 #![tactic(auto)]
 
 mod built;
+mod forms;
+mod windows;
 
 pub use built::is_built;

@@ -1,10 +1,10 @@
 ghost use Rattle.std.specs.Prelude.{◌≡◌, IfOk, map, option_map, position};
-ghost use Rattle.hv_changes.specs.Columns.{columns_of, is_named, field_of, fields_of, kinds_of, kind_at};
-ghost use Rattle.hv_changes.specs.Targets.{column_named};
+ghost use Rattle.hv_typing.specs.Columns.{columns_of, is_named, field_of, fields_of, kinds_of, kind_at};
+ghost use Rattle.hv_typing.specs.Targets.{column_named};
 
 use hv_base::{Duplicate, List, NoMemory, Text};
 use hv_logic::{Column, Shape};
-use hv_types::Field;
+use hv_typing::Field;
 use hv_value::SqlType;
 use std::alloc::Global;
 

@@ -1,10 +1,9 @@
 //! INSERT over its target's columns.
 
 ghost use Rattle.std.specs.Prelude.{◌≡◌, IfOk};
-ghost use Rattle.hv_types.specs.Faults.{Types, and_then};
-ghost use Rattle.hv_changes.specs.Inserts.{value_at, value_for, new_value, values_for, overwritten, insert_typed, if_convertible, rows_typed, values_inserted, query_inserted};
+ghost use Rattle.hv_typing.specs.Faults.{Types, and_then};
+ghost use Rattle.hv_typing.specs.Inserts.{value_at, value_for, new_value, values_for, overwritten, insert_typed, if_convertible, rows_typed, values_inserted, query_inserted};
 
-use crate::change::{Deletes, Origin, TypedChange};
 use crate::columns::{column_kinds, columns_of, kind_at, place_named};
 use crate::partitions::{are_static, partition_met, static_of, static_value};
 use crate::queries::{output_kinds, outputs_convert};
@@ -14,7 +13,8 @@ use hv_base::{Boxed, List, NoMemory, Refusal};
 use hv_logic::{Column, Shape};
 use hv_query::TypedQuery;
 use hv_typed::TypedExpr;
-use hv_types::{TypeFault, item_as_kind};
+use hv_types::item_as_kind;
+use hv_typing::{Deletes, Origin, TypeFault, TypedChange};
 use hv_value::{SqlType, Value};
 use std::alloc::Global;
 
@@ -67,7 +67,7 @@ fn new_value(
 }
 
 /// The values of a new row, where the static ones convert.
-#[tactic(auto, using(crate::proofs::Orders::orders), unfolding(crate::specs::Inserts::values_for))]
+#[tactic(auto, using(crate::proofs::Orders::orders), unfolding(hv_typing::specs::Inserts::values_for))]
 fn values_for(
     alloc: Global,
     items: &[PartitionItem],
@@ -85,7 +85,7 @@ fn values_for(
 }
 
 /// Which rows go, under OVERWRITE.
-#[tactic(auto, unfolding(crate::specs::Inserts::overwritten))]
+#[tactic(auto, unfolding(hv_typing::specs::Inserts::overwritten))]
 fn overwritten(
     alloc: Global,
     overwrite: bool,
@@ -108,7 +108,7 @@ fn overwritten(
     Ok(Deletes::Matching(Some(condition)))
 }
 
-#[tactic(auto, unfolding(crate::specs::Inserts::insert_typed))]
+#[tactic(auto, unfolding(hv_typing::specs::Inserts::insert_typed))]
 fn insert_typed(
     alloc: Global,
     place: u32,
@@ -141,7 +141,7 @@ fn if_convertible(converts: bool, change: TypedChange) -> Result<TypedChange, Ty
     }
 }
 
-#[tactic(auto, unfolding(crate::specs::Inserts::values_inserted))]
+#[tactic(auto, unfolding(hv_typing::specs::Inserts::values_inserted))]
 fn values_inserted(
     alloc: Global,
     place: u32,
@@ -179,7 +179,7 @@ pub fn rows_inserted(
 }
 
 /// The typed INSERT of a query's rows for these columns, or its first fault behind the query's own.
-#[tactic(auto, unfolding(crate::specs::Inserts::query_inserted))]
+#[tactic(auto, unfolding(hv_typing::specs::Inserts::query_inserted))]
 pub fn query_inserted(
     alloc: Global,
     place: u32,

@@ -3,7 +3,6 @@
 //! The target is found, and a query as a source is taken, by the crate above.
 #![tactic(auto)]
 
-mod change;
 mod columns;
 mod inserts;
 mod laws;
@@ -13,7 +12,6 @@ mod targets;
 mod updates;
 mod values;
 
-pub use change::{Deletes, Origin, TypedChange};
 pub use columns::{columns_of, fields_named};
 pub use inserts::{query_inserted, rows_inserted};
 pub use laws::parts_meet_alike;

@@ -1,9 +1,9 @@
 //! PARTITION: the static values, and the rows of the partition that a statement names.
 
 ghost use Rattle.std.specs.Prelude.{◌≡◌, IfOk, [], option_map};
-ghost use Rattle.hv_types.specs.Faults.{Types};
-ghost use Rattle.hv_changes.specs.Targets.{static_of, is_static, are_static, is_item, are_items, value_stands, item_stands, items_stand, partition_stands};
-ghost use Rattle.hv_changes.specs.Partitions.{static_value, equals_at, item_met, items_met, partition_met, is_given, are_given};
+ghost use Rattle.hv_typing.specs.Faults.{Types};
+ghost use Rattle.hv_typing.specs.Targets.{static_of, is_static, are_static, is_item, are_items, value_stands, item_stands, items_stand, partition_stands};
+ghost use Rattle.hv_typing.specs.Partitions.{static_value, equals_at, item_met, items_met, partition_met, is_given, are_given};
 
 use crate::columns::{column_kinds, column_named, kind_at, place_named};
 use crate::values::if_converts;
@@ -11,7 +11,8 @@ use hv_ast::{Expr, PartitionItem};
 use hv_base::{Boxed, List, NoMemory, Refusal, Text};
 use hv_logic::Column;
 use hv_typed::{Many, Two, TypedExpr};
-use hv_types::{Over, TypeFault, type_expr};
+use hv_types::type_expr;
+use hv_typing::{Over, TypeFault};
 use hv_value::SqlType;
 use std::alloc::Global;
 
@@ -95,7 +96,7 @@ fn item_stands(
     value_stands(alloc, &item.value)
 }
 
-#[tactic(auto, unfolding(crate::specs::Targets::items_stand))]
+#[tactic(auto, unfolding(hv_typing::specs::Targets::items_stand))]
 fn items_stand(alloc: Global, parts: &[Column], items: &[PartitionItem]) -> Result<(), TypeFault>
     ensures { Types result (items_stand parts.now [] items.now) }
 {
@@ -106,7 +107,7 @@ fn items_stand(alloc: Global, parts: &[Column], items: &[PartitionItem]) -> Resu
 }
 
 /// The first fault of PARTITION in an INSERT, but for the conversions of its values.
-#[tactic(auto, unfolding(crate::specs::Targets::partition_stands))]
+#[tactic(auto, unfolding(hv_typing::specs::Targets::partition_stands))]
 pub(crate) fn partition_stands(
     alloc: Global,
     parts: &[Column],
@@ -172,7 +173,7 @@ fn item_met(
     Ok(equals_at(alloc, place, kind, value)?)
 }
 
-#[tactic(auto, using(crate::proofs::Orders::orders), unfolding(crate::specs::Partitions::items_met))]
+#[tactic(auto, using(crate::proofs::Orders::orders), unfolding(hv_typing::specs::Partitions::items_met))]
 fn items_met(
     alloc: Global,
     columns: &[Column],
@@ -189,7 +190,7 @@ fn items_met(
 }
 
 /// The condition that a row is of the partitions that these items name.
-#[tactic(auto, unfolding(crate::specs::Partitions::partition_met))]
+#[tactic(auto, unfolding(hv_typing::specs::Partitions::partition_met))]
 pub(crate) fn partition_met(
     alloc: Global,
     columns: &[Column],
@@ -212,7 +213,7 @@ fn is_given(parts: &[Column], before: &[PartitionItem], item: &PartitionItem) ->
 }
 
 /// Whether these are partition columns, each once and with a value.
-#[tactic(auto, unfolding(crate::specs::Partitions::are_given))]
+#[tactic(auto, unfolding(hv_typing::specs::Partitions::are_given))]
 pub(crate) fn are_given(parts: &[Column], items: &[PartitionItem]) -> bool
     ensures { result ≡ are_given parts.now [] items.now }
 {

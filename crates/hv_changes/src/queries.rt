@@ -1,7 +1,7 @@
 //! A query as the source of an INSERT: the types of its columns.
 
 ghost use Rattle.std.specs.Prelude.{◌≡◌, IfOk, map, drop};
-ghost use Rattle.hv_changes.specs.Inserts.{output_kind, outputs_convert};
+ghost use Rattle.hv_typing.specs.Inserts.{output_kind, outputs_convert};
 
 use hv_base::NoMemory;
 use hv_logic::Column;

@@ -1,15 +1,15 @@
 //! The target columns of an INSERT: PARTITION and the column list.
 
 ghost use Rattle.std.specs.Prelude.{◌≡◌, ◌++◌, IfOk, []};
-ghost use Rattle.hv_types.specs.Faults.{Types};
-ghost use Rattle.hv_changes.specs.Targets.{is_listed, are_listed, dynamic_parts, column_listed, columns_listed, columns_for, targets_of};
+ghost use Rattle.hv_typing.specs.Faults.{Types};
+ghost use Rattle.hv_typing.specs.Targets.{is_listed, are_listed, dynamic_parts, column_listed, columns_listed, columns_for, targets_of};
 
 use crate::columns::{column_named, columns_of};
 use crate::partitions::{is_static, partition_stands};
 use hv_ast::PartitionItem;
 use hv_base::{Duplicate, List, NoMemory, Refusal, Text};
 use hv_logic::{Column, Shape};
-use hv_types::TypeFault;
+use hv_typing::TypeFault;
 use std::alloc::Global;
 
 const BAD_COUNT: TypeFault = TypeFault::Refused(Refusal::BadCount);
@@ -43,7 +43,7 @@ fn column_listed(
     Ok(column.duplicate(alloc)?)
 }
 
-#[tactic(auto, using(crate::proofs::Orders::orders), unfolding(crate::specs::Targets::columns_listed))]
+#[tactic(auto, using(crate::proofs::Orders::orders), unfolding(hv_typing::specs::Targets::columns_listed))]
 fn columns_listed(
     alloc: Global,
     items: &[PartitionItem],
@@ -100,7 +100,7 @@ fn all_targets(
     Ok(List::from_vec(columns))
 }
 
-#[tactic(auto, unfolding(crate::specs::Targets::columns_for))]
+#[tactic(auto, unfolding(hv_typing::specs::Targets::columns_for))]
 fn columns_for(
     alloc: Global,
     shape: &Shape,
@@ -124,7 +124,7 @@ fn columns_for(
 
 /// The columns that the values of an INSERT's source are for, in their order, or the first fault of its
 /// PARTITION and its column list.
-#[tactic(auto, unfolding(crate::specs::Targets::targets_of))]
+#[tactic(auto, unfolding(hv_typing::specs::Targets::targets_of))]
 pub fn targets_of(
     alloc: Global,
     shape: &Shape,

@@ -1,12 +1,11 @@
 //! UPDATE, DELETE and TRUNCATE over their target's columns.
 
 ghost use Rattle.std.specs.Prelude.{◌≡◌, IfOk, [], slice_set};
-ghost use Rattle.hv_types.specs.Faults.{Types};
-ghost use Rattle.hv_select.specs.Sources.{filter_typed};
-ghost use Rattle.hv_changes.specs.Columns.{fields_of, kind_at};
-ghost use Rattle.hv_changes.specs.Updates.{is_bucketed, is_fixed, is_set, if_free, place_set, value_set, kept, one_set, all_set, sets_of, update_of, updated, delete_of, deleted, partitions_met, truncated};
+ghost use Rattle.hv_typing.specs.Faults.{Types};
+ghost use Rattle.hv_typing.specs.Sources.{filter_typed};
+ghost use Rattle.hv_typing.specs.Columns.{fields_of, kind_at};
+ghost use Rattle.hv_typing.specs.Updates.{is_bucketed, is_fixed, is_set, if_free, place_set, value_set, kept, one_set, all_set, sets_of, update_of, updated, delete_of, deleted, partitions_met, truncated};
 
-use crate::change::{Deletes, Origin, TypedChange};
 use crate::columns::{column_kinds, columns_of, fields_named, fields_of, kind_at, place_named};
 use crate::partitions::{are_given, partition_met};
 use crate::values::if_converts;
@@ -14,7 +13,8 @@ use hv_ast::{Assignment, Delete, Expr, PartitionItem, Truncate, Update};
 use hv_base::{Boxed, List, NoMemory, Refusal, Text};
 use hv_logic::{Column, Shape};
 use hv_typed::TypedExpr;
-use hv_types::{Field, Over, TypeFault, condition_of, type_expr};
+use hv_types::{condition_of, type_expr};
+use hv_typing::{Deletes, Field, Origin, Over, TypeFault, TypedChange};
 use hv_value::SqlType;
 use std::alloc::Global;
 
@@ -116,7 +116,7 @@ fn with_value(values: List<TypedExpr>, place: usize, value: Boxed<TypedExpr>) ->
 }
 
 /// One assignment more.
-#[tactic(auto, unfolding(crate::specs::Updates::one_set))]
+#[tactic(auto, unfolding(hv_typing::specs::Updates::one_set))]
 fn one_set(
     alloc: Global,
     shape: &Shape,
@@ -134,7 +134,7 @@ fn one_set(
     Ok(with_value(values, place, value))
 }
 
-#[tactic(auto, unfolding(crate::specs::Updates::all_set))]
+#[tactic(auto, unfolding(hv_typing::specs::Updates::all_set))]
 fn all_set(
     alloc: Global,
     shape: &Shape,
@@ -191,7 +191,7 @@ fn filter_typed(
 }
 
 /// The typed UPDATE, or its first fault.
-#[tactic(auto, unfolding(crate::specs::Updates::updated))]
+#[tactic(auto, unfolding(hv_typing::specs::Updates::updated))]
 pub fn updated(
     alloc: Global,
     place: u32,
@@ -228,7 +228,7 @@ fn delete_of(alloc: Global, place: u32, filter: Option<Boxed<TypedExpr>>) -> Typ
 }
 
 /// The typed DELETE, or its first fault.
-#[tactic(auto, unfolding(crate::specs::Updates::deleted))]
+#[tactic(auto, unfolding(hv_typing::specs::Updates::deleted))]
 pub fn deleted(
     alloc: Global,
     place: u32,
@@ -242,7 +242,7 @@ pub fn deleted(
 }
 
 /// The condition that a row is of the partitions that the list names; none without a list.
-#[tactic(auto, unfolding(crate::specs::Updates::partitions_met))]
+#[tactic(auto, unfolding(hv_typing::specs::Updates::partitions_met))]
 fn partitions_met(
     alloc: Global,
     shape: &Shape,
@@ -261,7 +261,7 @@ fn partitions_met(
 }
 
 /// The typed TRUNCATE, or its first fault.
-#[tactic(auto, unfolding(crate::specs::Updates::truncated))]
+#[tactic(auto, unfolding(hv_typing::specs::Updates::truncated))]
 pub fn truncated(
     alloc: Global,
     place: u32,

@@ -2,15 +2,16 @@
 
 ghost use Rattle.std.specs.Prelude.{◌≡◌, IfOk, map, drop};
 ghost use Rattle.std.specs.List.{list_all};
-ghost use Rattle.hv_types.specs.Faults.{Types};
-ghost use Rattle.hv_changes.specs.Partitions.{if_converts};
-ghost use Rattle.hv_changes.specs.Inserts.{row_typed, rows_typed, has_count, converts, first_type, converted_row};
+ghost use Rattle.hv_typing.specs.Faults.{Types};
+ghost use Rattle.hv_typing.specs.Partitions.{if_converts};
+ghost use Rattle.hv_typing.specs.Inserts.{row_typed, rows_typed, has_count, converts, first_type, converted_row};
 
 use hv_ast::Expr;
 use hv_base::{Boxed, List, NoMemory, Refusal};
 use hv_logic::Column;
 use hv_typed::TypedExpr;
-use hv_types::{Over, TypeFault, as_kind, item_as_kind, kind_of, type_expr};
+use hv_types::{as_kind, item_as_kind, kind_of, type_expr};
+use hv_typing::{Over, TypeFault};
 use hv_value::{SqlType, is_convertible};
 use std::alloc::Global;
 
@@ -29,7 +30,7 @@ pub(crate) fn if_converts(
     }
 }
 
-#[tactic(auto, using(crate::proofs::Orders::orders), unfolding(crate::specs::Inserts::row_typed))]
+#[tactic(auto, using(crate::proofs::Orders::orders), unfolding(hv_typing::specs::Inserts::row_typed))]
 fn row_typed(alloc: Global, exprs: &[Expr]) -> Result<List<TypedExpr>, TypeFault>
     ensures { Types result (row_typed exprs.now) }
 {
@@ -40,7 +41,7 @@ fn row_typed(alloc: Global, exprs: &[Expr]) -> Result<List<TypedExpr>, TypeFault
     Ok(List::from_vec(row))
 }
 
-#[tactic(auto, using(crate::proofs::Orders::orders), unfolding(crate::specs::Inserts::rows_typed))]
+#[tactic(auto, using(crate::proofs::Orders::orders), unfolding(hv_typing::specs::Inserts::rows_typed))]
 pub(crate) fn rows_typed(
     alloc: Global,
     rows: &[List<Expr>],

@@ -8,11 +8,12 @@ ghost use Rattle.hv_effect.specs.Tables.{found_of};
 use crate::deletes::{deleted, matched};
 use crate::rows::{rows_alone, rows_selected, rows_updated};
 use hv_base::{Duplicate, List, NoMemory};
-use hv_changes::{Origin, TypedChange, columns_of};
+use hv_changes::columns_of;
 use hv_exec::run;
 use hv_logic::{Effect, Found, Meaning, Shape, TableInfo, TableRows};
 use hv_query::TypedQuery;
 use hv_route::{RouteFault, touches};
+use hv_typing::{Origin, TypedChange};
 use hv_value::Row;
 use std::alloc::Global;
 

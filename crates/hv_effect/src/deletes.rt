@@ -4,11 +4,11 @@ ghost use Rattle.std.specs.Prelude.{◌≡◌, ◌++◌, ◌∷◌, [], IfOk, On
 ghost use Rattle.hv_meaning.specs.Meaning.{is_matched, matched, same_parts, is_received, deleted};
 
 use hv_base::{Boxed, Duplicate, NoMemory};
-use hv_changes::Deletes;
 use hv_eval::Frame;
 use hv_joins::is_met;
 use hv_logic::Found;
 use hv_typed::TypedExpr;
+use hv_typing::Deletes;
 use hv_value::{Row, Value};
 use std::alloc::Global;
 

@@ -1,16 +1,16 @@
 ghost use Rattle.std.specs.Prelude.{◌≡◌, IfOk, Ok, map};
-ghost use Rattle.hv_types.specs.Faults.{Types};
-ghost use Rattle.hv_analysis.specs.Analysis.{analysed};
+ghost use Rattle.hv_typing.specs.Faults.{Types};
+ghost use Rattle.hv_typing.specs.Analysis.{analysed};
 ghost use Rattle.hv_meaning.specs.Meaning.{info_of, found_in, tables_of, column_name, listed, refused_for, meant, meaning_over, meaning_in};
 ghost use Rattle.hv_effect.specs.Tables.{found_of};
 
 use crate::changes::{changed_in, query_rows};
-use hv_analysis::{Logic, analyse};
+use hv_analysis::analyse;
 use hv_ast::Stmt;
 use hv_base::{Duplicate, List, NoMemory, Refusal, Text};
 use hv_logic::{Meaning, Seen, TableInfo, TableRows};
 use hv_query::{OutputColumn, TypedQuery};
-use hv_types::TypeFault;
+use hv_typing::{Logic, TypeFault};
 use std::alloc::Global;
 
 /// The descriptions of tables, and their rows.

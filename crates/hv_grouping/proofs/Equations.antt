@@ -16,9 +16,9 @@ use Rattle.hv_typed.specs.declared.tree.TypedExpr.TheFolds.{fold_out-TypedExpr, 
 use Rattle.hv_typed.specs.declared.tree.TypedExpr.TheShapes
 use Rattle.hv_typed.specs.declared.tree.TypedExpr.TheVariants as tree
 use Rattle.hv_typed.specs.declared.tree.TypedExpr.TheVariants.{rolls-Column, rolls-Literal, rolls-One, rolls-Two, rolls-Three, rolls-Many, rolls-In, rolls-Chain, rolls-Case, rolls-CountRows, rolls-Aggregate}
-use Rattle.hv_grouping.specs.Same.{Test, all_same, some_same, link_same, branch_same, links_same, branches_same, layer_same, same_tree, is_column, is_literal, is_one, is_two, is_three, is_many, is_in, is_chain, is_case, is_count, is_aggregate}
-use Rattle.hv_grouping.specs.Standing as standing
-use Rattle.hv_grouping.specs.Standing.{is_key, layer_stands, stands_as, stands_grouped, operands_stand, some_stands, all_stand, links_stand, branches_stand, parts_stand}
+use Rattle.hv_typing.specs.Same.{Test, all_same, some_same, link_same, branch_same, links_same, branches_same, layer_same, same_tree, is_column, is_literal, is_one, is_two, is_three, is_many, is_in, is_chain, is_case, is_count, is_aggregate}
+use Rattle.hv_typing.specs.Standing as standing
+use Rattle.hv_typing.specs.Standing.{is_key, layer_stands, stands_as, stands_grouped, operands_stand, some_stands, all_stand, links_stand, branches_stand, parts_stand}
 
 abbrev Answer : Type 0
 Answer = TypedExpr → Bool

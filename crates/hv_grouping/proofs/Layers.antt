@@ -13,8 +13,8 @@ use Rattle.hv_ast.specs.declared.expr.Expr.TheFolds.{fold_out-Expr, map-Expr}
 use Rattle.hv_ast.specs.declared.expr.Expr.TheShapes
 use Rattle.hv_ast.specs.declared.expr.Expr.TheVariants as expr
 use Rattle.hv_ast.specs.declared.expr.Expr.TheVariants.{rolls-Or, rolls-And, rolls-Unary, rolls-Binary, rolls-Chain, rolls-Between, rolls-In, rolls-Literal, rolls-Column, rolls-Case, rolls-Cast, rolls-CountRows, rolls-Call}
-use Rattle.hv_types.specs.Calls.{function_named}
-use Rattle.hv_grouping.specs.Aggregates.{aggregates, in_when, in_some, in_any, in_operations, in_whens, layer_aggregates, has_aggregate}
+use Rattle.hv_typing.specs.Calls.{function_named}
+use Rattle.hv_typing.specs.Aggregates.{aggregates, in_when, in_some, in_any, in_operations, in_whens, layer_aggregates, has_aggregate}
 
 abbrev itself : Bool → Bool
 itself part = part

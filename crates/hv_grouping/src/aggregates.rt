@@ -1,10 +1,11 @@
 ghost use Rattle.std.specs.Prelude.{◌≡◌};
-ghost use Rattle.hv_types.specs.Calls.{function_named};
-ghost use Rattle.hv_grouping.specs.Aggregates.{aggregates, in_some, in_any, in_operations, in_whens, has_aggregate};
+ghost use Rattle.hv_typing.specs.Calls.{function_named};
+ghost use Rattle.hv_typing.specs.Aggregates.{aggregates, in_some, in_any, in_operations, in_whens, has_aggregate};
 
 use hv_ast::{Expr, Operation, When};
 use hv_base::{Boxed, Text};
-use hv_types::{Function, function_named};
+use hv_types::function_named;
+use hv_typing::Function;
 
 fn aggregates(name: &Text) -> bool
     ensures { result ≡ aggregates (function_named name.now) }
@@ -59,7 +60,7 @@ pub fn has_aggregate(expr: &Expr) -> bool
 }
 
 #[cycle(aggregates)]
-#[tactic(auto, unfolding(crate::specs::Aggregates::in_some))]
+#[tactic(auto, unfolding(hv_typing::specs::Aggregates::in_some))]
 fn in_some(expr: &Option<Boxed<Expr>>) -> bool
     ensures { result ≡ in_some has_aggregate expr.now }
 {
@@ -70,7 +71,7 @@ fn in_some(expr: &Option<Boxed<Expr>>) -> bool
 }
 
 #[cycle(aggregates)]
-#[tactic(auto, unfolding(crate::specs::Aggregates::in_any))]
+#[tactic(auto, unfolding(hv_typing::specs::Aggregates::in_any))]
 fn in_any(exprs: &[Expr]) -> bool
     ensures { result ≡ in_any has_aggregate exprs.now }
 {
@@ -83,7 +84,7 @@ fn in_any(exprs: &[Expr]) -> bool
 }
 
 #[cycle(aggregates)]
-#[tactic(auto, unfolding(crate::specs::Aggregates::in_operations))]
+#[tactic(auto, unfolding(hv_typing::specs::Aggregates::in_operations))]
 fn in_operations(operations: &[Operation]) -> bool
     ensures { result ≡ in_operations has_aggregate operations.now }
 {
@@ -96,7 +97,7 @@ fn in_operations(operations: &[Operation]) -> bool
 }
 
 #[cycle(aggregates)]
-#[tactic(auto, unfolding(crate::specs::Aggregates::in_whens))]
+#[tactic(auto, unfolding(hv_typing::specs::Aggregates::in_whens))]
 fn in_whens(whens: &[When]) -> bool
     ensures { result ≡ in_whens has_aggregate whens.now }
 {

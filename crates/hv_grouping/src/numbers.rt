@@ -1,7 +1,7 @@
 //! The functions of typed expressions by number.
 
 ghost use Rattle.std.specs.Prelude.{◌≡◌};
-ghost use Rattle.hv_grouping.specs.Numbers as spec;
+ghost use Rattle.hv_typing.specs.Numbers as spec;
 
 use hv_typed::{Aggregate, Arithmetic, Many, One, Three, Two};
 

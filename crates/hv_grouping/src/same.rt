@@ -1,5 +1,5 @@
 ghost use Rattle.std.specs.Prelude.{◌≡◌};
-ghost use Rattle.hv_grouping.specs.Same.{all_same, some_same, links_same, branches_same, same_bool, same_tree, is_column, is_literal, is_one, is_two, is_three, is_many, is_in, is_chain, is_case, is_count, is_aggregate};
+ghost use Rattle.hv_typing.specs.Same.{all_same, some_same, links_same, branches_same, same_bool, same_tree, is_column, is_literal, is_one, is_two, is_three, is_many, is_in, is_chain, is_case, is_count, is_aggregate};
 ghost use Rattle.hv_typed.specs.declared.tree.TypedExpr.TheViews.{out-TypedExpr};
 
 use crate::numbers::{same_aggregate, same_arithmetic, same_many, same_one, same_three, same_two};
@@ -217,7 +217,7 @@ fn same_bool(left: bool, right: bool) -> bool
 }
 
 #[cycle(same)]
-#[tactic(auto, unfolding(crate::specs::Same::some_same))]
+#[tactic(auto, unfolding(hv_typing::specs::Same::some_same))]
 fn some_same(right: &Option<Boxed<TypedExpr>>, left: &Option<Boxed<TypedExpr>>) -> bool
     ensures { result ≡ some_same same_tree left.now right.now }
 {
@@ -231,7 +231,7 @@ fn some_same(right: &Option<Boxed<TypedExpr>>, left: &Option<Boxed<TypedExpr>>) 
 }
 
 #[cycle(same)]
-#[tactic(auto, unfolding(crate::specs::Same::all_same))]
+#[tactic(auto, unfolding(hv_typing::specs::Same::all_same))]
 fn all_same(right: &[TypedExpr], left: &[TypedExpr]) -> bool
     ensures { result ≡ all_same same_tree left.now right.now }
 {
@@ -249,7 +249,7 @@ fn all_same(right: &[TypedExpr], left: &[TypedExpr]) -> bool
 }
 
 #[cycle(same)]
-#[tactic(auto, unfolding(crate::specs::Same::all_same))]
+#[tactic(auto, unfolding(hv_typing::specs::Same::all_same))]
 fn links_same(right: &[Link], left: &[Link]) -> bool
     ensures { result ≡ links_same same_tree left.now right.now }
 {
@@ -270,7 +270,7 @@ fn links_same(right: &[Link], left: &[Link]) -> bool
 }
 
 #[cycle(same)]
-#[tactic(auto, unfolding(crate::specs::Same::all_same))]
+#[tactic(auto, unfolding(hv_typing::specs::Same::all_same))]
 fn branches_same(right: &[Branch], left: &[Branch]) -> bool
     ensures { result ≡ branches_same same_tree left.now right.now }
 {

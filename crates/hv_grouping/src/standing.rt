@@ -1,5 +1,5 @@
 ghost use Rattle.std.specs.Prelude.{◌≡◌};
-ghost use Rattle.hv_grouping.specs.Standing.{is_key, stands_grouped, all_stand, links_stand, branches_stand, some_stands, parts_stand};
+ghost use Rattle.hv_typing.specs.Standing.{is_key, stands_grouped, all_stand, links_stand, branches_stand, some_stands, parts_stand};
 ghost use Rattle.hv_typed.specs.declared.tree.TypedExpr.TheViews.{out-TypedExpr};
 
 use crate::same::same_tree;
@@ -66,7 +66,7 @@ fn parts_stand(expr: &TypedExpr, keys: &[TypedExpr]) -> bool
 }
 
 #[cycle(standing)]
-#[tactic(auto, unfolding(crate::specs::Standing::some_stands))]
+#[tactic(auto, unfolding(hv_typing::specs::Standing::some_stands))]
 fn some_stands(expr: &Option<Boxed<TypedExpr>>, keys: &[TypedExpr]) -> bool
     ensures { result ≡ some_stands (stands_grouped keys.now) expr.now }
 {
@@ -77,7 +77,7 @@ fn some_stands(expr: &Option<Boxed<TypedExpr>>, keys: &[TypedExpr]) -> bool
 }
 
 #[cycle(standing)]
-#[tactic(auto, unfolding(crate::specs::Standing::all_stand))]
+#[tactic(auto, unfolding(hv_typing::specs::Standing::all_stand))]
 fn all_stand(exprs: &[TypedExpr], keys: &[TypedExpr]) -> bool
     ensures { result ≡ all_stand (stands_grouped keys.now) exprs.now }
 {
@@ -90,7 +90,7 @@ fn all_stand(exprs: &[TypedExpr], keys: &[TypedExpr]) -> bool
 }
 
 #[cycle(standing)]
-#[tactic(auto, unfolding(crate::specs::Standing::links_stand))]
+#[tactic(auto, unfolding(hv_typing::specs::Standing::links_stand))]
 fn links_stand(links: &[Link], keys: &[TypedExpr]) -> bool
     ensures { result ≡ links_stand (stands_grouped keys.now) links.now }
 {
@@ -103,7 +103,7 @@ fn links_stand(links: &[Link], keys: &[TypedExpr]) -> bool
 }
 
 #[cycle(standing)]
-#[tactic(auto, unfolding(crate::specs::Standing::branches_stand))]
+#[tactic(auto, unfolding(hv_typing::specs::Standing::branches_stand))]
 fn branches_stand(branches: &[Branch], keys: &[TypedExpr]) -> bool
     ensures { result ≡ branches_stand (stands_grouped keys.now) branches.now }
 {

@@ -23,26 +23,26 @@ use Rattle.hv_logic.specs.declared.catalog.Shape.{Shape}
 use Rattle.hv_logic.specs.declared.catalog.TableInfo.{TableInfo}
 use Rattle.hv_logic.specs.declared.effect.Found.{Found}
 use Rattle.hv_logic.specs.Shapes.{bucket_names}
-use Rattle.hv_types.specs.declared.scope.Field.{Field}
-use Rattle.hv_types.specs.declared.scope.Over.TheVariants as over
-use Rattle.hv_types.specs.Faults.{and_then}
-use Rattle.hv_types.specs.Kinds.{kind_of}
-use Rattle.hv_types.specs.Typing.{typed}
-use Rattle.hv_select.specs.Sources.{filter_typed}
-use Rattle.hv_changes.specs.declared.change.Origin.{Origin}
-use Rattle.hv_changes.specs.declared.change.Origin.TheVariants as origin
-use Rattle.hv_changes.specs.declared.change.TypedChange.{TypedChange}
-use Rattle.hv_changes.specs.Columns.{columns_of, field_of, fields_of, is_named, kinds_of, kind_at}
-use Rattle.hv_changes.specs.Inserts.{is_empty, row_typed, rows_typed, has_count, converts, converted_row, output_kind, outputs_convert, value_or, new_value, values_for, overwritten, insert_typed, if_convertible, values_inserted, query_inserted}
-use Rattle.hv_changes.specs.Partitions.{static_value, value_equals, item_equals, item_met, items_met, partition_met, are_given}
-use Rattle.hv_changes.specs.Targets.{value_typed, column_named, if_new, static_of, value_stands, is_item, are_items, item_stands, items_stand, partition_stands, is_listed, are_listed, is_dynamic, dynamic_parts, are_static, column_listed, columns_listed, columns_for, targets_of}
-use Rattle.hv_changes.specs.Updates.{is_fixed, is_set, if_free, place_set, value_set, kept, one_set, all_set, sets_of, updated, deleted, partitions_met, truncated}
-use Rattle.hv_analysis.specs.declared.logic.Logic.{Logic}
-use Rattle.hv_analysis.specs.declared.logic.Logic.TheVariants as logic
-use Rattle.hv_analysis.specs.Analysis.{is_windowless, are_windowless, is_form, query_analysed, change_analysed, form_analysed, analysed}
-use Rattle.hv_analysis.specs.Changes.{source_inserted, inserted, changing, changing_table, changing_at, change_of}
-use Rattle.hv_analysis.specs.Creates.{place_of, created, made, fault_of, unless_fault, names_repeat, is_bucket_column, arrays_route, numbers_fit, is_unkept}
-use Rattle.hv_analysis.specs.Sources.{selected}
+use Rattle.hv_typing.specs.declared.scope.Field.{Field}
+use Rattle.hv_typing.specs.declared.scope.Over.TheVariants as over
+use Rattle.hv_typing.specs.Faults.{and_then}
+use Rattle.hv_typing.specs.Kinds.{kind_of}
+use Rattle.hv_typing.specs.Typing.{typed}
+use Rattle.hv_typing.specs.Sources.{filter_typed}
+use Rattle.hv_typing.specs.declared.change.Origin.{Origin}
+use Rattle.hv_typing.specs.declared.change.Origin.TheVariants as origin
+use Rattle.hv_typing.specs.declared.change.TypedChange.{TypedChange}
+use Rattle.hv_typing.specs.Columns.{columns_of, field_of, fields_of, is_named, kinds_of, kind_at}
+use Rattle.hv_typing.specs.Inserts.{is_empty, row_typed, rows_typed, has_count, converts, converted_row, output_kind, outputs_convert, value_or, new_value, values_for, overwritten, insert_typed, if_convertible, values_inserted, query_inserted}
+use Rattle.hv_typing.specs.Partitions.{static_value, value_equals, item_equals, item_met, items_met, partition_met, are_given}
+use Rattle.hv_typing.specs.Targets.{value_typed, column_named, if_new, static_of, value_stands, is_item, are_items, item_stands, items_stand, partition_stands, is_listed, are_listed, is_dynamic, dynamic_parts, are_static, column_listed, columns_listed, columns_for, targets_of}
+use Rattle.hv_typing.specs.Updates.{is_fixed, is_set, if_free, place_set, value_set, kept, one_set, all_set, sets_of, updated, deleted, partitions_met, truncated}
+use Rattle.hv_typing.specs.declared.logic.Logic.{Logic}
+use Rattle.hv_typing.specs.declared.logic.Logic.TheVariants as logic
+use Rattle.hv_typing.specs.Analysis.{is_windowless, are_windowless, is_form, query_analysed, change_analysed, form_analysed, analysed}
+use Rattle.hv_typing.specs.Changes.{source_inserted, inserted, changing, changing_table, changing_at, change_of}
+use Rattle.hv_typing.specs.Creates.{place_of, created, made, fault_of, unless_fault, names_repeat, is_bucket_column, arrays_route, numbers_fit, is_unkept}
+use Rattle.hv_typing.specs.Subqueries.{selected}
 use Rattle.hv_meaning.specs.Meaning.{its_tables, info_of, found_in, tables_of, changed_in, refused_for, meant, meaning_in}
 use Rattle.hv_meaning.specs.Laws.{MeansSomething, FormsMean, OtherFormsMeanNothing}
 use Rattle.hv_meaning.proofs.Outcomes.{OnOk, on_ok, then-ok, IsChangeOf, changes-are, creates-are}

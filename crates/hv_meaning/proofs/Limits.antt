@@ -18,8 +18,8 @@ use Rattle.hv_route.specs.Back.{is_flat, AreFlat}
 use Rattle.hv_route.specs.Touching.{stored_fits, is_long, is_above, touches_of, touched}
 use Rattle.hv_route.specs.declared.fault.RouteFault.{RouteFault}
 use Rattle.hv_route.specs.declared.fault.RouteFault.TheVariants as fault
-use Rattle.hv_changes.specs.Columns.{columns_of}
-use Rattle.hv_analysis.specs.Creates.{is_array, has_array}
+use Rattle.hv_typing.specs.Columns.{columns_of}
+use Rattle.hv_typing.specs.Creates.{is_array, has_array}
 use Rattle.hv_meaning.specs.Meaning.{unless_limited, within_limits}
 use Rattle.hv_meaning.specs.Laws.{IsRowOf, AreFew, FitsTable}
 use Rattle.hv_meaning.proofs.Stored.{rows-taken, rows-said}

@@ -42,16 +42,16 @@ use Rattle.hv_logic.specs.Names.{shared, rows_names}
 use Rattle.hv_route.specs.Back.{AreFlat}
 use Rattle.hv_route.specs.Touching.{touched}
 use Rattle.hv_query.specs.Rows.{Frame, Tables}
-use Rattle.hv_changes.specs.declared.change.Deletes.{Deletes}
-use Rattle.hv_changes.specs.declared.change.Deletes.TheVariants as deletes
-use Rattle.hv_changes.specs.declared.change.TypedChange.{TypedChange}
-use Rattle.hv_changes.specs.Columns.{columns_of}
-use Rattle.hv_analysis.specs.declared.logic.Logic.{Logic}
-use Rattle.hv_analysis.specs.declared.logic.Logic.TheVariants as logic
-use Rattle.hv_analysis.specs.Analysis.{analysed, form_analysed, is_form, query_analysed, change_analysed}
-use Rattle.hv_analysis.specs.Creates.{created, created_beside, place_of, is_table, fault_of, names_repeat, is_bucket_column, has_array, is_array_named, arrays_route, numbers_fit}
-use Rattle.hv_analysis.specs.Changes.{changing, change_of}
-use Rattle.hv_analysis.specs.Sources.{selected}
+use Rattle.hv_typing.specs.declared.change.Deletes.{Deletes}
+use Rattle.hv_typing.specs.declared.change.Deletes.TheVariants as deletes
+use Rattle.hv_typing.specs.declared.change.TypedChange.{TypedChange}
+use Rattle.hv_typing.specs.Columns.{columns_of}
+use Rattle.hv_typing.specs.declared.logic.Logic.{Logic}
+use Rattle.hv_typing.specs.declared.logic.Logic.TheVariants as logic
+use Rattle.hv_typing.specs.Analysis.{analysed, form_analysed, is_form, query_analysed, change_analysed}
+use Rattle.hv_typing.specs.Creates.{created, created_beside, place_of, is_table, fault_of, names_repeat, is_bucket_column, has_array, is_array_named, arrays_route, numbers_fit}
+use Rattle.hv_typing.specs.Changes.{changing, change_of}
+use Rattle.hv_typing.specs.Subqueries.{selected}
 use Rattle.hv_meaning.specs.Meaning.{its_tables, named_by, info_of, found_in, tables_of, is_matched, matched, frames_from, first_value, stored_values, stored_row, is_received, deleted, change_effect, within_limits, or_none, changed_in, refused_for, meant, meaning_in, meaning_of}
 use Rattle.hv_meaning.specs.Laws.{MakesNew, TablesAreNew, AreOf, IsRowOf, AreOfRows, change_name, ChangesNamed, ChangesAreNamed, ChangesSeen, ChangesAreSeen, only_inserts, InsertsDeleteNothing}
 use Rattle.hv_meaning.proofs.Outcomes.{OnOk, on_ok, then-ok, IsGone, IsChangeOf, inserts-are, changes-are, creates-are, makes}

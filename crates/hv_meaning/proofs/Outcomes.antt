@@ -19,22 +19,22 @@ use Rattle.hv_logic.specs.declared.catalog.Column.{Column}
 use Rattle.hv_logic.specs.declared.catalog.Shape.{Shape}
 use Rattle.hv_logic.specs.declared.catalog.TableInfo.{TableInfo}
 use Rattle.hv_logic.specs.Shapes.{shape_of}
-use Rattle.hv_types.specs.Faults.{and_then}
-use Rattle.hv_select.specs.Sources.{filter_typed}
-use Rattle.hv_changes.specs.declared.change.Deletes.{Deletes}
-use Rattle.hv_changes.specs.declared.change.Deletes.TheVariants as deletes
-use Rattle.hv_changes.specs.declared.change.Origin.{Origin}
-use Rattle.hv_changes.specs.declared.change.Origin.TheVariants as origin
-use Rattle.hv_changes.specs.declared.change.TypedChange.{TypedChange}
-use Rattle.hv_changes.specs.Columns.{columns_of, fields_of, kinds_of}
-use Rattle.hv_changes.specs.Inserts.{rows_typed, has_count, converts, converted_row, output_kind, outputs_convert, values_for, overwritten, insert_of, insert_typed, if_convertible, values_inserted, query_inserted}
-use Rattle.hv_changes.specs.Targets.{targets_of}
-use Rattle.hv_changes.specs.Updates.{sets_of, update_of, updated, delete_of, deleted, partitions_met, truncated}
-use Rattle.hv_analysis.specs.declared.logic.Logic.{Logic}
-use Rattle.hv_analysis.specs.declared.logic.Logic.TheVariants as logic
-use Rattle.hv_analysis.specs.Creates.{place_of, created, created_beside, made, unless_fault, fault_of}
-use Rattle.hv_analysis.specs.Changes.{source_inserted, inserted, changing, changing_table, changing_at, change_of}
-use Rattle.hv_analysis.specs.Sources.{selected}
+use Rattle.hv_typing.specs.Faults.{and_then}
+use Rattle.hv_typing.specs.Sources.{filter_typed}
+use Rattle.hv_typing.specs.declared.change.Deletes.{Deletes}
+use Rattle.hv_typing.specs.declared.change.Deletes.TheVariants as deletes
+use Rattle.hv_typing.specs.declared.change.Origin.{Origin}
+use Rattle.hv_typing.specs.declared.change.Origin.TheVariants as origin
+use Rattle.hv_typing.specs.declared.change.TypedChange.{TypedChange}
+use Rattle.hv_typing.specs.Columns.{columns_of, fields_of, kinds_of}
+use Rattle.hv_typing.specs.Inserts.{rows_typed, has_count, converts, converted_row, output_kind, outputs_convert, values_for, overwritten, insert_of, insert_typed, if_convertible, values_inserted, query_inserted}
+use Rattle.hv_typing.specs.Targets.{targets_of}
+use Rattle.hv_typing.specs.Updates.{sets_of, update_of, updated, delete_of, deleted, partitions_met, truncated}
+use Rattle.hv_typing.specs.declared.logic.Logic.{Logic}
+use Rattle.hv_typing.specs.declared.logic.Logic.TheVariants as logic
+use Rattle.hv_typing.specs.Creates.{place_of, created, created_beside, made, unless_fault, fault_of}
+use Rattle.hv_typing.specs.Changes.{source_inserted, inserted, changing, changing_table, changing_at, change_of}
+use Rattle.hv_typing.specs.Subqueries.{selected}
 
 -- ---- a fact of what is Ok
 

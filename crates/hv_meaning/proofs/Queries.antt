@@ -31,26 +31,26 @@ use Rattle.hv_query.specs.declared.tree.OutputColumn.{OutputColumn}
 use Rattle.hv_query.specs.declared.tree.TypedQuery.{TypedQuery}
 use Rattle.hv_query.specs.declared.tree.TypedSelect.{TypedSelect}
 use Rattle.hv_query.specs.declared.tree.TypedSource.{TypedSource}
-use Rattle.hv_types.specs.declared.places.Place.TheVariants as place
-use Rattle.hv_types.specs.declared.scope.Field.{Field}
-use Rattle.hv_types.specs.declared.scope.Over.TheVariants as over
-use Rattle.hv_types.specs.Faults.{and_then}
-use Rattle.hv_types.specs.Kinds.{kind_of, unified}
-use Rattle.hv_types.specs.Typing.{typed, condition_of}
-use Rattle.hv_grouping.specs.Same.{same_tree}
-use Rattle.hv_select.specs.declared.listed.Listed.{Listed}
-use Rattle.hv_select.specs.declared.listed.Shown.{Shown}
-use Rattle.hv_select.specs.declared.listed.United.{United}
-use Rattle.hv_select.specs.declared.opened.Brought.{Brought}
-use Rattle.hv_select.specs.declared.opened.Opened.{Opened}
-use Rattle.hv_select.specs.declared.opened.Sources.{Sources}
-use Rattle.hv_select.specs.Sources.{is_among, is_taken, filter_typed, first_source, join_onto, array_typed, view_onto, all_viewed, all_joined, opened, opened_of}
-use Rattle.hv_select.specs.Selects.{is_empty, is_grouped, keys_typed, key_typed, Keys, keys_of, over_of, may_stand, item_shown, tested, item_tested, behind, items_shown, having_typed, listed, select_over}
-use Rattle.hv_select.specs.Queries.{column_as, column_met, columns_met, columns_agreed, alone, unite, Place, place_numbered, is_named, place_named, place_of_literal, place_written, place_equal, place_typed, or_item, place_of_key, key_typed as sort_key_typed, order_typed, query_of, query_over, select_typed, all_united, query_typed}
-use Rattle.hv_analysis.specs.Analysis.{is_window, is_windowless_from, is_windowless_select, is_windowless_query, windowless_joins, windowless_unions, is_windowless_source, is_windowless}
-use Rattle.hv_analysis.specs.Creates.{place_of}
-use Rattle.hv_analysis.specs.Sources.{or_name, info_brought, place_brought, brought, selected}
-use Rattle.hv_analysis.proofs.Layers.{windowless-Query, brought-Table, brought-Query}
+use Rattle.hv_typing.specs.declared.places.Place.TheVariants as place
+use Rattle.hv_typing.specs.declared.scope.Field.{Field}
+use Rattle.hv_typing.specs.declared.scope.Over.TheVariants as over
+use Rattle.hv_typing.specs.Faults.{and_then}
+use Rattle.hv_typing.specs.Kinds.{kind_of, unified}
+use Rattle.hv_typing.specs.Typing.{typed, condition_of}
+use Rattle.hv_typing.specs.Same.{same_tree}
+use Rattle.hv_typing.specs.declared.listed.Listed.{Listed}
+use Rattle.hv_typing.specs.declared.listed.Shown.{Shown}
+use Rattle.hv_typing.specs.declared.listed.United.{United}
+use Rattle.hv_typing.specs.declared.opened.Brought.{Brought}
+use Rattle.hv_typing.specs.declared.opened.Opened.{Opened}
+use Rattle.hv_typing.specs.declared.opened.Sources.{Sources}
+use Rattle.hv_typing.specs.Sources.{is_among, is_taken, filter_typed, first_source, join_onto, array_typed, view_onto, all_viewed, all_joined, opened, opened_of}
+use Rattle.hv_typing.specs.Selects.{is_empty, is_grouped, keys_typed, key_typed, Keys, keys_of, over_of, may_stand, item_shown, tested, item_tested, behind, items_shown, having_typed, listed, select_over}
+use Rattle.hv_typing.specs.Queries.{column_as, column_met, columns_met, columns_agreed, alone, unite, Place, place_numbered, is_named, place_named, place_of_literal, place_written, place_equal, place_typed, or_item, place_of_key, key_typed as sort_key_typed, order_typed, query_of, query_over, select_typed, all_united, query_typed}
+use Rattle.hv_typing.specs.Analysis.{is_window, is_windowless_from, is_windowless_select, is_windowless_query, windowless_joins, windowless_unions, is_windowless_source, is_windowless}
+use Rattle.hv_typing.specs.Creates.{place_of}
+use Rattle.hv_typing.specs.Subqueries.{or_name, info_brought, place_brought, brought, selected}
+use Rattle.hv_typing.proofs.Layers.{windowless-Query, brought-Table, brought-Query}
 use Rattle.hv_meaning.proofs.Stored.{both}
 use Rattle.hv_meaning.proofs.Typed.{Free, free-then, free-if, free-each, free-front, free-placed, typed-free}
 

@@ -27,7 +27,7 @@ use Rattle.hv_rowfile.proofs.Values.{taken-Null, taken-Bool, taken-Int, taken-Bi
 use Rattle.hv_route.specs.Back.{SayValues, IsHeld, AreHeld, AreFlat}
 use Rattle.hv_route.specs.Touching.{stored_fits}
 use Rattle.hv_route.proofs.HeldLemmas.{typed-are-said}
-use Rattle.hv_changes.specs.Columns.{columns_of}
+use Rattle.hv_typing.specs.Columns.{columns_of}
 use Rattle.hv_meaning.specs.Laws.{AreOf, IsRowOf, SaysParts, StoredIsTaken, IsStored, TypedValuesAreStored}
 
 pub both : (a b : Bool) → (a && b) ≡ true → (a ≡ true) × (b ≡ true)

@@ -28,24 +28,24 @@ use Rattle.hv_typed.specs.declared.tree.Branch.{Branch}
 use Rattle.hv_typed.specs.declared.tree.Link.{Link}
 use Rattle.hv_typed.specs.declared.tree.TypedExpr.{TypedExpr}
 use Rattle.hv_typed.specs.declared.tree.TypedExpr.TheVariants as tree
-use Rattle.hv_types.specs.declared.kinds.Meeting.{Meeting}
-use Rattle.hv_types.specs.declared.kinds.Meeting.TheVariants as meeting
-use Rattle.hv_types.specs.declared.names.Function.{Function}
-use Rattle.hv_types.specs.declared.names.Function.TheVariants as function
-use Rattle.hv_types.specs.declared.places.Pair.{Pair}
-use Rattle.hv_types.specs.declared.places.Pair.TheVariants as pair
-use Rattle.hv_types.specs.declared.places.Place.{Place}
-use Rattle.hv_types.specs.declared.places.Place.TheVariants as place
-use Rattle.hv_types.specs.declared.scope.Field.{Field}
-use Rattle.hv_types.specs.declared.scope.Over.{Over}
-use Rattle.hv_types.specs.declared.scope.Over.TheVariants as over
-use Rattle.hv_types.specs.Faults.{and_then, in_front, each_in_order}
-use Rattle.hv_types.specs.Kinds.{kind_of, met, element_type}
-use Rattle.hv_types.specs.Scopes.{column_typed, is_meant, is_any_meant}
-use Rattle.hv_types.specs.Nodes.{aggregate_of, aggregate_place, aggregate_typed, aggregated, all_stand, array_of, array_of_elements, between_of, binary_of, branch_stands, case_kind, case_of, case_typed, cast_typed, chain_of, chain_typed, coalesce_of, date_typed, if_of, in_of, in_typed, link_stands, link_taken, literal_typed, many_typed, one_kind, one_place, one_typed, pair_typed, part_typed, placed, stands, taken_at, three_kind, three_typed, two_as, two_pair, two_typed, unary_of}
-use Rattle.hv_types.specs.Calls.{function_named, arguments_over, only, pair as pair_in, triple, counted, fewest, call_typed}
-use Rattle.hv_types.specs.Typing.{between_three, link_typed, when_typed, all_typed, links_typed, whens_typed, optional_typed, called, typed}
-use Rattle.hv_types.proofs.Equations.{typed-Or, typed-And, typed-Unary, typed-Binary, typed-Chain, typed-Between, typed-In, typed-Literal, typed-Column, typed-Case, typed-Cast, typed-CountRows, typed-Call}
+use Rattle.hv_typing.specs.declared.kinds.Meeting.{Meeting}
+use Rattle.hv_typing.specs.declared.kinds.Meeting.TheVariants as meeting
+use Rattle.hv_typing.specs.declared.names.Function.{Function}
+use Rattle.hv_typing.specs.declared.names.Function.TheVariants as function
+use Rattle.hv_typing.specs.declared.places.Pair.{Pair}
+use Rattle.hv_typing.specs.declared.places.Pair.TheVariants as pair
+use Rattle.hv_typing.specs.declared.places.Place.{Place}
+use Rattle.hv_typing.specs.declared.places.Place.TheVariants as place
+use Rattle.hv_typing.specs.declared.scope.Field.{Field}
+use Rattle.hv_typing.specs.declared.scope.Over.{Over}
+use Rattle.hv_typing.specs.declared.scope.Over.TheVariants as over
+use Rattle.hv_typing.specs.Faults.{and_then, in_front, each_in_order}
+use Rattle.hv_typing.specs.Kinds.{kind_of, met, element_type}
+use Rattle.hv_typing.specs.Scopes.{column_typed, is_meant, is_any_meant}
+use Rattle.hv_typing.specs.Nodes.{aggregate_of, aggregate_place, aggregate_typed, aggregated, all_stand, array_of, array_of_elements, between_of, binary_of, branch_stands, case_kind, case_of, case_typed, cast_typed, chain_of, chain_typed, coalesce_of, date_typed, if_of, in_of, in_typed, link_stands, link_taken, literal_typed, many_typed, one_kind, one_place, one_typed, pair_typed, part_typed, placed, stands, taken_at, three_kind, three_typed, two_as, two_pair, two_typed, unary_of}
+use Rattle.hv_typing.specs.Calls.{function_named, arguments_over, only, pair as pair_in, triple, counted, fewest, call_typed}
+use Rattle.hv_typing.specs.Typing.{between_three, link_typed, when_typed, all_typed, links_typed, whens_typed, optional_typed, called, typed}
+use Rattle.hv_typing.proofs.Equations.{typed-Or, typed-And, typed-Unary, typed-Binary, typed-Chain, typed-Between, typed-In, typed-Literal, typed-Column, typed-Case, typed-Cast, typed-CountRows, typed-Call}
 
 -- ---- a fault that isn't Syntax
 

@@ -21,17 +21,17 @@ use Rattle.hv_logic.specs.Names.{names_in}
 use Rattle.hv_logic.specs.Tables.{named}
 use Rattle.hv_query.specs.Rows.{Tables}
 use Rattle.hv_typed.specs.declared.tree.TypedExpr.{TypedExpr}
-use Rattle.hv_changes.specs.declared.change.Deletes.{Deletes}
-use Rattle.hv_changes.specs.declared.change.Deletes.TheVariants as deletes
-use Rattle.hv_changes.specs.declared.change.Origin.{Origin}
-use Rattle.hv_changes.specs.declared.change.Origin.TheVariants as origin
-use Rattle.hv_changes.specs.declared.change.TypedChange.{TypedChange}
-use Rattle.hv_changes.specs.Columns.{columns_of}
-use Rattle.hv_changes.specs.Inserts.{insert_of}
-use Rattle.hv_analysis.specs.declared.logic.Logic.{Logic}
-use Rattle.hv_analysis.specs.Analysis.{analysed, form_analysed, is_form}
-use Rattle.hv_analysis.specs.Changes.{changing, change_of}
-use Rattle.hv_analysis.specs.Creates.{created}
+use Rattle.hv_typing.specs.declared.change.Deletes.{Deletes}
+use Rattle.hv_typing.specs.declared.change.Deletes.TheVariants as deletes
+use Rattle.hv_typing.specs.declared.change.Origin.{Origin}
+use Rattle.hv_typing.specs.declared.change.Origin.TheVariants as origin
+use Rattle.hv_typing.specs.declared.change.TypedChange.{TypedChange}
+use Rattle.hv_typing.specs.Columns.{columns_of}
+use Rattle.hv_typing.specs.Inserts.{insert_of}
+use Rattle.hv_typing.specs.declared.logic.Logic.{Logic}
+use Rattle.hv_typing.specs.Analysis.{analysed, form_analysed, is_form}
+use Rattle.hv_typing.specs.Changes.{changing, change_of}
+use Rattle.hv_typing.specs.Creates.{created}
 use Rattle.hv_meaning.specs.Meaning.{info_of, found_in, tables_of, named_by, its_tables, matched, frames_from, stored_row, effect_of, change_effect, within_limits, or_none, changed_in, meant, meaning_over, meaning_in}
 use Rattle.hv_meaning.specs.Laws.{are_values, reads_rows, RowsAreUnseen, RowsAreUnseenIn}
 use Rattle.hv_meaning.proofs.Outcomes.{OnOk, on_ok, then-ok, IsGone, IsFrom, IsChangeOf, inserts-are, changes-are, creates-are}

@@ -26,8 +26,8 @@ use Rattle.hv_rowfile.specs.Layout.{value_spelling, ValueIsTaken, RowIsTaken}
 use Rattle.hv_route.specs.Back.{SayValues, AreFlat, AreHeld}
 use Rattle.hv_route.specs.Routes.{stored}
 use Rattle.hv_route.specs.Touching.{touched, touches_of}
-use Rattle.hv_changes.specs.Columns.{columns_of}
-use Rattle.hv_analysis.specs.Analysis.{is_form}
+use Rattle.hv_typing.specs.Columns.{columns_of}
+use Rattle.hv_typing.specs.Analysis.{is_form}
 use Rattle.hv_meaning.specs.Meaning.{info_of, meaning_in, meaning_of}
 
 -- ---- the forms that have a meaning

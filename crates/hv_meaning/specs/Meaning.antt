@@ -36,15 +36,15 @@ use Rattle.hv_query.specs.declared.tree.OutputColumn.{OutputColumn}
 use Rattle.hv_query.specs.declared.tree.TypedQuery.{TypedQuery}
 use Rattle.hv_query.specs.declared.tree.TypedSource.{TypedSource}
 use Rattle.hv_query.specs.Rows.{Frame, Tables, is_met, rows_of}
-use Rattle.hv_changes.specs.declared.change.Deletes.{Deletes}
-use Rattle.hv_changes.specs.declared.change.Deletes.TheVariants as deletes
-use Rattle.hv_changes.specs.declared.change.Origin.{Origin}
-use Rattle.hv_changes.specs.declared.change.Origin.TheVariants as origin
-use Rattle.hv_changes.specs.declared.change.TypedChange.{TypedChange}
-use Rattle.hv_changes.specs.Columns.{columns_of}
-use Rattle.hv_analysis.specs.declared.logic.Logic.{Logic}
-use Rattle.hv_analysis.specs.declared.logic.Logic.TheVariants as logic
-use Rattle.hv_analysis.specs.Analysis.{analysed}
+use Rattle.hv_typing.specs.declared.change.Deletes.{Deletes}
+use Rattle.hv_typing.specs.declared.change.Deletes.TheVariants as deletes
+use Rattle.hv_typing.specs.declared.change.Origin.{Origin}
+use Rattle.hv_typing.specs.declared.change.Origin.TheVariants as origin
+use Rattle.hv_typing.specs.declared.change.TypedChange.{TypedChange}
+use Rattle.hv_typing.specs.Columns.{columns_of}
+use Rattle.hv_typing.specs.declared.logic.Logic.{Logic}
+use Rattle.hv_typing.specs.declared.logic.Logic.TheVariants as logic
+use Rattle.hv_typing.specs.Analysis.{analysed}
 
 -- ---- the live tables that a statement names, in the order in which it names them: a name means one of these
 

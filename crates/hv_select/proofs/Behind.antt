@@ -4,10 +4,10 @@ use Rattle.std.proofs.lemmas.List.{append-nil}
 use Rattle.hv_base.specs.declared.refusal.Refusal.{Refusal}
 use Rattle.hv_typed.specs.declared.tree.TypedExpr.{TypedExpr}
 use Rattle.hv_query.specs.declared.tree.OutputColumn.{OutputColumn}
-use Rattle.hv_types.specs.Faults.{in_front}
-use Rattle.hv_types.specs.Nodes.{as_kind}
-use Rattle.hv_select.specs.Queries.{items_as, first_kind, behind_first}
-use Rattle.hv_select.specs.Selects.{behind}
+use Rattle.hv_typing.specs.Faults.{in_front}
+use Rattle.hv_typing.specs.Nodes.{as_kind}
+use Rattle.hv_typing.specs.Queries.{items_as, first_kind, behind_first}
+use Rattle.hv_typing.specs.Selects.{behind}
 
 pub behind-in_front : {A : Type 0} (done : List A) (a : A) (rest : Result (List A) Refusal) → behind done (in_front a rest) ≡ behind (done ++ a ∷ []) rest
 behind-in_front done a (Ok rest) = ap Ok (sym (append_assoc done (a ∷ []) rest))

@@ -2,15 +2,16 @@
 
 ghost use Rattle.std.specs.Prelude.{◌≡◌};
 ghost use Rattle.std.specs.List.{list_any};
-ghost use Rattle.hv_types.specs.Faults.{Types};
-ghost use Rattle.hv_select.specs.Selects.{aggregates_in, is_grouped, keys_typed, keys_of, over_of, may_stand, having_typed, grouping_of};
+ghost use Rattle.hv_typing.specs.Faults.{Types};
+ghost use Rattle.hv_typing.specs.Selects.{aggregates_in, is_grouped, keys_typed, keys_of, over_of, may_stand, having_typed, grouping_of};
 
 use hv_ast::{Expr, Item, Select};
 use hv_base::{Boxed, List, Refusal};
 use hv_grouping::{has_aggregate, stands_grouped};
 use hv_query::Grouping;
 use hv_typed::TypedExpr;
-use hv_types::{Field, Over, TypeFault, condition_of, type_expr};
+use hv_types::{condition_of, type_expr};
+use hv_typing::{Field, Over, TypeFault};
 use std::alloc::Global;
 
 pub(crate) const NOT_GROUPED: TypeFault = TypeFault::Refused(Refusal::NotGrouped);
@@ -42,7 +43,7 @@ pub(crate) fn is_grouped(select: &Select) -> bool
     !select.group.is_empty() || select.having.is_some() || any_aggregates(select.items.as_slice())
 }
 
-#[tactic(auto, using(crate::proofs::Behind::steps), unfolding(crate::specs::Selects::keys_typed))]
+#[tactic(auto, using(crate::proofs::Behind::steps), unfolding(hv_typing::specs::Selects::keys_typed))]
 pub(crate) fn keys_typed(
     alloc: Global,
     fields: &[Field],

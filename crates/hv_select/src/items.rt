@@ -2,18 +2,17 @@
 
 ghost use Rattle.std.specs.Prelude.{◌≡◌, IfOk, map};
 ghost use Rattle.std.specs.List.{list_all};
-ghost use Rattle.hv_types.specs.Faults.{Types};
-ghost use Rattle.hv_select.specs.Selects.{is_of, field_shown, fields_shown, shown_name, one_shown, all_shown, item_shown, shown_stands, item_tested, items_shown, numbered, or_numbered, column_shown, columns_shown, expr_shown};
+ghost use Rattle.hv_typing.specs.Faults.{Types};
+ghost use Rattle.hv_typing.specs.Selects.{is_of, field_shown, fields_shown, shown_name, one_shown, all_shown, item_shown, shown_stands, item_tested, items_shown, numbered, or_numbered, column_shown, columns_shown, expr_shown};
 
 use crate::grouping::{NOT_GROUPED, may_stand, over_of};
-use crate::listed::Shown;
-use crate::opened::Opened;
 use crate::sources::is_among;
 use hv_ast::{Expr, Item};
 use hv_base::{Duplicate, List, NoMemory, Refusal, Text};
 use hv_query::OutputColumn;
 use hv_typed::TypedExpr;
-use hv_types::{Field, TypeFault, kind_of, type_expr};
+use hv_types::{kind_of, type_expr};
+use hv_typing::{Field, Opened, Shown, TypeFault};
 use std::alloc::Global;
 
 fn is_of(alias: &Option<Text>, field: &Field) -> bool

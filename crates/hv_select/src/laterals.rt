@@ -1,17 +1,17 @@
 //! Lateral views.
 
 ghost use Rattle.std.specs.Prelude.{◌≡◌, IfOk};
-ghost use Rattle.hv_types.specs.Faults.{Types};
-ghost use Rattle.hv_types.specs.Kinds.{scalar_type};
-ghost use Rattle.hv_select.specs.Sources.{array_typed, or_col, field_as, element_of, view_fields, has_positions, with_view, viewed_with, view_onto, all_viewed};
+ghost use Rattle.hv_typing.specs.Faults.{Types};
+ghost use Rattle.hv_typing.specs.Kinds.{scalar_type};
+ghost use Rattle.hv_typing.specs.Sources.{array_typed, or_col, field_as, element_of, view_fields, has_positions, with_view, viewed_with, view_onto, all_viewed};
 
-use crate::opened::Sources;
 use crate::sources::{AMBIGUOUS, is_taken, with_fields, with_name};
 use hv_ast::{Explode, Expr, Lateral};
 use hv_base::{Boxed, Duplicate, List, NoMemory, Text};
 use hv_query::{TypedFrom, TypedLateral};
 use hv_typed::TypedExpr;
-use hv_types::{Field, Over, Place, TypeFault, kind_of, placed, type_expr};
+use hv_types::{kind_of, placed, type_expr};
+use hv_typing::{Field, Over, Place, Sources, TypeFault};
 use hv_value::{Elem, SqlType};
 use std::alloc::Global;
 
@@ -156,7 +156,7 @@ fn viewed_with(
     )
 }
 
-#[tactic(auto, unfolding(crate::specs::Sources::view_onto))]
+#[tactic(auto, unfolding(hv_typing::specs::Sources::view_onto))]
 fn view_onto(
     alloc: Global,
     sources: Boxed<Sources>,

@@ -6,8 +6,6 @@
 mod grouping;
 mod items;
 mod laterals;
-mod listed;
-mod opened;
 mod orders;
 mod queries;
 mod selects;
@@ -15,8 +13,6 @@ mod sources;
 mod unions;
 
 pub use laterals::all_viewed;
-pub use listed::{Listed, Shown, United};
-pub use opened::{Brought, Opened, Sources};
 pub use queries::query_over;
 pub use selects::select_over;
 pub use sources::{first_source, join_onto, opened_none, opened_of, query_brought};

@@ -2,16 +2,16 @@
 
 ghost use Rattle.std.specs.Prelude.{◌≡◌, IfSome};
 ghost use Rattle.std.specs.List.{list_any};
-ghost use Rattle.hv_types.specs.Faults.{Types};
-ghost use Rattle.hv_select.specs.Queries.{place_numbered, is_named, place_named, place_of_literal, place_written, place_equal, place_of_item, place_of_key, key_typed, order_typed, Finds};
+ghost use Rattle.hv_typing.specs.Faults.{Types};
+ghost use Rattle.hv_typing.specs.Queries.{place_numbered, is_named, place_named, place_of_literal, place_written, place_equal, place_of_item, place_of_key, key_typed, order_typed, Finds};
 
-use crate::listed::Listed;
 use hv_ast::{Expr, Key, Literal};
 use hv_base::{List, Refusal, Text};
 use hv_grouping::same_tree;
 use hv_query::{OutputColumn, SortKey};
 use hv_typed::TypedExpr;
-use hv_types::{TypeFault, type_expr};
+use hv_types::type_expr;
+use hv_typing::{Listed, TypeFault};
 use std::alloc::Global;
 
 const NO_COLUMN: TypeFault = TypeFault::Refused(Refusal::NoColumn);
@@ -138,7 +138,7 @@ fn key_typed(
 }
 
 /// The keys of ORDER BY as places among the output columns.
-#[tactic(auto, using(crate::proofs::Behind::steps), unfolding(crate::specs::Queries::order_typed))]
+#[tactic(auto, using(crate::proofs::Behind::steps), unfolding(hv_typing::specs::Queries::order_typed))]
 pub(crate) fn order_typed(
     alloc: Global,
     single: bool,

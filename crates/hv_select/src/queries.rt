@@ -1,15 +1,14 @@
 ghost use Rattle.std.specs.Prelude.{◌≡◌, IfOk};
-ghost use Rattle.hv_types.specs.Faults.{Types};
-ghost use Rattle.hv_select.specs.Selects.{is_empty};
-ghost use Rattle.hv_select.specs.Queries.{query_of, query_over};
+ghost use Rattle.hv_typing.specs.Faults.{Types};
+ghost use Rattle.hv_typing.specs.Selects.{is_empty};
+ghost use Rattle.hv_typing.specs.Queries.{query_of, query_over};
 
-use crate::listed::{Listed, United};
 use crate::orders::order_typed;
 use crate::unions::{select_as, unions_as};
 use hv_ast::{Query, Union};
 use hv_base::{Boxed, List, NoMemory};
 use hv_query::{SortKey, TypedQuery, TypedSelect};
-use hv_types::TypeFault;
+use hv_typing::{Listed, TypeFault, United};
 use std::alloc::Global;
 
 fn query_of(
@@ -46,7 +45,7 @@ fn is_single(unions: &[Union]) -> bool
 }
 
 /// The query over its typed selects: ORDER BY, and the types of the whole.
-#[tactic(auto, unfolding(crate::specs::Queries::query_over))]
+#[tactic(auto, unfolding(hv_typing::specs::Queries::query_over))]
 pub fn query_over(
     alloc: Global,
     query: &Query,

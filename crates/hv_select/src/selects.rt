@@ -1,19 +1,17 @@
 //! A select over what FROM brings.
 
 ghost use Rattle.std.specs.Prelude.{◌≡◌, IfOk};
-ghost use Rattle.hv_types.specs.Faults.{Types};
-ghost use Rattle.hv_select.specs.Selects.{select_of, listed_of, listed, select_over};
+ghost use Rattle.hv_typing.specs.Faults.{Types};
+ghost use Rattle.hv_typing.specs.Selects.{select_of, listed_of, listed, select_over};
 
 use crate::grouping::{grouping_of, having_typed, is_grouped, keys_of, keys_typed, over_of};
 use crate::items::{columns_shown, exprs_shown, items_shown};
-use crate::listed::{Listed, Shown};
-use crate::opened::Opened;
 use crate::sources::filter_typed;
 use hv_ast::Select;
 use hv_base::{Boxed, List, NoMemory};
 use hv_query::{Grouping, TypedFrom, TypedSelect};
 use hv_typed::TypedExpr;
-use hv_types::TypeFault;
+use hv_typing::{Listed, Opened, Shown, TypeFault};
 use std::alloc::Global;
 
 type Filter = Option<Boxed<TypedExpr>>;
@@ -77,7 +75,7 @@ fn listed_of(
     )
 }
 
-#[tactic(auto, unfolding(crate::specs::Selects::listed))]
+#[tactic(auto, unfolding(hv_typing::specs::Selects::listed))]
 fn listed(
     alloc: Global,
     select: &Select,
@@ -94,7 +92,7 @@ fn listed(
 }
 
 /// The select, or its first fault: of WHERE, of GROUP BY, of its items, of HAVING.
-#[tactic(auto, unfolding(crate::specs::Selects::select_over))]
+#[tactic(auto, unfolding(hv_typing::specs::Selects::select_over))]
 pub fn select_over(
     alloc: Global,
     select: &Select,

@@ -1,15 +1,15 @@
 //! Sources and joins.
 
 ghost use Rattle.std.specs.Prelude.{◌≡◌, ◌++◌, IfOk, map, ◌∷◌, []};
-ghost use Rattle.hv_types.specs.Faults.{Types};
-ghost use Rattle.hv_select.specs.Sources.{is_among, is_taken, filter_typed, output_field, query_brought, first_source, join_kind, with_join, shows_right, joined_with, join_onto, opened_none, opened_of};
+ghost use Rattle.hv_typing.specs.Faults.{Types};
+ghost use Rattle.hv_typing.specs.Sources.{is_among, is_taken, filter_typed, output_field, query_brought, first_source, join_kind, with_join, shows_right, joined_with, join_onto, opened_none, opened_of};
 
-use crate::opened::{Brought, Opened, Sources};
 use hv_ast::{Expr, JoinKind as WrittenKind};
 use hv_base::{Boxed, Duplicate, List, NoMemory, Refusal, Text};
 use hv_query::{JoinKind, OutputColumn, TypedFrom, TypedJoin, TypedQuery, TypedSource};
 use hv_typed::TypedExpr;
-use hv_types::{Field, Over, TypeFault, condition_of};
+use hv_types::condition_of;
+use hv_typing::{Brought, Field, Opened, Over, Sources, TypeFault};
 use std::alloc::Global;
 
 pub(crate) const AMBIGUOUS: TypeFault = TypeFault::Refused(Refusal::Ambiguous);
@@ -295,7 +295,7 @@ fn joined_with(
 }
 
 /// A source that is joined: its alias, then ON.
-#[tactic(auto, unfolding(crate::specs::Sources::join_onto))]
+#[tactic(auto, unfolding(hv_typing::specs::Sources::join_onto))]
 pub fn join_onto(
     alloc: Global,
     sources: Boxed<Sources>,

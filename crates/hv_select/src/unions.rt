@@ -1,14 +1,14 @@
 //! UNION: one type of each column of all selects.
 
 ghost use Rattle.std.specs.Prelude.{◌≡◌, IfOk, map};
-ghost use Rattle.hv_types.specs.Faults.{Types};
-ghost use Rattle.hv_select.specs.Queries.{column_met, columns_met, columns_agreed, alone, unite, united_with, first_kind, behind_first, items_as, select_as, union_as};
+ghost use Rattle.hv_typing.specs.Faults.{Types};
+ghost use Rattle.hv_typing.specs.Queries.{column_met, columns_met, columns_agreed, alone, unite, united_with, first_kind, behind_first, items_as, select_as, union_as};
 
-use crate::listed::United;
 use hv_base::{Boxed, Duplicate, List, NoMemory, Refusal};
 use hv_query::{OutputColumn, TypedSelect, TypedUnion};
 use hv_typed::TypedExpr;
-use hv_types::{Meeting, TypeFault, item_as_kind, kind_of, met};
+use hv_types::{item_as_kind, kind_of, met};
+use hv_typing::{Meeting, TypeFault, United};
 use hv_value::SqlType;
 use std::alloc::Global;
 
@@ -118,7 +118,7 @@ fn united_with(
 }
 
 /// The next select of a union: its number of columns, then their types.
-#[tactic(auto, unfolding(crate::specs::Queries::unite))]
+#[tactic(auto, unfolding(hv_typing::specs::Queries::unite))]
 pub fn unite(
     alloc: Global,
     united: Boxed<United>,

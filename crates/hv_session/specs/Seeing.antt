@@ -10,7 +10,7 @@ use Rattle.hv_logic.specs.Names.{names_in}
 use Rattle.hv_logic.specs.declared.meaning.Meaning.{Meaning}
 use Rattle.hv_logic.specs.declared.meaning.Meaning.TheVariants.{Change}
 use Rattle.hv_logic.specs.declared.seen.Seen.{Seen}
-use Rattle.hv_changes.specs.Columns.{columns_of}
+use Rattle.hv_typing.specs.Columns.{columns_of}
 use Rattle.hv_meaning.specs.Meaning.{info_of}
 use Rattle.hv_meaning.specs.Laws.{reads_rows}
 use Rattle.hv_history.specs.declared.entry.Entry.{Entry}

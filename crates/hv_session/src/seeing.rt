@@ -4,7 +4,7 @@ ghost use Rattle.std.specs.Prelude.{◌≡◌, ◌≤◌, ◌<◌, ℕ, ◌++◌
 ghost use Rattle.hv_base.specs.declared.ids.TxnId.{TxnId};
 ghost use Rattle.hv_ast.specs.declared.statement.Stmt.{Stmt};
 ghost use Rattle.hv_built.specs.Built.{IsBuilt};
-ghost use Rattle.hv_changes.specs.Columns.{columns_of};
+ghost use Rattle.hv_typing.specs.Columns.{columns_of};
 ghost use Rattle.hv_meaning.specs.Meaning.{meaning_in};
 ghost use Rattle.hv_meaning.specs.Laws.{MeansSomething, are_values, reads_rows};
 ghost use Rattle.hv_logic.specs.Tables.{named};

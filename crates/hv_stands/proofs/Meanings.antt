@@ -14,11 +14,11 @@ use Rattle.hv_logic.specs.declared.meaning.Meaning.{Meaning}
 use Rattle.hv_logic.specs.declared.meaning.Meaning.TheVariants.{Listing, Change, RowLimit, PartitionLimit}
 use Rattle.hv_logic.specs.Tables.{named}
 use Rattle.hv_query.specs.Rows.{Tables}
-use Rattle.hv_analysis.specs.declared.logic.Logic.{Logic}
-use Rattle.hv_analysis.specs.declared.logic.Logic.TheVariants as logic
-use Rattle.hv_analysis.specs.Analysis.{analysed}
-use Rattle.hv_changes.specs.Columns.{columns_of}
-use Rattle.hv_changes.specs.declared.change.TypedChange.{TypedChange}
+use Rattle.hv_typing.specs.declared.logic.Logic.{Logic}
+use Rattle.hv_typing.specs.declared.logic.Logic.TheVariants as logic
+use Rattle.hv_typing.specs.Analysis.{analysed}
+use Rattle.hv_typing.specs.Columns.{columns_of}
+use Rattle.hv_typing.specs.declared.change.TypedChange.{TypedChange}
 use Rattle.hv_base.specs.declared.ids.Touch.{Touch}
 use Rattle.hv_route.specs.Touching.{touched}
 use Rattle.hv_route.specs.declared.fault.RouteFault.{RouteFault}

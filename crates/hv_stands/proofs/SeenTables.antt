@@ -9,7 +9,7 @@ use Rattle.hv_logic.specs.declared.catalog.TableInfo.{TableInfo}
 use Rattle.hv_logic.specs.Names.{names_in}
 use Rattle.hv_meaning.specs.Meaning.{info_of, named_by, its_tables, meaning_in, meaning_of}
 use Rattle.hv_value.specs.declared.row.Row.{Row}
-use Rattle.hv_changes.specs.Columns.{columns_of}
+use Rattle.hv_typing.specs.Columns.{columns_of}
 use Rattle.hv_rowfile.specs.Layout.{RowIsTaken}
 use Rattle.hv_route.specs.Routes.{stored}
 use Rattle.hv_route.specs.Touching.{touched, touches_of}

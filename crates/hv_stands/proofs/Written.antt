@@ -8,7 +8,7 @@ use Rattle.hv_logic.specs.declared.effect.Effect.{Effect}
 use Rattle.hv_logic.specs.declared.effect.Found.{Found}
 use Rattle.hv_logic.specs.declared.meaning.Meaning.{Meaning}
 use Rattle.hv_logic.specs.declared.meaning.Meaning.TheVariants.{Refused, Listing, Change, Make, Plain, RowLimit, PartitionLimit}
-use Rattle.hv_changes.specs.Columns.{columns_of}
+use Rattle.hv_typing.specs.Columns.{columns_of}
 use Rattle.hv_route.specs.Back.{AreFlat, AreHeld}
 use Rattle.hv_route.specs.Routes.{files_of}
 use Rattle.hv_meaning.specs.Meaning.{meaning_of}

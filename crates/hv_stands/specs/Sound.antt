@@ -11,7 +11,7 @@ use Rattle.hv_logic.specs.declared.effect.Effect.{Effect}
 use Rattle.hv_logic.specs.declared.meaning.Meaning.{Meaning}
 use Rattle.hv_logic.specs.declared.meaning.Meaning.TheVariants.{Change}
 use Rattle.hv_logic.specs.Rows.{found_cmp}
-use Rattle.hv_changes.specs.Columns.{columns_of}
+use Rattle.hv_typing.specs.Columns.{columns_of}
 use Rattle.hv_route.specs.Back.{AreFlat}
 use Rattle.hv_route.specs.Routes.{numbered_rows}
 use Rattle.hv_history.specs.declared.state.Written.{Written}

@@ -1,20 +1,18 @@
 //! Calls of functions.
 
 ghost use Rattle.std.specs.Prelude.{◌≡◌};
-ghost use Rattle.hv_types.specs.Faults.{Types};
-ghost use Rattle.hv_types.specs.Nodes.{aggregate_place, aggregate_gives, aggregate_typed, aggregated, one_typed};
-ghost use Rattle.hv_types.specs.Calls.{only, pair, triple, counted, arguments_over, call_two, call_three, call_part, call_many, fewest, call_typed};
+ghost use Rattle.hv_typing.specs.Faults.{Types};
+ghost use Rattle.hv_typing.specs.Nodes.{aggregate_place, aggregate_gives, aggregate_typed, aggregated, one_typed};
+ghost use Rattle.hv_typing.specs.Calls.{only, pair, triple, counted, arguments_over, call_two, call_three, call_part, call_many, fewest, call_typed};
 
 use crate::casts::placed;
-use crate::fault::TypeFault;
 use crate::kinds::kind_of;
 use crate::lists::{only, pair, triple};
-use crate::names::Function;
 use crate::nodes::{many_typed, one_typed, three_typed, two_typed};
-use crate::places::{Gives, Place, given};
-use crate::scope::Over;
+use crate::places::given;
 use hv_base::{Boxed, List, Refusal};
 use hv_typed::{Aggregate, Many, One, Three, Two, TypedExpr};
+use hv_typing::{Function, Gives, Over, Place, TypeFault};
 use hv_value::SqlType;
 use std::alloc::Global;
 
@@ -53,7 +51,7 @@ fn aggregate_gives(function: Aggregate) -> Gives
     }
 }
 
-#[tactic(auto, unfolding(crate::specs::Nodes::aggregate_typed))]
+#[tactic(auto, unfolding(hv_typing::specs::Nodes::aggregate_typed))]
 fn aggregate_typed(
     alloc: Global,
     function: Aggregate,
@@ -185,7 +183,7 @@ fn call_many(
 }
 
 /// A call with arguments that are typed, in its order of faults.
-#[tactic(auto, unfolding(crate::specs::Calls::call_typed))]
+#[tactic(auto, unfolding(hv_typing::specs::Calls::call_typed))]
 pub(crate) fn call_typed(
     alloc: Global,
     function: Option<Function>,

@@ -3,15 +3,14 @@
 ghost use Rattle.std.specs.Prelude.{◌≡◌, map, IfOk};
 ghost use Rattle.std.specs.List.{list_all};
 ghost use Rattle.hv_value.specs.declared.sql_type.SqlType.TheVariants as type;
-ghost use Rattle.hv_types.specs.Faults.{Types};
-ghost use Rattle.hv_types.specs.Nodes.{is_condition, condition_as, branch_stands, branch_kind, kind_with, case_kind, branch_as, case_typed};
+ghost use Rattle.hv_typing.specs.Faults.{Types};
+ghost use Rattle.hv_typing.specs.Nodes.{is_condition, condition_as, branch_stands, branch_kind, kind_with, case_kind, branch_as, case_typed};
 
 use crate::casts::{BAD_TYPE, item_as_kind, item_taken_at, optional_as_kind, stands};
-use crate::fault::TypeFault;
-use crate::kinds::{Meeting, comparable, kind_of, met};
-use crate::places::Place;
+use crate::kinds::{comparable, kind_of, met};
 use hv_base::{Boxed, List, NoMemory};
 use hv_typed::{Branch, TypedExpr};
+use hv_typing::{Meeting, Place, TypeFault};
 use hv_value::SqlType;
 use std::alloc::Global;
 
@@ -99,7 +98,7 @@ fn branches_as(
     Ok(List::from_vec(made))
 }
 
-#[tactic(auto, unfolding(crate::specs::Nodes::case_typed))]
+#[tactic(auto, unfolding(hv_typing::specs::Nodes::case_typed))]
 pub(crate) fn case_typed(
     alloc: Global,
     operand: Option<Boxed<TypedExpr>>,

@@ -1,14 +1,14 @@
 ghost use Rattle.std.specs.Prelude.{◌≡◌, IfOk, map, option_map};
 ghost use Rattle.std.specs.List.{list_all};
-ghost use Rattle.hv_types.specs.Faults.{Types};
-ghost use Rattle.hv_types.specs.Kinds as kinds;
-ghost use Rattle.hv_types.specs.Nodes.{as_kind, stands, taken_at, placed, cast_typed, one_kind};
+ghost use Rattle.hv_typing.specs.Faults.{Types};
+ghost use Rattle.hv_typing.specs.Kinds as kinds;
+ghost use Rattle.hv_typing.specs.Nodes.{as_kind, stands, taken_at, placed, cast_typed, one_kind};
 
-use crate::fault::TypeFault;
-use crate::kinds::{Meeting, kind_of, met, same_type};
-use crate::places::{Place, asked};
+use crate::kinds::{kind_of, met, same_type};
+use crate::places::asked;
 use hv_base::{Boxed, List, NoMemory, Refusal};
 use hv_typed::{One, TypedExpr};
+use hv_typing::{Meeting, Place, TypeFault};
 use hv_value::{SqlType, is_convertible};
 use std::alloc::Global;
 
@@ -84,7 +84,7 @@ pub(crate) fn all_stand(place: Place, exprs: &[TypedExpr]) -> bool
     true
 }
 
-#[tactic(auto, unfolding(crate::specs::Nodes::taken_at))]
+#[tactic(auto, unfolding(hv_typing::specs::Nodes::taken_at))]
 pub(crate) fn item_taken_at(
     alloc: Global,
     place: Place,
@@ -113,7 +113,7 @@ pub(crate) fn all_taken_at(
 }
 
 /// The expression as what it is taken for at the place, BadType where it may not stand there.
-#[tactic(auto, unfolding(crate::specs::Nodes::taken_at))]
+#[tactic(auto, unfolding(hv_typing::specs::Nodes::taken_at))]
 pub fn placed(
     alloc: Global,
     place: Place,
@@ -127,7 +127,7 @@ pub fn placed(
     }
 }
 
-#[tactic(auto, unfolding(crate::specs::Nodes::cast_typed))]
+#[tactic(auto, unfolding(hv_typing::specs::Nodes::cast_typed))]
 pub(crate) fn cast_typed(
     alloc: Global,
     to: SqlType,

@@ -1,21 +1,13 @@
 ghost use Rattle.std.specs.Prelude.{◌≡◌, option_map};
 ghost use Rattle.hv_value.specs.declared.sql_type.SqlType.TheVariants as type;
-ghost use Rattle.hv_types.specs.Kinds.{kind_of, same_elem, same_type, unified_elem, unified, comparable, met, wider, scalar_type, element_type};
+ghost use Rattle.hv_typing.specs.Kinds.{kind_of, same_elem, same_type, unified_elem, unified, comparable, met, wider, scalar_type, element_type};
 
 use hv_typed::TypedExpr;
 use hv_value::{Elem, SqlType};
-
-/// How several expressions come to one type.
-#[derive(Clone, Copy)]
-pub enum Meeting {
-    /// As the values of CASE do.
-    Unified,
-    /// As the sides of a comparison do.
-    Compared,
-}
+use hv_typing::Meeting;
 
 /// The type of an expression.
-#[tactic(auto, unfolding(crate::specs::Kinds::kind_of))]
+#[tactic(auto, unfolding(hv_typing::specs::Kinds::kind_of))]
 pub fn kind_of(expr: &TypedExpr) -> SqlType
     ensures { result ≡ kind_of expr.now }
 {

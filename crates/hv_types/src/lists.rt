@@ -1,7 +1,7 @@
 //! Arguments, by how many there are.
 
 ghost use Rattle.std.specs.Prelude.{◌≡◌, IfOk};
-ghost use Rattle.hv_types.specs.Calls.{only, pair, triple};
+ghost use Rattle.hv_typing.specs.Calls.{only, pair, triple};
 
 use hv_base::{Boxed, List, NoMemory};
 use hv_typed::TypedExpr;

@@ -1,21 +1,10 @@
 //! The functions by their names.
 
 ghost use Rattle.std.specs.Prelude.{◌≡◌, map};
-ghost use Rattle.hv_types.specs.Calls as spec;
+ghost use Rattle.hv_typing.specs.Calls as spec;
 
 use hv_typed::{Aggregate, Many, One, Three, Two};
-
-/// A function that has a name, by how many arguments it takes.
-#[derive(Clone, Copy)]
-pub enum Function {
-    One(One),
-    Two(Two),
-    Three(Three),
-    /// Of two arguments or of three.
-    Part(Two, Three),
-    Many(Many),
-    Aggregate(Aggregate),
-}
+use hv_typing::Function;
 
 /// A function's name, in lower case, and the function.
 struct Row(&'static str, Function);

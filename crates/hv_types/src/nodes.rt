@@ -6,20 +6,20 @@ ghost use Rattle.hv_typed.specs.declared.tree.TypedExpr.TheVariants as tree;
 ghost use Rattle.hv_value.specs.Dates.{day_of_text};
 ghost use Rattle.std.specs.List.{list_all};
 ghost use Rattle.hv_value.specs.declared.sql_type.SqlType.TheVariants as type;
-ghost use Rattle.hv_types.specs.declared.kinds.Meeting.TheVariants as meeting;
-ghost use Rattle.hv_types.specs.Faults.{Types};
-ghost use Rattle.hv_types.specs.Nodes.{literal_typed, date_typed, one_place, one_gives, one_typed, unary_of, two_pair, met_kind, two_met, two_placed, three_kind, two_typed, binary_of, between_typed, if_typed, part_typed, three_typed, many_placed, coalesce_of, array_of, array_of_elements, many_typed, arithmetic_of, link_stands, link_taken, widest, chain_typed, in_typed, one_kind};
+ghost use Rattle.hv_typing.specs.declared.kinds.Meeting.TheVariants as meeting;
+ghost use Rattle.hv_typing.specs.Faults.{Types};
+ghost use Rattle.hv_typing.specs.Nodes.{literal_typed, date_typed, one_place, one_gives, one_typed, unary_of, two_pair, met_kind, two_met, two_placed, three_kind, two_typed, binary_of, between_typed, if_typed, part_typed, three_typed, many_placed, coalesce_of, array_of, array_of_elements, many_typed, arithmetic_of, link_stands, link_taken, widest, chain_typed, in_typed, one_kind};
 
 use crate::casts::{
     BAD_TYPE, all_as_kind, all_stand, all_taken_at, as_kind, item_taken_at, one_kind, placed,
     stands,
 };
-use crate::fault::TypeFault;
-use crate::kinds::{Meeting, element_type, kind_of, met, wider};
-use crate::places::{Gives, Pair, Place, given};
+use crate::kinds::{element_type, kind_of, met, wider};
+use crate::places::given;
 use hv_ast::{Binary, Literal, Unary};
 use hv_base::{Boxed, Duplicate, List, NoMemory, Text};
 use hv_typed::{Arithmetic, Link, Many, One, Three, Two, TypedExpr};
+use hv_typing::{Gives, Meeting, Pair, Place, TypeFault};
 use hv_value::{SqlType, Value, parse_date};
 use std::alloc::Global;
 
@@ -82,7 +82,7 @@ fn one_gives(function: One) -> Gives
     }
 }
 
-#[tactic(auto, unfolding(crate::specs::Nodes::one_typed))]
+#[tactic(auto, unfolding(hv_typing::specs::Nodes::one_typed))]
 pub(crate) fn one_typed(
     alloc: Global,
     function: One,
@@ -174,7 +174,7 @@ fn two_met(
     )?)
 }
 
-#[tactic(auto, unfolding(crate::specs::Nodes::two_typed))]
+#[tactic(auto, unfolding(hv_typing::specs::Nodes::two_typed))]
 pub(crate) fn two_typed(
     alloc: Global,
     function: Two,
@@ -283,7 +283,7 @@ fn part_typed(
     )?)
 }
 
-#[tactic(auto, unfolding(crate::specs::Nodes::three_typed))]
+#[tactic(auto, unfolding(hv_typing::specs::Nodes::three_typed))]
 pub(crate) fn three_typed(
     alloc: Global,
     function: Three,
@@ -342,7 +342,7 @@ fn array_typed(alloc: Global, exprs: List<TypedExpr>) -> Result<Boxed<TypedExpr>
     )?)
 }
 
-#[tactic(auto, unfolding(crate::specs::Nodes::many_typed))]
+#[tactic(auto, unfolding(hv_typing::specs::Nodes::many_typed))]
 pub(crate) fn many_typed(
     alloc: Global,
     function: Many,
@@ -405,7 +405,7 @@ fn widest(first: SqlType, links: &[Link]) -> SqlType
     kind
 }
 
-#[tactic(auto, unfolding(crate::specs::Nodes::chain_typed))]
+#[tactic(auto, unfolding(hv_typing::specs::Nodes::chain_typed))]
 pub(crate) fn chain_typed(
     alloc: Global,
     first: Boxed<TypedExpr>,
@@ -423,7 +423,7 @@ pub(crate) fn chain_typed(
     Ok(Boxed::new(alloc, TypedExpr::Chain(kind, first, links))?)
 }
 
-#[tactic(auto, unfolding(crate::specs::Nodes::in_typed))]
+#[tactic(auto, unfolding(hv_typing::specs::Nodes::in_typed))]
 pub(crate) fn in_typed(
     alloc: Global,
     value: Boxed<TypedExpr>,

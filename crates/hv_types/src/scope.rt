@@ -1,27 +1,11 @@
 ghost use Rattle.std.specs.Prelude.{◌≡◌};
-ghost use Rattle.hv_types.specs.Faults.{Types};
-ghost use Rattle.hv_types.specs.Scopes.{is_meant, is_any_meant, column_typed};
+ghost use Rattle.hv_typing.specs.Faults.{Types};
+ghost use Rattle.hv_typing.specs.Scopes.{is_meant, is_any_meant, column_typed};
 
-use crate::fault::TypeFault;
 use hv_base::{Refusal, Text};
 use hv_typed::TypedExpr;
-use hv_value::SqlType;
-
-/// A column in scope, with the name of its source. Its place among the fields is that of its value
-/// in a row.
-#[derive(Drop)]
-pub struct Field {
-    pub source: Text,
-    pub name: Text,
-    pub kind: SqlType,
-}
-
-/// What an expression is over: one row, where no aggregate may stand, or a group of rows.
-#[derive(Clone, Copy)]
-pub enum Over {
-    Row,
-    Group,
-}
+use hv_typing::Field;
+use hv_typing::TypeFault;
 
 fn is_meant(source: &Option<Text>, name: &Text, field: &Field) -> bool
     ensures { result ≡ is_meant source.now name.now field.now }

@@ -1,22 +1,21 @@
 ghost use Rattle.std.specs.Prelude.{◌≡◌};
-ghost use Rattle.hv_types.specs.Faults.{Types};
-ghost use Rattle.hv_types.specs.Typing.{between_three, all_typed, links_typed, whens_typed, optional_typed, called, typed, condition_of};
+ghost use Rattle.hv_typing.specs.Faults.{Types};
+ghost use Rattle.hv_typing.specs.Typing.{between_three, all_typed, links_typed, whens_typed, optional_typed, called, typed, condition_of};
 
 use crate::calls::{aggregated, arguments_over, call_typed};
 use crate::cases::case_typed;
 use crate::casts::{cast_typed, placed};
-use crate::fault::TypeFault;
 use crate::names::function_named;
 use crate::nodes::{
     arithmetic_of, binary_of, chain_typed, in_typed, literal_typed, many_typed, one_typed,
     three_typed, two_typed, unary_of,
 };
-use crate::places::Place;
-use crate::scope::{Field, Over, column_typed};
+use crate::scope::column_typed;
 use hv_ast::{Expr, Operation, When};
 use hv_base::{Boxed, List, Text};
 use hv_logic::named_type;
 use hv_typed::{Branch, Link, Many, Three, TypedExpr};
+use hv_typing::{Field, Over, Place, TypeFault};
 use std::alloc::Global;
 
 fn between_three(negated: bool) -> Three
@@ -30,7 +29,7 @@ fn between_three(negated: bool) -> Three
 }
 
 #[cycle(typing)]
-#[tactic(auto, using(crate::proofs::Equations::nodes))]
+#[tactic(auto, using(hv_typing::proofs::Equations::nodes))]
 fn typed(
     alloc: Global,
     expr: &Expr,
@@ -115,7 +114,7 @@ fn typed(
 }
 
 #[cycle(typing)]
-#[tactic(auto, unfolding(crate::specs::Typing::called))]
+#[tactic(auto, unfolding(hv_typing::specs::Typing::called))]
 fn called(
     alloc: Global,
     name: &Text,
@@ -132,7 +131,7 @@ fn called(
 }
 
 #[cycle(typing)]
-#[tactic(auto, using(crate::proofs::Equations::parts), unfolding(crate::specs::Typing::all_typed))]
+#[tactic(auto, using(hv_typing::proofs::Equations::parts), unfolding(hv_typing::specs::Typing::all_typed))]
 fn all_typed(
     alloc: Global,
     exprs: &[Expr],
@@ -149,7 +148,7 @@ fn all_typed(
 }
 
 #[cycle(typing)]
-#[tactic(auto, using(crate::proofs::Equations::parts), unfolding(crate::specs::Typing::links_typed))]
+#[tactic(auto, using(hv_typing::proofs::Equations::parts), unfolding(hv_typing::specs::Typing::links_typed))]
 fn links_typed(
     alloc: Global,
     operations: &[Operation],
@@ -170,7 +169,7 @@ fn links_typed(
 }
 
 #[cycle(typing)]
-#[tactic(auto, using(crate::proofs::Equations::parts), unfolding(crate::specs::Typing::whens_typed))]
+#[tactic(auto, using(hv_typing::proofs::Equations::parts), unfolding(hv_typing::specs::Typing::whens_typed))]
 fn whens_typed(
     alloc: Global,
     whens: &[When],
@@ -192,7 +191,7 @@ fn whens_typed(
 }
 
 #[cycle(typing)]
-#[tactic(auto, unfolding(crate::specs::Typing::optional_typed))]
+#[tactic(auto, unfolding(hv_typing::specs::Typing::optional_typed))]
 fn optional_typed(
     alloc: Global,
     expr: &Option<Boxed<Expr>>,

@@ -7,14 +7,14 @@ mod plan;
 mod show;
 mod tables;
 
-use hv_analysis::{Logic, analyse};
+use hv_analysis::analyse;
 use hv_ast::Stmt;
 use hv_base::{Boxed, NoMemory, Text};
 use hv_reading::read_text;
-use hv_types::TypeFault;
+use hv_typing::{Logic, TypeFault};
 use std::alloc::Global;
-use std::io;
 use std::io::{BufRead, BufReader};
+use std::io;
 use tables::Tables;
 
 fn tree(alloc: Global, line: &str) -> Result<Option<Boxed<Stmt>>, NoMemory> {

@@ -2,13 +2,12 @@
 
 use crate::plan::{plan, values};
 use crate::show;
-use hv_analysis::Logic;
 use hv_base::{Boxed, List, NoMemory, TableId};
-use hv_changes::{Deletes, Origin, TypedChange};
 use hv_eval::eval;
 use hv_logic::{Shape, TableInfo};
 use hv_query::{TypedFrom, TypedQuery, TypedSource};
 use hv_typed::TypedExpr;
+use hv_typing::{Deletes, Logic, Origin, TypedChange};
 use hv_value::{Row, Value};
 use std::alloc::Global;
 

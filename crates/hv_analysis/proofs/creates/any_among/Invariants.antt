@@ -1,6 +1,6 @@
 use Rattle.std.proofs.Common.{◌≡◌, drop}
 use Rattle.std.specs.List.{list_any}
-use Rattle.hv_analysis.specs.Creates.{is_among}
+use Rattle.hv_typing.specs.Creates.{is_among}
 use Rattle.hv_analysis.proofs.creates.any_among.Given as goal
 
 abbrev pub invariant-loop-column : goal.invariant-loop-column

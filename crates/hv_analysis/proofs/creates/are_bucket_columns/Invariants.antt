@@ -1,6 +1,6 @@
 use Rattle.std.proofs.Common.{◌≡◌, drop}
 use Rattle.std.specs.List.{list_all}
-use Rattle.hv_analysis.specs.Creates.{is_bucket_column}
+use Rattle.hv_typing.specs.Creates.{is_bucket_column}
 use Rattle.hv_analysis.proofs.creates.are_bucket_columns.Given as goal
 
 abbrev pub invariant-loop-name : goal.invariant-loop-name

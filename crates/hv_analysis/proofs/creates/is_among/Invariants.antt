@@ -1,5 +1,5 @@
 use Rattle.std.proofs.Common.{◌≡◌, drop}
-use Rattle.hv_analysis.specs.Creates.{is_among}
+use Rattle.hv_typing.specs.Creates.{is_among}
 use Rattle.hv_analysis.proofs.creates.is_among.Given as goal
 
 abbrev pub invariant-loop-other : goal.invariant-loop-other

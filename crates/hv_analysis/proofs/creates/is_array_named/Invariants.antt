@@ -1,5 +1,5 @@
 use Rattle.std.proofs.Common.{◌≡◌, drop}
-use Rattle.hv_analysis.specs.Creates.{is_array_named}
+use Rattle.hv_typing.specs.Creates.{is_array_named}
 use Rattle.hv_analysis.proofs.creates.is_array_named.Given as goal
 
 abbrev pub invariant-loop-column : goal.invariant-loop-column

@@ -1,5 +1,5 @@
 use Rattle.std.proofs.Common.{◌≡◌, drop}
-use Rattle.hv_analysis.specs.Creates.{repeats}
+use Rattle.hv_typing.specs.Creates.{repeats}
 use Rattle.hv_analysis.proofs.creates.repeats.Given as goal
 
 abbrev pub invariant-loop-i : goal.invariant-loop-i

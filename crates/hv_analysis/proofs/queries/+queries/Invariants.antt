@@ -1,8 +1,8 @@
 -- The depth of a source, and for the parts of one query their order.
 use Rattle.std.proofs.Common.{◌≡◌, ◌+◌, ◌*◌, drop}
-use Rattle.hv_select.specs.Sources.{all_joined}
-use Rattle.hv_select.specs.Queries.{all_united}
-use Rattle.hv_analysis.specs.Sources.{brought}
+use Rattle.hv_typing.specs.Sources.{all_joined}
+use Rattle.hv_typing.specs.Queries.{all_united}
+use Rattle.hv_typing.specs.Subqueries.{brought}
 use Rattle.hv_analysis.proofs.queries.+queries.Given as goal
 
 abbrev pub invariant-all_joined-loop-join : goal.invariant-all_joined-loop-join

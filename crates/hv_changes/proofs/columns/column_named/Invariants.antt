@@ -1,5 +1,5 @@
 use Rattle.std.proofs.Common.{◌≡◌, drop}
-use Rattle.hv_changes.specs.Targets.{column_named}
+use Rattle.hv_typing.specs.Targets.{column_named}
 use Rattle.hv_changes.proofs.columns.column_named.Given as goal
 
 abbrev pub invariant-loop-column : goal.invariant-loop-column

@@ -1,5 +1,5 @@
 use Rattle.std.proofs.Common.{◌≡◌, map, take}
-use Rattle.hv_changes.specs.Columns.{field_of}
+use Rattle.hv_typing.specs.Columns.{field_of}
 use Rattle.hv_changes.proofs.columns.fields_named.Given as goal
 
 abbrev pub invariant-loop-column : goal.invariant-loop-column

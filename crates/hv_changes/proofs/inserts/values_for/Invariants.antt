@@ -1,6 +1,6 @@
 use Rattle.std.proofs.Common.{◌≡◌, drop}
-use Rattle.hv_select.specs.Selects.{behind}
-use Rattle.hv_changes.specs.Inserts.{values_for}
+use Rattle.hv_typing.specs.Selects.{behind}
+use Rattle.hv_typing.specs.Inserts.{values_for}
 use Rattle.hv_changes.proofs.inserts.values_for.Given as goal
 
 abbrev pub invariant-loop-column : goal.invariant-loop-column

@@ -1,5 +1,5 @@
 use Rattle.std.proofs.Common.{◌≡◌, take, drop, []}
-use Rattle.hv_changes.specs.Partitions.{are_given}
+use Rattle.hv_typing.specs.Partitions.{are_given}
 use Rattle.hv_changes.proofs.partitions.are_given.Given as goal
 
 abbrev pub invariant-loop-i : goal.invariant-loop-i

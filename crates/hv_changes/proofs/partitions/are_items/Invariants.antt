@@ -1,5 +1,5 @@
 use Rattle.std.proofs.Common.{◌≡◌, drop}
-use Rattle.hv_changes.specs.Targets.{are_items}
+use Rattle.hv_typing.specs.Targets.{are_items}
 use Rattle.hv_changes.proofs.partitions.are_items.Given as goal
 
 abbrev pub invariant-loop-column : goal.invariant-loop-column

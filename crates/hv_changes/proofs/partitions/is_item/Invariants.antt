@@ -1,5 +1,5 @@
 use Rattle.std.proofs.Common.{◌≡◌, drop}
-use Rattle.hv_changes.specs.Targets.{is_item}
+use Rattle.hv_typing.specs.Targets.{is_item}
 use Rattle.hv_changes.proofs.partitions.is_item.Given as goal
 
 abbrev pub invariant-loop-item : goal.invariant-loop-item

@@ -1,6 +1,6 @@
 use Rattle.std.proofs.Common.{◌≡◌, drop}
-use Rattle.hv_select.specs.Selects.{behind}
-use Rattle.hv_changes.specs.Partitions.{items_met}
+use Rattle.hv_typing.specs.Selects.{behind}
+use Rattle.hv_typing.specs.Partitions.{items_met}
 use Rattle.hv_changes.proofs.partitions.items_met.Given as goal
 
 abbrev pub invariant-loop-item : goal.invariant-loop-item

@@ -1,5 +1,5 @@
 use Rattle.std.proofs.Common.{◌≡◌, take, drop, []}
-use Rattle.hv_changes.specs.Targets.{items_stand}
+use Rattle.hv_typing.specs.Targets.{items_stand}
 use Rattle.hv_changes.proofs.partitions.items_stand.Given as goal
 
 abbrev pub invariant-loop-i : goal.invariant-loop-i

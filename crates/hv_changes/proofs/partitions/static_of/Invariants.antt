@@ -1,5 +1,5 @@
 use Rattle.std.proofs.Common.{◌≡◌, drop}
-use Rattle.hv_changes.specs.Targets.{static_of}
+use Rattle.hv_typing.specs.Targets.{static_of}
 use Rattle.hv_changes.proofs.partitions.static_of.Given as goal
 
 abbrev pub invariant-loop-item : goal.invariant-loop-item

@@ -1,5 +1,5 @@
 use Rattle.std.proofs.Common.{◌≡◌, drop}
-use Rattle.hv_changes.specs.Inserts.{outputs_convert}
+use Rattle.hv_typing.specs.Inserts.{outputs_convert}
 use Rattle.hv_changes.proofs.queries.outputs_convert.Given as goal
 
 abbrev pub invariant-loop-output : goal.invariant-loop-output

@@ -1,6 +1,6 @@
 use Rattle.std.proofs.Common.{◌≡◌, take, drop, []}
-use Rattle.hv_select.specs.Selects.{behind}
-use Rattle.hv_changes.specs.Targets.{columns_listed}
+use Rattle.hv_typing.specs.Selects.{behind}
+use Rattle.hv_typing.specs.Targets.{columns_listed}
 use Rattle.hv_changes.proofs.targets.columns_listed.Given as goal
 
 abbrev pub invariant-loop-i : goal.invariant-loop-i

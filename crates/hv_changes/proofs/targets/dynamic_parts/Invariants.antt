@@ -1,5 +1,5 @@
 use Rattle.std.proofs.Common.{◌≡◌, ◌++◌, drop}
-use Rattle.hv_changes.specs.Targets.{dynamic_parts}
+use Rattle.hv_typing.specs.Targets.{dynamic_parts}
 use Rattle.hv_changes.proofs.targets.dynamic_parts.Given as goal
 
 abbrev pub invariant-loop-column : goal.invariant-loop-column

@@ -1,5 +1,5 @@
 use Rattle.std.proofs.Common.{◌≡◌, drop}
-use Rattle.hv_changes.specs.Targets.{is_listed}
+use Rattle.hv_typing.specs.Targets.{is_listed}
 use Rattle.hv_changes.proofs.targets.is_listed.Given as goal
 
 abbrev pub invariant-loop-other : goal.invariant-loop-other

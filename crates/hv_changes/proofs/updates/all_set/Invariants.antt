@@ -1,5 +1,5 @@
 use Rattle.std.proofs.Common.{◌≡◌, take, drop, []}
-use Rattle.hv_changes.specs.Updates.{kept, all_set}
+use Rattle.hv_typing.specs.Updates.{kept, all_set}
 use Rattle.hv_changes.proofs.updates.all_set.Given as goal
 
 abbrev pub invariant-loop-i : goal.invariant-loop-i

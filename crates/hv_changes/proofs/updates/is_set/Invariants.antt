@@ -1,5 +1,5 @@
 use Rattle.std.proofs.Common.{◌≡◌, drop}
-use Rattle.hv_changes.specs.Updates.{is_set}
+use Rattle.hv_typing.specs.Updates.{is_set}
 use Rattle.hv_changes.proofs.updates.is_set.Given as goal
 
 abbrev pub invariant-loop-other : goal.invariant-loop-other

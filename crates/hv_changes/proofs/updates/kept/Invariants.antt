@@ -1,5 +1,5 @@
 use Rattle.std.proofs.Common.{◌≡◌, ◌++◌, drop}
-use Rattle.hv_changes.specs.Updates.{kept}
+use Rattle.hv_typing.specs.Updates.{kept}
 use Rattle.hv_changes.proofs.updates.kept.Given as goal
 
 abbrev pub invariant-loop-i : goal.invariant-loop-i

@@ -3,8 +3,8 @@ use Rattle.std.proofs.lemmas.List.{map-id}
 use Rattle.std.specs.Vec.Iter.{into_iter_items, into_iter_len}
 use Rattle.std.proofs.lemmas.Iterator.Adapters.{YieldsList-from_vec}
 use Rattle.std.proofs.lemmas.Iterator.Consumers.{YieldsList-end}
-use Rattle.hv_types.specs.Nodes.{as_kind}
-use Rattle.hv_changes.specs.Inserts.{first_type, converted_row}
+use Rattle.hv_typing.specs.Nodes.{as_kind}
+use Rattle.hv_typing.specs.Inserts.{first_type, converted_row}
 use Rattle.hv_changes.proofs.Orders.{row-step, row-end}
 use Rattle.hv_changes.proofs.values.converted_row.Goals as goal
 

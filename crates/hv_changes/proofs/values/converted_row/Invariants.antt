@@ -1,6 +1,6 @@
 use Rattle.std.proofs.Common.{◌≡◌, ◌++◌, List}
 use Rattle.hv_typed.specs.declared.tree.TypedExpr.{TypedExpr}
-use Rattle.hv_changes.specs.Inserts.{converted_row}
+use Rattle.hv_typing.specs.Inserts.{converted_row}
 use Rattle.hv_changes.proofs.values.converted_row.Given as goal
 
 -- what was made, with what the rest gives, is the whole

@@ -1,5 +1,5 @@
 use Rattle.std.proofs.Common.{◌≡◌, map}
-use Rattle.hv_changes.specs.Inserts.{converted_row}
+use Rattle.hv_typing.specs.Inserts.{converted_row}
 use Rattle.hv_changes.proofs.values.converted_rows.Given as goal
 
 abbrev pub invariant-loop-row : goal.invariant-loop-row

@@ -1,5 +1,5 @@
 use Rattle.std.proofs.Common.{◌≡◌, drop}
-use Rattle.hv_changes.specs.Inserts.{converts}
+use Rattle.hv_typing.specs.Inserts.{converts}
 use Rattle.hv_changes.proofs.values.converts.Given as goal
 
 abbrev pub invariant-loop-expr : goal.invariant-loop-expr

@@ -1,6 +1,6 @@
 use Rattle.std.proofs.Common.{◌≡◌, drop}
-use Rattle.hv_changes.specs.Inserts.{rows_typed}
-use Rattle.hv_select.specs.Selects.{behind}
+use Rattle.hv_typing.specs.Inserts.{rows_typed}
+use Rattle.hv_typing.specs.Selects.{behind}
 use Rattle.hv_changes.proofs.values.rows_typed.Given as goal
 
 abbrev pub invariant-loop-row : goal.invariant-loop-row

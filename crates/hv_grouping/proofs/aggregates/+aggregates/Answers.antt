@@ -1,5 +1,5 @@
 use Rattle.std.proofs.Common.{◌≡◌, ◌||◌, sym, ap, ◌∙◌}
-use Rattle.hv_grouping.specs.Aggregates.{in_some, in_whens, has_aggregate}
+use Rattle.hv_typing.specs.Aggregates.{in_some, in_whens, has_aggregate}
 use Rattle.hv_grouping.proofs.Layers.{has-Case}
 use Rattle.hv_grouping.proofs.aggregates.+aggregates.Goals as goal
 

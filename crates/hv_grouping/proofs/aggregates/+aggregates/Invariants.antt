@@ -1,5 +1,5 @@
 use Rattle.std.proofs.Common.{◌≡◌, drop}
-use Rattle.hv_grouping.specs.Aggregates.{in_any, in_operations, in_whens, has_aggregate}
+use Rattle.hv_typing.specs.Aggregates.{in_any, in_operations, in_whens, has_aggregate}
 use Rattle.hv_grouping.proofs.aggregates.+aggregates.Given as goal
 
 abbrev pub invariant-in_any-loop-expr : goal.invariant-in_any-loop-expr

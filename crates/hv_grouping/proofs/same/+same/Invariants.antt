@@ -1,5 +1,5 @@
 use Rattle.std.proofs.Common.{◌≡◌, drop}
-use Rattle.hv_grouping.specs.Same.{all_same, links_same, branches_same, same_tree}
+use Rattle.hv_typing.specs.Same.{all_same, links_same, branches_same, same_tree}
 use Rattle.hv_grouping.proofs.same.+same.Given as goal
 
 abbrev pub invariant-all_same-loop-u : goal.invariant-all_same-loop-u

@@ -1,5 +1,5 @@
 use Rattle.std.proofs.Common.{◌≡◌, drop}
-use Rattle.hv_grouping.specs.Standing.{all_stand, links_stand, branches_stand, stands_grouped}
+use Rattle.hv_typing.specs.Standing.{all_stand, links_stand, branches_stand, stands_grouped}
 use Rattle.hv_grouping.proofs.standing.+standing.Given as goal
 
 abbrev pub invariant-all_stand-loop-expr : goal.invariant-all_stand-loop-expr

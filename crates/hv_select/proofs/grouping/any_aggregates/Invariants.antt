@@ -1,6 +1,6 @@
 use Rattle.std.proofs.Common.{◌≡◌, drop}
 use Rattle.std.specs.List.{list_any}
-use Rattle.hv_select.specs.Selects.{aggregates_in}
+use Rattle.hv_typing.specs.Selects.{aggregates_in}
 use Rattle.hv_select.proofs.grouping.any_aggregates.Given as goal
 
 abbrev pub invariant-loop-item : goal.invariant-loop-item

@@ -1,5 +1,5 @@
 use Rattle.std.proofs.Common.{◌≡◌, drop}
-use Rattle.hv_select.specs.Selects.{behind, keys_typed}
+use Rattle.hv_typing.specs.Selects.{behind, keys_typed}
 use Rattle.hv_select.proofs.grouping.keys_typed.Given as goal
 
 abbrev pub invariant-loop-key : goal.invariant-loop-key

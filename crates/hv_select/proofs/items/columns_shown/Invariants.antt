@@ -1,6 +1,6 @@
 use Rattle.std.proofs.Common.{◌≡◌, drop}
 use Rattle.std.proofs.Common.{◌++◌}
-use Rattle.hv_select.specs.Selects.{columns_shown}
+use Rattle.hv_typing.specs.Selects.{columns_shown}
 use Rattle.hv_select.proofs.items.columns_shown.Given as goal
 
 abbrev pub invariant-loop-i : goal.invariant-loop-i

@@ -1,5 +1,5 @@
 use Rattle.std.proofs.Common.{◌≡◌, map}
-use Rattle.hv_select.specs.Selects.{expr_shown}
+use Rattle.hv_typing.specs.Selects.{expr_shown}
 use Rattle.hv_select.proofs.items.exprs_shown.Given as goal
 
 abbrev pub invariant-loop-one : goal.invariant-loop-one

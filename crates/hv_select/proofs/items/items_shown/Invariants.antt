@@ -1,5 +1,5 @@
 use Rattle.std.proofs.Common.{◌≡◌, drop}
-use Rattle.hv_select.specs.Selects.{behind, items_shown}
+use Rattle.hv_typing.specs.Selects.{behind, items_shown}
 use Rattle.hv_select.proofs.items.items_shown.Given as goal
 
 abbrev pub invariant-loop-item : goal.invariant-loop-item

@@ -1,5 +1,5 @@
 use Rattle.std.proofs.Common.{◌≡◌, drop}
-use Rattle.hv_select.specs.Sources.{all_viewed}
+use Rattle.hv_typing.specs.Sources.{all_viewed}
 use Rattle.hv_select.proofs.laterals.all_viewed.Given as goal
 
 abbrev pub invariant-loop-lateral : goal.invariant-loop-lateral

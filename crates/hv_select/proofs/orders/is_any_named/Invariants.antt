@@ -1,6 +1,6 @@
 use Rattle.std.proofs.Common.{◌≡◌, drop}
 use Rattle.std.specs.List.{list_any}
-use Rattle.hv_select.specs.Queries.{is_named}
+use Rattle.hv_typing.specs.Queries.{is_named}
 use Rattle.hv_select.proofs.orders.is_any_named.Given as goal
 
 abbrev pub invariant-loop-column : goal.invariant-loop-column

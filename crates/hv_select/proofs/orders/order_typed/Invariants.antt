@@ -1,6 +1,6 @@
 use Rattle.std.proofs.Common.{◌≡◌, drop}
-use Rattle.hv_select.specs.Selects.{behind}
-use Rattle.hv_select.specs.Queries.{order_typed}
+use Rattle.hv_typing.specs.Selects.{behind}
+use Rattle.hv_typing.specs.Queries.{order_typed}
 use Rattle.hv_select.proofs.orders.order_typed.Given as goal
 
 abbrev pub invariant-loop-key : goal.invariant-loop-key

@@ -1,5 +1,5 @@
 use Rattle.std.proofs.Common.{◌≡◌, drop}
-use Rattle.hv_select.specs.Queries.{place_equal}
+use Rattle.hv_typing.specs.Queries.{place_equal}
 use Rattle.hv_select.proofs.orders.place_equal.Given as goal
 
 abbrev pub invariant-loop-i : goal.invariant-loop-i

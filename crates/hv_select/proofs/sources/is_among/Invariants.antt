@@ -1,6 +1,6 @@
 use Rattle.std.proofs.Common.{◌≡◌, drop}
 use Rattle.std.specs.List.{list_any}
-use Rattle.hv_types.specs.Scopes.{same_name}
+use Rattle.hv_typing.specs.Scopes.{same_name}
 use Rattle.hv_select.proofs.sources.is_among.Given as goal
 
 abbrev pub invariant-loop-other : goal.invariant-loop-other

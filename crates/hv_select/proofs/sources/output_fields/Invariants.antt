@@ -1,6 +1,6 @@
 use Rattle.std.proofs.Common.{◌≡◌, map}
 use Rattle.std.proofs.Common.{take}
-use Rattle.hv_select.specs.Sources.{output_field}
+use Rattle.hv_typing.specs.Sources.{output_field}
 use Rattle.hv_select.proofs.sources.output_fields.Given as goal
 
 abbrev pub invariant-loop-column : goal.invariant-loop-column

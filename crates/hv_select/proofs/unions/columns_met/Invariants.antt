@@ -1,6 +1,6 @@
 use Rattle.std.proofs.Common.{◌≡◌, drop}
-use Rattle.hv_select.specs.Selects.{behind}
-use Rattle.hv_select.specs.Queries.{columns_met}
+use Rattle.hv_typing.specs.Selects.{behind}
+use Rattle.hv_typing.specs.Queries.{columns_met}
 use Rattle.hv_select.proofs.unions.columns_met.Given as goal
 
 abbrev pub invariant-loop-column : goal.invariant-loop-column

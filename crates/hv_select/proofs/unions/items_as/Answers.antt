@@ -3,8 +3,8 @@ use Rattle.std.proofs.lemmas.List.{map-id}
 use Rattle.std.specs.Vec.Iter.{into_iter_items, into_iter_len}
 use Rattle.std.proofs.lemmas.Iterator.Adapters.{YieldsList-from_vec}
 use Rattle.std.proofs.lemmas.Iterator.Consumers.{YieldsList-end}
-use Rattle.hv_types.specs.Nodes.{as_kind}
-use Rattle.hv_select.specs.Queries.{first_kind, behind_first, items_as}
+use Rattle.hv_typing.specs.Nodes.{as_kind}
+use Rattle.hv_typing.specs.Queries.{first_kind, behind_first, items_as}
 use Rattle.hv_select.proofs.Behind.{items-step, items-end}
 use Rattle.hv_select.proofs.unions.items_as.Goals as goal
 

@@ -9,8 +9,8 @@ use Rattle.hv_grammar.specs.QueryReading as q
 use Rattle.hv_grammar.specs.StatementReading as s
 use Rattle.hv_grammar.specs.Settings.{behind_set, setting_in}
 use Rattle.hv_grammar.specs.Texts.{tree_of}
-use Rattle.hv_analysis.specs.Analysis.{is_form, form_analysed, analysed}
-use Rattle.hv_analysis.specs.Creates.{created}
+use Rattle.hv_typing.specs.Analysis.{is_form, form_analysed, analysed}
+use Rattle.hv_typing.specs.Creates.{created}
 use Rattle.hv_history.specs.State.{acted, meaning_in}
 use Rattle.hv_meaning.specs.Meaning as m
 use Rattle.hv_next.specs.Next.{next_of, carried_on}

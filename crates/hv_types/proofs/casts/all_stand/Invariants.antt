@@ -1,6 +1,6 @@
 use Rattle.std.proofs.Common.{◌≡◌, drop}
 use Rattle.std.specs.List.{list_all}
-use Rattle.hv_types.specs.Nodes.{stands}
+use Rattle.hv_typing.specs.Nodes.{stands}
 use Rattle.hv_types.proofs.casts.all_stand.Given as goal
 
 abbrev pub invariant-loop-expr : goal.invariant-loop-expr

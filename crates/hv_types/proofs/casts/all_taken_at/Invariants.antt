@@ -1,5 +1,5 @@
 use Rattle.std.proofs.Common.{◌≡◌, map}
-use Rattle.hv_types.specs.Nodes.{taken_at}
+use Rattle.hv_typing.specs.Nodes.{taken_at}
 use Rattle.hv_types.proofs.casts.all_taken_at.Given as goal
 
 abbrev pub invariant-loop-expr : goal.invariant-loop-expr

@@ -1,5 +1,5 @@
 use Rattle.std.proofs.Common.{◌≡◌, drop}
-use Rattle.hv_types.specs.Nodes.{one_kind}
+use Rattle.hv_typing.specs.Nodes.{one_kind}
 use Rattle.hv_types.proofs.casts.one_kind.Given as goal
 
 abbrev pub invariant-loop-expr : goal.invariant-loop-expr

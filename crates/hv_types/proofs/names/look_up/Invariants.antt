@@ -1,5 +1,5 @@
 use Rattle.std.proofs.Common.{◌≡◌, length, map}
-use Rattle.hv_types.specs.Calls.{look_up}
+use Rattle.hv_typing.specs.Calls.{look_up}
 use Rattle.hv_types.proofs.names.look_up.Given as goal
 
 abbrev pub invariant-loop-rest : goal.invariant-loop-rest

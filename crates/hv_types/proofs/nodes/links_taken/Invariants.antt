@@ -1,5 +1,5 @@
 use Rattle.std.proofs.Common.{◌≡◌, map}
-use Rattle.hv_types.specs.Nodes.{link_taken}
+use Rattle.hv_typing.specs.Nodes.{link_taken}
 use Rattle.hv_types.proofs.nodes.links_taken.Given as goal
 
 abbrev pub invariant-loop-link : goal.invariant-loop-link

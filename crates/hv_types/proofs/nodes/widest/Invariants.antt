@@ -1,5 +1,5 @@
 use Rattle.std.proofs.Common.{◌≡◌, drop}
-use Rattle.hv_types.specs.Nodes.{widest}
+use Rattle.hv_typing.specs.Nodes.{widest}
 use Rattle.hv_types.proofs.nodes.widest.Given as goal
 
 abbrev pub invariant-loop-link : goal.invariant-loop-link

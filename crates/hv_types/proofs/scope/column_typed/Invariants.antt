@@ -1,5 +1,5 @@
 use Rattle.std.proofs.Common.{◌≡◌, drop}
-use Rattle.hv_types.specs.Scopes.{column_typed}
+use Rattle.hv_typing.specs.Scopes.{column_typed}
 use Rattle.hv_types.proofs.scope.column_typed.Given as goal
 
 abbrev pub invariant-loop-i : goal.invariant-loop-i

@@ -1,5 +1,5 @@
 use Rattle.std.proofs.Common.{◌≡◌, drop}
-use Rattle.hv_types.specs.Scopes.{is_any_meant}
+use Rattle.hv_typing.specs.Scopes.{is_any_meant}
 use Rattle.hv_types.proofs.scope.is_any_meant.Given as goal
 
 abbrev pub invariant-loop-field : goal.invariant-loop-field

@@ -1,7 +1,7 @@
 use Rattle.std.proofs.Common.{rules, ◌≡◌, Ok, Err, refl, sym, ap, subst, ◌∙◌}
-use Rattle.hv_types.specs.Faults.{Types, Refuses}
-use Rattle.hv_types.specs.Typing.{typed, optional_typed, whens_typed}
-use Rattle.hv_types.proofs.Equations.{case-whens, case-otherwise, case-whole, fails-on}
+use Rattle.hv_typing.specs.Faults.{Types, Refuses}
+use Rattle.hv_typing.specs.Typing.{typed, optional_typed, whens_typed}
+use Rattle.hv_typing.proofs.Equations.{case-whens, case-otherwise, case-whole, fails-on}
 use Rattle.hv_types.proofs.walk.+typing.Goals as goal
 
 pub typed-returns-in_err-branches-in-Case : goal.typed-returns-in_err-branches-in-Case

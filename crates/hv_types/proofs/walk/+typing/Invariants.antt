@@ -1,6 +1,6 @@
 use Rattle.std.proofs.Common.{◌≡◌, drop}
-use Rattle.hv_types.specs.Typing.{all_typed, links_typed, whens_typed, typed}
-use Rattle.hv_types.proofs.Equations.{behind}
+use Rattle.hv_typing.specs.Typing.{all_typed, links_typed, whens_typed, typed}
+use Rattle.hv_typing.proofs.Equations.{behind}
 use Rattle.hv_types.proofs.walk.+typing.Given as goal
 
 abbrev pub invariant-all_typed-loop-expr : goal.invariant-all_typed-loop-expr

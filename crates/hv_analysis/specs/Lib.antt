@@ -1,4 +1,0 @@
-pub mod Creates
-pub mod Sources
-pub mod Changes
-pub mod Analysis

@@ -1,4 +1,0 @@
-pub mod Aggregates
-pub mod Numbers
-pub mod Same
-pub mod Standing

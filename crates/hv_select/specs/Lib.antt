@@ -1,3 +1,0 @@
-pub mod Sources
-pub mod Selects
-pub mod Queries
