@@ -29,12 +29,12 @@ use Rattle.hv_choosing.specs.Taken.{files_taken}
 use Rattle.hv_choosing.specs.Laws.{IsOwnDir, IsOwnFile, TakesOwn}
 use Rattle.hv_choosing.proofs.Listed.{listed-named, listed-place, place-listed}
 use Rattle.hv_choosing.proofs.OwnChoice.{own-taken}
-use Rattle.hv_tables.specs.Laws.{StoodAt}
-use Rattle.hv_tables.proofs.Members.{In, all-in, in-all}
-use Rattle.hv_tables.proofs.OwnDirs.{own-named}
-use Rattle.hv_tables.proofs.TakenFiles.{place-there, there-place}
-use Rattle.hv_tables.proofs.Shown.{Shows, taken-file}
-use Rattle.hv_tables.proofs.StoredRows.{shows}
+use Rattle.hv_table_rows.specs.Laws.{StoodAt}
+use Rattle.hv_table_rows.proofs.Members.{In, all-in, in-all}
+use Rattle.hv_table_rows.proofs.OwnDirs.{own-named}
+use Rattle.hv_table_rows.proofs.TakenFiles.{place-there, there-place}
+use Rattle.hv_table_rows.proofs.Shown.{Shows, taken-file}
+use Rattle.hv_table_rows.proofs.StoredRows.{shows}
 use Rattle.hv_trail.specs.declared.trail.TrailItem.{TrailItem}
 use Rattle.hv_trail.specs.Trail.{book_of, state_at}
 use Rattle.hv_trail.specs.Steps.{HouseSeen}

@@ -6,7 +6,7 @@ use Rattle.hv_shelf.specs.Disk.{Store}
 use Rattle.hv_route.specs.declared.files.OutFile.{OutFile}
 use Rattle.hv_history.specs.Legal.{Of, IsRunning}
 use Rattle.hv_stands.specs.Files.{place_of_file}
-use Rattle.hv_tables.specs.Putting.{IsEncoded, bytes_of}
+use Rattle.hv_table_rows.specs.Putting.{IsEncoded, bytes_of}
 use Rattle.hv_trail.specs.declared.trail.Reader.TheVariants.{Txn}
 use Rattle.hv_trail.specs.declared.trail.TrailItem.{TrailItem}
 use Rattle.hv_trail.specs.declared.trail.TrailItem.TheVariants.{Marked}

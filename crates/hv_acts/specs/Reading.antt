@@ -15,7 +15,7 @@ use Rattle.hv_history.specs.Lasting.{IsFront}
 use Rattle.hv_stands.specs.Files.{Stands, made_at}
 use Rattle.hv_stands.specs.Reading.{table_of_name}
 use Rattle.hv_stands.specs.Statements.{AllFitting}
-use Rattle.hv_visible.specs.Members.{IsIn}
+use Rattle.hv_law_visible.specs.Members.{IsIn}
 use Rattle.hv_choosing.specs.declared.listing.DirFile.{DirFile}
 use Rattle.hv_trail.specs.declared.trail.Reader.TheVariants.{Txn}
 use Rattle.hv_trail.specs.declared.trail.TrailItem.{TrailItem}

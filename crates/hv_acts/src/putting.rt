@@ -1,4 +1,4 @@
-ghost use Rattle.hv_tables.specs.Putting.{CanPut};
+ghost use Rattle.hv_table_rows.specs.Putting.{CanPut};
 ghost use Rattle.hv_trail.specs.Kept.{trail_of};
 ghost use Rattle.hv_telling.specs.Telling.{IsToldHouse, IsWhole};
 ghost use Rattle.hv_acts.specs.Meant.{IsFileMeant};
@@ -47,7 +47,7 @@ fn put_running<D: Shelf>(
 
 impl<'a, D: Shelf + Drop> Act<D, ToldHouse<D>> for PutFile<'a> {
     ghost use Rattle.std.specs.Prelude.{IfErr};
-    ghost use Rattle.hv_tables.specs.Putting.{CanPut, IsEncoded, bytes_of};
+    ghost use Rattle.hv_table_rows.specs.Putting.{CanPut, IsEncoded, bytes_of};
     ghost use Rattle.hv_trail.specs.declared.trail.Reader.TheVariants.{Txn};
     ghost use Rattle.hv_trail.specs.Steps.{Put};
     ghost use Rattle.hv_acts.specs.Answers.{answer_call, answer_outcome, NoTest, Answers, AnswerLeaves, WhyRises};

@@ -10,3 +10,4 @@ pub mod PastLaws
 pub mod NameLaws
 pub mod LoadLaws
 pub mod OpenedLaws
+pub mod JobLaws

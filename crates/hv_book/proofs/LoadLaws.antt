@@ -7,7 +7,7 @@ use Rattle.hv_history.specs.declared.state.Transaction.{Transaction}
 use Rattle.hv_history.specs.declared.state.Ending.{Ending}
 use Rattle.hv_history.specs.State.{Job}
 use Rattle.hv_history.specs.Legal.{open_one, one_if, is_working, working_one}
-use Rattle.hv_jobs.specs.Jobs.{is_working_note, working_note}
+use Rattle.hv_book.specs.Jobs.{is_working_note, working_note}
 use Rattle.hv_book.specs.Briefs.{brief, brief_job, end_of, open_from, open_next}
 
 pub open-count : (m : ℕ) (ts : List Transaction) → length (open_from m (map brief ts)) ≡ sum_by open_one ts

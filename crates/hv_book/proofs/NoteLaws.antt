@@ -8,8 +8,8 @@ use Rattle.hv_book.specs.declared.notes.End.{End}
 use Rattle.hv_history.specs.declared.entry.Entry.{Entry}
 use Rattle.hv_history.specs.declared.entry.Entry.TheVariants as entry
 use Rattle.hv_book.specs.declared.notes.TransactionNote.{TransactionNote}
-use Rattle.hv_jobs.specs.declared.jobs.Step.TheVariants as step
-use Rattle.hv_jobs.specs.Jobs.{stepped}
+use Rattle.hv_book.specs.declared.jobs.Step.TheVariants as step
+use Rattle.hv_book.specs.Jobs.{stepped}
 use Rattle.hv_history.specs.declared.state.Transaction.{Transaction}
 use Rattle.hv_history.specs.declared.state.Table.{Table}
 use Rattle.hv_history.specs.declared.state.Snapshot.{Snapshot}

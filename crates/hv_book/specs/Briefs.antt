@@ -4,7 +4,7 @@ use Rattle.std.specs.Option.{option_map}
 use Rattle.hv_book.specs.declared.notes.End.{End}
 use Rattle.hv_book.specs.declared.notes.TransactionNote.{TransactionNote}
 use Rattle.hv_book.specs.declared.notes.TableNote.{TableNote}
-use Rattle.hv_jobs.specs.declared.jobs.JobNote.{JobNote}
+use Rattle.hv_book.specs.declared.jobs.JobNote.{JobNote}
 use Rattle.hv_book.specs.declared.notes.Held.{Held}
 use Rattle.hv_history.specs.declared.state.Transaction.{Transaction}
 use Rattle.hv_history.specs.declared.state.Table.{Table}

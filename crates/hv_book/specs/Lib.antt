@@ -5,3 +5,4 @@ pub mod Commits
 pub mod Past
 pub mod Names
 pub mod Opened
+pub mod Jobs

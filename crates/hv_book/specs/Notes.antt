@@ -6,10 +6,10 @@ use Rattle.hv_history.specs.declared.entry.Entry.TheVariants as entry
 use Rattle.hv_book.specs.declared.notes.End.{End}
 use Rattle.hv_book.specs.declared.notes.TransactionNote.{TransactionNote}
 use Rattle.hv_book.specs.declared.notes.TableNote.{TableNote}
-use Rattle.hv_jobs.specs.declared.jobs.JobNote.{JobNote}
+use Rattle.hv_book.specs.declared.jobs.JobNote.{JobNote}
 use Rattle.hv_book.specs.declared.notes.Held.{Held}
-use Rattle.hv_jobs.specs.declared.jobs.Step.TheVariants as step
-use Rattle.hv_jobs.specs.Jobs.{new_job, stepped}
+use Rattle.hv_book.specs.declared.jobs.Step.TheVariants as step
+use Rattle.hv_book.specs.Jobs.{new_job, stepped}
 use Rattle.hv_history.specs.State.{numbered, changed, first_of}
 
 -- `opened` has the place of each transaction's Opened, `ongoing` the numbers of those that have not ended, `texts` for each

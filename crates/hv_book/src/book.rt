@@ -6,7 +6,7 @@ use crate::past::PastNotes;
 use hv_ast::Stmt;
 use hv_base::{List, NoMemory, Text, Touch};
 use hv_history::{Entry, numbered};
-use hv_jobs::JobNote;
+use crate::jobs::JobNote;
 use std::alloc::Global;
 use std::marker::Model;
 

@@ -6,7 +6,7 @@ use crate::notes::{
 };
 use hv_base::NoMemory;
 use hv_history::{Entry, numbered};
-use hv_jobs::{Jobs, Step};
+use crate::jobs::{Jobs, Step};
 use std::alloc::Global;
 
 /// What a book keeps beside its entries. `room` more entries can be noted without asking for memory.

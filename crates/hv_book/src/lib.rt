@@ -3,12 +3,14 @@
 
 mod book;
 mod index;
+mod jobs;
 mod names;
 mod notes;
 mod openings;
 mod past;
 
 pub use book::Book;
+pub use jobs::{JobNote, Jobs, Step};
 pub use notes::{End, Held, TableNote, TransactionNote};
 pub use openings::OpeningNotes;
 pub use past::{ForgotNote, PastNotes, SpanNote};

@@ -13,7 +13,7 @@ use Rattle.hv_value.specs.declared.value.Value.TheViews.{out-Value}
 use Rattle.hv_value.specs.Conversion.{is_layer_in}
 use Rattle.hv_value.specs.Order.{scalar_cmp, layer_cmp, value_cmp}
 use Rattle.hv_value.specs.OrderLaws.{value_cmp-out}
-use Rattle.hv_typed.specs.Values.{holds, layers_compare, layer_is_nothing, compare}
+use Rattle.hv_expr.specs.Values.{holds, layers_compare, layer_is_nothing, compare}
 use Rattle.hv_changes.specs.Laws.{is_flat, PartsMeetAlike}
 
 abbrev layers_meet : Value-F Value → Value-F Value → Bool

@@ -6,7 +6,7 @@ use Rattle.hv_value.specs.declared.sql_type.SqlType.TheVariants as type
 use Rattle.hv_value.specs.declared.value.Value.{Value}
 use Rattle.hv_value.specs.Conversion.{is_of}
 use Rattle.hv_value.specs.Order.{value_cmp}
-use Rattle.hv_typed.specs.Values.{null_safe_equal}
+use Rattle.hv_expr.specs.Values.{null_safe_equal}
 
 -- the types of partition columns
 abbrev pub is_flat : SqlType → Bool

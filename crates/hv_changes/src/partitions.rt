@@ -10,7 +10,7 @@ use crate::values::if_converts;
 use hv_ast::{Expr, PartitionItem};
 use hv_base::{Boxed, List, NoMemory, Refusal, Text};
 use hv_logic::Column;
-use hv_typed::{Many, Two, TypedExpr};
+use hv_expr::{Many, Two, TypedExpr};
 use hv_types::type_expr;
 use hv_typing::{Over, TypeFault};
 use hv_value::SqlType;

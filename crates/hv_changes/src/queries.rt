@@ -5,7 +5,7 @@ ghost use Rattle.hv_typing.specs.Inserts.{output_kind, outputs_convert};
 
 use hv_base::NoMemory;
 use hv_logic::Column;
-use hv_query::OutputColumn;
+use hv_typing::OutputColumn;
 use hv_value::{SqlType, is_convertible};
 use std::alloc::Global;
 

@@ -12,7 +12,7 @@ use crate::values::if_converts;
 use hv_ast::{Assignment, Delete, Expr, PartitionItem, Truncate, Update};
 use hv_base::{Boxed, List, NoMemory, Refusal, Text};
 use hv_logic::{Column, Shape};
-use hv_typed::TypedExpr;
+use hv_expr::TypedExpr;
 use hv_types::{condition_of, type_expr};
 use hv_typing::{Deletes, Field, Origin, Over, TypeFault, TypedChange};
 use hv_value::SqlType;

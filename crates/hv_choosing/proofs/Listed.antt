@@ -3,7 +3,7 @@ use Rattle.std.proofs.Common.{◌≡◌, ℕ, inl, inr, Option, Some, None, List
 use Rattle.std.specs.List.{cons_option, AllByRecursion}
 use Rattle.hv_shelf.specs.declared.place.Place.{Place}
 use Rattle.hv_dirs.proofs.NameLemmas.{text-same}
-use Rattle.hv_visible.specs.Members.{IsIn}
+use Rattle.hv_law_visible.specs.Members.{IsIn}
 use Rattle.hv_choosing.specs.declared.dir.Dir.{Dir}
 use Rattle.hv_choosing.specs.declared.listing.DirFile.{DirFile}
 use Rattle.hv_choosing.specs.Dirs.{name_of, dir_named, IsAt}

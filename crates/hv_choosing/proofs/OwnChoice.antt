@@ -11,11 +11,11 @@ use Rattle.hv_dirs.specs.Names.{IsName, text_of}
 use Rattle.hv_dirs.specs.Choice.{Sight, sight_of, Delta, Own, Wide, low_of, high_of, is_own, base_of, taken_from, chosen_above, base_named, delta_named, bases_in, deltas_in, delta_cmp}
 use Rattle.hv_dirs.specs.Sorting.{sorted_by}
 use Rattle.hv_dirs.proofs.NameLemmas.{text-same}
-use Rattle.hv_visible.specs.Members.{IsIn}
-use Rattle.hv_visible.proofs.MemberLemmas.{in-flat, from-flat, in-filter, from-filter, in-map, from-map, any-in, in-any}
-use Rattle.hv_visible.proofs.SortingLemmas.{from-sorted, to-sorted}
-use Rattle.hv_visible.proofs.TakenLemmas.{all-in, covers, Covers, is-taken}
-use Rattle.hv_visible.proofs.OrderLemmas.{ordered-sorted}
+use Rattle.hv_law_visible.specs.Members.{IsIn}
+use Rattle.hv_law_visible.proofs.MemberLemmas.{in-flat, from-flat, in-filter, from-filter, in-map, from-map, any-in, in-any}
+use Rattle.hv_law_visible.proofs.SortingLemmas.{from-sorted, to-sorted}
+use Rattle.hv_law_visible.proofs.TakenLemmas.{all-in, covers, Covers, is-taken}
+use Rattle.hv_law_visible.proofs.OrderLemmas.{ordered-sorted}
 use Rattle.hv_choosing.specs.declared.dir.Dir.{Dir}
 use Rattle.hv_choosing.specs.declared.dir.Dir.TheVariants as dir
 use Rattle.hv_choosing.specs.declared.listing.DirFile.{DirFile}
@@ -136,7 +136,7 @@ module _ (deletes : Bool) (list : WriteIds) (run : List DirFile) (named : AllByR
   chosen-valid d h valid =
       let is = delta-own deletes run named own d h in
       let sorted = sorted_by delta_cmp Deltas in
-      let single_id : low_of d ≡ high_of d = Rattle.hv_visible.proofs.TakenLemmas.own-single d is.own in
+      let single_id : low_of d ≡ high_of d = Rattle.hv_law_visible.proofs.TakenLemmas.own-single d is.own in
       let first = is.first in
       let found = covers (sight_of list) 0 false d sorted (ordered-sorted Deltas) (to-sorted delta_cmp d Deltas h) (omega (arith, single_id)) (omega (arith, single_id, first)) (some-own list d is.own ∙ valid) in
       let there = is-taken (sight_of list) 0 0 false found.0 sorted (omega arith) (λ e. absurd (true≢false (sym e))) found.1 in

@@ -3,8 +3,8 @@ use Rattle.std.proofs.Common.{◌≡◌, ℕ, zero, suc, ◌+◌, ◌≤◌, ◌
 use Rattle.std.specs.List.{prefix_len, AllByRecursion}
 use Rattle.std.proofs.lemmas.List.{take-append-drop}
 use Rattle.std.proofs.lemmas.Slice.Eq.{bytes_eq-Decides}
-use Rattle.hv_visible.specs.Members.{IsIn}
-use Rattle.hv_visible.proofs.MemberLemmas.{in-left, in-right, in-either}
+use Rattle.hv_law_visible.specs.Members.{IsIn}
+use Rattle.hv_law_visible.proofs.MemberLemmas.{in-left, in-right, in-either}
 use Rattle.hv_choosing.specs.declared.listing.DirFile.{DirFile}
 use Rattle.hv_choosing.specs.Taken.{is_beside, run_length, runs}
 

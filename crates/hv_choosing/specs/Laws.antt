@@ -2,7 +2,7 @@
 use Rattle.std.specs.Prelude.{◌≡◌, Bool, true, List}
 use Rattle.std.specs.List.{AllByRecursion}
 use Rattle.hv_wids.specs.WriteIds.{WriteIds, is_valid}
-use Rattle.hv_visible.specs.Members.{IsIn}
+use Rattle.hv_law_visible.specs.Members.{IsIn}
 use Rattle.hv_choosing.specs.declared.dir.Dir.{Dir}
 use Rattle.hv_choosing.specs.declared.dir.Dir.TheVariants.{Base, Own, Wide}
 use Rattle.hv_choosing.specs.declared.listing.DirFile.{DirFile}

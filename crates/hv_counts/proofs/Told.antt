@@ -15,8 +15,8 @@ use Rattle.hv_choosing.specs.declared.listing.DirFile.{DirFile}
 use Rattle.hv_rowfile.specs.Layout.{file_spelling}
 use Rattle.hv_book.specs.Past.{total, only_if}
 use Rattle.hv_stands.specs.Files.{own_place}
-use Rattle.hv_tables.specs.Reading.{Sheet, sheet_file}
-use Rattle.hv_tables.specs.Damage.{no_offset}
+use Rattle.hv_table_rows.specs.Reading.{Sheet, sheet_file}
+use Rattle.hv_table_rows.specs.Damage.{no_offset}
 use Rattle.hv_counts.specs.declared.due.Due.{Due}
 use Rattle.hv_counts.specs.declared.counted.Counted.{Counted}
 use Rattle.hv_counts.specs.declared.tally.Tally.{Tally}

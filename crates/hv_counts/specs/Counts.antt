@@ -12,7 +12,7 @@ use Rattle.hv_choosing.specs.declared.dir.Dir.{Dir}
 use Rattle.hv_choosing.specs.declared.dir.Dir.TheVariants.{Base, Own, Wide}
 use Rattle.hv_choosing.specs.declared.listing.DirFile.{DirFile}
 use Rattle.hv_choosing.specs.Laws.{IsOwnFile}
-use Rattle.hv_tables.specs.Reading.{Sheet}
+use Rattle.hv_table_rows.specs.Reading.{Sheet}
 use Rattle.hv_counts.specs.declared.due.Due.{Due}
 
 -- ---- what commits say

@@ -10,8 +10,8 @@ use Rattle.hv_history.specs.declared.entry.FilePlace.{FilePlace}
 use Rattle.hv_choosing.specs.declared.listing.DirFile.{DirFile}
 use Rattle.hv_choosing.specs.Listing.{AreListed}
 use Rattle.hv_choosing.specs.Taken.{files_taken}
-use Rattle.hv_tables.specs.Reading.{Sheet, sheet_file, IsSheet}
-use Rattle.hv_tables.specs.Damage.{told_place}
+use Rattle.hv_table_rows.specs.Reading.{Sheet, sheet_file, IsSheet}
+use Rattle.hv_table_rows.specs.Damage.{told_place}
 use Rattle.hv_counts.specs.declared.due.Due.{Due}
 use Rattle.hv_counts.specs.Counts.{IsCounted, AreOwn}
 use Rattle.hv_counts.specs.Miscounts.{IsMiscounted}

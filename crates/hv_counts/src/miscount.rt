@@ -2,8 +2,8 @@ ghost use Rattle.std.specs.Prelude.{◌≡◌, ℕ, ◌+◌, ◌≤◌, ◌<◌,
 ghost use Rattle.std.specs.List.{list_all};
 ghost use Rattle.hv_dirs.specs.Names.{write_end};
 ghost use Rattle.hv_stands.specs.Files.{own_place};
-ghost use Rattle.hv_tables.specs.Reading.{Sheet};
-ghost use Rattle.hv_tables.specs.Damage.{no_offset};
+ghost use Rattle.hv_table_rows.specs.Reading.{Sheet};
+ghost use Rattle.hv_table_rows.specs.Damage.{no_offset};
 ghost use Rattle.hv_counts.specs.Counts.{AreOwn, IsCounted};
 ghost use Rattle.hv_counts.specs.Miscounts.{is_own, is_own_file, AreCounted, IsFileAt, IsMiscounted};
 

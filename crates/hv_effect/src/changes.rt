@@ -1,7 +1,7 @@
 //! What a change of a table comes to.
 
 ghost use Rattle.std.specs.Prelude.{◌≡◌, IfOk, slice_get};
-ghost use Rattle.hv_query.specs.Rows.{rows_of};
+ghost use Rattle.hv_typing.specs.Rows.{rows_of};
 ghost use Rattle.hv_meaning.specs.Meaning.{tables_of, inserts_of, change_effect, within_limits, or_none, changed_in};
 ghost use Rattle.hv_effect.specs.Tables.{found_of};
 
@@ -11,7 +11,7 @@ use hv_base::{Duplicate, List, NoMemory};
 use hv_changes::columns_of;
 use hv_exec::run;
 use hv_logic::{Effect, Found, Meaning, Shape, TableInfo, TableRows};
-use hv_query::TypedQuery;
+use hv_typing::TypedQuery;
 use hv_route::{RouteFault, touches};
 use hv_typing::{Origin, TypedChange};
 use hv_value::Row;

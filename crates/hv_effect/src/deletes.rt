@@ -7,7 +7,7 @@ use hv_base::{Boxed, Duplicate, NoMemory};
 use hv_eval::Frame;
 use hv_joins::is_met;
 use hv_logic::Found;
-use hv_typed::TypedExpr;
+use hv_expr::TypedExpr;
 use hv_typing::Deletes;
 use hv_value::{Row, Value};
 use std::alloc::Global;

@@ -1,13 +1,13 @@
 //! New rows, made of a change's values.
 
 ghost use Rattle.std.specs.Prelude.{◌≡◌, IfOk, [], drop, map};
-ghost use Rattle.hv_typed.specs.Evaluation.{values_of};
+ghost use Rattle.hv_expr.specs.Evaluation.{values_of};
 ghost use Rattle.hv_meaning.specs.Meaning.{values_alone, frame_of, found_frame, first_value, stored_values, stored_row};
 
 use hv_base::{List, NoMemory};
 use hv_eval::eval;
 use hv_logic::{Column, Found};
-use hv_typed::TypedExpr;
+use hv_expr::TypedExpr;
 use hv_value::{Row, Value, convert};
 use std::alloc::Global;
 

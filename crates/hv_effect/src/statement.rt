@@ -9,7 +9,7 @@ use hv_analysis::analyse;
 use hv_ast::Stmt;
 use hv_base::{Duplicate, List, NoMemory, Refusal, Text};
 use hv_logic::{Meaning, Seen, TableInfo, TableRows};
-use hv_query::{OutputColumn, TypedQuery};
+use hv_typing::{OutputColumn, TypedQuery};
 use hv_typing::{Logic, TypeFault};
 use std::alloc::Global;
 

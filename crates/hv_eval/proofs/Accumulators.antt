@@ -17,10 +17,10 @@ use Rattle.hv_value.specs.declared.value.Value.TheViews.{out-Value, out-roll-Val
 use Rattle.hv_value.specs.Conversion.{some_big}
 use Rattle.hv_value.specs.Order.{scalar_cmp, layer_cmp, value_cmp, items_of}
 use Rattle.hv_value.specs.OrderLaws.{value_cmp-out, value_cmp_total}
-use Rattle.hv_typed.specs.declared.function.Aggregate.{Aggregate}
-use Rattle.hv_typed.specs.declared.function.Aggregate.TheVariants as aggregate
-use Rattle.hv_typed.specs.Values.{is_null, number_of, layer_number, or_null, layer_is_nothing}
-use Rattle.hv_typed.specs.Groups.{those, known, plus, sum_of, sum_value, first_of, last_of, least, greatest, comparable, over_values}
+use Rattle.hv_expr.specs.declared.function.Aggregate.{Aggregate}
+use Rattle.hv_expr.specs.declared.function.Aggregate.TheVariants as aggregate
+use Rattle.hv_expr.specs.Values.{is_null, number_of, layer_number, or_null, layer_is_nothing}
+use Rattle.hv_expr.specs.Groups.{those, known, plus, sum_of, sum_value, first_of, last_of, least, greatest, comparable, over_values}
 use Rattle.hv_seen.specs.declared.seen.Seen.{Seen}
 use Rattle.hv_seen.specs.Seen.{seen_layer, seen_value}
 use Rattle.hv_eval.specs.Accumulating.{merged, single, Splits}

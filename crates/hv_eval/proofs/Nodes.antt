@@ -1,14 +1,14 @@
 -- The value of each kind of expression, as the walks find it.
 use Rattle.std.proofs.Common.{◌≡◌, Bool, List, Option}
-use Rattle.hv_typed.specs.declared.function.Many.{Many}
-use Rattle.hv_typed.specs.Functions.{many_value, in_value}
+use Rattle.hv_expr.specs.declared.function.Many.{Many}
+use Rattle.hv_expr.specs.Functions.{many_value, in_value}
 use Rattle.hv_value.specs.declared.sql_type.SqlType.{SqlType}
-use Rattle.hv_typed.specs.declared.tree.Branch.{Branch}
-use Rattle.hv_typed.specs.declared.tree.Link.{Link}
-use Rattle.hv_typed.specs.declared.tree.TypedExpr.{TypedExpr}
-use Rattle.hv_typed.specs.declared.tree.TypedExpr.TheVariants as tree
-use Rattle.hv_typed.specs.Evaluation.{value_in}
-use Rattle.hv_typed.proofs.Equations.{value_in-Column, value_in-Literal, value_in-One, value_in-Two, value_in-Three, value_in-Many, value_in-In, value_in-Chain, value_in-Case, value_in-CountRows, value_in-Aggregate}
+use Rattle.hv_expr.specs.declared.tree.Branch.{Branch}
+use Rattle.hv_expr.specs.declared.tree.Link.{Link}
+use Rattle.hv_expr.specs.declared.tree.TypedExpr.{TypedExpr}
+use Rattle.hv_expr.specs.declared.tree.TypedExpr.TheVariants as tree
+use Rattle.hv_expr.specs.Evaluation.{value_in}
+use Rattle.hv_expr.proofs.Equations.{value_in-Column, value_in-Literal, value_in-One, value_in-Two, value_in-Three, value_in-Many, value_in-In, value_in-Chain, value_in-Case, value_in-CountRows, value_in-Aggregate}
 use Rattle.hv_eval.specs.declared.frame.Scope.{Scope}
 use Rattle.hv_eval.specs.Frames.{value_at, values_at, row_of, group_of}
 use Rattle.hv_eval.specs.Walks.{chain_value, chosen_value, optional_value, settled_value}

@@ -8,7 +8,7 @@ use Rattle.indexmap.specs.IndexSet.{insert_key}
 use Rattle.hv_value.specs.declared.value.Value.{Value}
 use Rattle.hv_value.specs.Order.{value_cmp}
 use Rattle.hv_value.specs.OrderLaws.{value_cmp_total}
-use Rattle.hv_typed.specs.Groups.{those, once_each}
+use Rattle.hv_expr.specs.Groups.{those, once_each}
 
 abbrev same : Value → Value → Bool
 same = eq_by_cmp value_cmp

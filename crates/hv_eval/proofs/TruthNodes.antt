@@ -4,12 +4,12 @@ use Rattle.hv_value.specs.declared.sql_type.SqlType.{SqlType}
 use Rattle.hv_value.specs.declared.value.Value.TheOpen.{Value-F}
 use Rattle.hv_value.specs.declared.value.Value.TheViews.{out-Value, out-roll-Value}
 use Rattle.hv_value.specs.declared.value.Value.TheVariants.{rolls-Null, rolls-Bool}
-use Rattle.hv_typed.specs.declared.function.Two.{Two}
-use Rattle.hv_typed.specs.declared.tree.TypedExpr.{TypedExpr}
-use Rattle.hv_typed.specs.declared.tree.TypedExpr.TheVariants as tree
-use Rattle.hv_typed.specs.Values.{truth_of, truth_value, layer_truth}
-use Rattle.hv_typed.specs.Functions.{two_value}
-use Rattle.hv_typed.proofs.Equations.{value_in-Two}
+use Rattle.hv_expr.specs.declared.function.Two.{Two}
+use Rattle.hv_expr.specs.declared.tree.TypedExpr.{TypedExpr}
+use Rattle.hv_expr.specs.declared.tree.TypedExpr.TheVariants as tree
+use Rattle.hv_expr.specs.Values.{truth_of, truth_value, layer_truth}
+use Rattle.hv_expr.specs.Functions.{two_value}
+use Rattle.hv_expr.proofs.Equations.{value_in-Two}
 use Rattle.hv_eval.specs.declared.frame.Scope.{Scope}
 use Rattle.hv_eval.specs.Frames.{value_at, row_of, group_of}
 

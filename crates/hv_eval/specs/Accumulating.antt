@@ -2,9 +2,9 @@
 -- gives of them.
 use Rattle.std.specs.Prelude.{◌≡◌, List, [], ◌∷◌, ◌++◌}
 use Rattle.hv_value.specs.declared.value.Value.{Value}
-use Rattle.hv_typed.specs.declared.function.Aggregate.{Aggregate}
-use Rattle.hv_typed.specs.declared.function.Aggregate.TheVariants as aggregate
-use Rattle.hv_typed.specs.Groups.{over_values}
+use Rattle.hv_expr.specs.declared.function.Aggregate.{Aggregate}
+use Rattle.hv_expr.specs.declared.function.Aggregate.TheVariants as aggregate
+use Rattle.hv_expr.specs.Groups.{over_values}
 
 -- counts are summed; a sum, a least and a greatest are taken again
 abbrev pub merger : Aggregate → Aggregate

@@ -1,11 +1,11 @@
 -- What the walks find at the nodes that hold rows of parts.
 use Rattle.std.specs.Prelude.{List, Option, option_map}
 use Rattle.hv_value.specs.declared.value.Value.{Value}
-use Rattle.hv_typed.specs.declared.tree.Branch.{Branch}
-use Rattle.hv_typed.specs.declared.tree.Link.{Link}
-use Rattle.hv_typed.specs.declared.tree.TypedExpr.{TypedExpr}
-use Rattle.hv_typed.specs.Values.{or_null}
-use Rattle.hv_typed.specs.Evaluation.{chained, chosen, or_else}
+use Rattle.hv_expr.specs.declared.tree.Branch.{Branch}
+use Rattle.hv_expr.specs.declared.tree.Link.{Link}
+use Rattle.hv_expr.specs.declared.tree.TypedExpr.{TypedExpr}
+use Rattle.hv_expr.specs.Values.{or_null}
+use Rattle.hv_expr.specs.Evaluation.{chained, chosen, or_else}
 use Rattle.hv_eval.specs.declared.frame.Scope.{Scope}
 use Rattle.hv_eval.specs.Frames.{value_at}
 

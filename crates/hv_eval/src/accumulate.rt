@@ -2,15 +2,15 @@
 
 ghost use Rattle.std.specs.Prelude.{◌≡◌, [], ◌∷◌, ◌+ℤ◌, None, IfOk, option_map};
 ghost use Rattle.std.specs.Int.{int_wrap, w64};
-ghost use Rattle.hv_typed.specs.declared.function.Aggregate.TheVariants as aggregate;
-ghost use Rattle.hv_typed.specs.Groups.{plus, once_each, over_values, aggregate_value};
+ghost use Rattle.hv_expr.specs.declared.function.Aggregate.TheVariants as aggregate;
+ghost use Rattle.hv_expr.specs.Groups.{plus, once_each, over_values, aggregate_value};
 ghost use Rattle.hv_seen.specs.Seen.{seen_value};
 ghost use Rattle.hv_eval.specs.Accumulating.{merged, single, Splits};
 
 use crate::ranks::{comes_before, is_comparable};
 use hv_base::NoMemory;
 use hv_seen::{Seen, is_null, null, number, of_big, owned, view};
-use hv_typed::Aggregate;
+use hv_expr::Aggregate;
 use hv_value::Value;
 use indexmap::IndexSet;
 use std::alloc::Global;
@@ -181,7 +181,7 @@ fn once_each(alloc: Global, values: Vec<Value>) -> Result<IndexSet<Value>, NoMem
 }
 
 /// What the aggregate gives of these values.
-#[tactic(auto, unfolding(hv_typed::specs::Groups::aggregate_value))]
+#[tactic(auto, unfolding(hv_expr::specs::Groups::aggregate_value))]
 pub(crate) fn over_all(
     alloc: Global,
     function: Aggregate,

@@ -1,5 +1,5 @@
 ghost use Rattle.std.specs.Prelude.{◌≡◌, [], slice_get, option_map};
-ghost use Rattle.hv_typed.specs.Evaluation.{first_row};
+ghost use Rattle.hv_expr.specs.Evaluation.{first_row};
 ghost use Rattle.hv_eval.specs.Frames.{frame_values, frames_values, row_of, group_of};
 
 use hv_value::Value;

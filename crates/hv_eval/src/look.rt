@@ -1,8 +1,8 @@
 ghost use Rattle.std.specs.Prelude.{◌≡◌, IfSome, not, if◌then◌else◌, slice_get, option_map, map};
-ghost use Rattle.hv_typed.specs.Groups.{aggregate_value, row_count};
-ghost use Rattle.hv_typed.specs.Values.{taken_or_null, truth_of, truth_value};
-ghost use Rattle.hv_typed.specs.Functions.{all_of, any_of, equals_any, first_known, many_value};
-ghost use Rattle.hv_typed.specs.Evaluation.{value_of, value_in, is_met};
+ghost use Rattle.hv_expr.specs.Groups.{aggregate_value, row_count};
+ghost use Rattle.hv_expr.specs.Values.{taken_or_null, truth_of, truth_value};
+ghost use Rattle.hv_expr.specs.Functions.{all_of, any_of, equals_any, first_known, many_value};
+ghost use Rattle.hv_expr.specs.Evaluation.{value_of, value_in, is_met};
 ghost use Rattle.hv_eval.specs.Frames.{value_at, values_at, row_of, group_of};
 ghost use Rattle.hv_seen.specs.Truths.{told};
 ghost use Rattle.hv_eval.specs.Walks.{chain_value, chosen_value, optional_value, settled_value};
@@ -16,7 +16,7 @@ use hv_seen::{
     Seen, Truth, arithmetic, both, either, equal, is_null, negated, null, of_big, of_option,
     of_truth, taken, truth_of,
 };
-use hv_typed::{Aggregate, Branch, Link, Many, TypedExpr};
+use hv_expr::{Aggregate, Branch, Link, Many, TypedExpr};
 use hv_value::{SqlType, Value};
 
 #[inline(always)]
@@ -75,7 +75,7 @@ pub(crate) fn count_rows<'a>(at: &Scope) -> Seen<'a>
 
 /// The value of the expression on the row, without memory: None where a text or an array might have
 /// to be made. What stands in the row or in the expression is lent. An aggregate is over no rows.
-#[tactic(auto, unfolding(hv_typed::specs::Evaluation::value_of))]
+#[tactic(auto, unfolding(hv_expr::specs::Evaluation::value_of))]
 pub fn value_without_memory<'a>(expr: &'a TypedExpr, row: &'a [Value]) -> Option<Seen<'a>>
     ensures { IfSome result (λ seen. seen_value seen ≡ value_of expr.now row.now) }
 {
@@ -121,7 +121,7 @@ pub(crate) fn truth_at<'a>(expr: &'a TypedExpr, at: &Scope<'a>) -> Option<Truth>
 // What a node comes to that has parts. It clears all its locals at each call, so that leaves are done before.
 #[inline(never)]
 #[cycle(walk)]
-#[tactic(auto, using(crate::proofs::Nodes::nodes), unfolding(hv_typed::specs::Functions::in_value))]
+#[tactic(auto, using(crate::proofs::Nodes::nodes), unfolding(hv_expr::specs::Functions::in_value))]
 fn node_at<'a>(expr: &'a TypedExpr, at: &Scope<'a>) -> Option<Seen<'a>>
     ensures { IfSome result (λ seen. seen_value seen ≡ value_at at.now expr.now) }
 {
@@ -190,7 +190,7 @@ fn chain_at<'a>(expr: &'a TypedExpr, at: &Scope<'a>) -> Option<Seen<'a>>
 
 // Over the group's rows. Whoever keeps each value once takes memory.
 #[cycle(walk)]
-#[tactic(auto, unfolding(hv_typed::specs::Groups::aggregate_value))]
+#[tactic(auto, unfolding(hv_expr::specs::Groups::aggregate_value))]
 fn over_group<'a>(
     function: Aggregate,
     distinct: bool,
@@ -225,7 +225,7 @@ fn optional<'a>(expr: &'a Option<Boxed<TypedExpr>>, at: &Scope<'a>) -> Option<Op
 }
 
 #[cycle(walk)]
-#[tactic(auto, unfolding(hv_typed::specs::Functions::many_value))]
+#[tactic(auto, unfolding(hv_expr::specs::Functions::many_value))]
 fn many<'a>(function: Many, arguments: &'a [TypedExpr], at: &Scope<'a>) -> Option<Seen<'a>>
     ensures { IfSome result (λ seen. seen_value seen ≡ many_value function (values_at arguments.now at.now)) }
 {

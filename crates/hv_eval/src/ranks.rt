@@ -3,8 +3,8 @@
 ghost use Rattle.std.specs.Prelude.{◌≡◌, IsTrue, if◌then◌else◌, not};
 ghost use Rattle.std.specs.Ordering.{is_lt};
 ghost use Rattle.hv_value.specs.Order.{kind_of, truth_of, number_of, width_of, bytes_of, scalar_cmp, value_cmp};
-ghost use Rattle.hv_typed.specs.Values.{layer_is_nothing};
-ghost use Rattle.hv_typed.specs.Groups.{comparable};
+ghost use Rattle.hv_expr.specs.Values.{layer_is_nothing};
+ghost use Rattle.hv_expr.specs.Groups.{comparable};
 ghost use Rattle.hv_seen.specs.Seen.{seen_layer, seen_value};
 
 use hv_seen::Seen;

@@ -4,9 +4,9 @@ ghost use Rattle.std.specs.Prelude.{◌≡◌, IfSome, Some, None, MatchOption, 
 ghost use Rattle.hv_value.specs.declared.value.Value.TheVariants as value;
 ghost use Rattle.hv_value.specs.Conversion.{some_int, some_day};
 ghost use Rattle.hv_value.specs.Dates.{date_add, date_sub, date_diff, year_of, month_of, day_of_month};
-ghost use Rattle.hv_typed.specs.Values.{truth_of, text_of, number_of, truth_value, text_value, is_null, holds, day_of, int_of, both_of, items_of, item_at, taken_or_null, element};
+ghost use Rattle.hv_expr.specs.Values.{truth_of, text_of, number_of, truth_value, text_value, is_null, holds, day_of, int_of, both_of, items_of, item_at, taken_or_null, element};
 ghost use Rattle.hv_value.specs.declared.sql_type.SqlType.{SqlType as Kind};
-ghost use Rattle.hv_typed.specs.Functions.{given, size_of, one_value, two_value, three_value, between, part_of};
+ghost use Rattle.hv_expr.specs.Functions.{given, size_of, one_value, two_value, three_value, between, part_of};
 ghost use Rattle.hv_seen.specs.Seen.{seen_layer, seen_value};
 ghost use Rattle.hv_seen.specs.Truths.{told};
 ghost use Rattle.hv_text.specs.Characters.{substring_from};
@@ -18,7 +18,7 @@ use hv_seen::{
     low_int, minus, negated, null, null_safe_equal, number, of_bool, of_day, of_int, of_option,
     of_truth, place_of, plus, positive_remainder, taken, truth_of,
 };
-use hv_typed::{One, Three, Two};
+use hv_expr::{One, Three, Two};
 use hv_value::{SqlType, Value, date_add, date_diff, date_sub, day_of_month, month_of, year_of};
 
 #[tactic(auto, using(hv_seen::proofs::Layers::layers))]
@@ -104,7 +104,7 @@ fn item<'a>(kind: &SqlType, items: &'a List<Value>, place: i64) -> Seen<'a>
 }
 
 // An element is lent by the array.
-#[tactic(auto, using(hv_seen::proofs::Layers::layers), unfolding(hv_typed::specs::Values::element))]
+#[tactic(auto, using(hv_seen::proofs::Layers::layers), unfolding(hv_expr::specs::Values::element))]
 fn element<'a>(kind: &SqlType, array: &Seen<'a>, place: &Seen) -> Seen<'a>
     ensures { seen_value result ≡ element kind.now (seen_value array.now) (seen_value place.now) }
 {
@@ -115,7 +115,7 @@ fn element<'a>(kind: &SqlType, array: &Seen<'a>, place: &Seen) -> Seen<'a>
 }
 
 /// The value of a function of one operand, or who makes it where it may be a text or an array.
-#[tactic(auto, unfolding(hv_typed::specs::Functions::one_value))]
+#[tactic(auto, unfolding(hv_expr::specs::Functions::one_value))]
 pub(crate) fn one<'a>(function: One, kind: &SqlType, value: &Seen) -> Result<Seen<'a>, Maker>
     ensures { MatchResult result (λ found. seen_value found ≡ one_value function kind.now (seen_value value.now)) (λ maker. made_value maker kind.now (seen_value value.now) ≡ one_value function kind.now (seen_value value.now)) }
 {
@@ -164,7 +164,7 @@ fn is_by_order(function: Two) -> bool {
 
 /// What a comparison says, None of another function.
 #[inline]
-#[tactic(auto, unfolding(hv_typed::specs::Functions::two_value))]
+#[tactic(auto, unfolding(hv_expr::specs::Functions::two_value))]
 pub(crate) fn compared(function: Two, left: &Seen, right: &Seen) -> Option<Truth>
     ensures { IfSome result (λ truth. (kind : Kind) → truth_value (told truth) ≡ two_value function kind (seen_value left.now) (seen_value right.now)) }
 {
@@ -184,7 +184,7 @@ pub(crate) fn compared(function: Two, left: &Seen, right: &Seen) -> Option<Truth
 }
 
 /// The value of a function of two operands, None where it is a text that is made.
-#[tactic(auto, unfolding(hv_typed::specs::Functions::two_value))]
+#[tactic(auto, unfolding(hv_expr::specs::Functions::two_value))]
 pub(crate) fn two<'a>(
     function: Two,
     kind: &SqlType,
@@ -224,7 +224,7 @@ fn is_between(value: &Seen, low: &Seen, high: &Seen) -> Truth
 }
 
 /// The value of a function of three operands, None where it is a text that is made.
-#[tactic(auto, unfolding(hv_typed::specs::Functions::three_value))]
+#[tactic(auto, unfolding(hv_expr::specs::Functions::three_value))]
 pub(crate) fn three<'a>(
     function: Three,
     first: &Seen<'a>,

@@ -1,8 +1,8 @@
 ghost use Rattle.std.specs.Prelude.{◌≡◌, IfOk, option_map, map};
-ghost use Rattle.hv_typed.specs.Values.{text_value, truth_of, holds};
-ghost use Rattle.hv_typed.specs.Functions.{all_of, any_of, equals_any, first_known, joined, many_value, one_value, two_value, three_value};
-ghost use Rattle.hv_typed.specs.Evaluation.{value_of, value_in, is_met};
-ghost use Rattle.hv_typed.specs.Groups.{aggregate_value};
+ghost use Rattle.hv_expr.specs.Values.{text_value, truth_of, holds};
+ghost use Rattle.hv_expr.specs.Functions.{all_of, any_of, equals_any, first_known, joined, many_value, one_value, two_value, three_value};
+ghost use Rattle.hv_expr.specs.Evaluation.{value_of, value_in, is_met};
+ghost use Rattle.hv_expr.specs.Groups.{aggregate_value};
 ghost use Rattle.hv_eval.specs.Frames.{value_at, values_at, row_of, group_of};
 ghost use Rattle.hv_eval.specs.Walks.{chain_value, chosen_value, optional_value, settled_value};
 ghost use Rattle.hv_seen.specs.Seen.{seen_value};
@@ -19,7 +19,7 @@ use hv_seen::{
     Seen, Truth, arithmetic, both, either, equal, is_null, make, null, of_option, of_truth, owned,
     part_from, rest_from, taken, text, truth_of,
 };
-use hv_typed::{Branch, Link, Many, One, Three, Two, TypedExpr};
+use hv_expr::{Branch, Link, Many, One, Three, Two, TypedExpr};
 use hv_value::{Row, SqlType, Value};
 use std::alloc::Global;
 
@@ -137,7 +137,7 @@ fn text_value(text: Option<Text>) -> Value
 
 /// The value of the expression on the row; an aggregate is over no rows. What takes no memory is
 /// done without, and so is the whole where that does.
-#[tactic(auto, unfolding(hv_typed::specs::Evaluation::value_of))]
+#[tactic(auto, unfolding(hv_expr::specs::Evaluation::value_of))]
 pub fn eval<'a>(alloc: Global, expr: &'a TypedExpr, row: &'a Row) -> Result<Value, NoMemory>
     ensures { IfOk result (λ value. value ≡ value_of expr.now row.now.values) }
 {
@@ -197,7 +197,7 @@ fn held<'a>(alloc: Global, expr: &'a TypedExpr, at: &Scope<'a>) -> Result<Held<'
 // What a node comes to that has parts.
 #[inline(never)]
 #[cycle(memory)]
-#[tactic(auto, using(crate::proofs::Nodes::nodes), unfolding(hv_typed::specs::Functions::in_value))]
+#[tactic(auto, using(crate::proofs::Nodes::nodes), unfolding(hv_expr::specs::Functions::in_value))]
 fn node_held<'a>(alloc: Global, expr: &'a TypedExpr, at: &Scope<'a>) -> Result<Held<'a>, NoMemory>
     ensures { IfOk result (λ value. held_value value ≡ value_at at.now expr.now) }
 {
@@ -294,7 +294,7 @@ fn optional<'a>(
 }
 
 #[cycle(memory)]
-#[tactic(auto, unfolding(hv_typed::specs::Functions::many_value))]
+#[tactic(auto, unfolding(hv_expr::specs::Functions::many_value))]
 fn many<'a>(
     alloc: Global,
     function: Many,

@@ -1,8 +1,8 @@
 -- Groups of rows where they stand are groups of their values.
 use Rattle.std.proofs.Common.{◌≡◌, List, [], map, ap, ◌∙◌}
-use Rattle.hv_typed.specs.declared.tree.TypedExpr.{TypedExpr}
-use Rattle.hv_query.specs.Grouped.{groups}
-use Rattle.hv_query.specs.Rows.{key_of, same_row}
+use Rattle.hv_expr.specs.declared.tree.TypedExpr.{TypedExpr}
+use Rattle.hv_typing.specs.Grouped.{groups}
+use Rattle.hv_typing.specs.Rows.{key_of, same_row}
 use Rattle.hv_keyed.specs.Folds.{folds, added}
 use Rattle.hv_keyed.proofs.Members.{folds_are_groups, groups_shown}
 use Rattle.hv_eval.specs.declared.frame.Frame.{Frame}

@@ -1,21 +1,21 @@
 -- The rows of a source: of a table, and of a query.
 use Rattle.std.proofs.Common.{◌≡◌, ℕ, List, [], ◌∷◌, ◌++◌, map, filter, slice_get, if◌then◌else◌, Option, Some, None, refl, sym, ap, ◌∙◌}
 use Rattle.hv_value.specs.declared.row.Row.{Row}
-use Rattle.hv_query.specs.declared.tree.TypedJoin.{TypedJoin}
-use Rattle.hv_query.specs.declared.tree.TypedFrom.{TypedFrom}
-use Rattle.hv_query.specs.declared.tree.TypedSelect.{TypedSelect}
-use Rattle.hv_query.specs.declared.tree.TypedUnion.{TypedUnion}
-use Rattle.hv_query.specs.declared.tree.TypedQuery.{TypedQuery}
-use Rattle.hv_query.specs.declared.tree.TypedSource.{TypedSource}
-use Rattle.hv_query.specs.declared.tree.TypedSource.TheOpen.{TypedSource-F}
-use Rattle.hv_query.specs.declared.tree.TypedSource.TheFolds.{fold_out-TypedSource, map-TypedSource}
-use Rattle.hv_query.specs.declared.tree.TypedSource.TheShapes
-use Rattle.hv_query.specs.declared.tree.TypedSource.TheVariants as source
-use Rattle.hv_query.specs.declared.tree.TypedSource.TheVariants.{rolls-Table, rolls-Query}
-use Rattle.hv_query.specs.declared.tree.TypedSource.TheViews.{out-TypedSource, out-roll-TypedSource}
-use Rattle.hv_query.specs.Grouped.{distinct}
-use Rattle.hv_query.specs.Order.{ordered, limited}
-use Rattle.hv_query.specs.Rows.{Frame, Tables, is_met, shown, kept, same_row, viewed, width_behind, joined, joined_with, frames_from, selected, united, rows_of, values_in, layer_frames, source_frames}
+use Rattle.hv_typing.specs.declared.tree.TypedJoin.{TypedJoin}
+use Rattle.hv_typing.specs.declared.tree.TypedFrom.{TypedFrom}
+use Rattle.hv_typing.specs.declared.tree.TypedSelect.{TypedSelect}
+use Rattle.hv_typing.specs.declared.tree.TypedUnion.{TypedUnion}
+use Rattle.hv_typing.specs.declared.tree.TypedQuery.{TypedQuery}
+use Rattle.hv_typing.specs.declared.tree.TypedSource.{TypedSource}
+use Rattle.hv_typing.specs.declared.tree.TypedSource.TheOpen.{TypedSource-F}
+use Rattle.hv_typing.specs.declared.tree.TypedSource.TheFolds.{fold_out-TypedSource, map-TypedSource}
+use Rattle.hv_typing.specs.declared.tree.TypedSource.TheShapes
+use Rattle.hv_typing.specs.declared.tree.TypedSource.TheVariants as source
+use Rattle.hv_typing.specs.declared.tree.TypedSource.TheVariants.{rolls-Table, rolls-Query}
+use Rattle.hv_typing.specs.declared.tree.TypedSource.TheViews.{out-TypedSource, out-roll-TypedSource}
+use Rattle.hv_typing.specs.Grouped.{distinct}
+use Rattle.hv_typing.specs.Order.{ordered, limited}
+use Rattle.hv_typing.specs.Rows.{Frame, Tables, is_met, shown, kept, same_row, viewed, width_behind, joined, joined_with, frames_from, selected, united, rows_of, values_in, layer_frames, source_frames}
 use Rattle.hv_joins.specs.Sources.{row_values}
 use Rattle.hv_exec.specs.Tables.{frames_over}
 

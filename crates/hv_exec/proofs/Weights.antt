@@ -1,17 +1,17 @@
 -- What a query weighs: more than each of its parts that holds a query, so that the recursion ends.
 use Rattle.std.proofs.Common.{◌≡◌, ℕ, zero, suc, ◌+◌, ◌<◌, List, [], ◌∷◌, length, get_or, map, Option, Some, None, refl, sym, ap, ◌∙◌, arith}
-use Rattle.hv_query.specs.declared.tree.TypedJoin.{TypedJoin}
-use Rattle.hv_query.specs.declared.tree.TypedFrom.{TypedFrom}
-use Rattle.hv_query.specs.declared.tree.TypedSelect.{TypedSelect}
-use Rattle.hv_query.specs.declared.tree.TypedUnion.{TypedUnion}
-use Rattle.hv_query.specs.declared.tree.TypedQuery.{TypedQuery}
-use Rattle.hv_query.specs.declared.tree.TypedSource.{TypedSource}
-use Rattle.hv_query.specs.declared.tree.TypedSource.TheOpen.{TypedSource-F}
-use Rattle.hv_query.specs.declared.tree.TypedSource.TheFolds.{fold-TypedSource, fold_out-TypedSource, map-TypedSource}
-use Rattle.hv_query.specs.declared.tree.TypedSource.TheShapes
-use Rattle.hv_query.specs.declared.tree.TypedSource.TheVariants as source
-use Rattle.hv_query.specs.declared.tree.TypedSource.TheVariants.{rolls-Query}
-use Rattle.hv_query.specs.declared.tree.TypedSource.TheViews.{out-TypedSource, out-roll-TypedSource}
+use Rattle.hv_typing.specs.declared.tree.TypedJoin.{TypedJoin}
+use Rattle.hv_typing.specs.declared.tree.TypedFrom.{TypedFrom}
+use Rattle.hv_typing.specs.declared.tree.TypedSelect.{TypedSelect}
+use Rattle.hv_typing.specs.declared.tree.TypedUnion.{TypedUnion}
+use Rattle.hv_typing.specs.declared.tree.TypedQuery.{TypedQuery}
+use Rattle.hv_typing.specs.declared.tree.TypedSource.{TypedSource}
+use Rattle.hv_typing.specs.declared.tree.TypedSource.TheOpen.{TypedSource-F}
+use Rattle.hv_typing.specs.declared.tree.TypedSource.TheFolds.{fold-TypedSource, fold_out-TypedSource, map-TypedSource}
+use Rattle.hv_typing.specs.declared.tree.TypedSource.TheShapes
+use Rattle.hv_typing.specs.declared.tree.TypedSource.TheVariants as source
+use Rattle.hv_typing.specs.declared.tree.TypedSource.TheVariants.{rolls-Query}
+use Rattle.hv_typing.specs.declared.tree.TypedSource.TheViews.{out-TypedSource, out-roll-TypedSource}
 
 module _ {S : Type 0} (weight : S → ℕ) where
   abbrev joins_by : List (TypedJoin S) → ℕ

@@ -2,10 +2,10 @@
 use Rattle.std.specs.Prelude.{List, map, filter}
 use Rattle.hv_logic.specs.declared.effect.TableRows.{TableRows}
 use Rattle.hv_logic.specs.Rows.{rows_in}
-use Rattle.hv_query.specs.declared.tree.TypedSource.{TypedSource}
-use Rattle.hv_query.specs.declared.tree.TypedSelect.{TypedSelect}
+use Rattle.hv_typing.specs.declared.tree.TypedSource.{TypedSource}
+use Rattle.hv_typing.specs.declared.tree.TypedSelect.{TypedSelect}
 use Rattle.hv_value.specs.declared.row.Row.{Row}
-use Rattle.hv_query.specs.Rows.{Frame, Tables, is_met, source_frames, shown, kept}
+use Rattle.hv_typing.specs.Rows.{Frame, Tables, is_met, source_frames, shown, kept}
 
 abbrev pub tables_in : List TableRows → Tables
 tables_in tables = map (λ (table : TableRows). rows_in table.rows) tables

@@ -2,8 +2,8 @@ ghost use Rattle.std.specs.Prelude.{◌≡◌, ◌++◌, ◌∷◌, [], List, ma
 ghost use Rattle.hv_value.specs.declared.row.Row.{Row as RowOf};
 ghost use Rattle.hv_order.specs.First.{IsEnough, IsSound};
 ghost use Rattle.hv_keyed.specs.Folds.{added};
-ghost use Rattle.hv_query.specs.Grouped.{groups};
-ghost use Rattle.hv_query.specs.Rows.{key_of, is_met_over, group_row, grouped, same_row};
+ghost use Rattle.hv_typing.specs.Grouped.{groups};
+ghost use Rattle.hv_typing.specs.Rows.{key_of, is_met_over, group_row, grouped, same_row};
 ghost use Rattle.hv_eval.specs.Frames.{frame_values, frames_values};
 
 use crate::items::item_values;
@@ -11,8 +11,8 @@ use hv_base::{Boxed, NoMemory};
 use hv_eval::{Frame, Scope, is_true_at};
 use hv_keyed::{Chain, GroupFold, Groups, fold_groups};
 use hv_order::{Front, Kept};
-use hv_query::Grouping;
-use hv_typed::TypedExpr;
+use hv_typing::Grouping;
+use hv_expr::TypedExpr;
 use hv_value::Row;
 use std::alloc::Global;
 
@@ -29,7 +29,7 @@ impl<'a> GroupFold<Frame<'a>, Row, Chain<Frame<'a>>> for ByKeys<'a> {
 
     ghost step = { λ by. added };
 
-    #[tactic(auto, unfolding(hv_typed::specs::Evaluation::value_of))]
+    #[tactic(auto, unfolding(hv_expr::specs::Evaluation::value_of))]
     fn key_of(&self, alloc: Global, row: &Frame<'a>) -> Result<Row, NoMemory>
         ensures { IfOk result (λ key. key ≡ key_of self.now.keys.now (frame_values row.now)) }
     {

@@ -1,8 +1,8 @@
 ghost use Rattle.std.specs.Prelude.{◌≡◌, ◌++◌, ◌∷◌, [], List, map, filter, IfOk, OnOk, if◌then◌else◌};
-ghost use Rattle.hv_typed.specs.declared.tree.TypedExpr.{TypedExpr as Expr};
+ghost use Rattle.hv_expr.specs.declared.tree.TypedExpr.{TypedExpr as Expr};
 ghost use Rattle.hv_value.specs.declared.row.Row.{Row as RowOf};
 ghost use Rattle.hv_order.specs.First.{IsEnough, IsSound};
-ghost use Rattle.hv_query.specs.Rows.{is_met, item_row};
+ghost use Rattle.hv_typing.specs.Rows.{is_met, item_row};
 ghost use Rattle.hv_eval.specs.Frames.{frame_values, frames_values, values_at};
 
 use crate::wanted::is_needless;
@@ -10,7 +10,7 @@ use hv_base::{Boxed, List, NoMemory};
 use hv_eval::{Frame, Scope, eval_at};
 use hv_joins::is_met;
 use hv_order::{Front, Kept};
-use hv_typed::TypedExpr;
+use hv_expr::TypedExpr;
 use hv_value::{Row, Value};
 use std::alloc::Global;
 
@@ -57,7 +57,7 @@ pub(crate) fn item_values<'a>(
     Ok(List::from_vec(values))
 }
 
-#[tactic(auto, unfolding(hv_typed::specs::Evaluation::value_of))]
+#[tactic(auto, unfolding(hv_expr::specs::Evaluation::value_of))]
 fn item_row<'a>(alloc: Global, items: &'a [TypedExpr], frame: &Frame<'a>) -> Result<Row, NoMemory>
     ensures { IfOk result (λ row. row ≡ item_row items.now (frame_values frame.now)) }
 {

@@ -1,6 +1,6 @@
 ghost use Rattle.std.specs.Prelude.{◌≡◌, IfOk};
-ghost use Rattle.hv_query.specs.Grouped.{distinct};
-ghost use Rattle.hv_query.specs.Rows.{same_row};
+ghost use Rattle.hv_typing.specs.Grouped.{distinct};
+ghost use Rattle.hv_typing.specs.Rows.{same_row};
 
 use hv_base::NoMemory;
 use hv_value::Row;

@@ -1,7 +1,7 @@
 ghost use Rattle.std.specs.Prelude.{IfOk};
 ghost use Rattle.hv_eval.specs.Frames.{frames_values};
 ghost use Rattle.hv_order.specs.First.{IsEnough};
-ghost use Rattle.hv_query.specs.Rows.{kept, shown};
+ghost use Rattle.hv_typing.specs.Rows.{kept, shown};
 ghost use Rattle.hv_exec.specs.Tables.{select_rows};
 
 use crate::groups::grouped_rows;
@@ -10,8 +10,8 @@ use crate::once::once;
 use hv_base::NoMemory;
 use hv_eval::Frame;
 use hv_order::Front;
-use hv_query::{Grouping, TypedSelect};
-use hv_typed::TypedExpr;
+use hv_typing::{Grouping, TypedSelect};
+use hv_expr::TypedExpr;
 use hv_value::Row;
 use std::alloc::Global;
 

@@ -1,5 +1,5 @@
 ghost use Rattle.std.specs.Prelude.{◌≡◌, slice_get};
-ghost use Rattle.hv_query.specs.Rows.{values_in};
+ghost use Rattle.hv_typing.specs.Rows.{values_in};
 ghost use Rattle.hv_logic.specs.Rows.{rows_in};
 ghost use Rattle.hv_joins.specs.Sources.{row_values};
 ghost use Rattle.hv_exec.specs.Tables.{tables_in};

@@ -1,6 +1,6 @@
 ghost use Rattle.std.specs.Prelude.{◌≡◌, ◌++◌, IfOk, OnOk, if◌then◌else◌};
-ghost use Rattle.hv_query.specs.Grouped.{distinct};
-ghost use Rattle.hv_query.specs.Rows.{same_row};
+ghost use Rattle.hv_typing.specs.Grouped.{distinct};
+ghost use Rattle.hv_typing.specs.Rows.{same_row};
 
 use crate::once::once;
 use hv_base::NoMemory;

@@ -5,8 +5,8 @@ ghost use Rattle.std.specs.Ordering.{is_lt, nat_cmp};
 ghost use Rattle.std.specs.Cmp.Lexicographic.{slice_cmp};
 ghost use Rattle.hv_value.specs.declared.row.Row.{Row as RowOf};
 ghost use Rattle.hv_value.specs.Order.{value_cmp};
-ghost use Rattle.hv_query.specs.Order.{value_at, key_cmp, order_cmp};
-ghost use Rattle.hv_query.specs.Rows.{item_row};
+ghost use Rattle.hv_typing.specs.Order.{value_at, key_cmp, order_cmp};
+ghost use Rattle.hv_typing.specs.Rows.{item_row};
 ghost use Rattle.hv_seen.specs.Seen.{seen_value};
 ghost use Rattle.hv_eval.specs.Frames.{frame_values};
 ghost use Rattle.hv_order.specs.First.{IsEnough, IsSound};
@@ -14,9 +14,9 @@ ghost use Rattle.hv_order.specs.First.{IsEnough, IsSound};
 use hv_base::Text;
 use hv_eval::{Frame, Scope, seen_at};
 use hv_order::{Front, Kept};
-use hv_query::SortKey;
+use hv_typing::SortKey;
 use hv_seen::{Seen, null, view};
-use hv_typed::TypedExpr;
+use hv_expr::TypedExpr;
 use hv_value::Row;
 use std::cmp::Ordering;
 
@@ -59,7 +59,7 @@ fn made_at(row: &Row, place: usize) -> Seen<'_>
 }
 
 // The value at a place of a row that isn't made.
-#[tactic(auto, unfolding(hv_typed::specs::Evaluation::value_of))]
+#[tactic(auto, unfolding(hv_expr::specs::Evaluation::value_of))]
 fn item_at<'a>(items: &'a [TypedExpr], frame: &Frame<'a>, place: usize) -> Option<Seen<'a>>
     ensures { IfSome result (λ seen. seen_value seen ≡ value_at place (item_row items.now (frame_values frame.now))) }
 {
@@ -70,7 +70,7 @@ fn item_at<'a>(items: &'a [TypedExpr], frame: &Frame<'a>, place: usize) -> Optio
 }
 
 // How a row that isn't made compares to another by one key, where that is seen.
-#[tactic(auto, unfolding(hv_query::specs::Order::key_cmp))]
+#[tactic(auto, unfolding(hv_typing::specs::Order::key_cmp))]
 fn order_by_key<'a>(
     key: SortKey,
     items: &'a [TypedExpr],
@@ -90,7 +90,7 @@ fn order_by_key<'a>(
 }
 
 // Whether a row that isn't made is seen to be behind another.
-#[tactic(auto, unfolding(hv_query::specs::Order::order_cmp))]
+#[tactic(auto, unfolding(hv_typing::specs::Order::order_cmp))]
 fn is_behind<'a>(keys: &[SortKey], items: &'a [TypedExpr], frame: &Frame<'a>, other: &Row) -> bool
     ensures { IsTrue result → is_lt (order_cmp keys.now (item_row items.now (frame_values frame.now)) other.now) ≡ false }
 {

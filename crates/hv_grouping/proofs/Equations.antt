@@ -2,20 +2,20 @@
 use Rattle.std.proofs.Common.{◌≡◌, ℕ, Bool, false, ◌||◌, ◌&&◌, List, [], ◌∷◌, map, Option, Some, None, option_map, refl, sym, ap, ◌∙◌, ◌≢◌}
 use Rattle.hv_value.specs.declared.sql_type.SqlType.{SqlType}
 use Rattle.hv_value.specs.declared.value.Value.{Value}
-use Rattle.hv_typed.specs.declared.function.Aggregate.{Aggregate}
-use Rattle.hv_typed.specs.declared.function.Many.{Many}
-use Rattle.hv_typed.specs.declared.function.One.{One}
-use Rattle.hv_typed.specs.declared.function.Three.{Three}
-use Rattle.hv_typed.specs.declared.function.Two.{Two}
-use Rattle.hv_typed.specs.declared.tree.Branch.{Branch}
-use Rattle.hv_typed.specs.declared.tree.Link.{Link}
-use Rattle.hv_typed.specs.declared.tree.TypedExpr.{TypedExpr}
-use Rattle.hv_typed.specs.declared.tree.TypedExpr.TheOpen.{TypedExpr-F}
-use Rattle.hv_typed.specs.declared.tree.TypedExpr.TheViews.{out-TypedExpr, roll-TypedExpr, out-roll-TypedExpr, roll-out-TypedExpr}
-use Rattle.hv_typed.specs.declared.tree.TypedExpr.TheFolds.{fold_out-TypedExpr, map-TypedExpr}
-use Rattle.hv_typed.specs.declared.tree.TypedExpr.TheShapes
-use Rattle.hv_typed.specs.declared.tree.TypedExpr.TheVariants as tree
-use Rattle.hv_typed.specs.declared.tree.TypedExpr.TheVariants.{rolls-Column, rolls-Literal, rolls-One, rolls-Two, rolls-Three, rolls-Many, rolls-In, rolls-Chain, rolls-Case, rolls-CountRows, rolls-Aggregate}
+use Rattle.hv_expr.specs.declared.function.Aggregate.{Aggregate}
+use Rattle.hv_expr.specs.declared.function.Many.{Many}
+use Rattle.hv_expr.specs.declared.function.One.{One}
+use Rattle.hv_expr.specs.declared.function.Three.{Three}
+use Rattle.hv_expr.specs.declared.function.Two.{Two}
+use Rattle.hv_expr.specs.declared.tree.Branch.{Branch}
+use Rattle.hv_expr.specs.declared.tree.Link.{Link}
+use Rattle.hv_expr.specs.declared.tree.TypedExpr.{TypedExpr}
+use Rattle.hv_expr.specs.declared.tree.TypedExpr.TheOpen.{TypedExpr-F}
+use Rattle.hv_expr.specs.declared.tree.TypedExpr.TheViews.{out-TypedExpr, roll-TypedExpr, out-roll-TypedExpr, roll-out-TypedExpr}
+use Rattle.hv_expr.specs.declared.tree.TypedExpr.TheFolds.{fold_out-TypedExpr, map-TypedExpr}
+use Rattle.hv_expr.specs.declared.tree.TypedExpr.TheShapes
+use Rattle.hv_expr.specs.declared.tree.TypedExpr.TheVariants as tree
+use Rattle.hv_expr.specs.declared.tree.TypedExpr.TheVariants.{rolls-Column, rolls-Literal, rolls-One, rolls-Two, rolls-Three, rolls-Many, rolls-In, rolls-Chain, rolls-Case, rolls-CountRows, rolls-Aggregate}
 use Rattle.hv_typing.specs.Same.{Test, all_same, some_same, link_same, branch_same, links_same, branches_same, layer_same, same_tree, is_column, is_literal, is_one, is_two, is_three, is_many, is_in, is_chain, is_case, is_count, is_aggregate}
 use Rattle.hv_typing.specs.Standing as standing
 use Rattle.hv_typing.specs.Standing.{is_key, layer_stands, stands_as, stands_grouped, operands_stand, some_stands, all_stand, links_stand, branches_stand, parts_stand}

@@ -3,7 +3,7 @@
 ghost use Rattle.std.specs.Prelude.{◌≡◌};
 ghost use Rattle.hv_typing.specs.Numbers as spec;
 
-use hv_typed::{Aggregate, Arithmetic, Many, One, Three, Two};
+use hv_expr::{Aggregate, Arithmetic, Many, One, Three, Two};
 
 fn one_number(function: One) -> u8
     ensures { result ≡ spec.one_number function }

@@ -1,10 +1,10 @@
 ghost use Rattle.std.specs.Prelude.{◌≡◌};
 ghost use Rattle.hv_typing.specs.Same.{all_same, some_same, links_same, branches_same, same_bool, same_tree, is_column, is_literal, is_one, is_two, is_three, is_many, is_in, is_chain, is_case, is_count, is_aggregate};
-ghost use Rattle.hv_typed.specs.declared.tree.TypedExpr.TheViews.{out-TypedExpr};
+ghost use Rattle.hv_expr.specs.declared.tree.TypedExpr.TheViews.{out-TypedExpr};
 
 use crate::numbers::{same_aggregate, same_arithmetic, same_many, same_one, same_three, same_two};
 use hv_base::Boxed;
-use hv_typed::{Aggregate, Branch, Link, Many, One, Three, Two, TypedExpr};
+use hv_expr::{Aggregate, Branch, Link, Many, One, Three, Two, TypedExpr};
 use hv_types::same_type;
 use hv_value::{SqlType, Value};
 

@@ -1,10 +1,10 @@
 ghost use Rattle.std.specs.Prelude.{◌≡◌};
 ghost use Rattle.hv_typing.specs.Standing.{is_key, stands_grouped, all_stand, links_stand, branches_stand, some_stands, parts_stand};
-ghost use Rattle.hv_typed.specs.declared.tree.TypedExpr.TheViews.{out-TypedExpr};
+ghost use Rattle.hv_expr.specs.declared.tree.TypedExpr.TheViews.{out-TypedExpr};
 
 use crate::same::same_tree;
 use hv_base::Boxed;
-use hv_typed::{Branch, Link, TypedExpr};
+use hv_expr::{Branch, Link, TypedExpr};
 
 /// Whether the expression is equal to one of these keys.
 pub fn is_key(expr: &TypedExpr, keys: &[TypedExpr]) -> bool

@@ -25,7 +25,7 @@ use Rattle.hv_stands.specs.Files.{ending_of, IsUndone}
 use Rattle.hv_stands.specs.Sound.{IsLive, IsDone, KeepsAll}
 use Rattle.hv_stands.specs.Reading.{table_of_name}
 use Rattle.hv_stands.proofs.Numbers.{numbered-map, numbered-within}
-use Rattle.hv_tables.specs.Laws.{SaysCommitted}
+use Rattle.hv_table_rows.specs.Laws.{SaysCommitted}
 use Rattle.hv_house.specs.Seeing.{ids_in, info_of_name}
 
 -- ---- by its name

@@ -15,9 +15,9 @@ use Rattle.hv_stands.specs.Statements.{AllFitting}
 use Rattle.hv_stands.proofs.Fitting.{fitting-sound}
 use Rattle.hv_stands.proofs.Keeping.{sound-all, nothing-sound}
 use Rattle.hv_stands.proofs.Tables.{named-numbered}
-use Rattle.hv_tables.specs.Reading.{AreRows, IsSpoiled as IsSpoiledOf}
-use Rattle.hv_tables.specs.Laws.{StoodAt}
-use Rattle.hv_tables.proofs.StoredRows.{rows-stood, none-was-spoiled}
+use Rattle.hv_table_rows.specs.Reading.{AreRows, IsSpoiled as IsSpoiledOf}
+use Rattle.hv_table_rows.specs.Laws.{StoodAt}
+use Rattle.hv_table_rows.proofs.StoredRows.{rows-stood, none-was-spoiled}
 use Rattle.hv_house.specs.Seeing.{ids_in}
 use Rattle.hv_house.proofs.Rooms.{front-fits}
 use Rattle.hv_house.proofs.Past.{all-named, says-committed}

@@ -11,7 +11,7 @@ use Rattle.hv_history.specs.declared.state.Table.{Table}
 use Rattle.hv_history.specs.State.{State}
 use Rattle.hv_earlier.specs.Lists.{list_in}
 use Rattle.hv_stands.specs.Reading.{table_of_name}
-use Rattle.hv_tables.specs.Reading.{AreRows, IsSpoiled as IsSpoiledOf}
+use Rattle.hv_table_rows.specs.Reading.{AreRows, IsSpoiled as IsSpoiledOf}
 
 -- the list of its write ids that a reader at this state reads a table by
 abbrev pub ids_in : State → ℕ → WriteIds

@@ -1,7 +1,7 @@
 ghost use Rattle.std.specs.Prelude.{◌≡◌, ℕ, ◌<◌, List, None, false, true, length, OnOk};
 ghost use Rattle.std.specs.List.{AllByRecursion};
 ghost use Rattle.hv_base.specs.declared.ids.Limits.{Limits};
-ghost use Rattle.hv_tables.specs.Putting.{CanPut, IsEncoded, bytes_of};
+ghost use Rattle.hv_table_rows.specs.Putting.{CanPut, IsEncoded, bytes_of};
 ghost use Rattle.hv_trail.specs.declared.trail.Reader.TheVariants.{Txn};
 ghost use Rattle.hv_trail.specs.Trail.{broken, HasWritten};
 ghost use Rattle.hv_trail.specs.Kept.{trail_of, are_written};
@@ -16,7 +16,7 @@ use crate::house::House;
 use hv_base::{NoMemory, TxnId};
 use hv_route::OutFile;
 use hv_shelf::{Place, Shelf, ShelfFault};
-use hv_tables::put_file;
+use hv_table_rows::put_file;
 use hv_trail::{Mark, Reader};
 use std::alloc::Global;
 

@@ -11,7 +11,7 @@ ghost use Rattle.hv_stands.specs.Files.{Stands};
 ghost use Rattle.hv_stands.specs.Reading.{table_of_name};
 ghost use Rattle.hv_stands.specs.Running.{Asking, IsWaiting, next_number, opening};
 ghost use Rattle.hv_stands.specs.Statements.{AllFitting};
-ghost use Rattle.hv_tables.specs.Reading.{AreRows, IsSpoiled as IsSpoiledOf};
+ghost use Rattle.hv_table_rows.specs.Reading.{AreRows, IsSpoiled as IsSpoiledOf};
 ghost use Rattle.hv_house.specs.Asking.{holder_against};
 ghost use Rattle.hv_house.specs.Calls.{IfOpen, CanStart};
 ghost use Rattle.hv_house.specs.Seeing.{ids_in};

@@ -6,7 +6,7 @@ use Rattle.std.proofs.lemmas.List.{map-append, length-map}
 use Rattle.std.proofs.lemmas.List.Elements.{filter-append}
 use Rattle.std.proofs.lemmas.List.Sums.{fold-append}
 use Rattle.std.proofs.lemmas.List.Folds.{list_any-append, position_or_len_push}
-use Rattle.hv_query.specs.Grouped.{keep_new, distinct, members, keys_in}
+use Rattle.hv_typing.specs.Grouped.{keep_new, distinct, members, keys_in}
 use Rattle.hv_keyed.specs.Folds.{with_new, folded, folds}
 
 or_false : (a : Bool) → (a || false) ≡ a

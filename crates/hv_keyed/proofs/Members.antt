@@ -1,7 +1,7 @@
 -- Groups as folds that keep the rows themselves; groups of what stands for rows.
 use Rattle.std.proofs.Common.{◌≡◌, Bool, true, false, List, [], ◌∷◌, ◌++◌, map, cond, refl, sym, ap, ◌∙◌, append_assoc}
 use Rattle.std.specs.List.{fold}
-use Rattle.hv_query.specs.Grouped.{distinct, members, keys_in, groups}
+use Rattle.hv_typing.specs.Grouped.{distinct, members, keys_in, groups}
 use Rattle.hv_keyed.specs.Folds.{folded, folds, added}
 use Rattle.hv_keyed.proofs.JoinLaws.{append_nil}
 

@@ -5,7 +5,7 @@ use Rattle.std.specs.Cmp.{IsEquivalence}
 use Rattle.std.proofs.lemmas.List.{map-append}
 use Rattle.std.proofs.lemmas.List.Elements.{filter-append}
 use Rattle.std.proofs.lemmas.List.Sums.{fold-append}
-use Rattle.hv_query.specs.Grouped.{keep_new, members, keys_in}
+use Rattle.hv_typing.specs.Grouped.{keep_new, members, keys_in}
 use Rattle.hv_keyed.specs.Folds.{folded, folds}
 use Rattle.hv_keyed.proofs.GroupLaws.{any_kept}
 

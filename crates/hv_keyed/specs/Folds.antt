@@ -1,6 +1,6 @@
 -- What a fold over each group gives, in the order in which the keys first come.
 use Rattle.std.specs.Prelude.{Bool, List, [], ◌∷◌, ◌++◌, map, fold, if◌then◌else◌}
-use Rattle.hv_query.specs.Grouped.{members, keys_in}
+use Rattle.hv_typing.specs.Grouped.{members, keys_in}
 
 -- what is kept, with the start of a new key
 abbrev pub with_new : {A : Type 0} → A → Bool → List A → List A

@@ -1,7 +1,7 @@
 -- What the groups of two parts of the rows come to, put together.
 use Rattle.std.specs.Prelude.{◌≡◌, List, ◌++◌, map, Bool}
 use Rattle.std.specs.List.{fold}
-use Rattle.hv_query.specs.Grouped.{keep_new, keys_in}
+use Rattle.hv_typing.specs.Grouped.{keep_new, keys_in}
 use Rattle.hv_keyed.specs.Folds.{folded, folds}
 
 -- The keys of a whole are those of the first part, and then the second part's new ones. What a key keeps in the

@@ -1,6 +1,6 @@
 ghost use Rattle.std.specs.Prelude.{◌≡◌, ◌<◌, not, length, IfOk, OnOk, List, ◌++◌};
 ghost use Rattle.std.specs.List.{list_any, fold, position_or_len};
-ghost use Rattle.hv_query.specs.Grouped.{keep_new, keys_in};
+ghost use Rattle.hv_typing.specs.Grouped.{keep_new, keys_in};
 ghost use Rattle.hv_keyed.specs.Folds.{with_new, folds};
 ghost use Rattle.hv_keyed.specs.Parts.{GroupsOfParts};
 

@@ -25,8 +25,8 @@ use Rattle.hv_value.specs.declared.value.Value.TheVariants.{rolls-Null}
 use Rattle.hv_value.specs.declared.value.Value.TheViews.{out-Value, out-roll-Value}
 use Rattle.hv_value.specs.Conversion.{is_of, is_layer_in}
 use Rattle.hv_value.proofs.ConversionLemmas.{converted-is_of}
-use Rattle.hv_typed.specs.declared.tree.TypedExpr.{TypedExpr}
-use Rattle.hv_typed.specs.Evaluation.{value_of}
+use Rattle.hv_expr.specs.declared.tree.TypedExpr.{TypedExpr}
+use Rattle.hv_expr.specs.Evaluation.{value_of}
 use Rattle.hv_logic.specs.declared.catalog.Column.{Column}
 use Rattle.hv_logic.specs.declared.catalog.Shape.{Shape}
 use Rattle.hv_logic.specs.declared.catalog.TableInfo.{TableInfo}
@@ -41,7 +41,7 @@ use Rattle.hv_locks.specs.declared.table.Lock.{Lock}
 use Rattle.hv_logic.specs.Names.{shared, rows_names}
 use Rattle.hv_route.specs.Back.{AreFlat}
 use Rattle.hv_route.specs.Touching.{touched}
-use Rattle.hv_query.specs.Rows.{Frame, Tables}
+use Rattle.hv_typing.specs.Rows.{Frame, Tables}
 use Rattle.hv_typing.specs.declared.change.Deletes.{Deletes}
 use Rattle.hv_typing.specs.declared.change.Deletes.TheVariants as deletes
 use Rattle.hv_typing.specs.declared.change.TypedChange.{TypedChange}

@@ -25,12 +25,12 @@ use Rattle.hv_ast.specs.declared.query.Source.TheVariants.{rolls-Table, rolls-Qu
 use Rattle.hv_ast.specs.declared.query.Source.TheViews.{roll-Source}
 use Rattle.hv_ast.specs.declared.query.Union.{Union}
 use Rattle.hv_value.specs.declared.sql_type.SqlType.{SqlType}
-use Rattle.hv_typed.specs.declared.tree.TypedExpr.{TypedExpr}
+use Rattle.hv_expr.specs.declared.tree.TypedExpr.{TypedExpr}
 use Rattle.hv_logic.specs.declared.catalog.TableInfo.{TableInfo}
-use Rattle.hv_query.specs.declared.tree.OutputColumn.{OutputColumn}
-use Rattle.hv_query.specs.declared.tree.TypedQuery.{TypedQuery}
-use Rattle.hv_query.specs.declared.tree.TypedSelect.{TypedSelect}
-use Rattle.hv_query.specs.declared.tree.TypedSource.{TypedSource}
+use Rattle.hv_typing.specs.declared.tree.OutputColumn.{OutputColumn}
+use Rattle.hv_typing.specs.declared.tree.TypedQuery.{TypedQuery}
+use Rattle.hv_typing.specs.declared.tree.TypedSelect.{TypedSelect}
+use Rattle.hv_typing.specs.declared.tree.TypedSource.{TypedSource}
 use Rattle.hv_typing.specs.declared.places.Place.TheVariants as place
 use Rattle.hv_typing.specs.declared.scope.Field.{Field}
 use Rattle.hv_typing.specs.declared.scope.Over.TheVariants as over

@@ -19,8 +19,8 @@ use Rattle.hv_logic.specs.declared.effect.Found.{Found}
 use Rattle.hv_logic.specs.declared.seen.Seen.{Seen}
 use Rattle.hv_logic.specs.Names.{names_in}
 use Rattle.hv_logic.specs.Tables.{named}
-use Rattle.hv_query.specs.Rows.{Tables}
-use Rattle.hv_typed.specs.declared.tree.TypedExpr.{TypedExpr}
+use Rattle.hv_typing.specs.Rows.{Tables}
+use Rattle.hv_expr.specs.declared.tree.TypedExpr.{TypedExpr}
 use Rattle.hv_typing.specs.declared.change.Deletes.{Deletes}
 use Rattle.hv_typing.specs.declared.change.Deletes.TheVariants as deletes
 use Rattle.hv_typing.specs.declared.change.Origin.{Origin}

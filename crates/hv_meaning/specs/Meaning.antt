@@ -16,8 +16,8 @@ use Rattle.hv_value.specs.declared.value.Value.TheVariants as value
 use Rattle.hv_value.specs.declared.row.Row.{Row}
 use Rattle.hv_value.specs.Conversion.{converted}
 use Rattle.hv_value.specs.Order.{value_cmp}
-use Rattle.hv_typed.specs.declared.tree.TypedExpr.{TypedExpr}
-use Rattle.hv_typed.specs.Evaluation.{value_of, values_of}
+use Rattle.hv_expr.specs.declared.tree.TypedExpr.{TypedExpr}
+use Rattle.hv_expr.specs.Evaluation.{value_of, values_of}
 use Rattle.hv_logic.specs.declared.catalog.Column.{Column}
 use Rattle.hv_logic.specs.declared.catalog.Shape.{Shape}
 use Rattle.hv_logic.specs.declared.catalog.TableInfo.{TableInfo}
@@ -32,10 +32,10 @@ use Rattle.hv_logic.specs.Rows.{rows_in}
 use Rattle.hv_route.specs.declared.fault.RouteFault.{RouteFault}
 use Rattle.hv_route.specs.declared.fault.RouteFault.TheVariants as route_fault
 use Rattle.hv_route.specs.Touching.{touched}
-use Rattle.hv_query.specs.declared.tree.OutputColumn.{OutputColumn}
-use Rattle.hv_query.specs.declared.tree.TypedQuery.{TypedQuery}
-use Rattle.hv_query.specs.declared.tree.TypedSource.{TypedSource}
-use Rattle.hv_query.specs.Rows.{Frame, Tables, is_met, rows_of}
+use Rattle.hv_typing.specs.declared.tree.OutputColumn.{OutputColumn}
+use Rattle.hv_typing.specs.declared.tree.TypedQuery.{TypedQuery}
+use Rattle.hv_typing.specs.declared.tree.TypedSource.{TypedSource}
+use Rattle.hv_typing.specs.Rows.{Frame, Tables, is_met, rows_of}
 use Rattle.hv_typing.specs.declared.change.Deletes.{Deletes}
 use Rattle.hv_typing.specs.declared.change.Deletes.TheVariants as deletes
 use Rattle.hv_typing.specs.declared.change.Origin.{Origin}

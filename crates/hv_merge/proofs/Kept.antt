@@ -16,10 +16,10 @@ use Rattle.hv_wids.specs.WriteIds.{WriteIds, is_valid}
 use Rattle.hv_dirs.specs.Choice.{sight_of}
 use Rattle.hv_dirs.specs.Sorting.{merged_by, merge_by, rising_by}
 use Rattle.hv_dirs.proofs.SortingLemmas as sorting
-use Rattle.hv_visible.specs.History.{is_row}
-use Rattle.hv_visible.specs.Visible.{names_it, is_gone, is_visible}
-use Rattle.hv_visible.proofs.SortingLemmas.{Below, Rises, rises-rising}
-use Rattle.hv_visible.proofs.RowLemmas.{by_id-total}
+use Rattle.hv_law_visible.specs.History.{is_row}
+use Rattle.hv_law_visible.specs.Visible.{names_it, is_gone, is_visible}
+use Rattle.hv_law_visible.proofs.SortingLemmas.{Below, Rises, rises-rising}
+use Rattle.hv_law_visible.proofs.RowLemmas.{by_id-total}
 use Rattle.hv_rowfile.specs.declared.record.Rec.{Rec}
 use Rattle.hv_rowfile.specs.declared.record.Rec.TheVariants as rec
 use Rattle.hv_rowfile.specs.Layout as layout

@@ -8,7 +8,7 @@ use Rattle.std.specs.Cmp.{IsTotalOrder}
 use Rattle.std.specs.FinMap.{IsAntisymmetric}
 use Rattle.std.proofs.lemmas.List.Sorted.{IsPermutation-refl, IsPermutation-sym, IsPermutation-cons, IsPermutation-middle, IsPermutation-trans}
 use Rattle.hv_value.specs.Sorting.{sorted_same}
-use Rattle.hv_query.specs.Order.{placed_by, put_by, sorted_by}
+use Rattle.hv_typing.specs.Order.{placed_by, put_by, sorted_by}
 
 module _ {X : Type 0} (R : X → X → Ordering) where
   -- no item comes before the one in front of it

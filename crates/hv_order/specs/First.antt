@@ -1,8 +1,8 @@
 -- The first rows of an order.
 use Rattle.std.specs.Prelude.{◌≡◌, ℕ, ◌<◌, ◌≤◌, length, IsSorted, IsTrue, List, take, Option, None, Some}
 use Rattle.hv_value.specs.declared.row.Row.{Row}
-use Rattle.hv_query.specs.declared.tree.SortKey.{SortKey}
-use Rattle.hv_query.specs.Order.{order_cmp, ordered}
+use Rattle.hv_typing.specs.declared.tree.SortKey.{SortKey}
+use Rattle.hv_typing.specs.Order.{order_cmp, ordered}
 use Rattle.hv_order.specs.declared.Front.{Front}
 use Rattle.hv_order.specs.declared.Kept.{Kept}
 

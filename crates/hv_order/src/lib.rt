@@ -4,16 +4,16 @@
 ghost use Rattle.std.specs.Prelude.{◌≡◌, ◌∷◌, ◌++◌, [], ◌<◌, ◌≤◌, false, length, List, IsTrue, OnOk, IfOk, IfSome};
 ghost use Rattle.std.specs.Ordering.{is_lt};
 ghost use Rattle.hv_value.specs.declared.row.Row.{Row as RowOf};
-ghost use Rattle.hv_query.specs.Order.{key_cmp, order_cmp, ordered, limited};
+ghost use Rattle.hv_typing.specs.Order.{key_cmp, order_cmp, ordered, limited};
 ghost use Rattle.hv_order.specs.First.{first_ordered, IsBounded, IsEnough, IsSound};
 
 use hv_base::NoMemory;
-use hv_query::SortKey;
+use hv_typing::SortKey;
 use hv_value::{Row, Value, compare_rows};
 use std::alloc::Global;
 use std::cmp::Ordering;
 
-#[tactic(auto, unfolding(hv_query::specs::Order::key_cmp))]
+#[tactic(auto, unfolding(hv_typing::specs::Order::key_cmp))]
 fn compare_at(key: SortKey, left: &Row, right: &Row) -> Ordering
     ensures { result ≡ key_cmp key left.now right.now }
 {
@@ -28,7 +28,7 @@ fn compare_at(key: SortKey, left: &Row, right: &Row) -> Ordering
 }
 
 /// By the keys in turn, and then by the whole row. Takes no memory.
-#[tactic(auto, unfolding(hv_query::specs::Order::order_cmp))]
+#[tactic(auto, unfolding(hv_typing::specs::Order::order_cmp))]
 pub fn compare(keys: &[SortKey], left: &Row, right: &Row) -> Ordering
     ensures { result ≡ order_cmp keys.now left.now right.now }
 {

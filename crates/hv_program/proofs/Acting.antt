@@ -13,10 +13,10 @@ use Rattle.hv_history.specs.declared.entry.Entry.{Entry}
 use Rattle.hv_history.specs.declared.entry.Entry.TheVariants as entry
 use Rattle.hv_history.specs.State.{State, state_of, after}
 use Rattle.hv_journal.specs.Appending.{Holds}
-use Rattle.hv_directives.specs.declared.actions.Action.{Action}
-use Rattle.hv_directives.specs.declared.actions.Action.TheVariants as action
-use Rattle.hv_directives.specs.declared.actions.Session.{Session}
-use Rattle.hv_directives.specs.declared.actions.Statement.{Statement}
+use Rattle.hv_script.specs.declared.actions.Action.{Action}
+use Rattle.hv_script.specs.declared.actions.Action.TheVariants as action
+use Rattle.hv_script.specs.declared.actions.Session.{Session}
+use Rattle.hv_script.specs.declared.actions.Statement.{Statement}
 use Rattle.hv_stands.specs.Running.{Asking, next_number, opening, AreOf}
 use Rattle.hv_stands.specs.Statements.{AllFitting}
 use Rattle.hv_stands.proofs.Numbers.{numbered-within}

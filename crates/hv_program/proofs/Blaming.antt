@@ -4,7 +4,7 @@ use Rattle.std.proofs.lemmas.Bool.{eqb-true}
 use Rattle.hv_base.specs.Faults.{Rose}
 use Rattle.hv_shelf.specs.Disk.{Store}
 use Rattle.hv_script.specs.Words.{command_of}
-use Rattle.hv_directives.specs.Actions.{refused_at}
+use Rattle.hv_script.specs.Actions.{refused_at}
 use Rattle.hv_script.specs.declared.words.Command.{Command}
 use Rattle.hv_history.specs.Legal.{profile}
 use Rattle.hv_house.specs.Booting.{IsBootStore, CanOpen}

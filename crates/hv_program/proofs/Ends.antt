@@ -8,7 +8,7 @@ use Rattle.hv_history.specs.Legal.{load, IsLegal, profile}
 use Rattle.hv_history.specs.Journal.{Reads, IsJournal}
 use Rattle.hv_base.specs.Sink.{Gains, GainsPart}
 use Rattle.hv_journal.specs.Appending.{Holds, KeepsTree}
-use Rattle.hv_directives.specs.declared.actions.Action.{Action}
+use Rattle.hv_script.specs.declared.actions.Action.{Action}
 use Rattle.hv_house.specs.declared.house.House.{House}
 use Rattle.hv_house.specs.House.{entries_of, IsFaithful}
 use Rattle.hv_house.specs.Steps.{IsOpenedOver}

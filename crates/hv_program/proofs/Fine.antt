@@ -6,13 +6,13 @@ use Rattle.std.proofs.lemmas.Bool.{ltb-false, leb-true, or_parts, and_parts}
 use Rattle.hv_script.specs.declared.items.Item.{Item}
 use Rattle.hv_script.specs.Items.{first_of, items_of}
 use Rattle.hv_script.specs.Script.{begins_directive, front}
-use Rattle.hv_directives.specs.declared.actions.Action.{Action}
+use Rattle.hv_script.specs.declared.actions.Action.{Action}
 use Rattle.hv_base.specs.declared.gate.Stage.TheVariants.{Start, Read, Commit}
-use Rattle.hv_directives.specs.declared.kinds.Kind.{Kind}
-use Rattle.hv_directives.specs.declared.kinds.Kind.TheVariants.{Statement, Session, Hold, Go, Unknown}
-use Rattle.hv_directives.specs.Kinds.{behind, directive_of, hold_of, is_name, is_name_byte, kind_of, named, or_else, same_text, without_trail}
-use Rattle.hv_directives.specs.Standing.{Standing, first_standing, is_faulty, is_held, after}
-use Rattle.hv_directives.specs.Actions.{action_for, actions_from, actions_of, stage_of_pending}
+use Rattle.hv_script.specs.declared.kinds.Kind.{Kind}
+use Rattle.hv_script.specs.declared.kinds.Kind.TheVariants.{Statement, Session, Hold, Go, Unknown}
+use Rattle.hv_script.specs.Kinds.{behind, directive_of, hold_of, is_name, is_name_byte, kind_of, named, or_else, same_text, without_trail}
+use Rattle.hv_script.specs.Standing.{Standing, first_standing, is_faulty, is_held, after}
+use Rattle.hv_script.specs.Actions.{action_for, actions_from, actions_of, stage_of_pending}
 use Rattle.hv_session.specs.Doing.{IsHold}
 use Rattle.hv_program.specs.Running.{IsFine}
 

@@ -11,9 +11,9 @@ use Rattle.hv_script.specs.Items.{items_of}
 use Rattle.hv_script.specs.declared.script.ScriptFault.{ScriptFault}
 use Rattle.hv_script.specs.declared.script.ScriptFault.TheVariants.{Refused}
 use Rattle.hv_script.specs.Script.{broken_line, earlier, front, limit_line, line_at}
-use Rattle.hv_directives.specs.declared.actions.Action.{Action}
-use Rattle.hv_directives.specs.Actions.{IsReading, least, refused_at}
-use Rattle.hv_directives.specs.Standing.{fault_lines, first_standing}
+use Rattle.hv_script.specs.declared.actions.Action.{Action}
+use Rattle.hv_script.specs.Actions.{IsReading, least, refused_at}
+use Rattle.hv_script.specs.Standing.{fault_lines, first_standing}
 use Rattle.hv_program.specs.declared.stop.Stop.{Stop}
 use Rattle.hv_program.specs.declared.stop.Stop.TheVariants as stop
 use Rattle.hv_program.specs.Stops.{status_of_stop}

@@ -9,14 +9,14 @@ use Rattle.hv_script.specs.declared.items.Item.{Item}
 use Rattle.hv_script.specs.Items.{items_of}
 use Rattle.hv_script.specs.Script.{bytes_line, earlier, front}
 use Rattle.hv_history.specs.declared.entry.Entry.{Entry}
-use Rattle.hv_directives.specs.declared.actions.Action.{Action}
-use Rattle.hv_directives.specs.declared.kinds.Kind.{Kind}
-use Rattle.hv_directives.specs.declared.kinds.Kind.TheVariants.{Statement, Session, Hold, Go, Unknown}
-use Rattle.hv_directives.specs.declared.standing.Pending.{Pending}
-use Rattle.hv_directives.specs.declared.standing.Held.{Held as Keeps}
-use Rattle.hv_directives.specs.Kinds.{kind_of}
-use Rattle.hv_directives.specs.Standing.{Standing as Place, first_standing, holds, is_held, is_other, is_faulty, after, with_held, fault_lines, line_of_pending, line_of_held}
-use Rattle.hv_directives.specs.Actions.{action_for, actions_from, actions_of, least, refused_at, stage_of_pending, statement_in}
+use Rattle.hv_script.specs.declared.actions.Action.{Action}
+use Rattle.hv_script.specs.declared.kinds.Kind.{Kind}
+use Rattle.hv_script.specs.declared.kinds.Kind.TheVariants.{Statement, Session, Hold, Go, Unknown}
+use Rattle.hv_script.specs.declared.standing.Pending.{Pending}
+use Rattle.hv_script.specs.declared.standing.Held.{Held as Keeps}
+use Rattle.hv_script.specs.Kinds.{kind_of}
+use Rattle.hv_script.specs.Standing.{Standing as Place, first_standing, holds, is_held, is_other, is_faulty, after, with_held, fault_lines, line_of_pending, line_of_held}
+use Rattle.hv_script.specs.Actions.{action_for, actions_from, actions_of, least, refused_at, stage_of_pending, statement_in}
 use Rattle.hv_session.specs.Taking.{HoldsAt}
 use Rattle.hv_program.specs.Doing.{Waiting, Standing, is_session, waiting_in, without, ReleasesOne, AreDone, AreInTurn, IsPutOff, Replies, asking_of}
 use Rattle.hv_program.specs.Running.{beginning}

@@ -8,7 +8,7 @@ use Rattle.hv_shelf.specs.Disk.{Store}
 use Rattle.hv_history.specs.declared.entry.Entry.{Entry}
 use Rattle.hv_history.specs.Journal.{Reads}
 use Rattle.hv_history.specs.Legal.{IsLegal, profile}
-use Rattle.hv_directives.specs.declared.actions.Action.{Action}
+use Rattle.hv_script.specs.declared.actions.Action.{Action}
 use Rattle.hv_house.specs.declared.house.House.{House}
 use Rattle.hv_house.specs.declared.fault.HouseFault.{HouseFault}
 use Rattle.hv_house.specs.declared.fault.HouseFault.TheVariants as fault

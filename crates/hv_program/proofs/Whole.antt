@@ -7,9 +7,9 @@ use Rattle.hv_base.specs.Told.{Moves, StaysTold}
 use Rattle.hv_shelf.specs.Disk.{Store}
 use Rattle.hv_script.specs.Items.{items_of}
 use Rattle.hv_script.specs.Script.{broken_line, bytes_line, earlier, front, limit_line}
-use Rattle.hv_directives.specs.declared.actions.Action.{Action}
-use Rattle.hv_directives.specs.Actions.{actions_of, least, refused_at}
-use Rattle.hv_directives.specs.Standing.{fault_lines, first_standing}
+use Rattle.hv_script.specs.declared.actions.Action.{Action}
+use Rattle.hv_script.specs.Actions.{actions_of, least, refused_at}
+use Rattle.hv_script.specs.Standing.{fault_lines, first_standing}
 use Rattle.hv_base.specs.Sink.{GainsPart}
 use Rattle.hv_base.specs.Told.{Tells}
 use Rattle.hv_script.specs.Words.{command_of}

@@ -3,9 +3,9 @@
 use Rattle.std.specs.Prelude.{◌≡◌, ◌⊎◌, ℕ, ◌+◌, ◌<◌, Bool, true, false, ◌||◌, if◌then◌else◌, nat_eq, Option, Some, None, List, [], ◌∷◌, ◌++◌, length, codes, Contains}
 use Rattle.std.specs.Cmp.Lexicographic.{pointwise}
 use Rattle.hv_base.specs.declared.gate.Stage.{Stage}
-use Rattle.hv_directives.specs.declared.actions.Action.{Action}
-use Rattle.hv_directives.specs.declared.actions.Action.TheVariants as action
-use Rattle.hv_directives.specs.declared.actions.Statement.{Statement}
+use Rattle.hv_script.specs.declared.actions.Action.{Action}
+use Rattle.hv_script.specs.declared.actions.Action.TheVariants as action
+use Rattle.hv_script.specs.declared.actions.Statement.{Statement}
 use Rattle.hv_ast.specs.declared.statement.Stmt.{Stmt}
 use Rattle.hv_built.specs.Running.{Runs, IsRefused}
 use Rattle.hv_history.specs.declared.entry.Entry.{Entry}
@@ -15,8 +15,8 @@ use Rattle.hv_history.specs.State.{meaning, state_of}
 use Rattle.hv_history.specs.Legal.{Of, load, profile}
 use Rattle.hv_history.specs.Answers.{line, cause_text}
 use Rattle.hv_stands.specs.Running.{Asking, next_number, opening, AreOf}
-use Rattle.hv_next.specs.Order.{AllInOrder}
-use Rattle.hv_next.specs.Carrying.{IsAtHold}
+use Rattle.hv_law_next.specs.Order.{AllInOrder}
+use Rattle.hv_law_next.specs.Carrying.{IsAtHold}
 use Rattle.hv_session.specs.Ending.{HasReplied}
 use Rattle.hv_session.specs.Faults.{IsFaultLine}
 use Rattle.hv_house.specs.Asking.{CanBegin}

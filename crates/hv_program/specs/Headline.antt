@@ -5,7 +5,7 @@ use Rattle.hv_shelf.specs.Disk.{Store}
 use Rattle.hv_history.specs.declared.entry.Entry.{Entry}
 use Rattle.hv_house.specs.Booting.{opening_of, OpensTo}
 use Rattle.hv_script.specs.Words.{command_of}
-use Rattle.hv_directives.specs.Actions.{refused_at, actions_of}
+use Rattle.hv_script.specs.Actions.{refused_at, actions_of}
 use Rattle.hv_history.specs.State.{state_of}
 use Rattle.hv_history.specs.Legal.{load, profile}
 use Rattle.hv_program.specs.Doing.{AreInTurn}

@@ -5,7 +5,7 @@ use Rattle.std.specs.List.{list_any}
 use Rattle.hv_base.specs.Told.{Tells, Moves}
 use Rattle.hv_base.specs.Sink.{Gains}
 use Rattle.hv_script.specs.Words.{command_of}
-use Rattle.hv_directives.specs.Actions.{refused_at}
+use Rattle.hv_script.specs.Actions.{refused_at}
 use Rattle.hv_history.specs.Legal.{profile}
 use Rattle.hv_recovery.specs.Recovery.{IsBadJournalAt}
 use Rattle.hv_house.specs.Booting.{IsFullAt, HasNoBook, HasFullBook, CanOpen}

@@ -8,7 +8,7 @@ use Rattle.hv_history.specs.State.{state_of}
 use Rattle.hv_history.specs.Legal.{IsLegal, profile}
 use Rattle.hv_history.specs.Journal.{Reads}
 use Rattle.hv_journal.specs.Appending.{ReadsMore}
-use Rattle.hv_directives.specs.declared.actions.Action.{Action}
+use Rattle.hv_script.specs.declared.actions.Action.{Action}
 use Rattle.hv_stands.specs.Files.{Stands}
 use Rattle.hv_house.specs.declared.boot.BootFault.TheVariants as fault
 use Rattle.hv_house.specs.Booting.{opening_of, IsCutOpening}

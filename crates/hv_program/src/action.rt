@@ -1,7 +1,7 @@
 ghost use Rattle.std.specs.Prelude.{◌≡◌, ◌≤◌, [], None, false, IfOk, IfErr};
 ghost use Rattle.hv_actor.specs.Acting.{IsLater};
 ghost use Rattle.hv_acts.specs.Told.{seen_in};
-ghost use Rattle.hv_directives.specs.declared.actions.Action.TheVariants as action;
+ghost use Rattle.hv_script.specs.declared.actions.Action.TheVariants as action;
 ghost use Rattle.hv_house.specs.Faults.{EndsRun, FileCause};
 ghost use Rattle.hv_house.specs.House.{entries_of};
 ghost use Rattle.hv_stands.specs.Running.{next_number};
@@ -18,7 +18,7 @@ use crate::alone::{finish_alone, own_reply, take_alone};
 use crate::held::{Held, keep, let_go};
 use hv_acts::ToldHouse;
 use hv_base::{Duplicate, List, NoMemory, Text};
-use hv_directives::{Action, Session, Statement};
+use hv_script::{Action, Session, Statement};
 use hv_house::HouseFault;
 use hv_session::{Asking, Done, Reply, Taken, memory_reply};
 use hv_shelf::Shelf;

@@ -1,7 +1,7 @@
 ghost use Rattle.std.specs.Prelude.{List, ℕ, Bool};
 ghost use Rattle.hv_shelf.specs.Disk.{Store};
 ghost use Rattle.hv_history.specs.declared.entry.Entry.{Entry};
-ghost use Rattle.hv_directives.specs.declared.actions.Action.{Action};
+ghost use Rattle.hv_script.specs.declared.actions.Action.{Action};
 ghost use Rattle.hv_telling.specs.Telling.{OpensLater};
 ghost use Rattle.hv_program.specs.Results.{IsServed, IsCutOff, IsStopped, ReadsTo, ReadsFurther, StopsForMemory, StopsForStore};
 

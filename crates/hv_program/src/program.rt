@@ -14,7 +14,7 @@ use crate::run::run;
 use crate::stop::Stop;
 use hv_acts::ToldHouse;
 use hv_base::{Gate, Limits, Sink, Source, write_all};
-use hv_directives::{Action, read_actions};
+use hv_script::{Action, read_actions};
 use hv_house::{BootFault, House};
 use hv_script::{MAX_SCRIPT, ScriptFault, read_words};
 use hv_shelf::Shelf;

@@ -11,7 +11,7 @@ use crate::action::act;
 use crate::stop::Stop;
 use hv_acts::ToldHouse;
 use hv_base::{Sink, write_all};
-use hv_directives::Action;
+use hv_script::Action;
 use hv_shelf::Shelf;
 use std::alloc::Global;
 

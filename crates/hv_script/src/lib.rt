@@ -1,15 +1,25 @@
 //! The words of the command line, and the script: its items, in order.
 #![tactic(auto)]
 
+#[cfg(test)]
+mod action_tests;
+mod actions;
 mod items;
+mod kinds;
 mod reader;
+mod reading;
 mod script;
+mod standing;
 #[cfg(test)]
 mod tests;
 mod words;
 
+pub use actions::{Action, Session, Statement};
 pub use items::{Item, Move, Stand};
+pub use kinds::MAX_NAME;
+pub use reading::read_actions;
 pub use script::{
     Cut, MAX_SCRIPT, MAX_STATEMENTS, MAX_TEXT, ScriptFault, cut_script, earlier_of, is_directive,
 };
+pub use standing::MAX_SESSIONS;
 pub use words::{Command, DEFAULT_WORKERS, read_words};

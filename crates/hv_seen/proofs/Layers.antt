@@ -9,7 +9,7 @@ use Rattle.hv_value.specs.declared.value.Value.TheVariants.{rolls-Null, rolls-Bo
 use Rattle.std.proofs.lemmas.Int.{wraps}
 use Rattle.hv_value.specs.declared.sql_type.SqlType.{SqlType}
 use Rattle.hv_value.specs.Conversion.{converted, from_layer}
-use Rattle.hv_typed.specs.Values.{by, layers_by, by_one, layer_by_one, compare, layers_compare}
+use Rattle.hv_expr.specs.Values.{by, layers_by, by_one, layer_by_one, compare, layers_compare}
 
 pub ruleset layers = (out-roll-Value, rolls-Null, rolls-Bool, rolls-Int, rolls-Big, rolls-Str, rolls-Day, rolls-Array)
 

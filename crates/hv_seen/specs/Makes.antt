@@ -5,7 +5,7 @@ use Rattle.hv_value.specs.declared.sql_type.SqlType.TheVariants as type
 use Rattle.hv_value.specs.declared.value.Value.{Value}
 use Rattle.hv_value.specs.Conversion.{converted}
 use Rattle.hv_text.specs.Characters.{lowered, raised, trimmed}
-use Rattle.hv_typed.specs.Values.{text_of, text_value}
+use Rattle.hv_expr.specs.Values.{text_of, text_value}
 use Rattle.hv_seen.specs.declared.texts.Maker.{Maker}
 use Rattle.hv_seen.specs.declared.texts.Maker.TheVariants as maker
 

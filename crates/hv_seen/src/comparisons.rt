@@ -1,7 +1,7 @@
 ghost use Rattle.std.specs.Prelude.{◌≡◌, option_map};
 ghost use Rattle.std.specs.Ordering.{int_cmp};
 ghost use Rattle.hv_value.specs.Dates.{day_of_text};
-ghost use Rattle.hv_typed.specs.Values.{compare, equal, null_safe_equal, layer_is_nothing};
+ghost use Rattle.hv_expr.specs.Values.{compare, equal, null_safe_equal, layer_is_nothing};
 ghost use Rattle.hv_seen.specs.Seen.{seen_layer, seen_value};
 
 use crate::seen::Seen;

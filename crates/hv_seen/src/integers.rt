@@ -1,12 +1,12 @@
 ghost use Rattle.std.specs.Prelude.{◌≡◌, false, option_map, ◌+ℤ◌, ◌-ℤ◌, ◌*ℤ◌, neg_ℤ, int_div, int_rem, pos, unsigned_abs};
 ghost use Rattle.std.specs.Ordering.{int_eq};
 ghost use Rattle.std.specs.Int.{int_wrap, w32, w64};
-ghost use Rattle.hv_typed.specs.Values.{by, by_one};
-ghost use Rattle.hv_typed.specs.Functions.{calculated, pmod, arithmetic_value, unless_zero};
+ghost use Rattle.hv_expr.specs.Values.{by, by_one};
+ghost use Rattle.hv_expr.specs.Functions.{calculated, pmod, arithmetic_value, unless_zero};
 ghost use Rattle.hv_seen.specs.Seen.{seen_value};
 
 use crate::seen::{Seen, null, of_big, of_int};
-use hv_typed::Arithmetic;
+use hv_expr::Arithmetic;
 
 fn wide(number: &i32) -> i64
     ensures { result ≡ number.now }
@@ -70,7 +70,7 @@ fn remainder_again_int(left: &i32, right: &i32) -> Option<i32>
     remainder_int(&add_int(&first, right), right)
 }
 
-#[tactic(auto, using(crate::proofs::Layers::wrapping), unfolding(hv_typed::specs::Functions::pmod))]
+#[tactic(auto, using(crate::proofs::Layers::wrapping), unfolding(hv_expr::specs::Functions::pmod))]
 fn pmod_int(left: &i32, right: &i32) -> Option<i32>
     ensures { result ≡ option_map (int_wrap w32) (pmod w32 left.now right.now) }
 {
@@ -173,7 +173,7 @@ fn remainder_again_big(left: &i64, right: &i64) -> Option<i64>
     remainder_big(&add_big(&first, right), right)
 }
 
-#[tactic(auto, using(crate::proofs::Layers::wrapping), unfolding(hv_typed::specs::Functions::pmod))]
+#[tactic(auto, using(crate::proofs::Layers::wrapping), unfolding(hv_expr::specs::Functions::pmod))]
 fn pmod_big(left: &i64, right: &i64) -> Option<i64>
     ensures { result ≡ option_map (int_wrap w64) (pmod w64 left.now right.now) }
 {

@@ -1,5 +1,5 @@
 ghost use Rattle.std.specs.Prelude.{◌≡◌, IfOk, option_map};
-ghost use Rattle.hv_typed.specs.Values.{int_of, number_of, text_of, day_of, is_null, taken, is_layer_of};
+ghost use Rattle.hv_expr.specs.Values.{int_of, number_of, text_of, day_of, is_null, taken, is_layer_of};
 ghost use Rattle.hv_value.specs.Conversion.{some_int, some_big, some_day};
 ghost use Rattle.hv_value.specs.declared.value.Value.TheVariants as value;
 ghost use Rattle.hv_value.specs.declared.value.Value.TheViews.{out-Value};
@@ -65,7 +65,7 @@ fn is_of(kind: &SqlType, value: &Value) -> bool
 
 /// The value at a place of the type: NULL where it isn't of it.
 #[inline(always)]
-#[tactic(auto, unfolding(hv_typed::specs::Values::taken))]
+#[tactic(auto, unfolding(hv_expr::specs::Values::taken))]
 pub fn taken<'a>(kind: &SqlType, value: &'a Value) -> Seen<'a>
     ensures { seen_value result ≡ taken kind.now value.now }
 {

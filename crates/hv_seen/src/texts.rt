@@ -1,7 +1,7 @@
 ghost use Rattle.std.specs.Prelude.{◌≡◌, IfOk, option_map, pos, ◌+◌, length};
 ghost use Rattle.std.specs.Int.{int_wrap, w32};
-ghost use Rattle.hv_typed.specs.Values.{text_of, number_of, text_value, int_value, items_of, both_of, truth_value};
-ghost use Rattle.hv_typed.specs.Functions.{instr, size_of, part_of};
+ghost use Rattle.hv_expr.specs.Values.{text_of, number_of, text_value, int_value, items_of, both_of, truth_value};
+ghost use Rattle.hv_expr.specs.Functions.{instr, size_of, part_of};
 ghost use Rattle.hv_text.specs.Characters.{character_count, lowered, raised, trimmed, substring, substring_from};
 ghost use Rattle.hv_text.specs.Patterns.{is_like};
 ghost use Rattle.hv_value.specs.Conversion.{converted};

@@ -1,7 +1,7 @@
 //! The three truth values, in one byte.
 
 ghost use Rattle.std.specs.Prelude.{◌≡◌, option_map, not};
-ghost use Rattle.hv_typed.specs.Values.{truth_of, truth_value, both, either};
+ghost use Rattle.hv_expr.specs.Values.{truth_of, truth_value, both, either};
 ghost use Rattle.hv_seen.specs.Seen.{seen_value};
 ghost use Rattle.hv_seen.specs.Truths.{told};
 

@@ -2,8 +2,8 @@
 use Rattle.std.proofs.Common.{◌≡◌, List, [], ◌∷◌, ◌++◌, Result, Ok, Err, refl, sym, ap, ◌∙◌, append_assoc}
 use Rattle.std.proofs.lemmas.List.{append-nil}
 use Rattle.hv_base.specs.declared.refusal.Refusal.{Refusal}
-use Rattle.hv_typed.specs.declared.tree.TypedExpr.{TypedExpr}
-use Rattle.hv_query.specs.declared.tree.OutputColumn.{OutputColumn}
+use Rattle.hv_expr.specs.declared.tree.TypedExpr.{TypedExpr}
+use Rattle.hv_typing.specs.declared.tree.OutputColumn.{OutputColumn}
 use Rattle.hv_typing.specs.Faults.{in_front}
 use Rattle.hv_typing.specs.Nodes.{as_kind}
 use Rattle.hv_typing.specs.Queries.{items_as, first_kind, behind_first}

@@ -8,8 +8,8 @@ ghost use Rattle.hv_typing.specs.Selects.{aggregates_in, is_grouped, keys_typed,
 use hv_ast::{Expr, Item, Select};
 use hv_base::{Boxed, List, Refusal};
 use hv_grouping::{has_aggregate, stands_grouped};
-use hv_query::Grouping;
-use hv_typed::TypedExpr;
+use hv_typing::Grouping;
+use hv_expr::TypedExpr;
 use hv_types::{condition_of, type_expr};
 use hv_typing::{Field, Over, TypeFault};
 use std::alloc::Global;

@@ -8,8 +8,8 @@ ghost use Rattle.hv_typing.specs.Sources.{array_typed, or_col, field_as, element
 use crate::sources::{AMBIGUOUS, is_taken, with_fields, with_name};
 use hv_ast::{Explode, Expr, Lateral};
 use hv_base::{Boxed, Duplicate, List, NoMemory, Text};
-use hv_query::{TypedFrom, TypedLateral};
-use hv_typed::TypedExpr;
+use hv_typing::{TypedFrom, TypedLateral};
+use hv_expr::TypedExpr;
 use hv_types::{kind_of, placed, type_expr};
 use hv_typing::{Field, Over, Place, Sources, TypeFault};
 use hv_value::{Elem, SqlType};

@@ -6,8 +6,8 @@ ghost use Rattle.hv_typing.specs.Sources.{is_among, is_taken, filter_typed, outp
 
 use hv_ast::{Expr, JoinKind as WrittenKind};
 use hv_base::{Boxed, Duplicate, List, NoMemory, Refusal, Text};
-use hv_query::{JoinKind, OutputColumn, TypedFrom, TypedJoin, TypedQuery, TypedSource};
-use hv_typed::TypedExpr;
+use hv_typing::{JoinKind, OutputColumn, TypedFrom, TypedJoin, TypedQuery, TypedSource};
+use hv_expr::TypedExpr;
 use hv_types::condition_of;
 use hv_typing::{Brought, Field, Opened, Over, Sources, TypeFault};
 use std::alloc::Global;

@@ -29,7 +29,7 @@ use Rattle.hv_trail.specs.declared.trail.TrailItem.{TrailItem}
 use Rattle.hv_trail.specs.Trail.{book_of, state_at}
 use Rattle.hv_trail.proofs.LastingLaws.{book-append}
 use Rattle.hv_meta.specs.States.{state_in}
-use Rattle.hv_next.specs.Order.{CauseInOrder, IsInOrder, AllInOrder}
+use Rattle.hv_law_next.specs.Order.{CauseInOrder, IsInOrder, AllInOrder}
 use Rattle.hv_actor.specs.Acting.{IsAlone}
 use Rattle.hv_house.specs.declared.fault.HouseFault.{HouseFault}
 use Rattle.hv_house.specs.declared.fault.HouseFault.TheVariants as fault

@@ -16,8 +16,8 @@ use Rattle.hv_history.specs.Legal.{Of, profile}
 use Rattle.hv_stands.specs.Running.{meant, Asking, next_number, opening, starting, IsUnderWay}
 use Rattle.hv_stands.proofs.Begun.{begins}
 use Rattle.hv_trail.specs.declared.trail.TrailItem.{TrailItem}
-use Rattle.hv_next.specs.Order.{AllInOrder}
-use Rattle.hv_next.specs.Carrying.{IsAtHold}
+use Rattle.hv_law_next.specs.Order.{AllInOrder}
+use Rattle.hv_law_next.specs.Carrying.{IsAtHold}
 use Rattle.hv_house.specs.declared.fault.HouseFault.{HouseFault}
 use Rattle.hv_house.specs.declared.house.House.{House}
 use Rattle.hv_house.specs.House.{entries_of, beginning_of}

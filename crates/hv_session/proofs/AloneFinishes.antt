@@ -18,8 +18,8 @@ use Rattle.hv_stands.specs.Laws.{changes_in}
 use Rattle.hv_stands.specs.Running.{Asking, IsOf, AreOf, meant, IsUnderWay}
 use Rattle.hv_stands.proofs.Begun.{ids-given}
 use Rattle.hv_trail.specs.declared.trail.TrailItem.{TrailItem}
-use Rattle.hv_next.specs.Next.{needs_id}
-use Rattle.hv_next.specs.Order.{AllInOrder}
+use Rattle.hv_law_next.specs.Next.{needs_id}
+use Rattle.hv_law_next.specs.Order.{AllInOrder}
 use Rattle.hv_house.specs.declared.fault.HouseFault.{HouseFault}
 use Rattle.hv_house.specs.House.{entries_of}
 use Rattle.hv_telling.specs.Telling.{IsToldHouse}

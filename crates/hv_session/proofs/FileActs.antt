@@ -12,8 +12,8 @@ use Rattle.hv_logic.specs.declared.effect.Effect.{Effect}
 use Rattle.hv_logic.specs.declared.meaning.Meaning.TheVariants.{Change}
 use Rattle.hv_route.specs.Routes.{files_of}
 use Rattle.hv_route.specs.declared.files.OutFile.{OutFile}
-use Rattle.hv_tables.specs.Putting.{CanPut, IsEncoded, bytes_of}
-use Rattle.hv_tables.proofs.Names.{all-append, all-parts}
+use Rattle.hv_table_rows.specs.Putting.{CanPut, IsEncoded, bytes_of}
+use Rattle.hv_table_rows.proofs.Names.{all-append, all-parts}
 use Rattle.hv_history.specs.Lasting.{IsFront}
 use Rattle.hv_stands.specs.Files.{place_of_file}
 use Rattle.hv_stands.specs.Laws.{HasFile}

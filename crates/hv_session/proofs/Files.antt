@@ -7,9 +7,9 @@ use Rattle.hv_base.specs.Told.{Tells}
 use Rattle.hv_shelf.specs.Disk.{Store}
 use Rattle.hv_choosing.specs.declared.listing.DirFile.{DirFile}
 use Rattle.hv_choosing.specs.Dirs.{span_of}
-use Rattle.hv_visible.specs.Members.{IsIn}
+use Rattle.hv_law_visible.specs.Members.{IsIn}
 use Rattle.hv_rowfile.specs.declared.record.Rec.{Rec}
-use Rattle.hv_tables.specs.Reading.{HoldsAt, Sheet, Reads}
+use Rattle.hv_table_rows.specs.Reading.{HoldsAt, Sheet, Reads}
 use Rattle.hv_counts.specs.declared.counted.Counted.{Counted}
 use Rattle.hv_trail.specs.Steps.{HouseSeen}
 use Rattle.hv_house.specs.declared.fault.RowFault.{RowFault}

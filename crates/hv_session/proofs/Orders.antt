@@ -27,9 +27,9 @@ use Rattle.hv_stands.specs.Running.{Asking, next_number, opening, starting, IsOf
 use Rattle.hv_stands.proofs.Numbers.{one_value}
 use Rattle.hv_stands.proofs.Begun.{ids-given}
 use Rattle.hv_stands.proofs.Behind.{one-behind}
-use Rattle.hv_next.specs.Next.{needs_id}
-use Rattle.hv_next.specs.Order.{IsOfTable, AsksForId, CauseInOrder, IsInOrder, AllInOrder}
-use Rattle.hv_next.specs.Carrying.{IsUnrefused as IsUnrefusedMeaning, IsToCommit, IsAtHold}
+use Rattle.hv_law_next.specs.Next.{needs_id}
+use Rattle.hv_law_next.specs.Order.{IsOfTable, AsksForId, CauseInOrder, IsInOrder, AllInOrder}
+use Rattle.hv_law_next.specs.Carrying.{IsUnrefused as IsUnrefusedMeaning, IsToCommit, IsAtHold}
 use Rattle.hv_session.specs.declared.ready.End.{End}
 use Rattle.hv_session.specs.declared.ready.End.TheVariants as end
 use Rattle.hv_session.specs.Ending.{aborting, giving, IsNoEnd, IsOneEnd, EndsUncommitted, AddsNoneOrId, AddsAbort, IsOfRows, IsAskedBy, AddsAsked, IsChangeReady, EndIsTrue}

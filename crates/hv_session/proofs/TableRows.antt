@@ -13,9 +13,9 @@ use Rattle.hv_history.specs.declared.entry.Entry.{Entry}
 use Rattle.hv_history.specs.State.{State, state_of}
 use Rattle.hv_history.specs.Lasting.{IsFront}
 use Rattle.hv_stands.specs.Reading.{table_of_name}
-use Rattle.hv_tables.specs.declared.row_at.RowAt.{RowAt}
+use Rattle.hv_table_rows.specs.declared.row_at.RowAt.{RowAt}
 use Rattle.hv_wids.specs.WriteIds.{WriteIds}
-use Rattle.hv_tables.specs.Reading.{Reads, AreOnce, AreRows, deleted_in, left_in}
+use Rattle.hv_table_rows.specs.Reading.{Reads, AreOnce, AreRows, deleted_in, left_in}
 use Rattle.hv_trail.specs.declared.trail.TrailItem.{TrailItem}
 use Rattle.hv_trail.specs.Trail.{book_of}
 use Rattle.hv_house.specs.declared.fault.RowFault.{RowFault}

@@ -10,12 +10,12 @@ use Rattle.hv_dirs.specs.Names.{write_end}
 use Rattle.hv_logic.specs.declared.catalog.TableInfo.{TableInfo}
 use Rattle.hv_logic.specs.declared.effect.Found.{Found}
 use Rattle.hv_choosing.specs.declared.listing.DirFile.{DirFile}
-use Rattle.hv_visible.specs.Members.{IsIn}
+use Rattle.hv_law_visible.specs.Members.{IsIn}
 use Rattle.hv_history.specs.declared.entry.Entry.{Entry}
 use Rattle.hv_history.specs.State.{state_of}
 use Rattle.hv_history.specs.Lasting.{IsFront}
 use Rattle.hv_stands.specs.Reading.{table_of_name}
-use Rattle.hv_tables.specs.Reading.{AreRows}
+use Rattle.hv_table_rows.specs.Reading.{AreRows}
 use Rattle.hv_trail.specs.declared.trail.TrailItem.{TrailItem}
 use Rattle.hv_trail.specs.Steps.{HouseSeen}
 use Rattle.hv_house.specs.declared.listing.Listing.{Listing}

@@ -18,8 +18,8 @@ use Rattle.hv_history.specs.State.{meaning, state_of}
 use Rattle.hv_history.specs.Legal.{Of, load, profile}
 use Rattle.hv_history.specs.Answers.{cause_text}
 use Rattle.hv_stands.specs.Running.{Asking, next_number, opening, starting, AreOf, meant, IsUnderWay}
-use Rattle.hv_next.specs.Order.{AllInOrder}
-use Rattle.hv_next.specs.Carrying.{IsAtHold}
+use Rattle.hv_law_next.specs.Order.{AllInOrder}
+use Rattle.hv_law_next.specs.Carrying.{IsAtHold}
 use Rattle.hv_session.specs.Ending.{IsUndamaged, EndsUncommitted, CanEnd, EndCanBeNoted, EndIsTrue, aborting, HasReplied}
 use Rattle.hv_house.specs.Asking.{holder_against, CanBegin}
 use Rattle.hv_session.specs.Doing.{IsUnrefused}

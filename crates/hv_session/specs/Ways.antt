@@ -11,7 +11,7 @@ use Rattle.hv_history.specs.State.{state_of}
 use Rattle.hv_history.specs.Legal.{load, profile}
 use Rattle.hv_stands.specs.Running.{Asking, next_number, opening, starting, meant, IsUnderWay}
 use Rattle.hv_trail.specs.declared.trail.TrailItem.{TrailItem}
-use Rattle.hv_next.specs.Order.{AllInOrder}
+use Rattle.hv_law_next.specs.Order.{AllInOrder}
 use Rattle.hv_actor.specs.Acting.{IsAlone}
 use Rattle.hv_house.specs.declared.fault.HouseFault.{HouseFault}
 use Rattle.hv_house.specs.declared.house.House.{House}

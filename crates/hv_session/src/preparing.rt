@@ -5,7 +5,7 @@ ghost use Rattle.hv_ast.specs.declared.statement.Stmt.{Stmt};
 ghost use Rattle.hv_logic.specs.declared.meaning.Meaning.TheVariants.{Change};
 ghost use Rattle.hv_route.specs.Routes.{files_of};
 ghost use Rattle.hv_route.specs.Touching.{touches_of, touched};
-ghost use Rattle.hv_tables.specs.Putting.{CanPut};
+ghost use Rattle.hv_table_rows.specs.Putting.{CanPut};
 ghost use Rattle.hv_history.specs.Answers.{counts_line};
 ghost use Rattle.hv_stands.specs.Laws.{changes_in};
 ghost use Rattle.hv_stands.specs.Running.{Asking, meant};

@@ -5,7 +5,7 @@ ghost use Rattle.hv_dirs.specs.Names.{write_end};
 ghost use Rattle.hv_route.specs.Routes.{files_of};
 ghost use Rattle.hv_stands.specs.Files.{place_of_file};
 ghost use Rattle.hv_stands.specs.Laws.{HasFile};
-ghost use Rattle.hv_tables.specs.Putting.{CanPut};
+ghost use Rattle.hv_table_rows.specs.Putting.{CanPut};
 ghost use Rattle.hv_acts.specs.Meant.{places_of_files};
 ghost use Rattle.hv_session.specs.Going.{faults_in, AddsOwn, IsOpenHouse};
 ghost use Rattle.hv_session.specs.Preparing.{with_place, IsRefusal, IsFileDue, AreFilesDue, HasItsId, IsChangePut};
@@ -18,7 +18,7 @@ use hv_house::HouseFault;
 use hv_logic::{Effect, TableInfo};
 use hv_route::{OutFile, route};
 use hv_shelf::{Place, Shelf};
-use hv_tables::place_of_file;
+use hv_table_rows::place_of_file;
 use std::alloc::Global;
 
 /// Where a file of a change stands, twice: to be put there, and to be kept in mind.

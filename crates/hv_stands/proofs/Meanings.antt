@@ -13,7 +13,7 @@ use Rattle.hv_logic.specs.declared.seen.Seen.{Seen}
 use Rattle.hv_logic.specs.declared.meaning.Meaning.{Meaning}
 use Rattle.hv_logic.specs.declared.meaning.Meaning.TheVariants.{Listing, Change, RowLimit, PartitionLimit}
 use Rattle.hv_logic.specs.Tables.{named}
-use Rattle.hv_query.specs.Rows.{Tables}
+use Rattle.hv_typing.specs.Rows.{Tables}
 use Rattle.hv_typing.specs.declared.logic.Logic.{Logic}
 use Rattle.hv_typing.specs.declared.logic.Logic.TheVariants as logic
 use Rattle.hv_typing.specs.Analysis.{analysed}

@@ -19,7 +19,7 @@ use Rattle.hv_trail.specs.declared.trail.TrailItem.TheVariants.{Noted}
 use Rattle.hv_trail.specs.Trail.{book_of, broken}
 use Rattle.hv_trail.specs.Kept.{trail_of}
 use Rattle.hv_trail.proofs.LastingLaws.{book-append}
-use Rattle.hv_marked.proofs.Standing.{noted-marks-stand, changes-are-open, marks-give-files}
+use Rattle.hv_law_marks.proofs.Standing.{noted-marks-stand, changes-are-open, marks-give-files}
 use Rattle.hv_house.specs.declared.house.House.{House}
 use Rattle.hv_house.specs.House.{IsFaithful}
 use Rattle.hv_house.specs.Steps.{IsMarked}

@@ -18,8 +18,8 @@ use Rattle.hv_recovery.specs.Recovery.{IsJournalOf}
 use Rattle.hv_stands.proofs.Soundness.{all-numbered, all-more}
 use Rattle.hv_trail.specs.declared.trail.TrailItem.TheVariants.{Noted}
 use Rattle.hv_trail.specs.Trail.{book_of}
-use Rattle.hv_marked.specs.Laws.{AllHaveEnded}
-use Rattle.hv_marked.proofs.Standing.{opened-marks-stand}
+use Rattle.hv_law_marks.specs.Laws.{AllHaveEnded}
+use Rattle.hv_law_marks.proofs.Standing.{opened-marks-stand}
 use Rattle.hv_house.specs.declared.house.House.{House}
 use Rattle.hv_house.specs.House.{entries_of, IsFaithful}
 use Rattle.hv_house.specs.Booting.{number_next, marked_from, lost_entry, opening_entries, opening_of, OpensTo, Opens}

@@ -18,7 +18,7 @@ use Rattle.hv_stands.proofs.Numbers.{either}
 use Rattle.hv_stands.proofs.StandingFiles.{same-place}
 use Rattle.hv_stands.proofs.OwnFiles.{found-given}
 use Rattle.hv_stands.proofs.StatementFiles.{puts-stand}
-use Rattle.hv_tables.specs.Putting.{bytes_of}
+use Rattle.hv_table_rows.specs.Putting.{bytes_of}
 use Rattle.hv_trail.specs.declared.trail.Reader.TheVariants.{Txn}
 use Rattle.hv_trail.specs.declared.trail.Mark.{Mark}
 use Rattle.hv_trail.specs.declared.trail.Mark.TheVariants.{Wrote, Broke}
@@ -29,10 +29,10 @@ use Rattle.hv_trail.specs.Lasting.{IsGiven}
 use Rattle.hv_trail.specs.Kept.{trail_of}
 use Rattle.hv_trail.specs.Steps.{Put, Outcome, Done, Closed, Refused, Failed, Step}
 use Rattle.hv_trail.proofs.LastingLaws.{book-append}
-use Rattle.hv_marked.specs.Marked.{IsChanging, IsOwnPlace, MarksStand}
-use Rattle.hv_marked.specs.Laws.{IsFitting}
-use Rattle.hv_marked.proofs.Books.{is-there}
-use Rattle.hv_marked.proofs.Standing.{put-marks-stand, broken-marks-stand, changes-are-open, given-places-own}
+use Rattle.hv_law_marks.specs.Marked.{IsChanging, IsOwnPlace, MarksStand}
+use Rattle.hv_law_marks.specs.Laws.{IsFitting}
+use Rattle.hv_law_marks.proofs.Books.{is-there}
+use Rattle.hv_law_marks.proofs.Standing.{put-marks-stand, broken-marks-stand, changes-are-open, given-places-own}
 use Rattle.hv_house.specs.declared.fault.HouseFault.{HouseFault}
 use Rattle.hv_house.specs.declared.fault.HouseFault.TheVariants as fault
 use Rattle.hv_house.specs.declared.house.House.{House}

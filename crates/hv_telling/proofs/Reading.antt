@@ -10,7 +10,7 @@ use Rattle.hv_trail.specs.declared.trail.TrailItem.{TrailItem}
 use Rattle.hv_trail.specs.Trail.{book_of}
 use Rattle.hv_trail.specs.Kept.{trail_of}
 use Rattle.hv_trail.specs.Steps.{Read, Outcome, Done, Conflict, Failed, Closed, Refused, gains, Step}
-use Rattle.hv_marked.proofs.Standing.{unread-marks-stand}
+use Rattle.hv_law_marks.proofs.Standing.{unread-marks-stand}
 use Rattle.hv_house.specs.declared.house.House.{House}
 use Rattle.hv_house.specs.House.{entries_of, IsFaithful}
 use Rattle.hv_house.specs.Steps.{seen_of}

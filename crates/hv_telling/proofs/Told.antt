@@ -10,7 +10,7 @@ use Rattle.hv_trail.specs.declared.trail.TrailItem.{TrailItem}
 use Rattle.hv_trail.specs.Kept.{trail_of}
 use Rattle.hv_trail.specs.Trail.{book_of}
 use Rattle.hv_trail.proofs.KeptLaws.{trail-book}
-use Rattle.hv_marked.specs.Marked.{MarksStand}
+use Rattle.hv_law_marks.specs.Marked.{MarksStand}
 use Rattle.hv_house.specs.declared.house.House.{House}
 use Rattle.hv_house.specs.House.{entries_of, IsFaithful, Shows}
 use Rattle.hv_telling.specs.Telling.{IsTold, IsToldHouse, StandsByMarks, HoldsTrue, IsWhole, StillOpens}

@@ -11,7 +11,7 @@ use crate::lists::{only, pair, triple};
 use crate::nodes::{many_typed, one_typed, three_typed, two_typed};
 use crate::places::given;
 use hv_base::{Boxed, List, Refusal};
-use hv_typed::{Aggregate, Many, One, Three, Two, TypedExpr};
+use hv_expr::{Aggregate, Many, One, Three, Two, TypedExpr};
 use hv_typing::{Function, Gives, Over, Place, TypeFault};
 use hv_value::SqlType;
 use std::alloc::Global;

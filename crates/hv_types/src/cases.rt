@@ -9,7 +9,7 @@ ghost use Rattle.hv_typing.specs.Nodes.{is_condition, condition_as, branch_stand
 use crate::casts::{BAD_TYPE, item_as_kind, item_taken_at, optional_as_kind, stands};
 use crate::kinds::{comparable, kind_of, met};
 use hv_base::{Boxed, List, NoMemory};
-use hv_typed::{Branch, TypedExpr};
+use hv_expr::{Branch, TypedExpr};
 use hv_typing::{Meeting, Place, TypeFault};
 use hv_value::SqlType;
 use std::alloc::Global;

@@ -7,7 +7,7 @@ ghost use Rattle.hv_typing.specs.Nodes.{as_kind, stands, taken_at, placed, cast_
 use crate::kinds::{kind_of, met, same_type};
 use crate::places::asked;
 use hv_base::{Boxed, List, NoMemory, Refusal};
-use hv_typed::{One, TypedExpr};
+use hv_expr::{One, TypedExpr};
 use hv_typing::{Meeting, Place, TypeFault};
 use hv_value::{SqlType, is_convertible};
 use std::alloc::Global;

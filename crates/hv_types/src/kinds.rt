@@ -2,7 +2,7 @@ ghost use Rattle.std.specs.Prelude.{◌≡◌, option_map};
 ghost use Rattle.hv_value.specs.declared.sql_type.SqlType.TheVariants as type;
 ghost use Rattle.hv_typing.specs.Kinds.{kind_of, same_elem, same_type, unified_elem, unified, comparable, met, wider, scalar_type, element_type};
 
-use hv_typed::TypedExpr;
+use hv_expr::TypedExpr;
 use hv_value::{Elem, SqlType};
 use hv_typing::Meeting;
 

@@ -4,7 +4,7 @@ ghost use Rattle.std.specs.Prelude.{◌≡◌, IfOk};
 ghost use Rattle.hv_typing.specs.Calls.{only, pair, triple};
 
 use hv_base::{Boxed, List, NoMemory};
-use hv_typed::TypedExpr;
+use hv_expr::TypedExpr;
 use std::alloc::Global;
 
 type Part = Boxed<TypedExpr>;

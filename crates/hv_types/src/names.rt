@@ -3,7 +3,7 @@
 ghost use Rattle.std.specs.Prelude.{◌≡◌, map};
 ghost use Rattle.hv_typing.specs.Calls as spec;
 
-use hv_typed::{Aggregate, Many, One, Three, Two};
+use hv_expr::{Aggregate, Many, One, Three, Two};
 use hv_typing::Function;
 
 /// A function's name, in lower case, and the function.

@@ -2,7 +2,7 @@
 
 ghost use Rattle.std.specs.Prelude.{◌≡◌, map, IfOk, Ok};
 ghost use Rattle.hv_ast.specs.declared.expr.Literal.TheVariants as written;
-ghost use Rattle.hv_typed.specs.declared.tree.TypedExpr.TheVariants as tree;
+ghost use Rattle.hv_expr.specs.declared.tree.TypedExpr.TheVariants as tree;
 ghost use Rattle.hv_value.specs.Dates.{day_of_text};
 ghost use Rattle.std.specs.List.{list_all};
 ghost use Rattle.hv_value.specs.declared.sql_type.SqlType.TheVariants as type;
@@ -18,7 +18,7 @@ use crate::kinds::{element_type, kind_of, met, wider};
 use crate::places::given;
 use hv_ast::{Binary, Literal, Unary};
 use hv_base::{Boxed, Duplicate, List, NoMemory, Text};
-use hv_typed::{Arithmetic, Link, Many, One, Three, Two, TypedExpr};
+use hv_expr::{Arithmetic, Link, Many, One, Three, Two, TypedExpr};
 use hv_typing::{Gives, Meeting, Pair, Place, TypeFault};
 use hv_value::{SqlType, Value, parse_date};
 use std::alloc::Global;

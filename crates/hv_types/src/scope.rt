@@ -3,7 +3,7 @@ ghost use Rattle.hv_typing.specs.Faults.{Types};
 ghost use Rattle.hv_typing.specs.Scopes.{is_meant, is_any_meant, column_typed};
 
 use hv_base::{Refusal, Text};
-use hv_typed::TypedExpr;
+use hv_expr::TypedExpr;
 use hv_typing::Field;
 use hv_typing::TypeFault;
 

@@ -14,7 +14,7 @@ use crate::scope::column_typed;
 use hv_ast::{Expr, Operation, When};
 use hv_base::{Boxed, List, Text};
 use hv_logic::named_type;
-use hv_typed::{Branch, Link, Many, Three, TypedExpr};
+use hv_expr::{Branch, Link, Many, Three, TypedExpr};
 use hv_typing::{Field, Over, Place, TypeFault};
 use std::alloc::Global;
 

@@ -4,15 +4,15 @@ use Rattle.std.specs.Prelude.{ℕ, Bool, true, false, if◌then◌else◌, List,
 use Rattle.std.specs.Str.{bytes_eq}
 use Rattle.hv_base.specs.declared.refusal.Refusal.{Refusal}
 use Rattle.hv_base.specs.declared.refusal.Refusal.TheVariants as refusal
-use Rattle.hv_typed.specs.declared.function.Aggregate.TheVariants as aggregate
-use Rattle.hv_typed.specs.declared.function.Many.{Many}
-use Rattle.hv_typed.specs.declared.function.Many.TheVariants as many
-use Rattle.hv_typed.specs.declared.function.One.TheVariants as one
-use Rattle.hv_typed.specs.declared.function.Three.{Three}
-use Rattle.hv_typed.specs.declared.function.Three.TheVariants as three
-use Rattle.hv_typed.specs.declared.function.Two.{Two}
-use Rattle.hv_typed.specs.declared.function.Two.TheVariants as two
-use Rattle.hv_typed.specs.declared.tree.TypedExpr.{TypedExpr}
+use Rattle.hv_expr.specs.declared.function.Aggregate.TheVariants as aggregate
+use Rattle.hv_expr.specs.declared.function.Many.{Many}
+use Rattle.hv_expr.specs.declared.function.Many.TheVariants as many
+use Rattle.hv_expr.specs.declared.function.One.TheVariants as one
+use Rattle.hv_expr.specs.declared.function.Three.{Three}
+use Rattle.hv_expr.specs.declared.function.Three.TheVariants as three
+use Rattle.hv_expr.specs.declared.function.Two.{Two}
+use Rattle.hv_expr.specs.declared.function.Two.TheVariants as two
+use Rattle.hv_expr.specs.declared.tree.TypedExpr.{TypedExpr}
 use Rattle.hv_typing.specs.declared.names.Function.{Function}
 use Rattle.hv_typing.specs.declared.names.Function.TheVariants as function
 use Rattle.hv_typing.specs.declared.scope.Over.{Over}

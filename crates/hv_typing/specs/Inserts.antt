@@ -13,13 +13,13 @@ use Rattle.hv_value.specs.declared.sql_type.SqlType.{SqlType}
 use Rattle.hv_value.specs.declared.sql_type.SqlType.TheVariants as type
 use Rattle.hv_value.specs.declared.value.Value.TheVariants as value
 use Rattle.hv_value.specs.Conversion.{is_convertible}
-use Rattle.hv_typed.specs.declared.tree.TypedExpr.{TypedExpr}
-use Rattle.hv_typed.specs.declared.tree.TypedExpr.TheVariants as tree
+use Rattle.hv_expr.specs.declared.tree.TypedExpr.{TypedExpr}
+use Rattle.hv_expr.specs.declared.tree.TypedExpr.TheVariants as tree
 use Rattle.hv_logic.specs.declared.catalog.Column.{Column}
 use Rattle.hv_logic.specs.declared.catalog.Shape.{Shape}
-use Rattle.hv_query.specs.declared.tree.OutputColumn.{OutputColumn}
-use Rattle.hv_query.specs.declared.tree.TypedQuery.{TypedQuery}
-use Rattle.hv_query.specs.declared.tree.TypedSource.{TypedSource}
+use Rattle.hv_typing.specs.declared.tree.OutputColumn.{OutputColumn}
+use Rattle.hv_typing.specs.declared.tree.TypedQuery.{TypedQuery}
+use Rattle.hv_typing.specs.declared.tree.TypedSource.{TypedSource}
 use Rattle.hv_typing.specs.Faults.{and_then, each_in_order}
 use Rattle.hv_typing.specs.Kinds.{kind_of}
 use Rattle.hv_typing.specs.Nodes.{as_kind}

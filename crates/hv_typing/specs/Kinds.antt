@@ -5,9 +5,9 @@ use Rattle.hv_value.specs.declared.sql_type.Elem.{Elem}
 use Rattle.hv_value.specs.declared.sql_type.Elem.TheVariants as elem
 use Rattle.hv_value.specs.declared.sql_type.SqlType.{SqlType}
 use Rattle.hv_value.specs.declared.sql_type.SqlType.TheVariants as type
-use Rattle.hv_typed.specs.declared.tree.TypedExpr.{TypedExpr}
-use Rattle.hv_typed.specs.declared.tree.TypedExpr.TheOpen.{TypedExpr-F}
-use Rattle.hv_typed.specs.declared.tree.TypedExpr.TheViews.{out-TypedExpr}
+use Rattle.hv_expr.specs.declared.tree.TypedExpr.{TypedExpr}
+use Rattle.hv_expr.specs.declared.tree.TypedExpr.TheOpen.{TypedExpr-F}
+use Rattle.hv_expr.specs.declared.tree.TypedExpr.TheViews.{out-TypedExpr}
 use Rattle.hv_typing.specs.declared.places.Place.{Place}
 use Rattle.hv_typing.specs.declared.places.Place.TheVariants as place
 use Rattle.hv_typing.specs.declared.places.Gives.{Gives}

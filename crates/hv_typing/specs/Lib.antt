@@ -20,3 +20,7 @@ pub mod Creates
 pub mod Subqueries
 pub mod Changes
 pub mod Analysis
+pub mod Joins
+pub mod Grouped
+pub mod Order
+pub mod Rows

@@ -1,17 +1,17 @@
 -- The functions of typed expressions by number: two are one function where their numbers are equal.
 use Rattle.std.specs.Prelude.{ℕ, Bool, nat_eq}
-use Rattle.hv_typed.specs.declared.function.One.{One}
-use Rattle.hv_typed.specs.declared.function.One.TheVariants as one
-use Rattle.hv_typed.specs.declared.function.Two.{Two}
-use Rattle.hv_typed.specs.declared.function.Two.TheVariants as two
-use Rattle.hv_typed.specs.declared.function.Three.{Three}
-use Rattle.hv_typed.specs.declared.function.Three.TheVariants as three
-use Rattle.hv_typed.specs.declared.function.Many.{Many}
-use Rattle.hv_typed.specs.declared.function.Many.TheVariants as many
-use Rattle.hv_typed.specs.declared.function.Arithmetic.{Arithmetic}
-use Rattle.hv_typed.specs.declared.function.Arithmetic.TheVariants as arithmetic
-use Rattle.hv_typed.specs.declared.function.Aggregate.{Aggregate}
-use Rattle.hv_typed.specs.declared.function.Aggregate.TheVariants as aggregate
+use Rattle.hv_expr.specs.declared.function.One.{One}
+use Rattle.hv_expr.specs.declared.function.One.TheVariants as one
+use Rattle.hv_expr.specs.declared.function.Two.{Two}
+use Rattle.hv_expr.specs.declared.function.Two.TheVariants as two
+use Rattle.hv_expr.specs.declared.function.Three.{Three}
+use Rattle.hv_expr.specs.declared.function.Three.TheVariants as three
+use Rattle.hv_expr.specs.declared.function.Many.{Many}
+use Rattle.hv_expr.specs.declared.function.Many.TheVariants as many
+use Rattle.hv_expr.specs.declared.function.Arithmetic.{Arithmetic}
+use Rattle.hv_expr.specs.declared.function.Arithmetic.TheVariants as arithmetic
+use Rattle.hv_expr.specs.declared.function.Aggregate.{Aggregate}
+use Rattle.hv_expr.specs.declared.function.Aggregate.TheVariants as aggregate
 
 abbrev pub one_number : One → ℕ
 one_number one.Plus = 0

@@ -9,10 +9,10 @@ use Rattle.hv_ast.specs.declared.expr.Expr.{Expr}
 use Rattle.hv_value.specs.declared.sql_type.SqlType.{SqlType}
 use Rattle.hv_value.specs.declared.sql_type.SqlType.TheVariants as type
 use Rattle.hv_value.specs.Conversion.{is_convertible}
-use Rattle.hv_typed.specs.declared.function.Many.TheVariants as many
-use Rattle.hv_typed.specs.declared.function.Two.TheVariants as two
-use Rattle.hv_typed.specs.declared.tree.TypedExpr.{TypedExpr}
-use Rattle.hv_typed.specs.declared.tree.TypedExpr.TheVariants as tree
+use Rattle.hv_expr.specs.declared.function.Many.TheVariants as many
+use Rattle.hv_expr.specs.declared.function.Two.TheVariants as two
+use Rattle.hv_expr.specs.declared.tree.TypedExpr.{TypedExpr}
+use Rattle.hv_expr.specs.declared.tree.TypedExpr.TheVariants as tree
 use Rattle.hv_logic.specs.declared.catalog.Column.{Column}
 use Rattle.hv_typing.specs.Faults.{and_then, each_in_order}
 use Rattle.hv_typing.specs.Kinds.{kind_of}

@@ -15,13 +15,13 @@ use Rattle.hv_ast.specs.declared.query.Select.{Select}
 use Rattle.hv_ast.specs.declared.query.Union.{Union}
 use Rattle.hv_value.specs.declared.sql_type.SqlType.{SqlType}
 use Rattle.hv_value.specs.declared.sql_type.SqlType.TheVariants as type
-use Rattle.hv_typed.specs.declared.tree.TypedExpr.{TypedExpr}
-use Rattle.hv_query.specs.declared.tree.OutputColumn.{OutputColumn}
-use Rattle.hv_query.specs.declared.tree.SortKey.{SortKey}
-use Rattle.hv_query.specs.declared.tree.TypedQuery.{TypedQuery}
-use Rattle.hv_query.specs.declared.tree.TypedSelect.{TypedSelect}
-use Rattle.hv_query.specs.declared.tree.TypedSource.{TypedSource}
-use Rattle.hv_query.specs.declared.tree.TypedUnion.{TypedUnion}
+use Rattle.hv_expr.specs.declared.tree.TypedExpr.{TypedExpr}
+use Rattle.hv_typing.specs.declared.tree.OutputColumn.{OutputColumn}
+use Rattle.hv_typing.specs.declared.tree.SortKey.{SortKey}
+use Rattle.hv_typing.specs.declared.tree.TypedQuery.{TypedQuery}
+use Rattle.hv_typing.specs.declared.tree.TypedSelect.{TypedSelect}
+use Rattle.hv_typing.specs.declared.tree.TypedSource.{TypedSource}
+use Rattle.hv_typing.specs.declared.tree.TypedUnion.{TypedUnion}
 use Rattle.hv_typing.specs.declared.fault.TypeFault.{TypeFault}
 use Rattle.hv_typing.specs.Faults.{and_then, in_front, each_in_order, Types}
 use Rattle.hv_typing.specs.Kinds.{kind_of, unified}

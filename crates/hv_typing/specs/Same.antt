@@ -6,17 +6,17 @@ use Rattle.std.specs.Ordering.{eq_by_cmp}
 use Rattle.hv_value.specs.declared.sql_type.SqlType.{SqlType}
 use Rattle.hv_value.specs.declared.value.Value.{Value}
 use Rattle.hv_value.specs.Order.{value_cmp}
-use Rattle.hv_typed.specs.declared.function.Aggregate.{Aggregate}
-use Rattle.hv_typed.specs.declared.function.Many.{Many}
-use Rattle.hv_typed.specs.declared.function.One.{One}
-use Rattle.hv_typed.specs.declared.function.Three.{Three}
-use Rattle.hv_typed.specs.declared.function.Two.{Two}
-use Rattle.hv_typed.specs.declared.tree.Branch.{Branch}
-use Rattle.hv_typed.specs.declared.tree.Link.{Link}
-use Rattle.hv_typed.specs.declared.tree.TypedExpr.{TypedExpr}
-use Rattle.hv_typed.specs.declared.tree.TypedExpr.TheOpen.{TypedExpr-F}
-use Rattle.hv_typed.specs.declared.tree.TypedExpr.TheFolds.{fold-TypedExpr}
-use Rattle.hv_typed.specs.declared.tree.TypedExpr.TheViews.{out-TypedExpr}
+use Rattle.hv_expr.specs.declared.function.Aggregate.{Aggregate}
+use Rattle.hv_expr.specs.declared.function.Many.{Many}
+use Rattle.hv_expr.specs.declared.function.One.{One}
+use Rattle.hv_expr.specs.declared.function.Three.{Three}
+use Rattle.hv_expr.specs.declared.function.Two.{Two}
+use Rattle.hv_expr.specs.declared.tree.Branch.{Branch}
+use Rattle.hv_expr.specs.declared.tree.Link.{Link}
+use Rattle.hv_expr.specs.declared.tree.TypedExpr.{TypedExpr}
+use Rattle.hv_expr.specs.declared.tree.TypedExpr.TheOpen.{TypedExpr-F}
+use Rattle.hv_expr.specs.declared.tree.TypedExpr.TheFolds.{fold-TypedExpr}
+use Rattle.hv_expr.specs.declared.tree.TypedExpr.TheViews.{out-TypedExpr}
 use Rattle.hv_typing.specs.Kinds.{same_type}
 use Rattle.hv_typing.specs.Numbers.{same_one, same_two, same_three, same_many, same_arithmetic, same_aggregate}
 

@@ -12,13 +12,13 @@ use Rattle.hv_ast.specs.declared.expr.Expr.TheVariants as expr
 use Rattle.hv_ast.specs.declared.query.Item.{Item}
 use Rattle.hv_ast.specs.declared.query.Item.TheVariants as item
 use Rattle.hv_ast.specs.declared.query.Select.{Select}
-use Rattle.hv_typed.specs.declared.tree.TypedExpr.{TypedExpr}
-use Rattle.hv_typed.specs.declared.tree.TypedExpr.TheVariants as tree
-use Rattle.hv_query.specs.declared.tree.Grouping.{Grouping}
-use Rattle.hv_query.specs.declared.tree.OutputColumn.{OutputColumn}
-use Rattle.hv_query.specs.declared.tree.TypedFrom.{TypedFrom}
-use Rattle.hv_query.specs.declared.tree.TypedSelect.{TypedSelect}
-use Rattle.hv_query.specs.declared.tree.TypedSource.{TypedSource}
+use Rattle.hv_expr.specs.declared.tree.TypedExpr.{TypedExpr}
+use Rattle.hv_expr.specs.declared.tree.TypedExpr.TheVariants as tree
+use Rattle.hv_typing.specs.declared.tree.Grouping.{Grouping}
+use Rattle.hv_typing.specs.declared.tree.OutputColumn.{OutputColumn}
+use Rattle.hv_typing.specs.declared.tree.TypedFrom.{TypedFrom}
+use Rattle.hv_typing.specs.declared.tree.TypedSelect.{TypedSelect}
+use Rattle.hv_typing.specs.declared.tree.TypedSource.{TypedSource}
 use Rattle.hv_typing.specs.declared.scope.Field.{Field}
 use Rattle.hv_typing.specs.declared.scope.Over.{Over}
 use Rattle.hv_typing.specs.declared.scope.Over.TheVariants as over

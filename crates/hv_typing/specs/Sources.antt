@@ -15,16 +15,16 @@ use Rattle.hv_ast.specs.declared.query.Join.{Join}
 use Rattle.hv_ast.specs.declared.query.Lateral.{Lateral}
 use Rattle.hv_value.specs.declared.sql_type.SqlType.{SqlType}
 use Rattle.hv_value.specs.declared.sql_type.SqlType.TheVariants as type
-use Rattle.hv_typed.specs.declared.tree.TypedExpr.{TypedExpr}
-use Rattle.hv_query.specs.declared.tree.JoinKind.{JoinKind}
-use Rattle.hv_query.specs.declared.tree.JoinKind.TheVariants as kind
-use Rattle.hv_query.specs.declared.tree.OutputColumn.{OutputColumn}
-use Rattle.hv_query.specs.declared.tree.TypedFrom.{TypedFrom}
-use Rattle.hv_query.specs.declared.tree.TypedJoin.{TypedJoin}
-use Rattle.hv_query.specs.declared.tree.TypedLateral.{TypedLateral}
-use Rattle.hv_query.specs.declared.tree.TypedQuery.{TypedQuery}
-use Rattle.hv_query.specs.declared.tree.TypedSource.{TypedSource}
-use Rattle.hv_query.specs.declared.tree.TypedSource.TheVariants as typed_source
+use Rattle.hv_expr.specs.declared.tree.TypedExpr.{TypedExpr}
+use Rattle.hv_typing.specs.declared.tree.JoinKind.{JoinKind}
+use Rattle.hv_typing.specs.declared.tree.JoinKind.TheVariants as kind
+use Rattle.hv_typing.specs.declared.tree.OutputColumn.{OutputColumn}
+use Rattle.hv_typing.specs.declared.tree.TypedFrom.{TypedFrom}
+use Rattle.hv_typing.specs.declared.tree.TypedJoin.{TypedJoin}
+use Rattle.hv_typing.specs.declared.tree.TypedLateral.{TypedLateral}
+use Rattle.hv_typing.specs.declared.tree.TypedQuery.{TypedQuery}
+use Rattle.hv_typing.specs.declared.tree.TypedSource.{TypedSource}
+use Rattle.hv_typing.specs.declared.tree.TypedSource.TheVariants as typed_source
 use Rattle.hv_typing.specs.declared.places.Place.TheVariants as place
 use Rattle.hv_typing.specs.declared.scope.Field.{Field}
 use Rattle.hv_typing.specs.declared.scope.Over.TheVariants as over

@@ -2,12 +2,12 @@
 -- that is equal to a GROUP BY expression. Source: Hive Language Manual, GROUP BY.
 use Rattle.std.specs.Prelude.{Bool, true, false, ◌||◌, ◌&&◌, List, Option, None, Some}
 use Rattle.std.specs.List.{list_all, list_any}
-use Rattle.hv_typed.specs.declared.tree.Branch.{Branch}
-use Rattle.hv_typed.specs.declared.tree.Link.{Link}
-use Rattle.hv_typed.specs.declared.tree.TypedExpr.{TypedExpr}
-use Rattle.hv_typed.specs.declared.tree.TypedExpr.TheOpen.{TypedExpr-F}
-use Rattle.hv_typed.specs.declared.tree.TypedExpr.TheFolds.{fold-TypedExpr}
-use Rattle.hv_typed.specs.declared.tree.TypedExpr.TheViews.{out-TypedExpr}
+use Rattle.hv_expr.specs.declared.tree.Branch.{Branch}
+use Rattle.hv_expr.specs.declared.tree.Link.{Link}
+use Rattle.hv_expr.specs.declared.tree.TypedExpr.{TypedExpr}
+use Rattle.hv_expr.specs.declared.tree.TypedExpr.TheOpen.{TypedExpr-F}
+use Rattle.hv_expr.specs.declared.tree.TypedExpr.TheFolds.{fold-TypedExpr}
+use Rattle.hv_expr.specs.declared.tree.TypedExpr.TheViews.{out-TypedExpr}
 use Rattle.hv_typing.specs.Same.{same_tree, all_same, some_same}
 
 -- ---- of operands, where one stands by `part`; an aggregate's argument is free

@@ -10,9 +10,9 @@ use Rattle.hv_ast.specs.declared.query.Source.TheOpen.{Source-F}
 use Rattle.hv_ast.specs.declared.query.Source.TheFolds.{fold-Source}
 use Rattle.hv_logic.specs.declared.catalog.Column.{Column}
 use Rattle.hv_logic.specs.declared.catalog.TableInfo.{TableInfo}
-use Rattle.hv_query.specs.declared.tree.TypedQuery.{TypedQuery}
-use Rattle.hv_query.specs.declared.tree.TypedSource.{TypedSource}
-use Rattle.hv_query.specs.declared.tree.TypedSource.TheVariants as typed_source
+use Rattle.hv_typing.specs.declared.tree.TypedQuery.{TypedQuery}
+use Rattle.hv_typing.specs.declared.tree.TypedSource.{TypedSource}
+use Rattle.hv_typing.specs.declared.tree.TypedSource.TheVariants as typed_source
 use Rattle.hv_typing.specs.Faults.{and_then}
 use Rattle.hv_typing.specs.declared.opened.Brought.{Brought}
 use Rattle.hv_typing.specs.Sources.{query_brought}

@@ -9,13 +9,13 @@ use Rattle.hv_ast.specs.declared.expr.Expr.TheFolds.{fold-Expr}
 use Rattle.hv_ast.specs.declared.expr.Operation.{Operation}
 use Rattle.hv_ast.specs.declared.expr.When.{When}
 use Rattle.hv_logic.specs.Shapes.{type_of}
-use Rattle.hv_typed.specs.declared.function.Many.TheVariants as many
-use Rattle.hv_typed.specs.declared.function.Three.{Three}
-use Rattle.hv_typed.specs.declared.function.Three.TheVariants as three
-use Rattle.hv_typed.specs.declared.tree.Branch.{Branch}
-use Rattle.hv_typed.specs.declared.tree.Link.{Link}
-use Rattle.hv_typed.specs.declared.tree.TypedExpr.{TypedExpr}
-use Rattle.hv_typed.specs.declared.tree.TypedExpr.TheVariants as tree
+use Rattle.hv_expr.specs.declared.function.Many.TheVariants as many
+use Rattle.hv_expr.specs.declared.function.Three.{Three}
+use Rattle.hv_expr.specs.declared.function.Three.TheVariants as three
+use Rattle.hv_expr.specs.declared.tree.Branch.{Branch}
+use Rattle.hv_expr.specs.declared.tree.Link.{Link}
+use Rattle.hv_expr.specs.declared.tree.TypedExpr.{TypedExpr}
+use Rattle.hv_expr.specs.declared.tree.TypedExpr.TheVariants as tree
 use Rattle.hv_typing.specs.declared.scope.Field.{Field}
 use Rattle.hv_typing.specs.declared.scope.Over.{Over}
 use Rattle.hv_typing.specs.declared.places.Place.TheVariants as place

@@ -13,8 +13,8 @@ use Rattle.hv_ast.specs.declared.change.PartitionItem.{PartitionItem}
 use Rattle.hv_ast.specs.declared.change.Truncate.{Truncate}
 use Rattle.hv_ast.specs.declared.change.Update.{Update}
 use Rattle.hv_value.specs.declared.sql_type.SqlType.{SqlType}
-use Rattle.hv_typed.specs.declared.tree.TypedExpr.{TypedExpr}
-use Rattle.hv_typed.specs.declared.tree.TypedExpr.TheVariants as tree
+use Rattle.hv_expr.specs.declared.tree.TypedExpr.{TypedExpr}
+use Rattle.hv_expr.specs.declared.tree.TypedExpr.TheVariants as tree
 use Rattle.hv_logic.specs.declared.catalog.Column.{Column}
 use Rattle.hv_logic.specs.declared.catalog.Shape.{Shape}
 use Rattle.hv_typing.specs.declared.scope.Field.{Field}

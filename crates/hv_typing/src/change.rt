@@ -1,6 +1,6 @@
 use hv_base::{Boxed, List};
-use hv_query::TypedQuery;
-use hv_typed::TypedExpr;
+use crate::tree::TypedQuery;
+use hv_expr::TypedExpr;
 
 /// Which rows of its table a change deletes.
 #[derive(Drop)]

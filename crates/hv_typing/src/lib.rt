@@ -13,6 +13,7 @@ mod names;
 mod opened;
 mod places;
 mod scope;
+mod tree;
 
 pub use change::{Deletes, Origin, TypedChange};
 pub use fault::TypeFault;
@@ -23,3 +24,7 @@ pub use names::Function;
 pub use opened::{Brought, Opened, Sources};
 pub use places::{Gives, Pair, Place};
 pub use scope::{Field, Over};
+pub use tree::{
+    Grouping, JoinKind, OutputColumn, SortKey, TypedFrom, TypedJoin, TypedLateral, TypedQuery,
+    TypedSelect, TypedSource, TypedUnion,
+};

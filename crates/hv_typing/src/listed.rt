@@ -1,7 +1,7 @@
 use crate::scope::{Field, Over};
 use hv_base::{Boxed, List, Text};
-use hv_query::{OutputColumn, TypedSelect, TypedUnion};
-use hv_typed::TypedExpr;
+use crate::tree::{OutputColumn, TypedSelect, TypedUnion};
+use hv_expr::TypedExpr;
 
 /// A value that a select shows, with its name, if it has one.
 #[derive(Drop)]

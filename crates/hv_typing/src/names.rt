@@ -1,4 +1,4 @@
-use hv_typed::{Aggregate, Many, One, Three, Two};
+use hv_expr::{Aggregate, Many, One, Three, Two};
 
 /// A function that has a name, by how many arguments it takes.
 #[derive(Clone, Copy)]

@@ -1,6 +1,6 @@
 use crate::scope::Field;
 use hv_base::{Boxed, List, Text};
-use hv_query::{TypedFrom, TypedSource};
+use crate::tree::{TypedFrom, TypedSource};
 
 /// A source of FROM, and the columns that it has.
 #[derive(Drop)]

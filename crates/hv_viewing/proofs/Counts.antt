@@ -14,7 +14,7 @@ use Rattle.hv_choosing.specs.Dirs.{span_of}
 use Rattle.hv_choosing.specs.Taken.{files_taken}
 use Rattle.hv_rowfile.specs.declared.record.Rec.{Rec}
 use Rattle.hv_history.specs.declared.entry.FilePlace.{FilePlace}
-use Rattle.hv_tables.specs.Reading.{HoldsAt, Sheet, sheet_file, Reads}
+use Rattle.hv_table_rows.specs.Reading.{HoldsAt, Sheet, sheet_file, Reads}
 use Rattle.hv_counts.specs.declared.counted.Counted.{Counted}
 use Rattle.hv_counts.specs.declared.due.Due.{Due}
 use Rattle.hv_counts.specs.Counts.{AreOwn, IsCounted, due_at}
@@ -119,7 +119,7 @@ module _ (info : TableInfo) (list : WriteIds) (inserts deletes : List DirFile) w
   of_kind false = inserts
 
   are-sheets : (kind : Bool) (files : Tree) (sheets : List Sheet) → AreTaken info.table list files inserts deletes → map sheet_file sheets ≡ of_kind kind
-      → Rattle.std.specs.List.AllByRecursion (Rattle.hv_tables.specs.Reading.IsSheet kind files) sheets → AreSheets kind info list files sheets
+      → Rattle.std.specs.List.AllByRecursion (Rattle.hv_table_rows.specs.Reading.IsSheet kind files) sheets → AreSheets kind info list files sheets
   are-sheets true files sheets taken are each = record { named = taken.named; listed = taken.listed; files_are = are ∙ taken.deletes_are; each = each }
   are-sheets false files sheets taken are each = record { named = taken.named; listed = taken.listed; files_are = are ∙ taken.inserts_are; each = each }
 

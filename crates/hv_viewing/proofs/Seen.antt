@@ -9,7 +9,7 @@ use Rattle.hv_logic.specs.declared.effect.Found.{Found}
 use Rattle.hv_history.specs.declared.state.Table.{Table}
 use Rattle.hv_history.specs.State.{State}
 use Rattle.hv_stands.specs.Reading.{table_of_name}
-use Rattle.hv_tables.specs.Reading.{AreRows}
+use Rattle.hv_table_rows.specs.Reading.{AreRows}
 use Rattle.hv_counts.specs.Counts.{dues_in}
 use Rattle.hv_house.specs.declared.fault.RowFault.{RowFault}
 use Rattle.hv_house.specs.Faults.{IsDamage}

@@ -24,13 +24,13 @@ use Rattle.hv_rowfile.specs.declared.record.Rec.{Rec}
 use Rattle.hv_rowfile.specs.Layout.{IsFile, IsDamagedAt, file_spelling}
 use Rattle.hv_rowfile.proofs.Books.{file_one}
 use Rattle.hv_history.specs.declared.entry.FilePlace.{FilePlace}
-use Rattle.hv_tables.specs.declared.row_at.RowAt.{RowAt}
-use Rattle.hv_tables.specs.Orders.{row_at_cmp}
-use Rattle.hv_tables.specs.Reading.{HoldsAt, LacksAt, Sheet, sheet_file, IsSheet, Reads, founds_in, deleted_in, at_of, is_gone, left_of, left_in, AreOnce, AreRows, IsSpoiled}
-use Rattle.hv_tables.specs.Amiss.{first_amiss}
-use Rattle.hv_tables.specs.Damage.{no_offset, IsWrongAt, told_place, IsOneDamaged, IsOneSpoiled}
-use Rattle.hv_tables.proofs.Names.{one, all-append}
-use Rattle.hv_tables.proofs.Fronts.{none-amiss, own-none}
+use Rattle.hv_table_rows.specs.declared.row_at.RowAt.{RowAt}
+use Rattle.hv_table_rows.specs.Orders.{row_at_cmp}
+use Rattle.hv_table_rows.specs.Reading.{HoldsAt, LacksAt, Sheet, sheet_file, IsSheet, Reads, founds_in, deleted_in, at_of, is_gone, left_of, left_in, AreOnce, AreRows, IsSpoiled}
+use Rattle.hv_table_rows.specs.Amiss.{first_amiss}
+use Rattle.hv_table_rows.specs.Damage.{no_offset, IsWrongAt, told_place, IsOneDamaged, IsOneSpoiled}
+use Rattle.hv_table_rows.proofs.Names.{one, all-append}
+use Rattle.hv_table_rows.proofs.Fronts.{none-amiss, own-none}
 use Rattle.hv_house.specs.declared.fault.RowFault.{RowFault}
 use Rattle.hv_house.specs.declared.fault.RowFault.TheVariants as fault
 use Rattle.hv_house.specs.Faults.{IsDamage}

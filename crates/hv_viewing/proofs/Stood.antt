@@ -12,8 +12,8 @@ use Rattle.hv_stands.specs.Reading.{table_of_name}
 use Rattle.hv_stands.specs.Statements.{AllFitting}
 use Rattle.hv_stands.proofs.Fitting.{fitting-sound, fronts-fit}
 use Rattle.hv_stands.proofs.Tables.{named-numbered}
-use Rattle.hv_tables.specs.Laws.{StoodAt}
-use Rattle.hv_due_laws.proofs.Stood.{files-counted}
+use Rattle.hv_table_rows.specs.Laws.{StoodAt}
+use Rattle.hv_law_dues.proofs.Stood.{files-counted}
 use Rattle.hv_house.specs.Seeing.{ids_in}
 use Rattle.hv_house.proofs.Past.{all-named, says-committed}
 use Rattle.hv_house.proofs.Seen.{none-spoiled}

@@ -13,8 +13,8 @@ use Rattle.hv_stands.specs.Reading.{table_of_name}
 use Rattle.hv_choosing.specs.declared.listing.DirFile.{DirFile}
 use Rattle.hv_rowfile.specs.declared.record.Rec.{Rec}
 use Rattle.hv_rowfile.specs.Layout.{file_spelling}
-use Rattle.hv_tables.specs.Reading.{Sheet, sheet_file, IsSheet, Reads, IsSpoiled as IsSpoiledOf}
-use Rattle.hv_tables.specs.Damage.{told_place, IsOneDamaged, IsOneSpoiled}
+use Rattle.hv_table_rows.specs.Reading.{Sheet, sheet_file, IsSheet, Reads, IsSpoiled as IsSpoiledOf}
+use Rattle.hv_table_rows.specs.Damage.{told_place, IsOneDamaged, IsOneSpoiled}
 use Rattle.hv_counts.specs.declared.counted.Counted.{Counted}
 use Rattle.hv_counts.specs.declared.due.Due.{Due}
 use Rattle.hv_counts.specs.Counts.{AreOwn, IsCounted, dues_in}

@@ -6,7 +6,7 @@ use Rattle.hv_logic.specs.declared.catalog.TableInfo.{TableInfo}
 use Rattle.hv_wids.specs.WriteIds.{WriteIds}
 use Rattle.hv_choosing.specs.declared.dir.Span.{Span}
 use Rattle.hv_choosing.specs.declared.listing.DirFile.{DirFile}
-use Rattle.hv_tables.specs.Damage.{told_place, IsDamagedFile, IsOneDamaged, IsOneSpoiled}
+use Rattle.hv_table_rows.specs.Damage.{told_place, IsDamagedFile, IsOneDamaged, IsOneSpoiled}
 use Rattle.hv_house.specs.declared.fault.RowFault.{RowFault}
 use Rattle.hv_house.specs.declared.fault.RowFault.TheVariants as fault
 

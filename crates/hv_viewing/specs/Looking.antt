@@ -4,7 +4,7 @@ use Rattle.hv_base.specs.Told.{Tells}
 use Rattle.hv_base.specs.declared.ids.TxnId.{TxnId}
 use Rattle.hv_shelf.specs.Disk.{Store}
 use Rattle.hv_choosing.specs.declared.listing.DirFile.{DirFile}
-use Rattle.hv_tables.specs.Reading.{Sheet, Reads}
+use Rattle.hv_table_rows.specs.Reading.{Sheet, Reads}
 use Rattle.hv_trail.specs.declared.trail.Reader.TheVariants.{Txn}
 use Rattle.hv_trail.specs.Steps.{Read, Step}
 use Rattle.hv_house.specs.declared.fault.HouseFault.TheVariants as house_fault

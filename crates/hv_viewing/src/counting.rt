@@ -4,7 +4,7 @@ ghost use Rattle.std.specs.Prelude.{◌≡◌, ◌++◌, ◌∷◌, [], List, Op
 ghost use Rattle.std.specs.FinMap as tree;
 ghost use Rattle.hv_base.specs.Told.{Tells};
 ghost use Rattle.hv_shelf.specs.Disk.{Store};
-ghost use Rattle.hv_tables.specs.Reading.{HoldsAt, Sheet};
+ghost use Rattle.hv_table_rows.specs.Reading.{HoldsAt, Sheet};
 ghost use Rattle.hv_house.specs.Faults.{IsShortDamage};
 ghost use Rattle.hv_counts.specs.Counts.{AreOwn, IsCounted};
 ghost use Rattle.hv_counts.specs.Miscounts.{AreCounted};

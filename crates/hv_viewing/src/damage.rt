@@ -5,9 +5,9 @@ ghost use Rattle.std.specs.FinMap as tree;
 ghost use Rattle.hv_base.specs.Told.{Tells};
 ghost use Rattle.hv_shelf.specs.Disk.{Store};
 ghost use Rattle.hv_rowfile.specs.Layout.{file_spelling};
-ghost use Rattle.hv_tables.specs.Faults.{IsShort};
-ghost use Rattle.hv_tables.specs.Damage.{told_place};
-ghost use Rattle.hv_tables.specs.Reading.{HoldsAt};
+ghost use Rattle.hv_table_rows.specs.Faults.{IsShort};
+ghost use Rattle.hv_table_rows.specs.Damage.{told_place};
+ghost use Rattle.hv_table_rows.specs.Reading.{HoldsAt};
 ghost use Rattle.hv_house.specs.Faults.{IsShortDamage};
 ghost use Rattle.hv_viewing.specs.Damage.{TellsPlace, TellsFile};
 ghost use Rattle.hv_viewing.specs.Looking.{IsSoft};
@@ -18,7 +18,7 @@ use hv_history::FilePlace;
 use hv_house::{HouseFault, RowFault};
 use hv_rowfile::{FileFault, Rec, decode};
 use hv_shelf::Place;
-use hv_tables::first_amiss;
+use hv_table_rows::first_amiss;
 use std::alloc::Global;
 
 /// The most bytes of a place's names that an entry takes.

@@ -4,8 +4,8 @@ ghost use Rattle.std.specs.Prelude.{◌≡◌, ◌++◌, ◌∷◌, [], false, t
 ghost use Rattle.hv_base.specs.Told.{Tells};
 ghost use Rattle.hv_choosing.specs.Dirs.{span_of};
 ghost use Rattle.hv_history.specs.State.{state_of};
-ghost use Rattle.hv_tables.specs.Orders.{row_at_cmp};
-ghost use Rattle.hv_tables.specs.Reading.{HoldsAt, Reads, deleted_in, left_in, AreRows};
+ghost use Rattle.hv_table_rows.specs.Orders.{row_at_cmp};
+ghost use Rattle.hv_table_rows.specs.Reading.{HoldsAt, Reads, deleted_in, left_in, AreRows};
 ghost use Rattle.hv_house.specs.Faults.{IsShortDamage, IsDamage};
 ghost use Rattle.hv_house.specs.House.{entries_of, IsReady};
 ghost use Rattle.hv_house.specs.Listing.{AreTaken};
@@ -25,7 +25,7 @@ use hv_house::{GetFault, House, Listing, RowFault};
 use hv_logic::{Found, TableInfo};
 use hv_rowfile::Rec;
 use hv_shelf::{Place, Shelf};
-use hv_tables::{Partition, RowAt, once, push_all_deleted, push_rows, rows_rising};
+use hv_table_rows::{Partition, RowAt, once, push_all_deleted, push_rows, rows_rising};
 use hv_wids::WriteIdList;
 use std::alloc::Global;
 

@@ -4,7 +4,7 @@
 use crate::functions::{aggregate, arithmetic, many, one, three, two};
 use crate::operands::operand;
 use hv_base::{Boxed, List, NoMemory};
-use hv_typed::{Branch, Link, TypedExpr};
+use hv_expr::{Branch, Link, TypedExpr};
 use hv_value::SqlType;
 use std::alloc::Global;
 

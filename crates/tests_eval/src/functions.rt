@@ -1,6 +1,6 @@
 //! The functions by the names of the input.
 
-use hv_typed::{Aggregate, Arithmetic, Many, One, Three, Two};
+use hv_expr::{Aggregate, Arithmetic, Many, One, Three, Two};
 use hv_value::SqlType;
 
 pub(crate) fn one(name: &str) -> Option<(One, SqlType)> {

@@ -1,7 +1,7 @@
 //! Operands: `NULL`, `TRUE`, `5`, `5L`, `'text`, `@2020-01-01`, `[1,2` and `$0`, a place of the row.
 
 use hv_base::{Boxed, List, NoMemory, Text};
-use hv_typed::TypedExpr;
+use hv_expr::TypedExpr;
 use hv_value::{Elem, SqlType, Value, parse_date};
 use std::alloc::Global;
 

@@ -6,7 +6,7 @@ ghost use Rattle.hv_book.specs.Briefs.{held_by};
 ghost use Rattle.hv_stands.specs.Files.{place_of_file};
 ghost use Rattle.hv_rowfile.specs.Layout.{RowIsTaken, RecIsTaken};
 ghost use Rattle.hv_value.specs.declared.value.Value.TheVariants.{Int};
-ghost use Rattle.hv_tables.specs.Putting.{CanPut};
+ghost use Rattle.hv_table_rows.specs.Putting.{CanPut};
 ghost use Rattle.hv_trail.specs.declared.trail.Reader.TheVariants.{Txn};
 ghost use Rattle.hv_trail.specs.Trail.{broken};
 ghost use Rattle.hv_trail.specs.Kept.{trail_of};
@@ -23,7 +23,7 @@ use hv_meta::{is_running, made_shape};
 use hv_route::OutFile;
 use hv_rowfile::Rec;
 use hv_shelf::{Place, Shelf};
-use hv_tables::place_of_file;
+use hv_table_rows::place_of_file;
 use hv_value::{Row, Value};
 use std::alloc::Global;
 

@@ -11,7 +11,7 @@ use hv_house::{House, HouseFault};
 use hv_logic::{Effect, Found};
 use hv_route::{OutFile, route};
 use hv_shelf::Shelf;
-use hv_tables::place_of_file;
+use hv_table_rows::place_of_file;
 use hv_value::{Row, Value};
 use std::alloc::Global;
 

@@ -2,7 +2,7 @@
 
 use hv_base::{List, NoMemory, Refusal};
 use hv_logic::{Column, Shape};
-use hv_query::OutputColumn;
+use hv_typing::OutputColumn;
 use hv_value::{Elem, Row, SqlType, print_value};
 use std::alloc::Global;
 

@@ -1,6 +1,6 @@
 use Rattle.std.proofs.Common.{◌≡◌, ◌∷◌, ◌≤◌, List, length, sym, ap, ◌∙◌, subst}
 use Rattle.hv_value.specs.declared.row.Row.{Row}
-use Rattle.hv_query.specs.Order.{order_cmp}
+use Rattle.hv_typing.specs.Order.{order_cmp}
 use Rattle.hv_order.specs.First.{first_ordered}
 use Rattle.hv_order.proofs.OrderKeys.{added, trimmed, take-sorted, trimmed_bounded}
 use Rattle.hv_order.proofs.add.Goals as goal

@@ -3,7 +3,7 @@ use Rattle.std.specs.Ordering.{is_lt}
 use Rattle.hv_value.specs.declared.row.Row.{Row}
 use Rattle.std.proofs.lemmas.List.Sorted.{ranks_by}
 use Rattle.std.proofs.lemmas.Fn.{always_returns_same}
-use Rattle.hv_query.specs.Order.{order_cmp}
+use Rattle.hv_typing.specs.Order.{order_cmp}
 use Rattle.hv_order.proofs.OrderKeys.{ordered_is, order_total}
 use Rattle.hv_order.proofs.sort.Goals as goal
 

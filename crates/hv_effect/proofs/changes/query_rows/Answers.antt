@@ -1,6 +1,6 @@
 -- The rows that a query is run over are those that stand.
 use Rattle.std.proofs.Common.{ap, ◌∙◌}
-use Rattle.hv_query.specs.Rows.{rows_of}
+use Rattle.hv_typing.specs.Rows.{rows_of}
 use Rattle.hv_effect.proofs.Steps.{tables-found}
 use Rattle.hv_effect.proofs.changes.query_rows.Goals as goal
 

@@ -1,6 +1,6 @@
 use Rattle.std.proofs.Common.{◌≡◌, ◌+◌, ◌++◌, ◌∷◌, [], take, sym, ap, ◌∙◌}
 use Rattle.std.proofs.lemmas.List.{take_more}
-use Rattle.hv_typed.specs.Groups.{over_values}
+use Rattle.hv_expr.specs.Groups.{over_values}
 use Rattle.hv_eval.specs.Accumulating.{merged, single}
 use Rattle.hv_eval.proofs.Accumulators.{one_more}
 use Rattle.hv_eval.proofs.accumulate.fold.Goals as goal

@@ -1,5 +1,5 @@
 use Rattle.std.proofs.Common.{◌≡◌, take}
-use Rattle.hv_typed.specs.Groups.{over_values}
+use Rattle.hv_expr.specs.Groups.{over_values}
 use Rattle.hv_seen.specs.Seen.{seen_value}
 use Rattle.hv_eval.proofs.accumulate.fold.Given as goal
 

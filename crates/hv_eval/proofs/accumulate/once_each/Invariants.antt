@@ -1,5 +1,5 @@
 use Rattle.std.proofs.Common.{◌≡◌, reverse, length}
-use Rattle.hv_typed.specs.Groups.{once_each}
+use Rattle.hv_expr.specs.Groups.{once_each}
 use Rattle.hv_eval.proofs.Once.{with_rest}
 use Rattle.hv_eval.proofs.accumulate.once_each.Given as goal
 

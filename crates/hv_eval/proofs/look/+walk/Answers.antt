@@ -1,15 +1,15 @@
 use Rattle.std.proofs.Common.{◌≡◌, ℕ, ◌+◌, [], ◌∷◌, ◌++◌, length, take, map, if◌then◌else◌, sym, ap, ◌∙◌, option_map, arith}
 use Rattle.std.proofs.Math.Seq.{take-length}
 use Rattle.std.proofs.lemmas.List.{take_more, map-append}
-use Rattle.hv_typed.specs.Evaluation.{value_in}
-use Rattle.hv_typed.specs.Groups.{once_each, over_values, aggregate_value}
+use Rattle.hv_expr.specs.Evaluation.{value_in}
+use Rattle.hv_expr.specs.Groups.{once_each, over_values, aggregate_value}
 use Rattle.hv_eval.specs.Accumulating.{merged, single}
 use Rattle.hv_eval.proofs.Accumulators.{one_more}
 use Rattle.hv_eval.specs.Frames.{value_at, group_of, frame_values, frames_values}
 use Rattle.hv_seen.specs.Seen.{seen_value}
 use Rattle.hv_eval.specs.Walks.{chosen_value, optional_value, settled_value}
-use Rattle.hv_typed.specs.Values.{truth_of, truth_value}
-use Rattle.hv_typed.specs.Functions.{two_value}
+use Rattle.hv_expr.specs.Values.{truth_of, truth_value}
+use Rattle.hv_expr.specs.Functions.{two_value}
 use Rattle.hv_seen.specs.Truths.{told}
 use Rattle.hv_eval.proofs.TruthNodes.{truth-two}
 use Rattle.hv_eval.proofs.Nodes.{value_at-case}

@@ -1,6 +1,6 @@
 use Rattle.std.proofs.Common.{rules, arith, ◌≡◌, ◌++◌, ℕ, length, take, map, subst, sym, ap, ◌∙◌, option_map}
 use Rattle.std.proofs.Math.Seq.{take-length}
-use Rattle.hv_typed.specs.Evaluation.{value_in}
+use Rattle.hv_expr.specs.Evaluation.{value_in}
 use Rattle.std.specs.Str.{IsUtf8}
 use Rattle.std.proofs.lemmas.Grind.{common_steps}
 use Rattle.std.proofs.lemmas.Str.{IsUtf8-append}

@@ -1,8 +1,8 @@
 use Rattle.std.proofs.Common.{◌≡◌, ◌++◌, List, ℕ, Some, drop, take, map, option_map}
 use Rattle.std.specs.Str.{IsUtf8}
-use Rattle.hv_typed.specs.Values.{both, either, both_of}
-use Rattle.hv_typed.specs.Functions.{all_of, any_of, equals_any, first_known, joined}
-use Rattle.hv_typed.specs.Evaluation.{chained, chosen, value_in}
+use Rattle.hv_expr.specs.Values.{both, either, both_of}
+use Rattle.hv_expr.specs.Functions.{all_of, any_of, equals_any, first_known, joined}
+use Rattle.hv_expr.specs.Evaluation.{chained, chosen, value_in}
 use Rattle.hv_seen.specs.Truths.{told}
 use Rattle.hv_eval.specs.Frames.{value_at, values_at, group_of, frames_values}
 use Rattle.hv_eval.specs.Held.{held_value}

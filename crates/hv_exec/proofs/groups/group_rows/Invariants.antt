@@ -1,5 +1,5 @@
 use Rattle.std.proofs.Common.{map, filter, take}
-use Rattle.hv_query.specs.Rows.{is_met_over, group_row}
+use Rattle.hv_typing.specs.Rows.{is_met_over, group_row}
 use Rattle.hv_eval.specs.Frames.{frames_values}
 use Rattle.hv_order.specs.First.{IsEnough, IsSound}
 use Rattle.hv_exec.proofs.groups.group_rows.Given as goal

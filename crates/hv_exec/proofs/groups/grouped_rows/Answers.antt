@@ -1,7 +1,7 @@
 use Rattle.std.proofs.Common.{◌≡◌, [], length, map, filter, sym, subst, ◌∙◌}
 use Rattle.std.proofs.lemmas.Bool.{eqb-true}
 use Rattle.std.proofs.lemmas.List.{nil_from_length}
-use Rattle.hv_query.specs.Rows.{is_met_over, group_row, grouped}
+use Rattle.hv_typing.specs.Rows.{is_met_over, group_row, grouped}
 use Rattle.hv_eval.specs.Frames.{frames_values}
 use Rattle.hv_order.specs.First.{IsEnough}
 use Rattle.hv_exec.proofs.Fronts.{all_do}

@@ -1,5 +1,5 @@
 use Rattle.std.proofs.Common.{◌≡◌, None, filter, sym, subst}
-use Rattle.hv_query.specs.Rows.{is_met}
+use Rattle.hv_typing.specs.Rows.{is_met}
 use Rattle.hv_eval.specs.Frames.{frames_values}
 use Rattle.hv_exec.proofs.Fronts.{filter_all, is_none}
 use Rattle.hv_exec.proofs.items.filtered.Goals as goal

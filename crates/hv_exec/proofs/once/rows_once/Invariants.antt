@@ -2,7 +2,7 @@ use Rattle.std.proofs.Common.{◌≡◌, reverse, length}
 use Rattle.std.specs.List.{fold}
 use Rattle.std.specs.Ordering.{eq_by_cmp}
 use Rattle.hv_value.specs.Order.{row_cmp}
-use Rattle.hv_query.specs.Grouped.{distinct, keep_new}
+use Rattle.hv_typing.specs.Grouped.{distinct, keep_new}
 use Rattle.hv_exec.proofs.once.rows_once.Given as goal
 
 -- what is kept, with what is left, is what is kept of all

@@ -1,5 +1,5 @@
 use Rattle.std.proofs.Common.{[], ◌∷◌, ◌++◌, sym, subst}
-use Rattle.hv_query.specs.Rows.{item_row}
+use Rattle.hv_typing.specs.Rows.{item_row}
 use Rattle.hv_eval.specs.Frames.{frame_values}
 use Rattle.hv_order.specs.First.{IsEnough}
 use Rattle.hv_order.proofs.OrderKeys.{not_wanted}

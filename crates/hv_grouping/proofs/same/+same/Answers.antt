@@ -1,5 +1,5 @@
 use Rattle.std.proofs.Common.{◌≡◌, sym, ap, ◌∙◌}
-use Rattle.hv_typed.specs.declared.tree.TypedExpr.TheViews.{out-TypedExpr}
+use Rattle.hv_expr.specs.declared.tree.TypedExpr.TheViews.{out-TypedExpr}
 use Rattle.hv_typing.specs.Same.{some_same, branches_same, same_tree, is_case}
 use Rattle.hv_grouping.proofs.Equations.{same-Case}
 use Rattle.hv_grouping.proofs.same.+same.Goals as goal

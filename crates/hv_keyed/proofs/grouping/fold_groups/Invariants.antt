@@ -1,5 +1,5 @@
 use Rattle.std.proofs.Common.{◌≡◌, take}
-use Rattle.hv_query.specs.Grouped.{keys_in}
+use Rattle.hv_typing.specs.Grouped.{keys_in}
 use Rattle.hv_keyed.specs.Folds.{folds}
 use Rattle.hv_keyed.proofs.grouping.fold_groups.Given as goal
 

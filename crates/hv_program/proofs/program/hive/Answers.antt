@@ -1,5 +1,5 @@
 use Rattle.std.proofs.Common.{refl, ◌∙◌}
-use Rattle.hv_directives.specs.Actions.{actions_of}
+use Rattle.hv_script.specs.Actions.{actions_of}
 use Rattle.hv_program.proofs.Fine.{fine-actions}
 use Rattle.hv_program.proofs.Whole.{Headline-words, Headline-unread, Headline-memory, Headline-refused, Headline-served}
 use Rattle.hv_program.proofs.Refusing.{refuses-words, refuses-read, refuses-served, refuses-script, refuses-memory, tells-refused, no-command, a-command, said-words, refused-line}

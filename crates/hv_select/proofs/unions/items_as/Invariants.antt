@@ -1,5 +1,5 @@
 use Rattle.std.proofs.Common.{◌≡◌, ◌++◌, List}
-use Rattle.hv_typed.specs.declared.tree.TypedExpr.{TypedExpr}
+use Rattle.hv_expr.specs.declared.tree.TypedExpr.{TypedExpr}
 use Rattle.hv_typing.specs.Queries.{items_as}
 use Rattle.hv_select.proofs.unions.items_as.Given as goal
 

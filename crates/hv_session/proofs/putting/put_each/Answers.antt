@@ -1,7 +1,7 @@
 use Rattle.std.proofs.Common.{◌≡◌, ◌+◌, ◌++◌, [], ◌∷◌, List, take, drop, ap, sym, ◌∙◌, subst}
 use Rattle.std.proofs.lemmas.List.{take_more, drop_more, take-append-drop}
 use Rattle.hv_route.specs.declared.files.OutFile.{OutFile}
-use Rattle.hv_tables.specs.Putting.{CanPut}
+use Rattle.hv_table_rows.specs.Putting.{CanPut}
 use Rattle.hv_session.proofs.Joining.{adds-more}
 use Rattle.hv_session.proofs.FileActs.{PutsUpTo, puts-none, puts-more, due-still, one-among}
 use Rattle.hv_session.proofs.putting.put_each.Goals as goal

@@ -1,7 +1,7 @@
 use Rattle.std.proofs.Common.{true, refl, ap, List, Ok, []}
 use Rattle.std.specs.List.{flat_map}
 use Rattle.hv_rowfile.specs.declared.record.Rec.{Rec}
-use Rattle.hv_tables.specs.Reading.{deleted_with, deleted_in}
+use Rattle.hv_table_rows.specs.Reading.{deleted_with, deleted_in}
 use Rattle.hv_acts.specs.Told.{seen_in}
 use Rattle.hv_session.proofs.Files.{reads-on, reads-start, reads-done, damage-up}
 use Rattle.hv_session.proofs.TableLooks.{looks-none, looked, looks-then, looks-up, looks-lacks}

@@ -1,6 +1,6 @@
 use Rattle.std.proofs.Common.{true, take, Option}
 use Rattle.hv_shelf.specs.Disk.{Store}
-use Rattle.hv_tables.specs.Reading.{deleted_in}
+use Rattle.hv_table_rows.specs.Reading.{deleted_in}
 use Rattle.hv_acts.specs.Told.{seen_in}
 use Rattle.hv_session.specs.Tables.{HasLookedOver}
 use Rattle.hv_session.specs.Steady.{AreSteady}

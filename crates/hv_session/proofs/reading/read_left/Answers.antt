@@ -1,7 +1,7 @@
 use Rattle.std.proofs.Common.{◌≡◌, false, refl, ap, ◌∙◌, Ok, []}
 use Rattle.std.specs.List.{flat_map}
 use Rattle.hv_route.specs.Partitions.{partition_values}
-use Rattle.hv_tables.specs.Reading.{found_with, left_of, left_in}
+use Rattle.hv_table_rows.specs.Reading.{found_with, left_of, left_in}
 use Rattle.hv_acts.specs.Told.{seen_in}
 use Rattle.hv_session.proofs.Files.{reads-on, reads-start, reads-done, damage-up}
 use Rattle.hv_session.proofs.TableLooks.{looks-none, looked, looks-then, looks-up, looks-lacks}

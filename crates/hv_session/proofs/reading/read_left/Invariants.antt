@@ -1,7 +1,7 @@
 use Rattle.std.proofs.Common.{◌≡◌, false, take, Option}
 use Rattle.hv_shelf.specs.Disk.{Store}
 use Rattle.hv_route.specs.Partitions.{partition_values}
-use Rattle.hv_tables.specs.Reading.{left_in}
+use Rattle.hv_table_rows.specs.Reading.{left_in}
 use Rattle.hv_acts.specs.Told.{seen_in}
 use Rattle.hv_session.specs.Tables.{HasLookedOver}
 use Rattle.hv_session.specs.Steady.{AreSteady}

@@ -1,5 +1,5 @@
 use Rattle.std.proofs.Common.{Some, sym, ap, ◌∙◌}
-use Rattle.hv_tables.specs.Amiss.{first_amiss}
+use Rattle.hv_table_rows.specs.Amiss.{first_amiss}
 use Rattle.hv_viewing.proofs.Sheets.{turned, holds, tells-other, spelled-so}
 use Rattle.hv_viewing.proofs.damage.records_of.Goals as goal
 

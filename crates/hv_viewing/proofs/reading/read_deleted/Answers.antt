@@ -4,7 +4,7 @@ use Rattle.std.proofs.lemmas.Result.{err_from_is_err_and}
 use Rattle.hv_base.specs.Told.{Tells}
 use Rattle.hv_rowfile.specs.declared.record.Rec.{Rec}
 use Rattle.hv_choosing.specs.Dirs.{span_of}
-use Rattle.hv_tables.specs.Reading.{HoldsAt, deleted_with, deleted_in}
+use Rattle.hv_table_rows.specs.Reading.{HoldsAt, deleted_with, deleted_in}
 use Rattle.hv_viewing.proofs.Counts.{counts-next}
 use Rattle.hv_viewing.proofs.Sheets.{reads-next, err-told}
 use Rattle.hv_viewing.proofs.Looking.{looked, looks-then, looks-up}

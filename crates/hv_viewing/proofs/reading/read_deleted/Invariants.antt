@@ -1,5 +1,5 @@
 use Rattle.std.proofs.Common.{true, take}
-use Rattle.hv_tables.specs.Reading.{deleted_in}
+use Rattle.hv_table_rows.specs.Reading.{deleted_in}
 use Rattle.hv_viewing.specs.Counting.{CountsUpTo}
 use Rattle.hv_viewing.specs.Looking.{LooksUpTo}
 use Rattle.hv_viewing.proofs.reading.read_deleted.Given as goal

@@ -2,7 +2,7 @@ use Rattle.std.proofs.Common.{◌≡◌, false, ap, ◌∙◌, Ok}
 use Rattle.std.specs.List.{flat_map}
 use Rattle.std.proofs.lemmas.Result.{err_from_is_err_and}
 use Rattle.hv_route.specs.Partitions.{partition_values}
-use Rattle.hv_tables.specs.Reading.{found_with, left_of, left_in}
+use Rattle.hv_table_rows.specs.Reading.{found_with, left_of, left_in}
 use Rattle.hv_viewing.proofs.Counts.{counts-next}
 use Rattle.hv_viewing.proofs.Sheets.{reads-next, err-told}
 use Rattle.hv_viewing.proofs.Looking.{looked, looks-then}

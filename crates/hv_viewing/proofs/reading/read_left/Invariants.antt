@@ -1,6 +1,6 @@
 use Rattle.std.proofs.Common.{◌≡◌, false, take}
 use Rattle.hv_route.specs.Partitions.{partition_values}
-use Rattle.hv_tables.specs.Reading.{left_in}
+use Rattle.hv_table_rows.specs.Reading.{left_in}
 use Rattle.hv_viewing.specs.Counting.{CountsUpTo}
 use Rattle.hv_viewing.specs.Looking.{LooksUpTo}
 use Rattle.hv_viewing.proofs.reading.read_left.Given as goal

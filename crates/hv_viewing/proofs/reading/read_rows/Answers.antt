@@ -3,7 +3,7 @@ use Rattle.hv_base.specs.Told.{Tells}
 use Rattle.hv_choosing.specs.declared.listing.DirFile.{DirFile}
 use Rattle.hv_history.specs.State.{state_of}
 use Rattle.hv_book.specs.Past.{total}
-use Rattle.hv_tables.specs.Reading.{Reads, deleted_in, left_in}
+use Rattle.hv_table_rows.specs.Reading.{Reads, deleted_in, left_in}
 use Rattle.hv_counts.specs.declared.due.Due.{Due}
 use Rattle.hv_counts.specs.Counts.{dues_in}
 use Rattle.hv_house.specs.Faults.{IsDamage}

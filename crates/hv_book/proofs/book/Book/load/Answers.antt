@@ -2,7 +2,7 @@ use Rattle.std.proofs.Common.{◌≡◌, length, sum_by, sym, ap, ◌∙◌, ari
 use Rattle.hv_history.specs.Book.{Kept}
 use Rattle.hv_history.specs.State.{state_of}
 use Rattle.hv_history.specs.Legal.{open_one, working_one, load}
-use Rattle.hv_jobs.specs.Jobs.{working_note}
+use Rattle.hv_book.specs.Jobs.{working_note}
 use Rattle.hv_book.specs.Notes.{Notes}
 use Rattle.hv_book.specs.Briefs.{open_from}
 use Rattle.hv_book.proofs.BookLaws.{follows}

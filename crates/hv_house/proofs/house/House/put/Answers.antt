@@ -1,5 +1,5 @@
 use Rattle.std.proofs.Common.{refl}
-use Rattle.hv_tables.specs.Putting.{bytes_of}
+use Rattle.hv_table_rows.specs.Putting.{bytes_of}
 use Rattle.hv_trail.specs.declared.trail.Reader.TheVariants.{Txn}
 use Rattle.hv_trail.specs.Steps.{Put}
 use Rattle.hv_house.specs.Steps.{outcome_of}

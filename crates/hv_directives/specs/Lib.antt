@@ -1,4 +1,0 @@
-pub mod Actions
-pub mod Kinds
-pub mod Reading
-pub mod Standing

@@ -1,6 +1,0 @@
-use Rattle.hv_directories.proofs.VisibleLemmas.{rows-visible}
-use Rattle.hv_directories.proofs.StoodLemmas.{rows-shown}
-use Rattle.hv_directories.proofs.laws.rows_are_visible.Goals as goal
-
-pub returns : goal.returns
-returns c = record { law = rows-visible; shown = rows-shown }

@@ -1,5 +1,0 @@
-use Rattle.hv_due_laws.proofs.Runs.{touches-count, files-count}
-use Rattle.hv_due_laws.proofs.laws.touches_count_rows.Goals as goal
-
-pub returns : goal.returns
-returns c = record { touches = touches-count; files = files-count }

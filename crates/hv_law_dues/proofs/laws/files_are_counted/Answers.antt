@@ -1,0 +1,5 @@
+use Rattle.hv_law_dues.proofs.Stood.{files-counted}
+use Rattle.hv_law_dues.proofs.laws.files_are_counted.Goals as goal
+
+pub returns : goal.returns
+returns c = record { law = files-counted }

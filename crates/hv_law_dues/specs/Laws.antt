@@ -1,0 +1,51 @@
+-- What commits say of their rows is what they wrote, and what stands in their files.
+use Rattle.std.specs.Prelude.{◌≡◌, ℕ, Bool, Some, List, map, take}
+use Rattle.std.specs.List.{AllByRecursion}
+use Rattle.hv_shelf.specs.Disk.{Tree, places_of}
+use Rattle.hv_logic.specs.declared.catalog.Shape.{Shape}
+use Rattle.hv_logic.specs.declared.catalog.TableInfo.{TableInfo}
+use Rattle.hv_logic.specs.declared.effect.Effect.{Effect}
+use Rattle.hv_route.specs.Routes.{files_of}
+use Rattle.hv_route.specs.Touching.{touches_of}
+use Rattle.hv_wids.specs.WriteIds.{WriteIds}
+use Rattle.hv_history.specs.declared.entry.Entry.{Entry}
+use Rattle.hv_history.specs.declared.state.Table.{Table}
+use Rattle.hv_history.specs.State.{state_of, numbered}
+use Rattle.hv_history.specs.Legal.{profile, IsLegal}
+use Rattle.hv_choosing.specs.declared.listing.DirFile.{DirFile}
+use Rattle.hv_choosing.specs.Listing.{AreListed}
+use Rattle.hv_choosing.specs.Taken.{files_taken}
+use Rattle.hv_table_rows.specs.Laws.{StoodAt}
+use Rattle.hv_table_rows.specs.Reading.{Sheet, sheet_file, IsSheet}
+use Rattle.hv_counts.specs.Counts.{dues_in, due_sum, IsCounted}
+use Rattle.hv_law_dues.specs.Counting.{rows_in, changed_rows, touched_in, recorded_in, written_sum}
+
+-- the touches of a change say of each partition how many of its rows are inserted there, and how many deleted
+abbrev pub TouchesCountRows : Type 0
+TouchesCountRows =
+    (info : TableInfo) (write statement : ℕ) (effect : Effect) (deletes : Bool) (partition : List ℕ)
+    → touched_in deletes partition (touches_of info effect) ≡ rows_in partition (changed_rows info.shape write statement effect deletes)
+
+-- the files of a change have so many records there
+abbrev pub FilesCountRows : Type 0
+FilesCountRows =
+    (shape : Shape) (write statement : ℕ) (effect : Effect) (deletes : Bool) (partition : List ℕ)
+    → recorded_in deletes partition (files_of shape write statement effect) ≡ rows_in partition (changed_rows shape write statement effect deletes)
+
+-- Of each table, write id and partition the commits of a legal book say how many rows the table's write of that id has there: none
+-- where it has no such write.
+abbrev pub DuesCountWrites : Type 0
+DuesCountWrites =
+    (book : List Entry) (number : ℕ) (table : Table) → IsLegal profile book → numbered (state_of book).tables number ≡ Some table
+    → (deletes : Bool) (write : ℕ) (partition : List ℕ)
+    → due_sum deletes write partition (dues_in (state_of book) number) ≡ written_sum deletes write partition table.writes
+
+-- Where the files of a legal book stand, those that are taken of a table under the list that it had at a place have just the
+-- records that the commits before that place say.
+abbrev pub FilesAreCounted : Type 0
+FilesAreCounted =
+    (book : List Entry) (place : ℕ) (files : Tree) (table : Table) (list : WriteIds)
+    → IsLegal profile book → StoodAt book place files table list
+    → (deletes : Bool) (named : List DirFile) (sheets : List Sheet)
+    → AreListed (places_of table.info.table files) named → map sheet_file sheets ≡ files_taken deletes list named → AllByRecursion (IsSheet deletes files) sheets
+    → IsCounted deletes (dues_in (state_of (take place book)) table.info.table.0) sheets

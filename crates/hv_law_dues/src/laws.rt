@@ -1,0 +1,31 @@
+ghost use Rattle.std.specs.Prelude.{◌≡◌, true, false};
+ghost use Rattle.hv_stands.specs.Worked.{part_one, part_two};
+ghost use Rattle.hv_law_dues.specs.Worked.{count_by_hand};
+ghost use Rattle.hv_law_dues.specs.Laws.{TouchesCountRows, FilesCountRows, DuesCountWrites, FilesAreCounted};
+
+/// The touches of a change say of each partition how many rows are inserted and deleted there, and its files have so many records
+/// there.
+pub fn touches_count_rows()
+    ensures touches { TouchesCountRows }
+    ensures files { FilesCountRows }
+{}
+
+/// The commits of a legal book say of each table, write id and partition how many rows the table's write inserted and deleted there.
+pub fn dues_count_writes()
+    ensures law { DuesCountWrites }
+{}
+
+/// Where the files of a legal book stand, those of a table that are read as of a place of the book have as many records as the
+/// commits before that place say.
+pub fn files_are_counted()
+    ensures law { FilesAreCounted }
+{}
+
+/// A write worked out by hand.
+pub fn counted_by_hand()
+    ensures first { count_by_hand false 2 part_one ≡ 2 }
+    ensures second { count_by_hand false 2 part_two ≡ 2 }
+    ensures gone { count_by_hand true 2 part_one ≡ 1 }
+    ensures kept { count_by_hand true 2 part_two ≡ 0 }
+    ensures other { count_by_hand false 1 part_one ≡ 0 }
+{}

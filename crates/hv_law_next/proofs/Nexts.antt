@@ -1,0 +1,473 @@
+-- Each entry of a transaction that is legal, and in order, is the one that one thread adds next for it; behind it fewer are left.
+use Rattle.std.proofs.Common.{◌≡◌, ℕ, ◌+◌, ◌<◌, ◌≤◌, ◌⊎◌, inl, inr, Option, Some, None, List, [], ◌∷◌, ◌++◌, length, map, refl, sym, ap, ◌∙◌, subst, arith}
+use Rattle.std.specs.Prelude.{Bool, true, false, ◌||◌, if◌then◌else◌, IsTrue, IsFalse, IsSome, IsSomeAnd, is_some}
+use Rattle.std.specs.List.{list_any, AllByRecursion}
+use Rattle.std.proofs.lemmas.Bool.{le-ltb, lt-ltb}
+use Rattle.hv_base.specs.Refusals as refusals
+use Rattle.hv_base.specs.declared.ids.Limits.{Limits}
+use Rattle.hv_base.specs.declared.ids.TxnId.{TxnId}
+use Rattle.hv_base.specs.declared.ids.TableId.{TableId}
+use Rattle.hv_base.specs.declared.ids.WriteId.{WriteId}
+use Rattle.hv_base.specs.declared.ids.Touch.{Touch}
+use Rattle.hv_locks.specs.declared.table.Lock.{Lock}
+use Rattle.hv_ast.specs.declared.statement.Stmt.{Stmt}
+use Rattle.hv_ast.specs.declared.statement.Stmt.TheVariants as stmt
+use Rattle.hv_typing.specs.Analysis.{is_form}
+use Rattle.hv_logic.specs.declared.catalog.TableInfo.{TableInfo}
+use Rattle.hv_logic.specs.declared.effect.Effect.{Effect}
+use Rattle.hv_logic.specs.declared.meaning.Meaning.{Meaning}
+use Rattle.hv_logic.specs.declared.meaning.Meaning.TheVariants.{Refused, Listing, Change, Make, Plain, RowLimit, PartitionLimit}
+use Rattle.hv_route.specs.Touching.{touches_of}
+use Rattle.hv_route.proofs.StandingLemmas.{touches-are-of-rows}
+use Rattle.hv_history.specs.declared.entry.Entry.{Entry}
+use Rattle.hv_history.specs.declared.entry.Entry.TheVariants as entry
+use Rattle.hv_history.specs.declared.entry.Cause.{Cause}
+use Rattle.hv_history.specs.declared.entry.Cause.TheVariants as cause
+use Rattle.hv_history.specs.declared.state.Ending.{Ending}
+use Rattle.hv_history.specs.declared.state.Ending.TheVariants.{Committed, Aborted, Made}
+use Rattle.hv_history.specs.declared.state.Statement.{Statement}
+use Rattle.hv_history.specs.declared.state.Table.{Table}
+use Rattle.hv_history.specs.declared.state.Snapshot.{Snapshot}
+use Rattle.hv_history.specs.declared.state.Transaction.{Transaction}
+use Rattle.hv_history.specs.State.{State, numbered, meaning, opening_tree, statement_tree, statement_of, given_in, first_of, started, given_id, committed, ended, changed, while_open, acted, after, state_of}
+use Rattle.hv_history.specs.Legal.{Of, Fits, IsTruthful, is_open, is_started, locks_of, holds_against, first_holder, IsRunning, IsOwnTouch, StartFits, GivenFits, CommitFits, CreateFits, CauseFits, FullFits, CauseIsTrue, TouchesAreMeant, IsMake, NeedsId, IsRefusedAs, ConflictIsTrue, IsFirstConflict, asks_to_abort, place_of_snapshot, HasRoom, load, profile}
+use Rattle.hv_stands.specs.Sound.{IsSound, IsSingle, info_in}
+use Rattle.hv_stands.specs.Running.{IsOf}
+use Rattle.hv_stands.proofs.Numbers.{found, one_value, numbered-within}
+use Rattle.hv_stands.proofs.Soundness.{all-mapped, all-numbered}
+use Rattle.hv_stands.proofs.Keeping.{still-open, open-here}
+use Rattle.hv_law_next.specs.Next.{start, abort, commit, lacks_room, starting, first_met, needs_id, next_write, giving, ending_change, changing, by_meaning, by_start, by_ending, next_of}
+use Rattle.hv_law_next.specs.Order.{IsOfTable, AsksForId, HasItsId, IsUnheld, IsFaultless, IsSteady, CauseInOrder, IsInOrder}
+use Rattle.hv_law_next.specs.Carrying.{IsRunningStore}
+use Rattle.hv_law_next.proofs.Meetings.{none-met, first-is-met}
+
+-- ---- tests
+
+has-room : (s : State) → HasRoom profile s 1 → lacks_room s 1 ≡ false
+has-room s room = le-ltb profile.entries (load s + 1) room
+
+no-room : (s : State) → profile.entries < load s + 1 → lacks_room s 1 ≡ true
+no-room s full = lt-ltb profile.entries (load s + 1) full
+
+holder-none : (locks : List Lock) (number : ℕ) (ts : List Transaction) → list_any (holds_against locks) ts ≡ false → first_holder locks number ts ≡ None
+holder-none locks number [] none = refl
+holder-none locks number (t ∷ ts) none = by (holder-none locks (number + 1) ts) (holds_against locks t) refl none
+  where
+    by : (list_any (holds_against locks) ts ≡ false → first_holder locks (number + 1) ts ≡ None) → (b : Bool) → holds_against locks t ≡ b → (b || list_any (holds_against locks) ts) ≡ false → first_holder locks number (t ∷ ts) ≡ None
+    by rest true is e = cc
+    by rest false is e = ap (λ c. if c then Some number else first_holder locks (number + 1) ts) is ∙ rest e
+
+never : (b : Bool) → b ≡ false → b ≡ true → ⊥
+never b no_ yes_ = let clash : false ≡ true = sym no_ ∙ yes_ in cc
+
+-- what isn't a change asks for no id
+abbrev IsNoChange : Option Meaning → Type 0
+IsNoChange (Some (Change info effect)) = ⊥
+IsNoChange o = Unit {0}
+
+other-needs : (given : List (ℕ × ℕ)) (o : Option Meaning) → NeedsId given o → IsNoChange o → ⊥
+other-needs [] (Some (Change info effect)) needs none = none
+other-needs [] o needs none = needs
+other-needs (x ∷ given) o needs none = needs
+
+needs-true : (given : List (ℕ × ℕ)) (o : Option Meaning) → NeedsId given o → needs_id given o ≡ true
+needs-true [] (Some (Change info effect)) needs = lt-ltb 0 (length effect.inserts + length effect.deletes) needs
+needs-true [] None needs = absurd needs
+needs-true [] (Some (Refused why)) needs = absurd needs
+needs-true [] (Some (Listing names rows)) needs = absurd needs
+needs-true [] (Some (Make shape)) needs = absurd needs
+needs-true [] (Some Plain) needs = absurd needs
+needs-true [] (Some RowLimit) needs = absurd needs
+needs-true [] (Some PartitionLimit) needs = absurd needs
+needs-true (x ∷ given) o needs = absurd needs
+
+none-given : (table : ℕ) → IsSome (given_in table []) → ⊥
+none-given table h = cc
+
+-- a change of rows touches, so its commit has a write id
+wrote-given : (info : TableInfo) (effect : Effect) (given : List (ℕ × ℕ)) (wrote : List Touch) → touches_of info effect ≡ wrote
+    → AllByRecursion (λ (touch : Touch). IsSome (given_in touch.table.0 given)) wrote → needs_id given (Some (Change info effect)) ≡ false
+wrote-given info effect (x ∷ given) wrote are own = refl
+wrote-given info effect [] [] are own =
+    let rows = (touches-are-of-rows info effect).none are in
+    let inserts : length effect.inserts ≡ 0 = ap length rows.0 in
+    let deletes : length effect.deletes ≡ 0 = ap length rows.1 in
+    le-ltb 0 (length effect.inserts + length effect.deletes) (omega (arith, inserts, deletes))
+wrote-given info effect [] (touch ∷ wrote) are own = absurd (none-given touch.table.0 own.0)
+
+-- ---- no statement that runs asks for the abort of others
+
+asks-nothing : (tree : Stmt) (txn : ℕ) → is_form tree ≡ true → asks_to_abort txn (Some tree) ≡ true → ⊥
+unfolding is_form
+asks-nothing (stmt.AbortTransactions txns) txn built asks = cc
+asks-nothing tree txn built asks = cc
+
+single-asks-nothing : (infos : List TableInfo) (asker : Transaction) (txn : ℕ) → IsSingle infos asker → asks_to_abort txn (opening_tree asker) ≡ true → ⊥
+single-asks-nothing infos asker txn single asks =
+    let tree : opening_tree asker ≡ Some single.text.0 =
+    ap (λ (xs : List Statement). statement_tree (statement_of (record asker { statements = xs }) 0)) single.one ∙ single.text.1.read in
+    asks-nothing single.text.0 txn single.text.1.built (sym (ap (asks_to_abort txn) tree) ∙ asks)
+
+-- ---- every abort is one of an open transaction
+
+cause-open : (limits : Limits) (s : State) (txn : ℕ) (why : Cause) (t : Transaction) → CauseFits limits s txn why t → IsTrue (is_open t)
+cause-open limits s txn (cause.Refused number) t fits = fits.unended
+cause-open limits s txn (cause.Conflict by_ table partition) t fits = fits.running.unended
+cause-open limits s txn (cause.Request by_) t fits = fits.unended
+cause-open limits s txn cause.Full t fits = fits.unended
+cause-open limits s txn (cause.Twice partition row) t fits = fits.unended
+cause-open limits s txn (cause.Blocked holder) t fits = fits.waiting.unended
+cause-open limits s txn (cause.ReadFault count) t fits = fits.running.unended
+cause-open limits s txn (cause.WriteFault count) t fits = fits.running.unended
+cause-open limits s txn (cause.Damaged place) t fits = fits.unended
+cause-open limits s txn cause.RowLimit t fits = fits.unended
+cause-open limits s txn cause.PartitionLimit t fits = fits.unended
+cause-open limits s txn cause.Memory t fits = fits
+cause-open limits s txn cause.Lost t fits = fits.unended
+
+-- ---- how many entries are left at most
+
+abbrev pub rank_by : Option Ending → Bool → Bool → ℕ
+rank_by (Some e) started_ needs = 0
+rank_by None false needs = 3
+rank_by None true true = 2
+rank_by None true false = 1
+
+abbrev pub rank : Transaction → ℕ
+rank t = rank_by t.ending (is_started t) (needs_id t.given (meaning t))
+
+rank-open : (b c : Bool) → 1 ≤ rank_by None b c
+rank-open false c = omega arith
+rank-open true true = omega arith
+rank-open true false = omega arith
+
+rank-started : (c : Bool) → rank_by None true c ≤ 2
+rank-started true = omega arith
+rank-started false = omega arith
+
+pub rank-within : (t : Transaction) → rank t ≤ 3
+rank-within t = by t.ending (is_started t) (needs_id t.given (meaning t))
+  where
+    by : (o : Option Ending) (b c : Bool) → rank_by o b c ≤ 3
+    by (Some e) b c = omega arith
+    by None false c = omega arith
+    by None true true = omega arith
+    by None true false = omega arith
+
+no-more-ids : (given : List (ℕ × ℕ)) (x : ℕ × ℕ) (o : Option Meaning) → needs_id (given ++ x ∷ []) o ≡ false
+no-more-ids [] x o = refl
+no-more-ids (y ∷ given) x o = refl
+
+is-started-behind : (s : State) (statement : ℕ) (t : Transaction) → is_started (started s statement t) ≡ true
+is-started-behind s statement t = by t.snapshot
+  where
+    by : (o : Option Snapshot) → is_some (first_of o (record { place = s.entries; tables = s.tables })) ≡ true
+    by None = refl
+    by (Some snapshot) = refl
+
+-- behind an entry of that transaction it is there, and fewer are left
+pub record HasFewer (txn most : ℕ) (now : State) : Type 0 where
+  pub t : Transaction
+  pub there : numbered now.transactions txn ≡ Some t
+  pub fewer : rank t < most
+
+module _ (book : List Entry) (txn : ℕ) (t : Transaction) (at : numbered (state_of book).transactions txn ≡ Some t) where
+  abbrev s : State
+  s = state_of book
+
+  here : (P : Transaction → Type 0) (id : TxnId) → id.0 ≡ txn → Of s id.0 P → P t
+  here P id same h =
+      let f = found P (numbered s.transactions id.0) h in
+      subst P (one_value f.0 t (sym f.1 ∙ ap (numbered s.transactions) same ∙ at)) f.2
+
+  -- ---- the next entry
+
+  opens : t.ending ≡ None → (b : Bool) → is_started t ≡ b → next_of s txn t ≡ by_start s txn t b
+  unfolding next_of
+  opens none b is = ap (by_ending s txn t) none ∙ ap (by_start s txn t) is
+
+  means : (event : Entry) → IsRunning t → (o : Option Meaning) → meaning t ≡ o → by_meaning s txn t o ≡ Some event → next_of s txn t ≡ Some event
+  means event running o is e = opens (still-open t running.unended) true running.started ∙ ap (by_meaning s txn t) is ∙ e
+
+  start-next : (statement : ℕ) → StartFits profile s statement t → next_of s txn t ≡ Some (entry.Start (record { 0 = txn }) statement)
+  start-next statement fits =
+      opens (still-open t fits.waiting.unended) false fits.waiting.unstarted
+      ∙ ap (λ o. Some (starting s txn o)) (holder-none (locks_of t) 1 s.transactions fits.unlocked)
+      ∙ ap (λ b. Some (if b then abort txn cause.Full else start txn)) (has-room s fits.room)
+      ∙ ap (λ n. Some (entry.Start (record { 0 = txn }) n)) (sym fits.first)
+
+  next-id : (write : ℕ) (o : Option Table) → IsSomeAnd o (λ (table : Table). IsTrue table.is_live × (write ≡ length table.owners + 1)) → next_write o ≡ write
+  next-id write None h = absurd h
+  next-id write (Some table) h = sym h.1
+
+  given-next : (table : TableId) (write : WriteId) → GivenFits profile s table.0 write.0 t → AsksForId table t
+      → next_of s txn t ≡ Some (entry.Given (record { 0 = txn }) table write)
+  given-next table write fits asks = by (meaning t) refl asks.needs asks.of_table
+    where
+      by : (o : Option Meaning) → meaning t ≡ o → needs_id t.given (meaning t) ≡ true → IsOfTable table (meaning t)
+          → next_of s txn t ≡ Some (entry.Given (record { 0 = txn }) table write)
+      by (Some (Change info effect)) is needs its =
+          let same : table ≡ info.table = subst (IsOfTable table) is its in
+          let asked : needs_id t.given (Some (Change info effect)) ≡ true = sym (ap (needs_id t.given) is) ∙ needs in
+          let number : next_write (numbered s.tables info.table.0) ≡ write.0 =
+          ap (λ (x : TableId). next_write (numbered s.tables x.0)) (sym same) ∙ next-id write.0 (numbered s.tables table.0) fits.live in
+          means (entry.Given (record { 0 = txn }) table write) fits.running (Some (Change info effect)) is
+          (ap (λ b. Some (changing s txn t info effect b)) asked
+          ∙ ap (λ b. Some (if b then abort txn cause.Full else giving s txn info)) (has-room s fits.room)
+          ∙ (λ i. Some (entry.Given (record { 0 = txn }) (sym same i) (record { 0 = number i }))))
+      by None is needs its = absurd (subst (IsOfTable table) is its)
+      by (Some (Refused why)) is needs its = absurd (subst (IsOfTable table) is its)
+      by (Some (Listing names rows)) is needs its = absurd (subst (IsOfTable table) is its)
+      by (Some (Make shape)) is needs its = absurd (subst (IsOfTable table) is its)
+      by (Some Plain) is needs its = absurd (subst (IsOfTable table) is its)
+      by (Some RowLimit) is needs its = absurd (subst (IsOfTable table) is its)
+      by (Some PartitionLimit) is needs its = absurd (subst (IsOfTable table) is its)
+
+  commit-next : (wrote : List Touch) → CommitFits s wrote t → TouchesAreMeant wrote (meaning t) → next_of s txn t ≡ Some (commit txn wrote)
+  commit-next wrote fits truth = by (meaning t) refl truth
+    where
+      by : (o : Option Meaning) → meaning t ≡ o → TouchesAreMeant wrote (meaning t) → next_of s txn t ≡ Some (commit txn wrote)
+      by (Some (Change info effect)) is truth =
+          let are : wrote ≡ touches_of info effect = subst (TouchesAreMeant wrote) is truth in
+          let needs : needs_id t.given (Some (Change info effect)) ≡ false =
+          wrote-given info effect t.given wrote (sym are)
+          (all-mapped (IsOwnTouch t) (λ (touch : Touch). IsSome (given_in touch.table.0 t.given)) (λ touch own. own.given) wrote fits.own) in
+          means (commit txn wrote) fits.running (Some (Change info effect)) is
+          (ap (λ b. Some (changing s txn t info effect b)) needs
+          ∙ ap (λ ws. Some (ending_change txn ws (first_met (place_of_snapshot t.snapshot) ws 1 s.transactions))) (sym are)
+          ∙ ap (λ o. Some (ending_change txn wrote o)) (none-met (place_of_snapshot t.snapshot) wrote 1 s.transactions fits.clear))
+      by (Some (Listing names rows)) is truth =
+          let none : wrote ≡ [] = subst (TouchesAreMeant wrote) is truth in
+          means (commit txn wrote) fits.running (Some (Listing names rows)) is (ap (λ ws. Some (commit txn ws)) (sym none))
+      by (Some Plain) is truth =
+          let none : wrote ≡ [] = subst (TouchesAreMeant wrote) is truth in
+          means (commit txn wrote) fits.running (Some Plain) is (ap (λ ws. Some (commit txn ws)) (sym none))
+      by None is truth = absurd (subst (TouchesAreMeant wrote) is truth)
+      by (Some (Refused why)) is truth = absurd (subst (TouchesAreMeant wrote) is truth)
+      by (Some (Make shape)) is truth = absurd (subst (TouchesAreMeant wrote) is truth)
+      by (Some RowLimit) is truth = absurd (subst (TouchesAreMeant wrote) is truth)
+      by (Some PartitionLimit) is truth = absurd (subst (TouchesAreMeant wrote) is truth)
+
+  create-next : (table : TableId) → CreateFits s table.0 t → IsMake (meaning t) → next_of s txn t ≡ Some (entry.Create (record { 0 = txn }) table)
+  create-next table fits truth = by (meaning t) refl truth
+    where
+      by : (o : Option Meaning) → meaning t ≡ o → IsMake (meaning t) → next_of s txn t ≡ Some (entry.Create (record { 0 = txn }) table)
+      by (Some (Make shape)) is truth =
+          means (entry.Create (record { 0 = txn }) table) fits.running (Some (Make shape)) is
+          (ap (λ n. Some (entry.Create (record { 0 = txn }) (record { 0 = n }))) (sym fits.next))
+      by None is truth = absurd (subst IsMake is truth)
+      by (Some (Change info effect)) is truth = absurd (subst IsMake is truth)
+      by (Some (Refused why)) is truth = absurd (subst IsMake is truth)
+      by (Some (Listing names rows)) is truth = absurd (subst IsMake is truth)
+      by (Some Plain) is truth = absurd (subst IsMake is truth)
+      by (Some RowLimit) is truth = absurd (subst IsMake is truth)
+      by (Some PartitionLimit) is truth = absurd (subst IsMake is truth)
+
+  refused-next : (number : ℕ) → IsRunning t → IsRefusedAs number (meaning t) → next_of s txn t ≡ Some (abort txn (cause.Refused number))
+  refused-next number running truth = by (meaning t) refl truth
+    where
+      by : (o : Option Meaning) → meaning t ≡ o → IsRefusedAs number (meaning t) → next_of s txn t ≡ Some (abort txn (cause.Refused number))
+      by (Some (Refused why)) is truth =
+          let same : number ≡ refusals.number why = subst (IsRefusedAs number) is truth in
+          means (abort txn (cause.Refused number)) running (Some (Refused why)) is (ap (λ n. Some (abort txn (cause.Refused n))) (sym same))
+      by None is truth = absurd (subst (IsRefusedAs number) is truth)
+      by (Some (Change info effect)) is truth = absurd (subst (IsRefusedAs number) is truth)
+      by (Some (Listing names rows)) is truth = absurd (subst (IsRefusedAs number) is truth)
+      by (Some (Make shape)) is truth = absurd (subst (IsRefusedAs number) is truth)
+      by (Some Plain) is truth = absurd (subst (IsRefusedAs number) is truth)
+      by (Some RowLimit) is truth = absurd (subst (IsRefusedAs number) is truth)
+      by (Some PartitionLimit) is truth = absurd (subst (IsRefusedAs number) is truth)
+
+  conflict-next : (other : TxnId) (table : TableId) (partition : List ℕ) → IsRunning t → ConflictIsTrue s other.0 table.0 partition t (meaning t) → HasItsId t
+      → next_of s txn t ≡ Some (abort txn (cause.Conflict other table partition))
+  conflict-next other table partition running truth order = by (meaning t) refl truth
+    where
+      by : (o : Option Meaning) → meaning t ≡ o → ConflictIsTrue s other.0 table.0 partition t (meaning t)
+          → next_of s txn t ≡ Some (abort txn (cause.Conflict other table partition))
+      by (Some (Change info effect)) is truth =
+          let h : IsFirstConflict s (place_of_snapshot t.snapshot) (touches_of info effect) other.0 table.0 partition =
+          subst (ConflictIsTrue s other.0 table.0 partition t) is truth in
+          let needs : needs_id t.given (Some (Change info effect)) ≡ false = sym (ap (needs_id t.given) is) ∙ order in
+          let first = first-is-met book (place_of_snapshot t.snapshot) (touches_of info effect) other.0 table.0 partition h in
+          let table_is = h.table_is in
+          let partition_is = h.partition_is in
+          means (abort txn (cause.Conflict other table partition)) running (Some (Change info effect)) is
+          (ap (λ b. Some (changing s txn t info effect b)) needs
+          ∙ ap (λ o. Some (ending_change txn (touches_of info effect) o)) first
+          ∙ (λ i. Some (abort txn (cause.Conflict other (record { 0 = sym table_is i }) (sym partition_is i)))))
+      by None is truth = absurd (subst (ConflictIsTrue s other.0 table.0 partition t) is truth)
+      by (Some (Refused why)) is truth = absurd (subst (ConflictIsTrue s other.0 table.0 partition t) is truth)
+      by (Some (Listing names rows)) is truth = absurd (subst (ConflictIsTrue s other.0 table.0 partition t) is truth)
+      by (Some (Make shape)) is truth = absurd (subst (ConflictIsTrue s other.0 table.0 partition t) is truth)
+      by (Some Plain) is truth = absurd (subst (ConflictIsTrue s other.0 table.0 partition t) is truth)
+      by (Some RowLimit) is truth = absurd (subst (ConflictIsTrue s other.0 table.0 partition t) is truth)
+      by (Some PartitionLimit) is truth = absurd (subst (ConflictIsTrue s other.0 table.0 partition t) is truth)
+
+  full-unstarted : FullFits profile s t → IsUnheld s t → is_started t ≡ false → next_of s txn t ≡ Some (abort txn cause.Full)
+  full-unstarted fits order unstarted =
+      opens (still-open t fits.unended) false unstarted
+      ∙ ap (λ o. Some (starting s txn o)) (order unstarted)
+      ∙ ap (λ b. Some (if b then abort txn cause.Full else start txn)) (no-room s fits.full)
+
+  full-asked : FullFits profile s t → NeedsId t.given (meaning t) → is_started t ≡ true → next_of s txn t ≡ Some (abort txn cause.Full)
+  full-asked fits needs started_ = by (meaning t) refl (needs-true t.given (meaning t) needs)
+    where
+      unasked : (given : List (ℕ × ℕ)) → needs_id given None ≡ false
+      unasked [] = refl
+      unasked (x ∷ given) = refl
+
+      by : (o : Option Meaning) → meaning t ≡ o → needs_id t.given (meaning t) ≡ true → next_of s txn t ≡ Some (abort txn cause.Full)
+      by (Some (Change info effect)) is asks =
+          means (abort txn cause.Full) (record { unended = fits.unended; started = started_ }) (Some (Change info effect)) is
+          (ap (λ b. Some (changing s txn t info effect b)) (sym (ap (needs_id t.given) is) ∙ asks)
+          ∙ ap (λ b. Some (if b then abort txn cause.Full else giving s txn info)) (no-room s fits.full))
+      by None is asks = absurd (never (needs_id t.given None) (unasked t.given) (sym (ap (needs_id t.given) is) ∙ asks))
+      by (Some (Refused why)) is asks = absurd (other-needs t.given (Some (Refused why)) (subst (NeedsId t.given) is needs) tt)
+      by (Some (Listing names rows)) is asks = absurd (other-needs t.given (Some (Listing names rows)) (subst (NeedsId t.given) is needs) tt)
+      by (Some (Make shape)) is asks = absurd (other-needs t.given (Some (Make shape)) (subst (NeedsId t.given) is needs) tt)
+      by (Some Plain) is asks = absurd (other-needs t.given (Some Plain) (subst (NeedsId t.given) is needs) tt)
+      by (Some RowLimit) is asks = absurd (other-needs t.given (Some RowLimit) (subst (NeedsId t.given) is needs) tt)
+      by (Some PartitionLimit) is asks = absurd (other-needs t.given (Some PartitionLimit) (subst (NeedsId t.given) is needs) tt)
+
+  abort-next : (why : Cause) → IsSound s → IsRunningStore s → CauseFits profile s txn why t → CauseIsTrue s why t → IsFaultless why → CauseInOrder s why t → next_of s txn t ≡ Some (abort txn why)
+  abort-next (cause.Refused number) sound running fits truth steady order = refused-next number fits truth
+  abort-next (cause.Conflict other table partition) sound running fits truth steady order = conflict-next other table partition fits.running truth order
+  abort-next (cause.Request other) sound running fits truth steady order =
+      let f = found (λ asker. IsRunning asker × IsTrue (asks_to_abort txn (opening_tree asker))) (numbered s.transactions other.0) fits.asks in
+      absurd (single-asks-nothing (map info_in s.tables) f.0 txn
+      (all-numbered (IsSingle (map info_in s.tables)) s.transactions other.0 f.0 f.1 sound.single) f.2.1)
+  abort-next cause.Full sound running fits truth steady order = by (is_started t) refl truth
+    where
+      by : (b : Bool) → is_started t ≡ b → IsFalse (is_started t) ⊎ NeedsId t.given (meaning t) → next_of s txn t ≡ Some (abort txn cause.Full)
+      by false is either = full-unstarted fits order is
+      by true is (inl unstarted) = absurd (never (is_started t) unstarted is)
+      by true is (inr needs) = full-asked fits needs is
+  abort-next (cause.Twice partition row) sound running fits truth steady order = absurd truth
+  abort-next (cause.Blocked holder) sound running fits truth steady order =
+      opens (still-open t fits.waiting.unended) false fits.waiting.unstarted
+      ∙ ap (λ o. Some (starting s txn o)) fits.held
+  abort-next (cause.ReadFault count) sound running fits truth steady order = absurd steady
+  abort-next (cause.WriteFault count) sound running fits truth steady order = absurd steady
+  abort-next (cause.Damaged place) sound running fits truth steady order = absurd steady
+  abort-next cause.RowLimit sound running fits truth steady order = means (abort txn cause.RowLimit) fits (Some RowLimit) truth refl
+  abort-next cause.PartitionLimit sound running fits truth steady order = means (abort txn cause.PartitionLimit) fits (Some PartitionLimit) truth refl
+  abort-next cause.Memory sound running fits truth steady order = absurd steady
+  abort-next cause.Lost sound running fits truth steady order = absurd (never s.openings.only_lost running fits.behind)
+
+  -- ---- how many are left
+
+  fewer-by : (f : Transaction → Transaction) (now : State) → now.transactions ≡ changed (while_open f) s.transactions txn → t.ending ≡ None
+      → rank (f t) < rank t → HasFewer txn (rank t) now
+  fewer-by f now are none less = record {
+    t = f t;
+    there = ap (λ ts. numbered ts txn) are ∙ open-here f s.transactions txn t at none;
+    fewer = less;
+  }
+
+  ends-fewer : (f : Transaction → Transaction) (ending_ : Ending) (now : State) → now.transactions ≡ changed (while_open f) s.transactions txn → t.ending ≡ None
+      → (f t).ending ≡ Some ending_ → HasFewer txn (rank t) now
+  ends-fewer f ending_ now are none ends =
+      let before : rank t ≡ rank_by None (is_started t) (needs_id t.given (meaning t)) =
+      ap (λ o. rank_by o (is_started t) (needs_id t.given (meaning t))) none in
+      let one = rank-open (is_started t) (needs_id t.given (meaning t)) in
+      let behind : rank (f t) ≡ 0 = ap (λ o. rank_by o (is_started (f t)) (needs_id (f t).given (meaning (f t)))) ends in
+      fewer-by f now are none (omega (arith, before, one, behind))
+
+  start-fewer : (statement : ℕ) → StartFits profile s statement t → HasFewer txn (rank t) (after s (entry.Start (record { 0 = txn }) statement))
+  unfolding acted
+  start-fewer statement fits =
+      let none = still-open t fits.waiting.unended in
+      let next : Transaction = started s statement t in
+      let before : rank t ≡ 3 =
+      ap (λ o. rank_by o (is_started t) (needs_id t.given (meaning t))) none
+      ∙ ap (λ b. rank_by None b (needs_id t.given (meaning t))) fits.waiting.unstarted in
+      let behind : rank next ≡ rank_by None true (needs_id next.given (meaning next)) =
+      ap (λ o. rank_by o (is_started next) (needs_id next.given (meaning next))) none
+      ∙ ap (λ b. rank_by None b (needs_id next.given (meaning next))) (is-started-behind s statement t) in
+      let two = rank-started (needs_id next.given (meaning next)) in
+      fewer-by (started s statement) (after s (entry.Start (record { 0 = txn }) statement)) refl none (omega (arith, before, behind, two))
+
+  given-fewer : (table : TableId) (write : WriteId) → GivenFits profile s table.0 write.0 t → AsksForId table t
+      → HasFewer txn (rank t) (after s (entry.Given (record { 0 = txn }) table write))
+  unfolding acted
+  given-fewer table write fits asks =
+      let none = still-open t fits.running.unended in
+      let next : Transaction = given_id table.0 write.0 t in
+      let before : rank t ≡ 2 =
+      ap (λ o. rank_by o (is_started t) (needs_id t.given (meaning t))) none
+      ∙ ap (λ b. rank_by None b (needs_id t.given (meaning t))) fits.running.started
+      ∙ ap (rank_by None true) asks.needs in
+      let behind : rank next ≡ 1 =
+      ap (λ o. rank_by o (is_started t) (needs_id next.given (meaning t))) none
+      ∙ ap (λ b. rank_by None b (needs_id next.given (meaning t))) fits.running.started
+      ∙ ap (rank_by None true) (no-more-ids t.given (table.0, write.0) (meaning t)) in
+      fewer-by (given_id table.0 write.0) (after s (entry.Given (record { 0 = txn }) table write)) refl none (omega (arith, before, behind))
+
+  commit-fewer : (wrote : List Touch) → CommitFits s wrote t → HasFewer txn (rank t) (after s (entry.Commit (record { 0 = txn }) wrote))
+  unfolding acted
+  commit-fewer wrote fits =
+      ends-fewer (committed s.entries wrote) (Committed s.entries wrote) (after s (entry.Commit (record { 0 = txn }) wrote)) refl (still-open t fits.running.unended) refl
+
+  create-fewer : (table : TableId) → CreateFits s table.0 t → HasFewer txn (rank t) (after s (entry.Create (record { 0 = txn }) table))
+  unfolding acted
+  create-fewer table fits =
+      ends-fewer (ended (Made s.entries table.0)) (Made s.entries table.0) (after s (entry.Create (record { 0 = txn }) table)) refl (still-open t fits.running.unended) refl
+
+  abort-fewer : (why : Cause) → CauseFits profile s txn why t → HasFewer txn (rank t) (after s (entry.Abort (record { 0 = txn }) why))
+  unfolding acted
+  abort-fewer why fits =
+      ends-fewer (ended (Aborted s.entries why)) (Aborted s.entries why) (after s (entry.Abort (record { 0 = txn }) why)) refl
+      (still-open t (cause-open profile s txn why t fits)) refl
+
+-- an entry that one thread adds next for that transaction
+pub record IsNext (book : List Entry) (txn : ℕ) (t : Transaction) (event : Entry) : Type 0 where
+  pub next : next_of (state_of book) txn t ≡ Some event
+  pub later : HasFewer txn (rank t) (after (state_of book) event)
+
+pub record IsGood (txn : ℕ) (s : State) (event : Entry) : Type 0 where
+  pub of_it : IsOf txn event
+  pub fits : Fits profile s event
+  pub truth : IsTruthful s event
+  pub steady : IsSteady event
+  pub in_order : IsInOrder s event
+
+pub next-is : (book : List Entry) (txn : ℕ) (t : Transaction) (event : Entry) → numbered (state_of book).transactions txn ≡ Some t → IsSound (state_of book)
+    → IsRunningStore (state_of book) → IsGood txn (state_of book) event → IsNext book txn t event
+next-is book txn t (entry.Start id statement) at sound running good =
+    let same : id.0 ≡ txn = one_value id.0 txn good.of_it in
+    let fits = here book txn t at (StartFits profile (state_of book) statement) id same good.fits in
+    subst (λ n. IsNext book txn t (entry.Start (record { 0 = n }) statement)) (sym same)
+    (record { next = start-next book txn t at statement fits; later = start-fewer book txn t at statement fits })
+next-is book txn t (entry.Given id table write) at sound running good =
+    let same : id.0 ≡ txn = one_value id.0 txn good.of_it in
+    let fits = here book txn t at (GivenFits profile (state_of book) table.0 write.0) id same good.fits in
+    let asks = here book txn t at (AsksForId table) id same good.in_order in
+    subst (λ n. IsNext book txn t (entry.Given (record { 0 = n }) table write)) (sym same)
+    (record { next = given-next book txn t at table write fits asks; later = given-fewer book txn t at table write fits asks })
+next-is book txn t (entry.Commit id wrote) at sound running good =
+    let same : id.0 ≡ txn = one_value id.0 txn good.of_it in
+    let fits = here book txn t at (CommitFits (state_of book) wrote) id same good.fits in
+    let truth = here book txn t at (λ x. TouchesAreMeant wrote (meaning x)) id same good.truth in
+    subst (λ n. IsNext book txn t (entry.Commit (record { 0 = n }) wrote)) (sym same)
+    (record { next = commit-next book txn t at wrote fits truth; later = commit-fewer book txn t at wrote fits })
+next-is book txn t (entry.Create id table) at sound running good =
+    let same : id.0 ≡ txn = one_value id.0 txn good.of_it in
+    let fits = here book txn t at (CreateFits (state_of book) table.0) id same good.fits in
+    let truth = here book txn t at (λ x. IsMake (meaning x)) id same good.truth in
+    subst (λ n. IsNext book txn t (entry.Create (record { 0 = n }) table)) (sym same)
+    (record { next = create-next book txn t at table fits truth; later = create-fewer book txn t at table fits })
+next-is book txn t (entry.Abort id why) at sound running good =
+    let same : id.0 ≡ txn = one_value id.0 txn good.of_it in
+    let fits0 = here book txn t at (CauseFits profile (state_of book) id.0 why) id same good.fits in
+    let fits : CauseFits profile (state_of book) txn why t = subst (λ n. CauseFits profile (state_of book) n why t) same fits0 in
+    let truth = here book txn t at (CauseIsTrue (state_of book) why) id same good.truth in
+    let order = here book txn t at (CauseInOrder (state_of book) why) id same good.in_order in
+    subst (λ n. IsNext book txn t (entry.Abort (record { 0 = n }) why)) (sym same)
+    (record { next = abort-next book txn t at why sound running fits truth good.steady order; later = abort-fewer book txn t at why fits })
+next-is book txn t (entry.Opened id session number text) at sound running good =
+    let same : id.0 ≡ txn = one_value id.0 txn good.of_it in
+    let next = good.fits.next in
+    let within = (numbered-within (state_of book).transactions txn t at).1 in
+    absurd (omega (arith, same, next, within))
+next-is book txn t (entry.Boot run) at sound running good = let never_ : None ≡ Some txn = good.of_it in cc
+next-is book txn t event at sound running good = absurd good.fits

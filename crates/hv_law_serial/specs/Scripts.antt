@@ -1,0 +1,45 @@
+-- What is proved of a script that was done whole: where no device failed and memory was found, the store keeps its serial history.
+use Rattle.std.specs.Prelude.{◌≡◌, ℕ, ◌≤◌, Bool, List, [], ◌++◌}
+use Rattle.std.specs.List.{AllByRecursion}
+use Rattle.hv_shelf.specs.Disk.{Store}
+use Rattle.hv_script.specs.Actions.{actions_of}
+use Rattle.hv_history.specs.declared.entry.Entry.{Entry}
+use Rattle.hv_history.specs.declared.entry.Entry.TheVariants as entry
+use Rattle.hv_history.specs.declared.entry.Cause.TheVariants as cause
+use Rattle.hv_house.specs.Booting.{opening_of}
+use Rattle.hv_program.specs.Doing.{Standing}
+use Rattle.hv_program.specs.Running.{beginning}
+use Rattle.hv_program.specs.Results.{HasBook}
+use Rattle.hv_program.specs.Headline.{IsAllDone}
+use Rattle.hv_law_serial.specs.Serial.{serial}
+use Rattle.hv_law_serial.specs.History.{AreInMemory}
+
+-- no transaction ended since memory lacked
+abbrev pub IsInMemory : Entry → Type 0
+IsInMemory (entry.Abort txn cause.Memory) = ⊥
+IsInMemory event = Unit {0}
+
+abbrev pub AddsInMemory : List Entry → List Entry → Type 0
+AddsInMemory start book = (added : List Entry) → book ≡ start ++ added → AllByRecursion IsInMemory added
+
+-- the serial history of a script, behind a book's opening
+abbrev pub history_of : List Entry → List ℕ → Standing
+history_of book script = serial (beginning (opening_of book)) (actions_of script)
+
+-- In a run that did all its script the store's count of faults didn't rise, and memory was found, by its entries and by its replies.
+pub record IsUntroubled (low high : ℕ) (book : List Entry) (script left written now : List ℕ) (store : Store) (refused : Bool)
+    (all : IsAllDone low high book script left written now store refused) : Type 0 where
+  pub unrisen : high ≤ low
+  pub in_memory : AddsInMemory (opening_of book) all.served.last.book
+  pub replies : AreInMemory (opening_of book) all.served.last.book (beginning (opening_of book)) all.served.last (actions_of script) all.served.output refused all.served.are_done
+
+-- the store has the book of the serial history, behind which none waits
+pub record KeepsHistory (book : List Entry) (script : List ℕ) (store : Store) : Type 0 where
+  pub has_book : HasBook (history_of book script).book store
+  pub settled : (history_of book script).waiting ≡ []
+
+abbrev pub ScriptHistory : Type 0
+ScriptHistory =
+    (low high : ℕ) (book : List Entry) (script left written now : List ℕ) (store : Store) (refused : Bool)
+    (all : IsAllDone low high book script left written now store refused)
+    → IsUntroubled low high book script left written now store refused all → KeepsHistory book script store

@@ -1,0 +1,10 @@
+use Rattle.hv_law_visible.specs.Readers.{IsPast}
+use Rattle.hv_law_visible.specs.Snapshots.{IsUndone}
+use Rattle.hv_law_visible.proofs.VisibleLemmas.{takes-no-loose}
+use Rattle.hv_law_visible.proofs.laws.chooses_no_loose.Goals as goal
+
+pub returns : goal.returns
+returns g c = record {
+  law = λ id_of most sight open_txns fates writes jobs tree.
+      takes-no-loose id_of most sight (IsPast open_txns) (IsUndone fates) writes jobs tree;
+}

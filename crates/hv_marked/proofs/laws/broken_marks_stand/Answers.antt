@@ -1,5 +1,0 @@
-use Rattle.hv_marked.proofs.Standing.{broken-marks-stand, unread-marks-stand}
-use Rattle.hv_marked.proofs.laws.broken_marks_stand.Goals as goal
-
-pub returns : goal.returns
-returns c = record { puts = broken-marks-stand; reads = unread-marks-stand }

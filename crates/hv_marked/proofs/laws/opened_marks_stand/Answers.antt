@@ -1,5 +1,0 @@
-use Rattle.hv_marked.proofs.Standing.{opened-marks-stand}
-use Rattle.hv_marked.proofs.laws.opened_marks_stand.Goals as goal
-
-pub returns : goal.returns
-returns c = record { law = opened-marks-stand }

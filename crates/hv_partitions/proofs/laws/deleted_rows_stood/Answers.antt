@@ -1,5 +1,0 @@
-use Rattle.hv_partitions.proofs.StoodLemmas.{deleted-stood}
-use Rattle.hv_partitions.proofs.laws.deleted_rows_stood.Goals as goal
-
-pub returns : goal.returns
-returns c = record { law = deleted-stood }

@@ -1,5 +1,0 @@
-use Rattle.hv_partitions.proofs.ListLemmas.{list-of-fates}
-use Rattle.hv_partitions.proofs.laws.list_is_of_fates.Goals as goal
-
-pub returns : goal.returns
-returns c = record { law = list-of-fates }

@@ -1,5 +1,0 @@
-use Rattle.hv_partitions.proofs.CommitLemmas.{list-shows}
-use Rattle.hv_partitions.proofs.laws.list_shows_content.Goals as goal
-
-pub returns : goal.returns
-returns c = record { law = list-shows }

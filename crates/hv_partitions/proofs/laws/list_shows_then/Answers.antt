@@ -1,5 +1,0 @@
-use Rattle.hv_partitions.proofs.SinceLemmas.{list-shows-then}
-use Rattle.hv_partitions.proofs.laws.list_shows_then.Goals as goal
-
-pub returns : goal.returns
-returns c = record { law = list-shows-then }

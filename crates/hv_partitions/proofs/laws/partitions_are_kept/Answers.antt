@@ -1,5 +1,0 @@
-use Rattle.hv_partitions.proofs.StateLemmas.{partitions-kept}
-use Rattle.hv_partitions.proofs.laws.partitions_are_kept.Goals as goal
-
-pub returns : goal.returns
-returns c = record { law = partitions-kept }

@@ -1,5 +1,0 @@
-use Rattle.hv_partitions.proofs.PlaceLemmas.{snapshots-of-places}
-use Rattle.hv_partitions.proofs.laws.snapshots_are_of_places.Goals as goal
-
-pub returns : goal.returns
-returns c = record { law = snapshots-of-places }

@@ -1,5 +1,0 @@
-use Rattle.hv_partitions.proofs.CommitLemmas.{writes-committed}
-use Rattle.hv_partitions.proofs.laws.writes_are_committed.Goals as goal
-
-pub returns : goal.returns
-returns c = record { law = writes-committed }

@@ -1,5 +1,0 @@
-use Rattle.hv_published.proofs.RetiredLemmas.{loose-retired}
-use Rattle.hv_published.proofs.laws.a_loose_directory_is_retired.Goals as goal
-
-pub returns : goal.returns
-returns g c = record { law = loose-retired }

@@ -1,5 +1,0 @@
-use Rattle.hv_published.proofs.EndLemmas.{new-kept}
-use Rattle.hv_published.proofs.laws.a_new_partition_is_kept.Goals as goal
-
-pub returns : goal.returns
-returns g c = record { law = new-kept }

@@ -1,5 +1,0 @@
-use Rattle.hv_published.proofs.JobLemmas.{job-keeps}
-use Rattle.hv_published.proofs.laws.a_published_job_keeps.Goals as goal
-
-pub returns : goal.returns
-returns g c = record { law = job-keeps }

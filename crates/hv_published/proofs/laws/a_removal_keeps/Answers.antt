@@ -1,5 +1,0 @@
-use Rattle.hv_published.proofs.JobLemmas.{removal-keeps}
-use Rattle.hv_published.proofs.laws.a_removal_keeps.Goals as goal
-
-pub returns : goal.returns
-returns g c = record { law = removal-keeps }

@@ -1,5 +1,0 @@
-use Rattle.hv_published.proofs.EndLemmas.{aborted-write-keeps}
-use Rattle.hv_published.proofs.laws.an_aborted_write_keeps.Goals as goal
-
-pub returns : goal.returns
-returns g c = record { law = aborted-write-keeps }

@@ -1,4 +1,0 @@
-pub mod Joins
-pub mod Grouped
-pub mod Order
-pub mod Rows

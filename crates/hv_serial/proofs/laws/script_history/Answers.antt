@@ -1,5 +1,0 @@
-use Rattle.hv_serial.proofs.Whole.{script-history}
-use Rattle.hv_serial.proofs.laws.script_history.Goals as goal
-
-pub returns : goal.returns
-returns c = record { law = script-history }

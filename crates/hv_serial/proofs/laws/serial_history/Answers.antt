@@ -1,5 +1,0 @@
-use Rattle.hv_serial.proofs.Serially.{serial-history}
-use Rattle.hv_serial.proofs.laws.serial_history.Goals as goal
-
-pub returns : goal.returns
-returns c = record { law = serial-history }

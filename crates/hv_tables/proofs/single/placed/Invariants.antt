@@ -1,6 +1,0 @@
-use Rattle.std.proofs.Common.{◌≡◌, ◌++◌, map}
-use Rattle.hv_tables.specs.Orders.{found_in}
-use Rattle.hv_tables.proofs.single.placed.Given as goal
-
-abbrev pub invariant-loop-found : goal.invariant-loop-found
-invariant-loop-found l = map found_in l.placed.items ++ l.found-iterator.rest.items ≡ l.fn.rows.items

@@ -1,5 +1,0 @@
-use Rattle.hv_visible.proofs.ListLemmas.{says-fates}
-use Rattle.hv_visible.proofs.laws.list_says_fates.Goals as goal
-
-pub returns : goal.returns
-returns c = record { law = says-fates }

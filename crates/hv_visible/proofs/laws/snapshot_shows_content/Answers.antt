@@ -1,5 +1,0 @@
-use Rattle.hv_visible.proofs.ReaderLemmas.{snapshot-rows}
-use Rattle.hv_visible.proofs.laws.snapshot_shows_content.Goals as goal
-
-pub returns : goal.returns
-returns g c = record { law = snapshot-rows }

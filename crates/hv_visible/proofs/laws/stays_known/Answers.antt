@@ -1,7 +1,0 @@
-use Rattle.hv_visible.proofs.ReaderLemmas.{fates-go, opened, started, ended-txn, job-published, open-above}
-use Rattle.hv_visible.proofs.laws.stays_known.Goals as goal
-
-pub returns : goal.returns
-returns c = record {
-  law = record { going = fates-go; opening = opened; starting = started; ending = ended-txn; publishing = job-published; undecided = open-above };
-}

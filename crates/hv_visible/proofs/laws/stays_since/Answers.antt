@@ -1,5 +1,0 @@
-use Rattle.hv_visible.proofs.ReaderLemmas.{since-commit}
-use Rattle.hv_visible.proofs.laws.stays_since.Goals as goal
-
-pub returns : goal.returns
-returns g c = record { law = since-commit }
