@@ -1,3 +1,4 @@
+pub use Rattle.hv_telling as hv_telling
 pub mod Aborting
 pub mod Answers
 pub mod Beginning

@@ -1,6 +1,8 @@
 //! What is done to a house in one hold: each act is one call, with the tests before it that the call needs.
 #![tactic(auto)]
 
+pub use hv_telling;
+
 mod aborted;
 mod aborting;
 mod committing;

@@ -1,6 +1,10 @@
 //! Which entries fit a book.
 #![tactic(auto)]
 
+pub use hv_meta;
+
+pub use hv_book;
+
 mod fitting;
 mod locks;
 mod requests;

@@ -9,9 +9,9 @@ use Rattle.hv_logic.specs.declared.effect.Effect.{Effect}
 use Rattle.hv_logic.specs.declared.effect.Found.{Found}
 use Rattle.hv_logic.specs.Rows.{found_cmp}
 use Rattle.hv_logic.specs.declared.catalog.Shape.{Shape}
-use Rattle.hv_route.specs.Routes.{numbered_rows}
-use Rattle.hv_route.specs.Rising.{IsNumbered}
-use Rattle.hv_route.proofs.NumberedLemmas.{rows-are-numbered}
+use Rattle.hv_meaning.specs.hv_route.specs.Routes.{numbered_rows}
+use Rattle.hv_meaning.specs.hv_route.specs.Rising.{IsNumbered}
+use Rattle.hv_meaning.specs.hv_route.proofs.NumberedLemmas.{rows-are-numbered}
 use Rattle.std.specs.List.Sorted.{IsStrictlySortedBy}
 use Rattle.hv_history.specs.Answers.{answer, answer_in, ending_text}
 use Rattle.hv_history.specs.declared.entry.Entry.{Entry}

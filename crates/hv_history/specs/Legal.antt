@@ -21,8 +21,8 @@ use Rattle.hv_grammar.specs.Texts.{tree_of}
 use Rattle.hv_logic.specs.declared.meaning.Meaning.{Meaning}
 use Rattle.hv_logic.specs.declared.meaning.Meaning.TheVariants.{Refused, Listing, Change, Make, Plain, RowLimit, PartitionLimit}
 use Rattle.hv_logic.specs.Names.{names_in}
-use Rattle.hv_route.specs.Back.{AreFlat}
-use Rattle.hv_route.specs.Touching.{touches_of}
+use Rattle.hv_meaning.specs.hv_route.specs.Back.{AreFlat}
+use Rattle.hv_meaning.specs.hv_route.specs.Touching.{touches_of}
 use Rattle.hv_history.specs.declared.entry.Entry.{Entry}
 use Rattle.hv_history.specs.declared.entry.Entry.TheVariants as entry
 use Rattle.hv_history.specs.declared.entry.Cause.{Cause}

@@ -20,7 +20,7 @@ use Rattle.hv_logic.specs.Shapes.{shape_of}
 use Rattle.hv_logic.specs.Sorting.{sorted_by}
 use Rattle.hv_logic.specs.Rows.{found_cmp}
 use Rattle.hv_meaning.specs.Meaning.{meaning_of}
-use Rattle.hv_route.specs.Routes.{numbered_rows}
+use Rattle.hv_meaning.specs.hv_route.specs.Routes.{numbered_rows}
 use Rattle.hv_history.specs.declared.entry.Entry.{Entry}
 use Rattle.hv_history.specs.declared.entry.Entry.TheVariants as entry
 use Rattle.hv_history.specs.declared.entry.JobKind.{JobKind}

@@ -1,11 +1,11 @@
 ghost use Rattle.std.specs.Prelude.{◌≡◌, IfOk};
-ghost use Rattle.hv_route.specs.Back.{AreHeld};
+ghost use Rattle.hv_meaning.specs.hv_route.specs.Back.{AreHeld};
 ghost use Rattle.hv_history.specs.State.{written_by, given_in};
 
 use crate::state::Written;
 use hv_base::{NoMemory, WriteId};
 use hv_logic::{Effect, Shape};
-use hv_route::number_rows;
+use hv_meaning::hv_route::number_rows;
 use std::alloc::Global;
 
 /// What the effect of the statement of that number writes under a write id to a table of this shape. Each value of the inserted

@@ -22,7 +22,7 @@ use Rattle.std.proofs.lemmas.List.{length-map}
 use Rattle.hv_book.specs.declared.notes.TableNote.{TableNote}
 use Rattle.hv_book.specs.Briefs.{brief_table}
 use Rattle.hv_book.specs.Past.{owners_in}
-use Rattle.hv_meta.specs.States.{state_by, transaction_state}
+use Rattle.hv_recovery.specs.hv_fits.specs.hv_meta.specs.States.{state_by, transaction_state}
 use Rattle.hv_journal.specs.Appending.{KeepsTree}
 use Rattle.hv_trail.specs.Steps.{Note, Done, Step}
 use Rattle.hv_house.specs.declared.house.House.{House}

@@ -16,7 +16,7 @@ use Rattle.hv_history.specs.declared.state.Table.{Table}
 use Rattle.hv_history.specs.declared.state.Transaction.{Transaction}
 use Rattle.hv_history.specs.State.{State, numbered}
 use Rattle.hv_book.specs.Past.{owners_in, forgotten_in}
-use Rattle.hv_meta.specs.Catalogs.{info_if, live_infos}
+use Rattle.hv_recovery.specs.hv_fits.specs.hv_meta.specs.Catalogs.{info_if, live_infos}
 use Rattle.hv_earlier.specs.declared.fates.Fate.{Fate}
 use Rattle.hv_earlier.specs.declared.fates.Fate.TheVariants as fate
 use Rattle.hv_earlier.specs.Fates.{fate_by, fate_of}

@@ -11,9 +11,9 @@ use Rattle.hv_history.specs.declared.state.Transaction.{Transaction}
 use Rattle.hv_history.specs.State.{State, numbered, given_in, state_of}
 use Rattle.hv_history.specs.Legal.{is_open, load, Of, IsRunning, IsWaiting, IsUnlocked}
 use Rattle.hv_book.specs.Past.{owners_in}
-use Rattle.hv_meta.specs.declared.facts.TxnState.{TxnState}
-use Rattle.hv_meta.specs.declared.facts.TxnState.TheVariants as txn_state
-use Rattle.hv_meta.specs.States.{state_in}
+use Rattle.hv_recovery.specs.hv_fits.specs.hv_meta.specs.declared.facts.TxnState.{TxnState}
+use Rattle.hv_recovery.specs.hv_fits.specs.hv_meta.specs.declared.facts.TxnState.TheVariants as txn_state
+use Rattle.hv_recovery.specs.hv_fits.specs.hv_meta.specs.States.{state_in}
 use Rattle.hv_journal.specs.Appending.{KeepsTree}
 use Rattle.hv_trail.specs.Steps.{Note, Outcome, Done, Refused, Step}
 use Rattle.hv_house.specs.declared.house.House.{House}

@@ -1,3 +1,5 @@
+pub use Rattle.hv_table_rows as hv_table_rows
+pub use Rattle.hv_recovery as hv_recovery
 pub mod Asking
 pub mod Booting
 pub mod Calls

@@ -6,7 +6,7 @@ ghost use Rattle.hv_history.specs.State.{state_of, numbered};
 ghost use Rattle.hv_history.specs.Legal.{Fits};
 ghost use Rattle.hv_built.specs.Running.{Runs};
 ghost use Rattle.hv_stands.specs.Running.{Asking, next_number};
-ghost use Rattle.hv_fits.specs.Texts.{IsHanded};
+ghost use Rattle.hv_recovery.specs.hv_fits.specs.Texts.{IsHanded};
 ghost use Rattle.hv_house.specs.House.{entries_of, IsReadyWithin, BeginFitsWithin};
 ghost use Rattle.hv_house.specs.Asking.{holder_against, lock_state, CanBegin};
 
@@ -14,10 +14,10 @@ use crate::house::House;
 use hv_ast::Stmt;
 use hv_base::{TableId, TxnId, WriteId};
 use hv_book::Book;
-use hv_fits::first_holder;
+use hv_recovery::hv_fits::first_holder;
 use hv_history::{Entry, numbered};
 use hv_locks::LockState;
-use hv_meta::{has_room, next_txn};
+use hv_recovery::hv_fits::hv_meta::{has_room, next_txn};
 use hv_shelf::Shelf;
 
 /// The write id behind so many, of which there are no more than entries.
@@ -61,7 +61,7 @@ impl<D: Shelf> House<D> {
         requires tree { IsHanded entry.now (option_copied tree) }
         ensures fits { IsTrue result ↔ Fits limits (state_of (entries_of self.now)) entry.now }
     {
-        hv_fits::fits(self.trail.book(), &self.limits, entry, tree)
+        hv_recovery::hv_fits::fits(self.trail.book(), &self.limits, entry, tree)
     }
 
     /// Whether a statement of this tree could be opened and started at once: there is room for both and for its

@@ -5,7 +5,7 @@ ghost use Rattle.hv_history.specs.declared.entry.Entry.TheVariants as entries;
 ghost use Rattle.hv_history.specs.Book.{tree_of_entry};
 ghost use Rattle.hv_history.specs.State.{state_of, numbered};
 ghost use Rattle.hv_history.specs.Legal.{load, Fits, CommitFits, CauseFits, CreateFits};
-ghost use Rattle.hv_meta.specs.States.{state_in};
+ghost use Rattle.hv_recovery.specs.hv_fits.specs.hv_meta.specs.States.{state_in};
 ghost use Rattle.hv_house.specs.declared.calls.EntryFault.TheVariants as fault;
 ghost use Rattle.hv_house.specs.House.{entries_of, IsSmall, IsReadyWithin};
 ghost use Rattle.hv_house.specs.Steps.{IsMarked};
@@ -16,7 +16,7 @@ use crate::house::House;
 use hv_base::{List, TableId, Touch, TxnId, WriteId};
 use hv_book::Book;
 use hv_history::{Cause, Entry};
-use hv_meta::{TxnState, has_room, state_of};
+use hv_recovery::hv_fits::hv_meta::{TxnState, has_room, state_of};
 use hv_shelf::Shelf;
 use thiserror::Error;
 

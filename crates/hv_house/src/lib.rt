@@ -1,6 +1,10 @@
 //! The warehouse over one store: its journal, its book, and its files, whatever transactions are open.
 #![tactic(auto)]
 
+pub use hv_table_rows;
+
+pub use hv_recovery;
+
 mod asking;
 mod boot;
 mod calls;

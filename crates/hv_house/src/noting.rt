@@ -18,7 +18,7 @@ use crate::house::House;
 use hv_ast::Stmt;
 use hv_base::{Text, TxnId};
 use hv_history::Entry;
-use hv_meta::next_txn;
+use hv_recovery::hv_fits::hv_meta::next_txn;
 use hv_shelf::Shelf;
 
 impl<D: Shelf> House<D> {

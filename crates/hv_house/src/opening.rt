@@ -15,7 +15,7 @@ use crate::house::House;
 use hv_ast::{Stmt, discard};
 use hv_base::{Text, TxnId};
 use hv_history::Entry;
-use hv_meta::{has_room, next_txn};
+use hv_recovery::hv_fits::hv_meta::{has_room, next_txn};
 use hv_shelf::Shelf;
 
 impl<D: Shelf> House<D> {

@@ -20,7 +20,7 @@ use Rattle.hv_stands.proofs.Behind.{one-behind, opened-there, numbered-behind}
 use Rattle.hv_stands.proofs.Others.{others-leave}
 use Rattle.hv_law_next.specs.Carrying.{IsRunningStore}
 use Rattle.hv_law_next.proofs.Going.{runs-on}
-use Rattle.hv_session.specs.Taking.{HoldsAt}
+use Rattle.hv_program.specs.hv_session.specs.Taking.{HoldsAt}
 use Rattle.hv_program.specs.Doing.{Waiting, Standing, waiting_in, without, is_session, asking_of, RepliesAtOnce, ReleasesOne, IsDone, AreDone}
 
 -- ---- those that wait

@@ -22,7 +22,7 @@ use Rattle.hv_logic.specs.declared.seen.Seen.{Seen}
 use Rattle.hv_logic.specs.Tables.{named}
 use Rattle.hv_logic.specs.Shapes.{shape_of}
 use Rattle.hv_logic.specs.Sizes.{stored_size}
-use Rattle.hv_rowfile.specs.Layout.{value_spelling, ValueIsTaken, RowIsTaken}
+use Rattle.hv_route.specs.hv_rowfile.specs.Layout.{value_spelling, ValueIsTaken, RowIsTaken}
 use Rattle.hv_route.specs.Back.{SayValues, AreFlat, AreHeld}
 use Rattle.hv_route.specs.Routes.{stored}
 use Rattle.hv_route.specs.Touching.{touched, touches_of}

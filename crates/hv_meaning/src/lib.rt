@@ -1,6 +1,8 @@
 //! What a statement comes to over the tables that it names: definitions and laws.
 #![tactic(auto)]
 
+pub use hv_route;
+
 mod laws;
 
 pub use laws::{

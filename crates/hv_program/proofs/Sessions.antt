@@ -8,10 +8,10 @@ use Rattle.hv_actor.specs.Acting.{IsLater, Nothing, Untouched}
 use Rattle.hv_house.specs.declared.fault.HouseFault.{HouseFault}
 use Rattle.hv_house.specs.declared.house.House.{House}
 use Rattle.hv_house.specs.House.{entries_of}
-use Rattle.hv_telling.specs.Telling.{IsWhole}
-use Rattle.hv_telling.proofs.Opens.{whole-opens}
-use Rattle.hv_acts.specs.declared.told.ToldHouse.{ToldHouse}
-use Rattle.hv_acts.specs.Told.{IsWholeOrClosed, seen_in}
+use Rattle.hv_session.specs.hv_acts.specs.hv_telling.specs.Telling.{IsWhole}
+use Rattle.hv_session.specs.hv_acts.specs.hv_telling.proofs.Opens.{whole-opens}
+use Rattle.hv_session.specs.hv_acts.specs.declared.told.ToldHouse.{ToldHouse}
+use Rattle.hv_session.specs.hv_acts.specs.Told.{IsWholeOrClosed, seen_in}
 use Rattle.hv_session.specs.declared.reply.Done.{Done}
 use Rattle.hv_session.specs.declared.reply.Done.TheVariants as done
 use Rattle.hv_session.specs.declared.ready.Reply.{Reply}

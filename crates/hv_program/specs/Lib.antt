@@ -1,3 +1,4 @@
+pub use Rattle.hv_session as hv_session
 pub mod Doing
 pub mod Own
 pub mod Keeping

@@ -1,11 +1,11 @@
 ghost use Rattle.std.specs.Prelude.{◌≡◌, ◌≤◌, [], None, false, IfOk, IfErr};
 ghost use Rattle.hv_actor.specs.Acting.{IsLater};
-ghost use Rattle.hv_acts.specs.Told.{seen_in};
+ghost use Rattle.hv_session.specs.hv_acts.specs.Told.{seen_in};
 ghost use Rattle.hv_script.specs.declared.actions.Action.TheVariants as action;
 ghost use Rattle.hv_house.specs.Faults.{EndsRun, FileCause};
 ghost use Rattle.hv_house.specs.House.{entries_of};
 ghost use Rattle.hv_stands.specs.Running.{next_number};
-ghost use Rattle.hv_telling.specs.Telling.{IsWhole, IsToldHouse, StillOpens};
+ghost use Rattle.hv_session.specs.hv_acts.specs.hv_telling.specs.Telling.{IsWhole, IsToldHouse, StillOpens};
 ghost use Rattle.hv_session.specs.Doing.{CanFinishTaken};
 ghost use Rattle.hv_session.specs.Ending.{AddsOf};
 ghost use Rattle.hv_session.specs.Taking.{asked_of, IsKeptIn, IsTakenAs};
@@ -16,7 +16,7 @@ ghost use Rattle.hv_program.specs.Running.{Acts, IsFine, IsShort, Stops};
 
 use crate::alone::{finish_alone, own_reply, take_alone};
 use crate::held::{Held, keep, let_go};
-use hv_acts::ToldHouse;
+use hv_session::hv_acts::ToldHouse;
 use hv_base::{Duplicate, List, NoMemory, Text};
 use hv_script::{Action, Session, Statement};
 use hv_house::HouseFault;

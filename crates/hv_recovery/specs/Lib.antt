@@ -1,2 +1,3 @@
+pub use Rattle.hv_fits as hv_fits
 pub mod Causes
 pub mod Recovery

@@ -1,6 +1,8 @@
 //! A journal that an earlier run left, read as a book.
 #![tactic(auto)]
 
+pub use hv_fits;
+
 mod bytes;
 mod fault;
 mod laws;

@@ -14,7 +14,7 @@ use crate::bytes::journal_bytes;
 use crate::fault::OpenFault;
 use hv_ast::Stmt;
 use hv_base::Limits;
-use hv_book::Book;
+use hv_fits::hv_book::Book;
 use hv_fits::fits;
 use hv_history::Entry;
 use hv_journal::next_record;

@@ -1,3 +1,4 @@
+pub use Rattle.hv_rowfile as hv_rowfile
 pub mod Back
 pub mod Buckets
 pub mod Partitions

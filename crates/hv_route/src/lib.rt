@@ -1,6 +1,8 @@
 //! Where the rows of a change go: partitions and buckets.
 #![tactic(auto)]
 
+pub use hv_rowfile;
+
 mod buckets;
 #[cfg(test)]
 mod changes;

@@ -1,3 +1,4 @@
+pub use Rattle.hv_acts as hv_acts
 pub mod Alone
 pub mod Beginnings
 pub mod Doing

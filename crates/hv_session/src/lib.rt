@@ -2,6 +2,8 @@
 //! the house between.
 #![tactic(auto)]
 
+pub use hv_acts;
+
 mod acting;
 mod alone;
 mod asking;

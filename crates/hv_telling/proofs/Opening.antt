@@ -14,7 +14,7 @@ use Rattle.hv_history.specs.declared.state.Transaction.{Transaction}
 use Rattle.hv_history.specs.State.{State, nothing_yet, changed, changed_at, unless_ended, while_open, ended, acted, after, state_of}
 use Rattle.hv_history.specs.Legal.{is_open, profile}
 use Rattle.hv_journal.specs.Appending.{KeepsTree}
-use Rattle.hv_recovery.specs.Recovery.{IsJournalOf}
+use Rattle.hv_house.specs.hv_recovery.specs.Recovery.{IsJournalOf}
 use Rattle.hv_stands.proofs.Soundness.{all-numbered, all-more}
 use Rattle.hv_trail.specs.declared.trail.TrailItem.TheVariants.{Noted}
 use Rattle.hv_trail.specs.Trail.{book_of}

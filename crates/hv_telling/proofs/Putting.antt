@@ -18,7 +18,7 @@ use Rattle.hv_stands.proofs.Numbers.{either}
 use Rattle.hv_stands.proofs.StandingFiles.{same-place}
 use Rattle.hv_stands.proofs.OwnFiles.{found-given}
 use Rattle.hv_stands.proofs.StatementFiles.{puts-stand}
-use Rattle.hv_table_rows.specs.Putting.{bytes_of}
+use Rattle.hv_house.specs.hv_table_rows.specs.Putting.{bytes_of}
 use Rattle.hv_trail.specs.declared.trail.Reader.TheVariants.{Txn}
 use Rattle.hv_trail.specs.declared.trail.Mark.{Mark}
 use Rattle.hv_trail.specs.declared.trail.Mark.TheVariants.{Wrote, Broke}

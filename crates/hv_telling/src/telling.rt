@@ -4,7 +4,7 @@ ghost use Rattle.hv_history.specs.Book.{tree_of_entry};
 ghost use Rattle.hv_history.specs.State.{state_of};
 ghost use Rattle.hv_history.specs.Legal.{Fits, profile};
 ghost use Rattle.hv_stands.specs.Running.{next_number};
-ghost use Rattle.hv_table_rows.specs.Putting.{CanPut, IsEncoded, bytes_of};
+ghost use Rattle.hv_house.specs.hv_table_rows.specs.Putting.{CanPut, IsEncoded, bytes_of};
 ghost use Rattle.hv_trail.specs.Kept.{trail_of};
 ghost use Rattle.hv_trail.specs.Steps.{Step};
 ghost use Rattle.hv_trail.specs.Steps as calls;

@@ -1,7 +1,7 @@
 use Rattle.std.proofs.Common.{sym, subst}
 use Rattle.hv_history.specs.State.{state_of}
-use Rattle.hv_fits.specs.Texts.{TextsRun}
-use Rattle.hv_fits.proofs.LockLemmas.{texts-run}
+use Rattle.hv_recovery.specs.hv_fits.specs.Texts.{TextsRun}
+use Rattle.hv_recovery.specs.hv_fits.proofs.LockLemmas.{texts-run}
 use Rattle.hv_house.specs.House.{entries_of}
 use Rattle.hv_house.proofs.house.House.check.Goals as goal
 
