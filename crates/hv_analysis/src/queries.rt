@@ -12,9 +12,11 @@ use hv_ast::{From, Join, Query, Select, Source, Union};
 use hv_base::{Boxed, Duplicate, NoMemory, Refusal, Text};
 use hv_changes::{columns_of, fields_named};
 use hv_logic::{Column, TableInfo};
-use hv_typing::{TypedQuery, TypedSource};
-use hv_select::{all_viewed, alone, first_source, join_onto, opened_none, opened_of, query_brought, query_over, select_over, unite};
-use hv_typing::{Brought, Listed, Opened, Sources, TypeFault, United};
+use hv_select::{
+    all_viewed, alone, first_source, join_onto, opened_none, opened_of, query_brought, query_over,
+    select_over, unite,
+};
+use hv_typing::{Brought, Listed, Opened, Sources, TypeFault, TypedQuery, TypedSource, United};
 use std::alloc::Global;
 
 const NO_TABLE: TypeFault = TypeFault::Refused(Refusal::NoTable);

@@ -1,4 +1,5 @@
 use crate::index::Index;
+use crate::jobs::JobNote;
 use crate::names::{has_named, name_place, note_names};
 use crate::notes::{End, Held, TableNote, TransactionNote, append};
 use crate::openings::OpeningNotes;
@@ -6,7 +7,6 @@ use crate::past::PastNotes;
 use hv_ast::Stmt;
 use hv_base::{List, NoMemory, Text, Touch};
 use hv_history::{Entry, numbered};
-use crate::jobs::JobNote;
 use std::alloc::Global;
 use std::marker::Model;
 

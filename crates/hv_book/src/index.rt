@@ -1,12 +1,12 @@
 ghost use Rattle.std.specs.Prelude.{◌≡◌};
 
+use crate::jobs::{Jobs, Step};
 use crate::notes::{
     End, Held, TableNote, TransactionNote, append, close, count_one, drop_table, finish, is_open,
     let_go, start,
 };
 use hv_base::NoMemory;
 use hv_history::{Entry, numbered};
-use crate::jobs::{Jobs, Step};
 use std::alloc::Global;
 
 /// What a book keeps beside its entries. `room` more entries can be noted without asking for memory.

@@ -10,11 +10,10 @@ use crate::queries::{output_kinds, outputs_convert};
 use crate::values::{all_convert, all_counted, converted_rows, rows_typed};
 use hv_ast::{Expr, Insert, PartitionItem};
 use hv_base::{Boxed, List, NoMemory, Refusal};
-use hv_logic::{Column, Shape};
-use hv_typing::TypedQuery;
 use hv_expr::TypedExpr;
+use hv_logic::{Column, Shape};
 use hv_types::item_as_kind;
-use hv_typing::{Deletes, Origin, TypeFault, TypedChange};
+use hv_typing::{Deletes, Origin, TypeFault, TypedChange, TypedQuery};
 use hv_value::{SqlType, Value};
 use std::alloc::Global;
 

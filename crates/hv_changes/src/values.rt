@@ -8,8 +8,8 @@ ghost use Rattle.hv_typing.specs.Inserts.{row_typed, rows_typed, has_count, conv
 
 use hv_ast::Expr;
 use hv_base::{Boxed, List, NoMemory, Refusal};
-use hv_logic::Column;
 use hv_expr::TypedExpr;
+use hv_logic::Column;
 use hv_types::{as_kind, item_as_kind, kind_of, type_expr};
 use hv_typing::{Over, TypeFault};
 use hv_value::{SqlType, is_convertible};

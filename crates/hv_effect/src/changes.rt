@@ -11,9 +11,8 @@ use hv_base::{Duplicate, List, NoMemory};
 use hv_changes::columns_of;
 use hv_exec::run;
 use hv_logic::{Effect, Found, Meaning, Shape, TableInfo, TableRows};
-use hv_typing::TypedQuery;
 use hv_route::{RouteFault, touches};
-use hv_typing::{Origin, TypedChange};
+use hv_typing::{Origin, TypedChange, TypedQuery};
 use hv_value::Row;
 use std::alloc::Global;
 

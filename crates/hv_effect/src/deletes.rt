@@ -5,9 +5,9 @@ ghost use Rattle.hv_meaning.specs.Meaning.{is_matched, matched, same_parts, is_r
 
 use hv_base::{Boxed, Duplicate, NoMemory};
 use hv_eval::Frame;
+use hv_expr::TypedExpr;
 use hv_joins::is_met;
 use hv_logic::Found;
-use hv_expr::TypedExpr;
 use hv_typing::Deletes;
 use hv_value::{Row, Value};
 use std::alloc::Global;

@@ -6,8 +6,8 @@ ghost use Rattle.hv_meaning.specs.Meaning.{values_alone, frame_of, found_frame, 
 
 use hv_base::{List, NoMemory};
 use hv_eval::eval;
-use hv_logic::{Column, Found};
 use hv_expr::TypedExpr;
+use hv_logic::{Column, Found};
 use hv_value::{Row, Value, convert};
 use std::alloc::Global;
 

@@ -9,8 +9,7 @@ use hv_analysis::analyse;
 use hv_ast::Stmt;
 use hv_base::{Duplicate, List, NoMemory, Refusal, Text};
 use hv_logic::{Meaning, Seen, TableInfo, TableRows};
-use hv_typing::{OutputColumn, TypedQuery};
-use hv_typing::{Logic, TypeFault};
+use hv_typing::{Logic, OutputColumn, TypeFault, TypedQuery};
 use std::alloc::Global;
 
 /// The descriptions of tables, and their rows.

@@ -9,8 +9,8 @@ ghost use Rattle.hv_eval.specs.Accumulating.{merged, single, Splits};
 
 use crate::ranks::{comes_before, is_comparable};
 use hv_base::NoMemory;
-use hv_seen::{Seen, is_null, null, number, of_big, owned, view};
 use hv_expr::Aggregate;
+use hv_seen::{Seen, is_null, null, number, of_big, owned, view};
 use hv_value::Value;
 use indexmap::IndexSet;
 use std::alloc::Global;

@@ -12,11 +12,11 @@ use crate::accumulate::{start, step};
 use crate::frame::{Frame, Scope};
 use crate::table::{compared, one, three, two};
 use hv_base::Boxed;
+use hv_expr::{Aggregate, Branch, Link, Many, TypedExpr};
 use hv_seen::{
     Seen, Truth, arithmetic, both, either, equal, is_null, negated, null, of_big, of_option,
     of_truth, taken, truth_of,
 };
-use hv_expr::{Aggregate, Branch, Link, Many, TypedExpr};
 use hv_value::{SqlType, Value};
 
 #[inline(always)]

@@ -13,12 +13,12 @@ ghost use Rattle.hv_text.specs.Characters.{substring_from};
 ghost use Rattle.hv_seen.specs.Makes.{made_value};
 
 use hv_base::List;
+use hv_expr::{One, Three, Two};
 use hv_seen::{
     Maker, Seen, Truth, absolute, both, cast, compare, day, int, is_like, is_null, length_of,
     low_int, minus, negated, null, null_safe_equal, number, of_bool, of_day, of_int, of_option,
     of_truth, place_of, plus, positive_remainder, taken, truth_of,
 };
-use hv_expr::{One, Three, Two};
 use hv_value::{SqlType, Value, date_add, date_diff, date_sub, day_of_month, month_of, year_of};
 
 #[tactic(auto, using(hv_seen::proofs::Layers::layers))]

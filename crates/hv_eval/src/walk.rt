@@ -15,11 +15,11 @@ use crate::held::Held;
 use crate::look::{column, count_rows, in_value, is_met, seen_at, truth_at};
 use crate::table::{one, three, two};
 use hv_base::{Boxed, List, NoMemory, Text};
+use hv_expr::{Branch, Link, Many, One, Three, Two, TypedExpr};
 use hv_seen::{
     Seen, Truth, arithmetic, both, either, equal, is_null, make, null, of_option, of_truth, owned,
     part_from, rest_from, taken, text, truth_of,
 };
-use hv_expr::{Branch, Link, Many, One, Three, Two, TypedExpr};
 use hv_value::{Row, SqlType, Value};
 use std::alloc::Global;
 

@@ -9,10 +9,10 @@ ghost use Rattle.hv_eval.specs.Frames.{frame_values, frames_values};
 use crate::items::item_values;
 use hv_base::{Boxed, NoMemory};
 use hv_eval::{Frame, Scope, is_true_at};
+use hv_expr::TypedExpr;
 use hv_keyed::{Chain, GroupFold, Groups, fold_groups};
 use hv_order::{Front, Kept};
 use hv_typing::Grouping;
-use hv_expr::TypedExpr;
 use hv_value::Row;
 use std::alloc::Global;
 

@@ -8,9 +8,9 @@ ghost use Rattle.hv_eval.specs.Frames.{frame_values, frames_values, values_at};
 use crate::wanted::is_needless;
 use hv_base::{Boxed, List, NoMemory};
 use hv_eval::{Frame, Scope, eval_at};
+use hv_expr::TypedExpr;
 use hv_joins::is_met;
 use hv_order::{Front, Kept};
-use hv_expr::TypedExpr;
 use hv_value::{Row, Value};
 use std::alloc::Global;
 

@@ -9,9 +9,9 @@ use crate::items::{filtered, item_rows};
 use crate::once::once;
 use hv_base::NoMemory;
 use hv_eval::Frame;
+use hv_expr::TypedExpr;
 use hv_order::Front;
 use hv_typing::{Grouping, TypedSelect};
-use hv_expr::TypedExpr;
 use hv_value::Row;
 use std::alloc::Global;
 

@@ -13,10 +13,10 @@ ghost use Rattle.hv_order.specs.First.{IsEnough, IsSound};
 
 use hv_base::Text;
 use hv_eval::{Frame, Scope, seen_at};
-use hv_order::{Front, Kept};
-use hv_typing::SortKey;
-use hv_seen::{Seen, null, view};
 use hv_expr::TypedExpr;
+use hv_order::{Front, Kept};
+use hv_seen::{Seen, null, view};
+use hv_typing::SortKey;
 use hv_value::Row;
 use std::cmp::Ordering;
 

@@ -1,9 +1,8 @@
 //! Which entries fit a book.
 #![tactic(auto)]
 
-pub use hv_meta;
-
 pub use hv_book;
+pub use hv_meta;
 
 mod fitting;
 mod locks;

@@ -14,9 +14,9 @@ use crate::house::House;
 use hv_ast::Stmt;
 use hv_base::{TableId, TxnId, WriteId};
 use hv_book::Book;
-use hv_recovery::hv_fits::first_holder;
 use hv_history::{Entry, numbered};
 use hv_locks::LockState;
+use hv_recovery::hv_fits::first_holder;
 use hv_recovery::hv_fits::hv_meta::{has_room, next_txn};
 use hv_shelf::Shelf;
 

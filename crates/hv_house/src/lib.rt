@@ -1,9 +1,8 @@
 //! The warehouse over one store: its journal, its book, and its files, whatever transactions are open.
 #![tactic(auto)]
 
-pub use hv_table_rows;
-
 pub use hv_recovery;
+pub use hv_table_rows;
 
 mod asking;
 mod boot;

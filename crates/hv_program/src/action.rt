@@ -16,10 +16,10 @@ ghost use Rattle.hv_program.specs.Running.{Acts, IsFine, IsShort, Stops};
 
 use crate::alone::{finish_alone, own_reply, take_alone};
 use crate::held::{Held, keep, let_go};
-use hv_session::hv_acts::ToldHouse;
 use hv_base::{Duplicate, List, NoMemory, Text};
-use hv_script::{Action, Session, Statement};
 use hv_house::HouseFault;
+use hv_script::{Action, Session, Statement};
+use hv_session::hv_acts::ToldHouse;
 use hv_session::{Asking, Done, Reply, Taken, memory_reply};
 use hv_shelf::Shelf;
 use std::alloc::Global;

@@ -12,8 +12,8 @@ ghost use Rattle.hv_session.specs.Ending.{AddsOf, HasStopped};
 ghost use Rattle.hv_session.specs.Taking.{asked_of, IsHeldBySome, IsTrulyHeld, IsKeptIn, IsTakenAs, IsFinished};
 ghost use Rattle.hv_session.specs.Ways.{IsOwnEnd, StopsTaken};
 
-use hv_session::hv_acts::ToldHouse;
 use hv_house::HouseFault;
+use hv_session::hv_acts::ToldHouse;
 use hv_session::{Asking, Done, How, Paused, Reply, Taken, finish, take_up};
 use hv_shelf::Shelf;
 use std::alloc::Global;

@@ -12,11 +12,10 @@ ghost use Rattle.hv_program.specs.Serving.{ran_status, Serves, BlamesOf, IsSaid,
 use crate::reading::read_front;
 use crate::run::run;
 use crate::stop::Stop;
-use hv_session::hv_acts::ToldHouse;
 use hv_base::{Gate, Limits, Sink, Source, write_all};
-use hv_script::{Action, read_actions};
 use hv_house::{BootFault, House};
-use hv_script::{MAX_SCRIPT, ScriptFault, read_words};
+use hv_script::{Action, MAX_SCRIPT, ScriptFault, read_actions, read_words};
+use hv_session::hv_acts::ToldHouse;
 use hv_shelf::Shelf;
 use std::alloc::Global;
 use std::sync::Wait;

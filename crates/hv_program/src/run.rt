@@ -9,9 +9,9 @@ ghost use Rattle.hv_program.specs.Stops.{status_of_stop, Blames};
 
 use crate::action::act;
 use crate::stop::Stop;
-use hv_session::hv_acts::ToldHouse;
 use hv_base::{Sink, write_all};
 use hv_script::Action;
+use hv_session::hv_acts::ToldHouse;
 use hv_shelf::Shelf;
 use std::alloc::Global;
 

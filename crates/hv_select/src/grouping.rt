@@ -7,11 +7,10 @@ ghost use Rattle.hv_typing.specs.Selects.{aggregates_in, is_grouped, keys_typed,
 
 use hv_ast::{Expr, Item, Select};
 use hv_base::{Boxed, List, Refusal};
-use hv_grouping::{has_aggregate, stands_grouped};
-use hv_typing::Grouping;
 use hv_expr::TypedExpr;
+use hv_grouping::{has_aggregate, stands_grouped};
 use hv_types::{condition_of, type_expr};
-use hv_typing::{Field, Over, TypeFault};
+use hv_typing::{Field, Grouping, Over, TypeFault};
 use std::alloc::Global;
 
 pub(crate) const NOT_GROUPED: TypeFault = TypeFault::Refused(Refusal::NotGrouped);

@@ -9,10 +9,9 @@ use crate::grouping::{NOT_GROUPED, may_stand, over_of};
 use crate::sources::is_among;
 use hv_ast::{Expr, Item};
 use hv_base::{Duplicate, List, NoMemory, Refusal, Text};
-use hv_typing::OutputColumn;
 use hv_expr::TypedExpr;
 use hv_types::{kind_of, type_expr};
-use hv_typing::{Field, Opened, Shown, TypeFault};
+use hv_typing::{Field, Opened, OutputColumn, Shown, TypeFault};
 use std::alloc::Global;
 
 fn is_of(alias: &Option<Text>, field: &Field) -> bool

@@ -8,10 +8,9 @@ ghost use Rattle.hv_typing.specs.Sources.{array_typed, or_col, field_as, element
 use crate::sources::{AMBIGUOUS, is_taken, with_fields, with_name};
 use hv_ast::{Explode, Expr, Lateral};
 use hv_base::{Boxed, Duplicate, List, NoMemory, Text};
-use hv_typing::{TypedFrom, TypedLateral};
 use hv_expr::TypedExpr;
 use hv_types::{kind_of, placed, type_expr};
-use hv_typing::{Field, Over, Place, Sources, TypeFault};
+use hv_typing::{Field, Over, Place, Sources, TypeFault, TypedFrom, TypedLateral};
 use hv_value::{Elem, SqlType};
 use std::alloc::Global;
 

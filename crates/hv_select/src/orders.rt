@@ -7,11 +7,10 @@ ghost use Rattle.hv_typing.specs.Queries.{place_numbered, is_named, place_named,
 
 use hv_ast::{Expr, Key, Literal};
 use hv_base::{List, Refusal, Text};
-use hv_grouping::same_tree;
-use hv_typing::{OutputColumn, SortKey};
 use hv_expr::TypedExpr;
+use hv_grouping::same_tree;
 use hv_types::type_expr;
-use hv_typing::{Listed, TypeFault};
+use hv_typing::{Listed, OutputColumn, SortKey, TypeFault};
 use std::alloc::Global;
 
 const NO_COLUMN: TypeFault = TypeFault::Refused(Refusal::NoColumn);

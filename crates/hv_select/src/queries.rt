@@ -7,8 +7,7 @@ use crate::orders::order_typed;
 use crate::unions::{select_as, unions_as};
 use hv_ast::{Query, Union};
 use hv_base::{Boxed, List, NoMemory};
-use hv_typing::{SortKey, TypedQuery, TypedSelect};
-use hv_typing::{Listed, TypeFault, United};
+use hv_typing::{Listed, SortKey, TypeFault, TypedQuery, TypedSelect, United};
 use std::alloc::Global;
 
 fn query_of(

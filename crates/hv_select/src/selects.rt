@@ -9,9 +9,8 @@ use crate::items::{columns_shown, exprs_shown, items_shown};
 use crate::sources::filter_typed;
 use hv_ast::Select;
 use hv_base::{Boxed, List, NoMemory};
-use hv_typing::{Grouping, TypedFrom, TypedSelect};
 use hv_expr::TypedExpr;
-use hv_typing::{Listed, Opened, Shown, TypeFault};
+use hv_typing::{Grouping, Listed, Opened, Shown, TypeFault, TypedFrom, TypedSelect};
 use std::alloc::Global;
 
 type Filter = Option<Boxed<TypedExpr>>;

@@ -6,10 +6,12 @@ ghost use Rattle.hv_typing.specs.Sources.{is_among, is_taken, filter_typed, outp
 
 use hv_ast::{Expr, JoinKind as WrittenKind};
 use hv_base::{Boxed, Duplicate, List, NoMemory, Refusal, Text};
-use hv_typing::{JoinKind, OutputColumn, TypedFrom, TypedJoin, TypedQuery, TypedSource};
 use hv_expr::TypedExpr;
 use hv_types::condition_of;
-use hv_typing::{Brought, Field, Opened, Over, Sources, TypeFault};
+use hv_typing::{
+    Brought, Field, JoinKind, Opened, OutputColumn, Over, Sources, TypeFault, TypedFrom, TypedJoin,
+    TypedQuery, TypedSource,
+};
 use std::alloc::Global;
 
 pub(crate) const AMBIGUOUS: TypeFault = TypeFault::Refused(Refusal::Ambiguous);

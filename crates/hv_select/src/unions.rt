@@ -5,10 +5,9 @@ ghost use Rattle.hv_typing.specs.Faults.{Types};
 ghost use Rattle.hv_typing.specs.Queries.{column_met, columns_met, columns_agreed, alone, unite, united_with, first_kind, behind_first, items_as, select_as, union_as};
 
 use hv_base::{Boxed, Duplicate, List, NoMemory, Refusal};
-use hv_typing::{OutputColumn, TypedSelect, TypedUnion};
 use hv_expr::TypedExpr;
 use hv_types::{item_as_kind, kind_of, met};
-use hv_typing::{Meeting, TypeFault, United};
+use hv_typing::{Meeting, OutputColumn, TypeFault, TypedSelect, TypedUnion, United};
 use hv_value::SqlType;
 use std::alloc::Global;
 

@@ -3,8 +3,8 @@ ghost use Rattle.hv_value.specs.declared.sql_type.SqlType.TheVariants as type;
 ghost use Rattle.hv_typing.specs.Kinds.{kind_of, same_elem, same_type, unified_elem, unified, comparable, met, wider, scalar_type, element_type};
 
 use hv_expr::TypedExpr;
-use hv_value::{Elem, SqlType};
 use hv_typing::Meeting;
+use hv_value::{Elem, SqlType};
 
 /// The type of an expression.
 #[tactic(auto, unfolding(hv_typing::specs::Kinds::kind_of))]

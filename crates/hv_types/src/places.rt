@@ -3,8 +3,8 @@ ghost use Rattle.hv_typing.specs.declared.places.Place.TheVariants as place;
 ghost use Rattle.hv_typing.specs.Kinds.{asked, given, element_given};
 
 use crate::kinds::{scalar_type, wider};
-use hv_value::{Elem, SqlType};
 use hv_typing::{Gives, Place};
+use hv_value::{Elem, SqlType};
 
 fn asked_date(kind: SqlType) -> Option<SqlType>
     ensures { result ≡ asked place.Date kind }

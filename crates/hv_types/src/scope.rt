@@ -4,8 +4,7 @@ ghost use Rattle.hv_typing.specs.Scopes.{is_meant, is_any_meant, column_typed};
 
 use hv_base::{Refusal, Text};
 use hv_expr::TypedExpr;
-use hv_typing::Field;
-use hv_typing::TypeFault;
+use hv_typing::{Field, TypeFault};
 
 fn is_meant(source: &Option<Text>, name: &Text, field: &Field) -> bool
     ensures { result ≡ is_meant source.now name.now field.now }

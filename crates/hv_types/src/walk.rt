@@ -13,8 +13,8 @@ use crate::nodes::{
 use crate::scope::column_typed;
 use hv_ast::{Expr, Operation, When};
 use hv_base::{Boxed, List, Text};
-use hv_logic::named_type;
 use hv_expr::{Branch, Link, Many, Three, TypedExpr};
+use hv_logic::named_type;
 use hv_typing::{Field, Over, Place, TypeFault};
 use std::alloc::Global;
 

@@ -1,5 +1,5 @@
-use hv_base::{Boxed, List};
 use crate::tree::TypedQuery;
+use hv_base::{Boxed, List};
 use hv_expr::TypedExpr;
 
 /// Which rows of its table a change deletes.

@@ -1,6 +1,6 @@
 use crate::scope::{Field, Over};
-use hv_base::{Boxed, List, Text};
 use crate::tree::{OutputColumn, TypedSelect, TypedUnion};
+use hv_base::{Boxed, List, Text};
 use hv_expr::TypedExpr;
 
 /// A value that a select shows, with its name, if it has one.

@@ -1,6 +1,6 @@
 use crate::change::TypedChange;
-use hv_logic::Shape;
 use crate::tree::TypedQuery;
+use hv_logic::Shape;
 
 /// A statement whose names are resolved and whose expressions are typed. A table is its place among the
 /// live ones.

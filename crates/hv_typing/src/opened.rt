@@ -1,6 +1,6 @@
 use crate::scope::Field;
-use hv_base::{Boxed, List, Text};
 use crate::tree::{TypedFrom, TypedSource};
+use hv_base::{Boxed, List, Text};
 
 /// A source of FROM, and the columns that it has.
 #[derive(Drop)]

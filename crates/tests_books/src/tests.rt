@@ -4,10 +4,10 @@ use crate::take;
 use hv_base::{List, TableId, Text, Touch, TxnId, WriteId};
 use hv_book::Book;
 use hv_history::{Cause, Ending, Entry, Table, Transaction, numbered};
-use tests_replay::{Replay, answer};
 use std::alloc::Global;
 use std::process::Abort;
 use std::test::Fail;
+use tests_replay::{Replay, answer};
 
 /// What happens to a transaction, by its number. `Fails` is for want of memory.
 #[derive(Clone, Copy)]

@@ -13,8 +13,8 @@ use hv_base::{Boxed, NoMemory, Text};
 use hv_reading::read_text;
 use hv_typing::{Logic, TypeFault};
 use std::alloc::Global;
-use std::io::{BufRead, BufReader};
 use std::io;
+use std::io::{BufRead, BufReader};
 use tables::Tables;
 
 fn tree(alloc: Global, line: &str) -> Result<Option<Boxed<Stmt>>, NoMemory> {

@@ -1,11 +1,11 @@
 //! What is printed of a query that has more than one table: its sources, its items, its groups.
 
 use hv_base::{Boxed, NoMemory};
+use hv_expr::{One, TypedExpr};
 use hv_typing::{
     JoinKind, SortKey, TypedFrom, TypedJoin, TypedLateral, TypedQuery, TypedSelect, TypedSource,
     TypedUnion,
 };
-use hv_expr::{One, TypedExpr};
 use std::alloc::Global;
 
 type Out = Result<(), NoMemory>;

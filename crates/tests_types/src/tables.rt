@@ -4,10 +4,9 @@ use crate::plan::{plan, values};
 use crate::show;
 use hv_base::{Boxed, List, NoMemory, TableId};
 use hv_eval::eval;
-use hv_logic::{Shape, TableInfo};
-use hv_typing::{TypedFrom, TypedQuery, TypedSource};
 use hv_expr::TypedExpr;
-use hv_typing::{Deletes, Logic, Origin, TypedChange};
+use hv_logic::{Shape, TableInfo};
+use hv_typing::{Deletes, Logic, Origin, TypedChange, TypedFrom, TypedQuery, TypedSource};
 use hv_value::{Row, Value};
 use std::alloc::Global;
 
