@@ -9,7 +9,7 @@ use Rattle.hv_base.specs.Identifiers.{row_id_cmp}
 use Rattle.hv_value.specs.Order.{row_cmp}
 use Rattle.hv_value.specs.declared.row.Row.{Row}
 use Rattle.hv_logic.specs.declared.effect.Found.{Found}
-use Rattle.hv_logic.specs.Sorting.{sorted_by}
+use Rattle.hv_base.specs.Sorting.{sorted_by}
 
 -- the rows in row order, as many as there are
 abbrev pub sorted : List Row → List Row

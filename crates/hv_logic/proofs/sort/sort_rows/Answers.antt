@@ -1,5 +1,5 @@
 use Rattle.hv_value.specs.OrderLaws.{row_cmp_total, row_cmp-IsAntisymmetric}
-use Rattle.hv_logic.proofs.SortingLaws.{sorted_is}
+use Rattle.hv_base.proofs.SortingLaws.{sorted_is}
 use Rattle.hv_logic.proofs.sort.sort_rows.Goals as goal
 
 pub returns-clause-sorted : goal.returns-clause-sorted
