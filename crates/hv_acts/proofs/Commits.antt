@@ -163,7 +163,6 @@ module _ {D : Type 0} (told : D → Option Store) (faults : D → ℕ) (txn : Tx
     store = moves-by (told before.shelf) (told now.shelf) _ _ (λ a b moved. inl moved) s.store;
     closed = s.closed;
     shut_out = s.shut_out;
-    locks = s.locks;
     counts = s.counts;
     rest = s.rest;
   }
@@ -173,7 +172,6 @@ module _ {D : Type 0} (told : D → Option Store) (faults : D → ℕ) (txn : Tx
     store = s.store;
     closed = s.closed;
     shut_out = s.shut_out;
-    locks = s.locks;
     counts = s.counts;
     rest = s.rest;
   }
@@ -188,7 +186,6 @@ module _ {D : Type 0} (told : D → Option Store) (faults : D → ℕ) (txn : Tx
     store = moves-by (told before.shelf) (told now.shelf) _ _ (λ a b moved. inr (by, table, partition, moved)) s.store;
     closed = s.closed;
     shut_out = s.shut_out;
-    locks = s.locks;
     counts = s.counts;
     rest = s.rest;
   }
@@ -198,7 +195,6 @@ module _ {D : Type 0} (told : D → Option Store) (faults : D → ℕ) (txn : Tx
     store = s.store;
     closed = s.closed;
     shut_out = s.shut_out;
-    locks = s.locks;
     counts = s.counts;
     rest = s.rest;
   }
@@ -254,7 +250,6 @@ module _ {D : Type 0} (told : D → Option Store) (faults : D → ℕ) (txn : Tx
       store = moves-same (told house.shelf) _ (λ s. record { tree_is = refl; reads = λ is. is });
       closed = or-false house.trail.closed;
       shut_out = λ shut. let never : true ≡ false = sym shut ∙ whole.ready.kept.running in cc;
-      locks = refl;
       counts = omega arith;
       rest = record { start = refl; opened = refl; limits = refl };
     };

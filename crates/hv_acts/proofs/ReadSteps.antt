@@ -69,7 +69,6 @@ module _ {D : Type 0} (told : D → Option Store) (faults : D → ℕ) where
     store = moves-same (told seen.shelf) _ (λ s. refl);
     closed = or-false seen.closed;
     shut_out = λ shut. tt;
-    locks = refl;
     counts = omega arith;
     rest = record { start = refl; opened = refl; limits = refl };
   }

@@ -7,7 +7,7 @@ use Rattle.hv_shelf.specs.Disk.{Store}
 use Rattle.hv_history.specs.declared.entry.Entry.{Entry}
 use Rattle.hv_trail.specs.Trail.{book_of}
 use Rattle.hv_trail.specs.Kept.{trail_of}
-use Rattle.hv_trail.specs.Steps.{HouseSeen, Call, Outcome, Note, Begin, Ask, Closed, Refused, gains, shuts, locks_after, MayEnd, Changes, IsShutOut, Step}
+use Rattle.hv_trail.specs.Steps.{HouseSeen, Call, Outcome, Note, Begin, Ask, Closed, Refused, gains, shuts, MayEnd, Changes, IsShutOut, Step}
 use Rattle.hv_trail.proofs.KeptLaws.{trail-book}
 use Rattle.hv_house.specs.declared.fault.HouseFault.{HouseFault}
 use Rattle.hv_house.specs.declared.fault.HouseFault.TheVariants as fault
@@ -39,7 +39,6 @@ module _ {D : Type 0} (told : D → Option Store) (faults : D → ℕ) (seen : H
     store = moves-same (told seen.shelf) _ (λ s. refl);
     closed = or-false seen.closed;
     shut_out = λ shut. tt;
-    locks = refl;
     counts = omega arith;
     rest = record { start = refl; opened = refl; limits = refl };
   }
@@ -52,29 +51,27 @@ module _ {D : Type 0} (told : D → Option Store) (faults : D → ℕ) (seen : H
     store = moves-same (told seen.shelf) _ (λ s. record { tree_is = refl; reads = λ is. is });
     closed = or-false seen.closed;
     shut_out = λ shut. absurd (true≢false (sym shut ∙ running));
-    locks = refl;
     counts = omega arith;
     rest = record { start = refl; opened = refl; limits = refl };
   }
 
   shut : (call : Call) → MayEnd call Closed → gains call Closed ≡ [] → ((s : Store) → Changes (book_of seen.trail) call Closed s s)
-      → locks_after call Closed seen.locks ≡ seen.locks → IsShutOut call Closed → seen.closed ≡ true → Step told faults call Closed seen seen
-  shut call may none same locks out closed = record {
+      → IsShutOut call Closed → seen.closed ≡ true → Step told faults call Closed seen seen
+  shut call may none same out closed = record {
     may = may;
     trail = sym (append-nil seen.trail) ∙ ap (λ items. seen.trail ++ items) (sym none);
     store = moves-same (told seen.shelf) _ same;
     closed = closed ∙ sym (ap (λ b. b || true) closed);
     shut_out = λ shut. out;
-    locks = sym locks;
     counts = omega arith;
     rest = record { start = refl; opened = refl; limits = refl };
   }
 
   pub shut-note : (event : Entry) → seen.closed ≡ true → Step told faults (Note event) Closed seen seen
-  shut-note event closed = shut (Note event) tt refl (λ s. record { tree_is = refl; reads = λ is. inl is }) refl refl closed
+  shut-note event closed = shut (Note event) tt refl (λ s. record { tree_is = refl; reads = λ is. inl is }) refl closed
 
   pub shut-begin : (txn : TxnId) (session : List ℕ) (number : ℕ) (text : List ℕ) → seen.closed ≡ true → Step told faults (Begin txn session number text) Closed seen seen
-  shut-begin txn session number text closed = shut (Begin txn session number text) tt refl (λ s. record { tree_is = refl; reads = λ is. inl is }) refl refl closed
+  shut-begin txn session number text closed = shut (Begin txn session number text) tt refl (λ s. record { tree_is = refl; reads = λ is. inl is }) refl closed
 
 -- ---- between two calls
 

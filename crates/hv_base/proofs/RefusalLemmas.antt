@@ -23,6 +23,10 @@ all =
     refusal.MergeClauses ∷
     refusal.TableExists ∷
     refusal.Limit ∷
+    refusal.ViewForm ∷
+    refusal.IsView ∷
+    refusal.NotView ∷
+    refusal.WindowPlace ∷
     refusal.Conflict ∷
     refusal.Aborted ∷
     refusal.JournalFull ∷
@@ -33,7 +37,10 @@ all =
     refusal.NoMemory ∷
     refusal.RowLimit ∷
     refusal.PartitionLimit ∷
-    refusal.Damaged ∷ []
+    refusal.Damaged ∷
+    refusal.TransactionOver ∷
+    refusal.NotInTransaction ∷
+    refusal.NoTransaction ∷ []
 
 chosen : {X : Type 0} (p : X → Bool) (b : Bool) (x y : X) (rest : Option X) → p x ≡ b →
     (rest ≡ Some y → p y ≡ true) → cond b (Some x) rest ≡ Some y → p y ≡ true
@@ -62,6 +69,10 @@ found refusal.FixedColumn = refl
 found refusal.MergeClauses = refl
 found refusal.TableExists = refl
 found refusal.Limit = refl
+found refusal.ViewForm = refl
+found refusal.IsView = refl
+found refusal.NotView = refl
+found refusal.WindowPlace = refl
 found refusal.Conflict = refl
 found refusal.Aborted = refl
 found refusal.JournalFull = refl
@@ -73,6 +84,9 @@ found refusal.NoMemory = refl
 found refusal.RowLimit = refl
 found refusal.PartitionLimit = refl
 found refusal.Damaged = refl
+found refusal.TransactionOver = refl
+found refusal.NotInTransaction = refl
+found refusal.NoTransaction = refl
 
 pub numbered : (n : ℕ) → IsNumbered (find (λ r. number r == n) all) n
 numbered n r = (

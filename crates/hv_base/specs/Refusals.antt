@@ -24,6 +24,10 @@ row refusal.FixedColumn = record { number = 16; name = codes "FixedColumn" }
 row refusal.MergeClauses = record { number = 17; name = codes "MergeClauses" }
 row refusal.TableExists = record { number = 18; name = codes "TableExists" }
 row refusal.Limit = record { number = 19; name = codes "Limit" }
+row refusal.ViewForm = record { number = 22; name = codes "ViewForm" }
+row refusal.IsView = record { number = 23; name = codes "IsView" }
+row refusal.NotView = record { number = 24; name = codes "NotView" }
+row refusal.WindowPlace = record { number = 25; name = codes "WindowPlace" }
 row refusal.Conflict = record { number = 30; name = codes "Conflict" }
 row refusal.Aborted = record { number = 31; name = codes "Aborted" }
 row refusal.JournalFull = record { number = 32; name = codes "JournalFull" }
@@ -35,6 +39,9 @@ row refusal.NoMemory = record { number = 40; name = codes "NoMemory" }
 row refusal.RowLimit = record { number = 41; name = codes "RowLimit" }
 row refusal.PartitionLimit = record { number = 42; name = codes "PartitionLimit" }
 row refusal.Damaged = record { number = 43; name = codes "Damaged" }
+row refusal.TransactionOver = record { number = 44; name = codes "TransactionOver" }
+row refusal.NotInTransaction = record { number = 45; name = codes "NotInTransaction" }
+row refusal.NoTransaction = record { number = 46; name = codes "NoTransaction" }
 
 abbrev pub number : Refusal → ℕ
 number refusal = (row refusal).number

@@ -31,6 +31,3 @@ pub struct NoGate;
 impl Gate for NoGate {
     fn at(&self, _point: Point) {}
 }
-
-#[cfg(test)]
-mod tests;

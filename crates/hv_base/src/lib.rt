@@ -28,6 +28,3 @@ pub use refusal::Refusal;
 pub use sink::{Sink, write_all};
 pub use source::{ReadFault, Source, read_all};
 pub use text::Text;
-
-#[cfg(test)]
-mod tests;

@@ -35,6 +35,14 @@ pub enum Refusal {
     TableExists = 18,
     /// A number or a count is past its limit.
     Limit = 19,
+    /// A materialized view's query is of a form that a view can't keep.
+    ViewForm = 22,
+    /// The table is a materialized view, which only its rebuild changes.
+    IsView = 23,
+    /// The table is no materialized view.
+    NotView = 24,
+    /// A window function stands where none may.
+    WindowPlace = 25,
     /// Another transaction changed the same rows first.
     Conflict = 30,
     /// The transaction was asked to end.
@@ -57,10 +65,16 @@ pub enum Refusal {
     PartitionLimit = 42,
     /// A file isn't as it was written.
     Damaged = 43,
+    /// The session's transaction has ended already.
+    TransactionOver = 44,
+    /// A statement that doesn't run inside a transaction.
+    NotInTransaction = 45,
+    /// There is no transaction to end.
+    NoTransaction = 46,
 }
 
 /// Every refusal.
-const ALL: [Refusal; 26] = [
+const ALL: [Refusal; 33] = [
     Refusal::BadCharacter,
     Refusal::OpenString,
     Refusal::WideNumber,
@@ -76,6 +90,10 @@ const ALL: [Refusal; 26] = [
     Refusal::MergeClauses,
     Refusal::TableExists,
     Refusal::Limit,
+    Refusal::ViewForm,
+    Refusal::IsView,
+    Refusal::NotView,
+    Refusal::WindowPlace,
     Refusal::Conflict,
     Refusal::Aborted,
     Refusal::JournalFull,
@@ -87,6 +105,9 @@ const ALL: [Refusal; 26] = [
     Refusal::RowLimit,
     Refusal::PartitionLimit,
     Refusal::Damaged,
+    Refusal::TransactionOver,
+    Refusal::NotInTransaction,
+    Refusal::NoTransaction,
 ];
 
 /// The first of these refusals that has this number.
@@ -129,6 +150,10 @@ impl Refusal {
             Refusal::MergeClauses => "MergeClauses",
             Refusal::TableExists => "TableExists",
             Refusal::Limit => "Limit",
+            Refusal::ViewForm => "ViewForm",
+            Refusal::IsView => "IsView",
+            Refusal::NotView => "NotView",
+            Refusal::WindowPlace => "WindowPlace",
             Refusal::Conflict => "Conflict",
             Refusal::Aborted => "Aborted",
             Refusal::JournalFull => "JournalFull",
@@ -140,6 +165,9 @@ impl Refusal {
             Refusal::RowLimit => "RowLimit",
             Refusal::PartitionLimit => "PartitionLimit",
             Refusal::Damaged => "Damaged",
+            Refusal::TransactionOver => "TransactionOver",
+            Refusal::NotInTransaction => "NotInTransaction",
+            Refusal::NoTransaction => "NoTransaction",
         }
     }
 

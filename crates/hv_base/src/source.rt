@@ -94,6 +94,3 @@ pub fn read_all<S: Source>(
         bytes.extend_from_slice(&chunk[..count])?;
     }
 }
-
-#[cfg(test)]
-mod tests;

@@ -22,6 +22,10 @@ named refusal.FixedColumn = refl
 named refusal.MergeClauses = refl
 named refusal.TableExists = refl
 named refusal.Limit = refl
+named refusal.ViewForm = refl
+named refusal.IsView = refl
+named refusal.NotView = refl
+named refusal.WindowPlace = refl
 named refusal.Conflict = refl
 named refusal.Aborted = refl
 named refusal.JournalFull = refl
@@ -33,6 +37,9 @@ named refusal.NoMemory = refl
 named refusal.RowLimit = refl
 named refusal.PartitionLimit = refl
 named refusal.Damaged = refl
+named refusal.TransactionOver = refl
+named refusal.NotInTransaction = refl
+named refusal.NoTransaction = refl
 
 unnamed : (n : ℕ) (refusals : List Refusal) → ((r : Refusal) → number r ≡ n → ⊥) → name_among refusals n ≡ []
 unnamed n [] other = refl

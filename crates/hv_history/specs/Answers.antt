@@ -56,9 +56,10 @@ every_refusal =
     refusal.BadCharacter ∷ refusal.OpenString ∷ refusal.WideNumber ∷ refusal.Syntax ∷ refusal.Nesting
     ∷ refusal.NoTable ∷ refusal.NoColumn ∷ refusal.Ambiguous ∷ refusal.BadType ∷ refusal.BadCount
     ∷ refusal.NotGrouped ∷ refusal.FixedColumn ∷ refusal.MergeClauses ∷ refusal.TableExists ∷ refusal.Limit
+    ∷ refusal.ViewForm ∷ refusal.IsView ∷ refusal.NotView ∷ refusal.WindowPlace
     ∷ refusal.Conflict ∷ refusal.Aborted ∷ refusal.JournalFull ∷ refusal.MergeTwice ∷ refusal.Blocked
     ∷ refusal.ReadFault ∷ refusal.WriteFault ∷ refusal.NoMemory ∷ refusal.RowLimit ∷ refusal.PartitionLimit
-    ∷ refusal.Damaged ∷ []
+    ∷ refusal.Damaged ∷ refusal.TransactionOver ∷ refusal.NotInTransaction ∷ refusal.NoTransaction ∷ []
 
 abbrev pub name_among : List Refusal → ℕ → List ℕ
 name_among [] n = []

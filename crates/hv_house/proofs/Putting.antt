@@ -18,7 +18,7 @@ use Rattle.hv_trail.specs.declared.trail.TrailItem.{TrailItem}
 use Rattle.hv_trail.specs.declared.trail.TrailItem.TheVariants.{Marked}
 use Rattle.hv_trail.specs.Trail.{book_of}
 use Rattle.hv_trail.specs.Kept.{trail_of}
-use Rattle.hv_trail.specs.Steps.{Call, Put, Outcome, Done, Closed, Refused, Failed, locks_after, MayEnd, Changes, Counts, Step}
+use Rattle.hv_trail.specs.Steps.{Call, Put, Outcome, Done, Closed, Refused, Failed, MayEnd, Changes, Counts, Step}
 use Rattle.hv_house.specs.declared.fault.HouseFault.{HouseFault}
 use Rattle.hv_house.specs.declared.fault.HouseFault.TheVariants as fault
 use Rattle.hv_house.specs.declared.house.House.{House}
@@ -97,15 +97,14 @@ module _ {D : Type 0} (limits : Limits) (told : D → Option Store) (faults : D 
   call = Put (Txn by) place bytes
 
   step-by : (outcome : Outcome) → MayEnd call outcome → Moves (Changes (book_of (trail_of before.trail)) call outcome) (told before.shelf) (told now.shelf)
-      → [] ≡ locks_after call outcome [] → Counts outcome (faults before.shelf) (faults now.shelf) → GainsBy call outcome before now
+      → Counts outcome (faults before.shelf) (faults now.shelf) → GainsBy call outcome before now
       → Step told faults call outcome (seen_of before) (seen_of now)
-  step-by outcome may store locks counts gained = record {
+  step-by outcome may store counts gained = record {
     may = may;
     trail = gained.trail;
     store = store;
     closed = gained.closed;
     shut_out = λ shut. absurd (true≢false (sym shut ∙ ready.kept.running));
-    locks = locks;
     counts = counts;
     rest = record { start = ap (λ s. s.value) gained.start; opened = gained.left; limits = gained.limits };
   }
@@ -117,7 +116,7 @@ module _ {D : Type 0} (limits : Limits) (told : D → Option Store) (faults : D 
     ready = put-ready limits told before now call gained (Moves-weaken (HasFile place bytes) KeepsJournal (put-journal place bytes) (told before.shelf) (told now.shelf) moves) ready;
     stays = tt;
     marked = tt;
-    step = step-by Done tt moves refl later gained;
+    step = step-by Done tt moves later gained;
     cause = record { later = later; failed = tt };
   }
 
@@ -150,16 +149,16 @@ module _ {D : Type 0} (limits : Limits) (told : D → Option Store) (faults : D 
       let keeps = Moves-weaken (TornFile place) KeepsJournal (torn-journal place) (told before.shelf) (told now.shelf) moves in
       let few : faults now.shelf < 2 ^ 64 - 1 = ltb-true (faults now.shelf) (2 ^ 64 - 1) is in
       err-ends (fault.Failed (faults now.shelf)) keeps later (refl, omega (arith, few, rose)) gained
-      (step-by (Failed (faults now.shelf)) tt moves refl (refl, rose) gained)
+      (step-by (Failed (faults now.shelf)) tt moves (refl, rose) gained)
   torn-ends false is moves later rose gained =
       let keeps = Moves-weaken (TornFile place) KeepsJournal (torn-journal place) (told before.shelf) (told now.shelf) moves in
-      err-ends fault.Store keeps later rose gained (step-by Closed tt moves refl later gained)
+      err-ends fault.Store keeps later rose gained (step-by Closed tt moves later gained)
 
   same-ends : told now.shelf ≡ told before.shelf → faults before.shelf ≤ faults now.shelf → GainsBy call Refused before now
       → PutStepWithin limits told faults by place bytes before now (Err fault.NoMemory)
   same-ends same later gained =
       err-ends fault.NoMemory (moves-equal KeepsJournal (λ s t e. ap (λ (x : Store). x.journal) e) (told before.shelf) (told now.shelf) same) later tt gained
-      (step-by Refused tt (moves-equal (λ s t. t ≡ s) (λ s t e. e) (told before.shelf) (told now.shelf) same) refl later gained)
+      (step-by Refused tt (moves-equal (λ s t. t ≡ s) (λ s t e. e) (told before.shelf) (told now.shelf) same) later gained)
 
   ends-of : (done : Result (Unit {0}) ShelfFault) → OnOk done (Moves (HasFile place bytes) (told before.shelf) (told now.shelf))
       → (IsErrOf done shelf.Failed → Moves (TornFile place) (told before.shelf) (told now.shelf)) → (IsErrOf done shelf.NoMemory → told now.shelf ≡ told before.shelf)

@@ -13,7 +13,7 @@ use Rattle.hv_trail.specs.declared.trail.TrailItem.{TrailItem}
 use Rattle.hv_trail.specs.declared.trail.TrailItem.TheVariants.{Marked}
 use Rattle.hv_trail.specs.Trail.{book_of}
 use Rattle.hv_trail.specs.Kept.{trail_of}
-use Rattle.hv_trail.specs.Steps.{Call, Read, Outcome, Done, Closed, Refused, Failed, gains, shuts, locks_after, MayEnd, Changes, Counts, Step}
+use Rattle.hv_trail.specs.Steps.{Call, Read, Outcome, Done, Closed, Refused, Failed, gains, shuts, MayEnd, Changes, Counts, Step}
 use Rattle.hv_house.specs.declared.fault.HouseFault.{HouseFault}
 use Rattle.hv_house.specs.declared.fault.HouseFault.TheVariants as fault
 use Rattle.hv_house.specs.declared.fault.RowFault.{RowFault}
@@ -97,28 +97,27 @@ module _ {D : Type 0} (told : D → Option Store) (faults : D → ℕ) (by : Opt
       by_cases (Some s) = keeps s s refl
 
   step-by : (outcome : Outcome) → MayEnd (Read by) outcome → ((book : List Entry) (s t : Store) → t ≡ s → Changes book (Read by) outcome s t)
-      → [] ≡ locks_after (Read by) outcome [] → Counts outcome (faults before.shelf) (faults now.shelf) → GainsBy (Read by) outcome before now
+      → Counts outcome (faults before.shelf) (faults now.shelf) → GainsBy (Read by) outcome before now
       → Step told faults (Read by) outcome (seen_of before) (seen_of now)
-  step-by outcome may keeps locks counts gained = record {
+  step-by outcome may keeps counts gained = record {
     may = may;
     trail = gained.trail;
     store = moves-same (Changes (book_of (trail_of before.trail)) (Read by) outcome) (keeps (book_of (trail_of before.trail)));
     closed = gained.closed;
     shut_out = λ shut. absurd (true≢false (sym shut ∙ running));
-    locks = locks;
     counts = counts;
     rest = record { start = ap (λ s. s.value) gained.start; opened = gained.left; limits = gained.limits };
   }
 
   pub step-read : GainsBy (Read by) Done before now → Step told faults (Read by) Done (seen_of before) (seen_of now)
-  step-read gained = step-by Done tt (λ book s t e. e) refl later gained
+  step-read gained = step-by Done tt (λ book s t e. e) later gained
 
   pub step-unread : (why : RowFault) → HasRisenReading (faults before.shelf) (faults now.shelf) why → GainsBy (Read by) (reading_outcome why) before now
       → Step told faults (Read by) (reading_outcome why) (seen_of before) (seen_of now)
-  step-unread (row_fault.Damaged place) rose gained = step-by Refused tt (λ book s t e. e) refl later gained
-  step-unread (row_fault.House fault.Store) rose gained = step-by Closed tt (λ book s t e. e) refl later gained
-  step-unread (row_fault.House fault.NoMemory) rose gained = step-by Refused tt (λ book s t e. e) refl later gained
-  step-unread (row_fault.House (fault.Failed count)) rose gained = step-by (Failed count) tt (λ book s t e. e) refl (rose.0, omega (arith, rose.1)) gained
+  step-unread (row_fault.Damaged place) rose gained = step-by Refused tt (λ book s t e. e) later gained
+  step-unread (row_fault.House fault.Store) rose gained = step-by Closed tt (λ book s t e. e) later gained
+  step-unread (row_fault.House fault.NoMemory) rose gained = step-by Refused tt (λ book s t e. e) later gained
+  step-unread (row_fault.House (fault.Failed count)) rose gained = step-by (Failed count) tt (λ book s t e. e) (rose.0, omega (arith, rose.1)) gained
 
 -- ---- the mark of a fault stands
 

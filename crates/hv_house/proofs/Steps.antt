@@ -5,13 +5,12 @@ use Rattle.hv_base.specs.Told.{Moves}
 use Rattle.hv_base.specs.declared.ids.TxnId.{TxnId}
 use Rattle.hv_shelf.specs.Disk.{Store}
 use Rattle.hv_history.specs.declared.entry.Entry.{Entry}
-use Rattle.hv_history.specs.declared.entry.Entry.TheVariants as entry
 use Rattle.hv_history.specs.Journal.{IsJournal}
 use Rattle.hv_journal.specs.Appending.{Holds, KeepsTree, ReadsMore}
 use Rattle.hv_trail.specs.declared.trail.TrailItem.TheVariants.{Noted}
 use Rattle.hv_trail.specs.Trail.{woven_from}
 use Rattle.hv_trail.specs.Kept.{trail_of}
-use Rattle.hv_trail.specs.Steps.{Call, Note, Begin, Done, Closed, Refused, Notes, NotesOrNot, NotesNone, begun, gains, locks_behind, locks_after, MayEnd, Changes, Step}
+use Rattle.hv_trail.specs.Steps.{Call, Note, Begin, Done, Closed, Refused, Notes, NotesOrNot, NotesNone, begun, gains, MayEnd, Changes, Step}
 use Rattle.hv_trail.proofs.KeptLaws.{trail-book}
 use Rattle.hv_house.specs.declared.fault.HouseFault.{HouseFault}
 use Rattle.hv_house.specs.declared.fault.HouseFault.TheVariants as fault
@@ -19,24 +18,6 @@ use Rattle.hv_house.specs.declared.house.House.{House}
 use Rattle.hv_house.specs.House.{entries_of, IsKept, Leaves, AreNoted}
 use Rattle.hv_house.specs.Steps.{seen_of, fault_outcome, outcome_of, ClosesBy, KeepsMarks}
 use Rattle.hv_house.proofs.Boots.{reads-journal}
-
--- nobody holds a lock that an entry could let go
-no-locks : (event : Entry) → locks_behind (Some (Noted event)) [] ≡ []
-no-locks (entry.Boot run) = refl
-no-locks (entry.Opened txn session number text) = refl
-no-locks (entry.Start txn statement) = refl
-no-locks (entry.Given txn table write) = refl
-no-locks (entry.Commit txn wrote) = refl
-no-locks (entry.Abort txn why) = refl
-no-locks (entry.Create txn table) = refl
-no-locks (entry.Drop txn table) = refl
-no-locks (entry.Asked job table partition kind by) = refl
-no-locks (entry.Picked job watermark) = refl
-no-locks (entry.Published job low high mark) = refl
-no-locks (entry.Empty job) = refl
-no-locks (entry.Cleaned job) = refl
-no-locks (entry.Failed job why) = refl
-no-locks (entry.Forgot table write) = refl
 
 -- ---- a call that notes these entries, or none
 
@@ -50,9 +31,6 @@ pub record IsNoting (call : Call) (events : List Entry) : Type 0 where
   done : (book : List Entry) (a b : Store) → Notes events book a b → Changes book call Done a b
   closed : (book : List Entry) (a b : Store) → NotesOrNot events book a b → Changes book call Closed a b
   refused : (book : List Entry) (a b : Store) → NotesNone book a b → Changes book call Refused a b
-  locks_done : locks_after call Done [] ≡ []
-  locks_closed : locks_after call Closed [] ≡ []
-  locks_refused : locks_after call Refused [] ≡ []
 
 pub noting-one : (event : Entry) → IsNoting (Note event) (event ∷ [])
 noting-one event = record {
@@ -65,9 +43,6 @@ noting-one event = record {
   done = λ book a b moved. moved;
   closed = λ book a b moved. moved;
   refused = λ book a b moved. moved;
-  locks_done = no-locks event;
-  locks_closed = refl;
-  locks_refused = refl;
 }
 
 pub noting-begun : (txn : TxnId) (session : List ℕ) (number : ℕ) (text : List ℕ) → IsNoting (Begin txn session number text) (begun txn session number text)
@@ -81,9 +56,6 @@ noting-begun txn session number text = record {
   done = λ book a b moved. moved;
   closed = λ book a b moved. moved;
   refused = λ book a b moved. moved;
-  locks_done = refl;
-  locks_closed = refl;
-  locks_refused = refl;
 }
 
 -- ---- what becomes of the store
@@ -148,7 +120,6 @@ module _ {D : Type 0} (told : D → Option Store) (faults : D → ℕ) (call : C
         (moves-noted (told before.shelf) (told now.shelf) events _ (entries_of before) (trail-book before.trail.entries before.trail.marks) tree holds);
     closed = same-or before.trail.closed now.trail.closed running closed;
     shut_out = λ shut. absurd (true≢false (sym shut ∙ running));
-    locks = sym noting.locks_done;
     counts = later;
     rest = record { start = ap (λ s. s.value) start; opened = left; limits = limits };
   }
@@ -166,7 +137,6 @@ module _ {D : Type 0} (told : D → Option Store) (faults : D → ℕ) (call : C
         (moves-stopped (told before.shelf) (told now.shelf) events _ (entries_of before) (trail-book before.trail.entries before.trail.marks) tree leaves);
     closed = shut-or before.trail.closed now.trail.closed running closed;
     shut_out = λ shut. absurd (true≢false (sym shut ∙ running));
-    locks = sym noting.locks_closed;
     counts = later;
     rest = record { start = ap (λ s. s.value) start; opened = left; limits = limits };
   }
@@ -177,7 +147,6 @@ module _ {D : Type 0} (told : D → Option Store) (faults : D → ℕ) (call : C
         (moves-none (told before.shelf) (told now.shelf) _ (entries_of before) (trail-book before.trail.entries before.trail.marks) tree leaves);
     closed = same-or before.trail.closed now.trail.closed running closed;
     shut_out = λ shut. absurd (true≢false (sym shut ∙ running));
-    locks = sym noting.locks_refused;
     counts = later;
     rest = record { start = ap (λ s. s.value) start; opened = left; limits = limits };
   }

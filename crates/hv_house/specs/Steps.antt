@@ -34,7 +34,7 @@ use Rattle.hv_house.specs.declared.house.House.{House}
 use Rattle.hv_house.specs.Faults.{FileCause}
 use Rattle.hv_house.specs.House.{entries_of, IsReadyWithin, StaysPutWithin}
 
--- a house, which has no locks yet
+-- a house, as those who act on it see it
 abbrev pub seen_of : {D : Type 0} → House D → HouseSeen D
 seen_of house = record {
   start = house.start.value;
@@ -42,7 +42,6 @@ seen_of house = record {
   opened = house.trail.opened;
   shelf = house.shelf;
   closed = house.trail.closed;
-  locks = [];
   limits = house.limits;
 }
 

@@ -4,8 +4,6 @@
 mod notes;
 mod pending;
 mod placed;
-#[cfg(test)]
-mod tests;
 
 pub use notes::{IdNote, PlacedId};
 pub use pending::PendingIds;

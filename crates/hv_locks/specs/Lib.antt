@@ -1,2 +1,1 @@
 pub mod Locking
-pub mod Lower

@@ -1,6 +1,6 @@
-//! Table locks: who may go on, and who waits for whom.
+//! Table locks: which two conflict, and what one who asks for them is told.
 #![tactic(auto)]
 
 mod table;
 
-pub use table::{Entry, Lock, LockState, Locks};
+pub use table::{Lock, LockState};

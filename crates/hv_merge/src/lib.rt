@@ -7,8 +7,6 @@ mod merging;
 mod order;
 mod rising;
 mod shown;
-#[cfg(test)]
-mod tests;
 mod turns;
 
 pub use merging::merge;

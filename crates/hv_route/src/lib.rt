@@ -4,8 +4,6 @@
 pub use hv_rowfile;
 
 mod buckets;
-#[cfg(test)]
-mod changes;
 mod counts;
 mod fault;
 mod files;
@@ -15,8 +13,6 @@ mod numbers;
 mod partitions;
 mod placed;
 mod runs;
-#[cfg(test)]
-mod tests;
 
 pub use buckets::bucket_of;
 pub use counts::touches;

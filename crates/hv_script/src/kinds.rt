@@ -2,8 +2,8 @@ ghost use Rattle.std.specs.Prelude.{◌≡◌, ◌-◌, Some, None, length, IfOk
 ghost use Rattle.std.specs.List.{suffix_len};
 ghost use Rattle.hv_script.specs.Kinds.{directive_of, hold_of, is_name, is_name_byte, kind_of, trails};
 
+use crate::is_directive;
 use hv_base::{NoMemory, Stage, Text};
-use hv_script::is_directive;
 use std::alloc::Global;
 
 /// The most characters of a session's name.

@@ -1,8 +1,6 @@
 //! The words of the command line, and the script: its items, in order.
 #![tactic(auto)]
 
-#[cfg(test)]
-mod action_tests;
 mod actions;
 mod items;
 mod kinds;
@@ -10,8 +8,6 @@ mod reader;
 mod reading;
 mod script;
 mod standing;
-#[cfg(test)]
-mod tests;
 mod words;
 
 pub use actions::{Action, Session, Statement};

@@ -8,8 +8,8 @@ ghost use Rattle.hv_script.specs.Standing.{fault_lines, first_standing};
 use crate::actions::Action;
 use crate::kinds::read_kind;
 use crate::standing::Sessions;
+use crate::{Cut, Item, ScriptFault, cut_script, earlier_of};
 use hv_base::{List, NoMemory};
-use hv_script::{Cut, Item, ScriptFault, cut_script, earlier_of};
 use std::alloc::Global;
 
 /// What the items so far ask to be done, and the first line of a fault among them.

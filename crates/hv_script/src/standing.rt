@@ -7,8 +7,8 @@ ghost use Rattle.hv_script.specs.Standing.{after, first_standing, is_faulty, is_
 
 use crate::actions::{Action, Session, Statement};
 use crate::kinds::Kind;
+use crate::{Item, MAX_STATEMENTS, MAX_TEXT, earlier_of};
 use hv_base::{Duplicate, NoMemory, Stage, Text};
-use hv_script::{Item, MAX_STATEMENTS, MAX_TEXT, earlier_of};
 use std::alloc::Global;
 use std::marker::Model;
 

@@ -13,7 +13,7 @@ use Rattle.hv_history.specs.Lasting.{IsFront}
 use Rattle.hv_stands.specs.Running.{Asking, IsOf, AreOf, IsWaiting, IsUnderWay}
 use Rattle.hv_trail.specs.declared.trail.TrailItem.{TrailItem}
 use Rattle.hv_trail.specs.Trail.{book_of}
-use Rattle.hv_trail.specs.Steps.{HouseSeen, Call, Note, Begin, Commit, Put, Remove, Read, Request, Check, Ask, Outcome, Done, Conflict, Failed, Closed, Refused, MayEnd, Counts, gains, shuts}
+use Rattle.hv_trail.specs.Steps.{HouseSeen, Call, Note, Begin, Commit, Put, Remove, Read, Ask, Outcome, Done, Conflict, Failed, Closed, Refused, MayEnd, Counts, gains, shuts}
 use Rattle.hv_trail.proofs.LastingLaws.{book-append, goes-on-front}
 use Rattle.hv_actor.specs.Acting.{IsLater, Held, Went, AreRows}
 use Rattle.hv_actor.specs.Rows.{later_itself}
@@ -84,8 +84,6 @@ gains-closed (Commit txn wrote) = refl
 gains-closed (Put by place bytes) = refl
 gains-closed (Remove by dir) = refl
 gains-closed (Read by) = refl
-gains-closed (Request txn locks) = refl
-gains-closed (Check txn state) = refl
 gains-closed Ask = refl
 
 pub gains-refused : (call : Call) → gains call Refused ≡ []
@@ -95,8 +93,6 @@ gains-refused (Commit txn wrote) = refl
 gains-refused (Put by place bytes) = refl
 gains-refused (Remove by dir) = refl
 gains-refused (Read by) = refl
-gains-refused (Request txn locks) = refl
-gains-refused (Check txn state) = refl
 gains-refused Ask = refl
 
 stays : (before now gained : List TrailItem) → now ≡ before ++ gained → gained ≡ [] → now ≡ before

@@ -64,6 +64,3 @@ impl<W: Write> Sink for StdSink<W> {
         answer
     }
 }
-
-#[cfg(test)]
-mod tests;

@@ -70,6 +70,3 @@ impl<R: Read> Source for StdSource<R> {
         answer
     }
 }
-
-#[cfg(test)]
-mod tests;

@@ -46,32 +46,3 @@ impl<const W: usize> Digits<W> {
         Some(value)
     }
 }
-
-#[cfg(test)]
-mod tests {
-    use super::*;
-    use std::test::Fail;
-
-    #[test]
-    fn prints_leading_zeros(rt: HostRuntime) {
-        assert_eq!(rt; Digits::<7>::print(12), *b"0000012");
-        assert_eq!(rt; Digits::<1>::print(9), *b"9");
-        assert_eq!(rt;
-            Digits::<18>::print(999_999_999_999_999_999),
-            *b"999999999999999999"
-        );
-    }
-
-    #[test]
-    fn reads_every_place(rt: HostRuntime) -> Result<(), Fail> {
-        assert_eq!(rt; Digits::<7>::read(b"0000120").ok_or("digits")?, 120);
-        assert_eq!(rt;
-            Digits::<18>::read(b"123456789012345678").ok_or("digits")?,
-            123_456_789_012_345_678
-        );
-        assert_eq!(rt; Digits::<4>::read(b"12a4"), None);
-        assert_eq!(rt; Digits::<4>::read(b"12 4"), None);
-        assert_eq!(rt; Digits::<2>::read(b"/:"), None);
-        Ok(())
-    }
-}

@@ -20,21 +20,3 @@ impl<const N: usize, W: AsStr> Names<N, W> {
         self.rows.iter().position(|row| row.as_str() == word)
     }
 }
-
-#[cfg(test)]
-mod tests {
-    use super::*;
-
-    const DIRECTIONS: Names<3> = Names {
-        rows: ["asc", "desc", "a"],
-    };
-
-    #[test]
-    fn finds_whole_rows(rt: HostRuntime) {
-        assert_eq!(rt; DIRECTIONS.find("desc"), Some(1));
-        assert_eq!(rt; DIRECTIONS.find("a"), Some(2));
-        assert_eq!(rt; DIRECTIONS.find("as"), None);
-        assert_eq!(rt; DIRECTIONS.find("ascending"), None);
-        assert_eq!(rt; DIRECTIONS.find(""), None);
-    }
-}

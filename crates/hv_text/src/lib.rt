@@ -7,8 +7,6 @@ mod pattern;
 mod places;
 mod spaces;
 mod substrings;
-#[cfg(test)]
-mod tests;
 
 pub use characters::length;
 pub use letters::{lower, upper};

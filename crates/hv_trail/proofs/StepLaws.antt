@@ -4,7 +4,7 @@ use Rattle.std.specs.Option.{option_to_list}
 use Rattle.std.proofs.lemmas.List.{append-nil}
 use Rattle.hv_shelf.specs.Disk.{Store}
 use Rattle.hv_trail.specs.declared.trail.TrailItem.{TrailItem}
-use Rattle.hv_trail.specs.Steps.{HouseSeen, Call, Note, Begin, Commit, Put, Remove, Read, Request, Check, Ask, Outcome, Done, Conflict, Failed, Closed, Refused, gained, gains, most_items, all_gains, IsShutOut, Step, Run, KeepsRest}
+use Rattle.hv_trail.specs.Steps.{HouseSeen, Call, Note, Begin, Commit, Put, Remove, Read, Ask, Outcome, Done, Conflict, Failed, Closed, Refused, gained, gains, most_items, all_gains, IsShutOut, Step, Run, KeepsRest}
 use Rattle.hv_trail.specs.Lasting.{GoesOn}
 use Rattle.hv_trail.proofs.LastingLaws.{goes-on-front}
 
@@ -23,8 +23,6 @@ gains-few (Commit txn wrote) outcome = one-at-most (gained (Commit txn wrote) ou
 gains-few (Put by place bytes) outcome = one-at-most (gained (Put by place bytes) outcome)
 gains-few (Remove by dir) outcome = one-at-most (gained (Remove by dir) outcome)
 gains-few (Read by) outcome = one-at-most (gained (Read by) outcome)
-gains-few (Request txn locks) outcome = one-at-most (gained (Request txn locks) outcome)
-gains-few (Check txn state) outcome = one-at-most (gained (Check txn state) outcome)
 gains-few Ask outcome = one-at-most (gained Ask outcome)
 
 pub two-at-most : (call : Call) → most_items call ≤ 2
@@ -34,8 +32,6 @@ two-at-most (Commit txn wrote) = omega arith
 two-at-most (Put by place bytes) = omega arith
 two-at-most (Remove by dir) = omega arith
 two-at-most (Read by) = omega arith
-two-at-most (Request txn locks) = omega arith
-two-at-most (Check txn state) = omega arith
 two-at-most Ask = omega arith
 
 pub step-goes-on : {D : Type 0} (told : D → Option Store) (faults : D → ℕ) (call : Call) (outcome : Outcome) (before now : HouseSeen D)
@@ -50,8 +46,6 @@ shut-gains (Commit txn wrote) outcome e = ap (λ o. gains (Commit txn wrote) o) 
 shut-gains (Put by place bytes) outcome e = ap (λ o. gains (Put by place bytes) o) e
 shut-gains (Remove by dir) outcome e = ap (λ o. gains (Remove by dir) o) e
 shut-gains (Read by) outcome e = ap (λ o. gains (Read by) o) e
-shut-gains (Request txn locks) outcome e = ap (λ o. gains (Request txn locks) o) e
-shut-gains (Check txn state) outcome e = ap (λ o. gains (Check txn state) o) e
 shut-gains Ask outcome e = refl
 
 pub shut-adds-nothing : {D : Type 0} (told : D → Option Store) (faults : D → ℕ) (call : Call) (outcome : Outcome) (before now : HouseSeen D)

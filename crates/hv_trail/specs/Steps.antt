@@ -9,10 +9,6 @@ use Rattle.hv_base.specs.declared.ids.TxnId.{TxnId}
 use Rattle.hv_base.specs.declared.ids.TableId.{TableId}
 use Rattle.hv_base.specs.declared.ids.Touch.{Touch}
 use Rattle.hv_base.specs.declared.ids.Limits.{Limits}
-use Rattle.hv_locks.specs.declared.table.Lock.{Lock}
-use Rattle.hv_locks.specs.declared.table.LockState.{LockState}
-use Rattle.hv_locks.specs.declared.table.Entry.{Entry as LockEntry}
-use Rattle.hv_locks.specs.Locking.{asked_by, after_check, after_release}
 use Rattle.hv_shelf.specs.declared.place.Place.{Place}
 use Rattle.hv_shelf.specs.declared.place.DirAt.{DirAt}
 use Rattle.hv_shelf.specs.Disk.{Store, HasFile, TornFile, IsRemoved, TornRemove}
@@ -27,14 +23,13 @@ use Rattle.hv_trail.specs.declared.trail.TrailItem.TheVariants.{Noted, Marked}
 use Rattle.hv_trail.specs.Trail.{book_of}
 
 -- A house as contracts see it: the store that it was opened over, what happened, how many items stood when it was opened, its
--- store, whether its journal failed, its lock table, and its limits.
+-- store, whether its journal failed, and its limits.
 pub record HouseSeen (D : Type 0) : Type 0 where
   pub start : D
   pub trail : List TrailItem
   pub opened : ℕ
   pub shelf : D
   pub closed : Bool
-  pub locks : List LockEntry
   pub limits : Limits
 
 -- ---- the calls, by what they are to do
@@ -52,9 +47,6 @@ pub data Call : Type 0 where
   Remove : Option Reader → DirAt → Call
   -- list or get files
   Read : Option Reader → Call
-  -- ask for locks, and test for them with this answer
-  Request : TxnId → List Lock → Call
-  Check : TxnId → LockState → Call
   -- ask the house alone
   Ask : Call
 
@@ -77,8 +69,6 @@ MayEnd (Commit txn wrote) outcome = Unit {0}
 MayEnd call (Conflict with_ table partition) = ⊥
 MayEnd (Note event) (Failed count) = ⊥
 MayEnd (Begin txn session number text) (Failed count) = ⊥
-MayEnd (Request txn locks) (Failed count) = ⊥
-MayEnd (Check txn state) (Failed count) = ⊥
 MayEnd Ask (Failed count) = ⊥
 MayEnd call outcome = Unit {0}
 
@@ -152,19 +142,6 @@ Changes book (Remove by dir) (Failed count) = TornRemove dir
 Changes book (Remove by dir) Closed = TornRemove dir
 Changes book call outcome = λ before now. now ≡ before
 
--- a transaction that ends lets go of its locks
-abbrev pub locks_behind : Option TrailItem → List LockEntry → List LockEntry
-locks_behind (Some (Noted (entry.Commit txn wrote))) locks = after_release locks txn.0
-locks_behind (Some (Noted (entry.Abort txn why))) locks = after_release locks txn.0
-locks_behind (Some (Noted (entry.Create txn table))) locks = after_release locks txn.0
-locks_behind (Some (Noted (entry.Drop txn table))) locks = after_release locks txn.0
-locks_behind item locks = locks
-
-abbrev pub locks_after : Call → Outcome → List LockEntry → List LockEntry
-locks_after (Request txn asked) Done locks = locks ++ map (asked_by txn) asked
-locks_after (Check txn state) Done locks = after_check locks txn.0 state
-locks_after call outcome locks = locks_behind (gained call outcome) locks
-
 -- the count that an answer keeps is the store's, and it rose in this call
 abbrev pub Counts : Outcome → ℕ → ℕ → Type 0
 Counts (Failed count) before now = (count ≡ now) × Rose before now
@@ -189,7 +166,6 @@ pub record Step {D : Type 0} (told : D → Option Store) (faults : D → ℕ) (c
   pub store : Moves (Changes (book_of before.trail) call outcome) (told before.shelf) (told now.shelf)
   pub closed : now.closed ≡ before.closed || shuts outcome
   pub shut_out : before.closed ≡ true → IsShutOut call outcome
-  pub locks : now.locks ≡ locks_after call outcome before.locks
   pub counts : Counts outcome (faults before.shelf) (faults now.shelf)
   pub rest : KeepsRest before now
 

@@ -6,7 +6,7 @@ use Rattle.hv_base.specs.Told.{Moves}
 use Rattle.hv_shelf.specs.Disk.{Store}
 use Rattle.hv_trail.specs.declared.trail.Reader.TheVariants.{Txn}
 use Rattle.hv_trail.specs.Trail.{book_of}
-use Rattle.hv_trail.specs.Steps.{HouseSeen, Call, Read, Outcome, Done, Conflict, Closed, Refused, Failed, gains, shuts, locks_after, Changes, Counts, Step}
+use Rattle.hv_trail.specs.Steps.{HouseSeen, Call, Read, Outcome, Done, Conflict, Closed, Refused, Failed, gains, shuts, Changes, Counts, Step}
 use Rattle.hv_house.specs.declared.fault.HouseFault.{HouseFault}
 use Rattle.hv_house.specs.declared.fault.HouseFault.TheVariants as house_fault
 use Rattle.hv_house.specs.declared.fault.RowFault.{RowFault}
@@ -63,7 +63,6 @@ module _ {D : Type 0} (told : D → Option Store) (faults : D → ℕ) (by : Txn
         (moves-by (told b.shelf) (told c.shelf) (Changes (book_of b.trail) call o) (Changes (book_of a.trail) call o) (λ x y e. e) second.store) (λ x y e. e) (λ x y e. e);
     closed = second.closed ∙ ap (λ x. x || shuts o) (first.closed ∙ or-false);
     shut_out = λ shut. let never : Done ≡ Closed = first.shut_out shut in cc;
-    locks = second.locks ∙ ap (locks_after call o) first.locks;
     counts = counts-then o (faults a.shelf) (faults b.shelf) (faults c.shelf) first.counts second.counts;
     rest = record { start = second.rest.start ∙ first.rest.start; opened = second.rest.opened ∙ first.rest.opened; limits = second.rest.limits ∙ first.rest.limits };
   }
@@ -76,7 +75,6 @@ module _ {D : Type 0} (told : D → Option Store) (faults : D → ℕ) (by : Txn
     store = step.store;
     closed = step.closed;
     shut_out = λ shut. let never : Done ≡ Closed = step.shut_out shut in cc;
-    locks = step.locks;
     counts = step.counts;
     rest = step.rest;
   }
