@@ -11,7 +11,6 @@ pub mod Opens
 pub mod Meant
 pub mod Truths
 pub mod Makes
-pub mod Marks
 pub mod Commits
 pub mod Lasting
 pub mod RunsOn

@@ -5,7 +5,7 @@ ghost use Rattle.hv_shelf.specs.declared.place.Place.{Place};
 ghost use Rattle.hv_history.specs.declared.entry.Entry.TheVariants as entry;
 ghost use Rattle.hv_conflicts.specs.Clashes.{IsClash};
 ghost use Rattle.hv_trail.specs.declared.trail.Reader.TheVariants.{Txn};
-ghost use Rattle.hv_trail.specs.Trail.{book_of, state_at, broken, HasWritten};
+ghost use Rattle.hv_trail.specs.Trail.{book_of, state_at, broken};
 ghost use Rattle.hv_trail.specs.Kept.{trail_of};
 ghost use Rattle.hv_house.specs.House.{IsSmall};
 ghost use Rattle.hv_telling.specs.Telling.{IsToldHouse, IsWhole};
@@ -13,7 +13,7 @@ ghost use Rattle.hv_acts.specs.Answers.{EntryFits, HasItsMark};
 ghost use Rattle.hv_acts.specs.Meant.{RunsWith, IsCommitDue, IsCauseTrue};
 ghost use Rattle.hv_acts.specs.Committing.{CanBePut, WerePut, IsConflictOf, HasMet, CommitStep};
 
-use crate::aborted::{Aborted, PutFiles};
+use crate::aborted::Aborted;
 use crate::fault::ActFault;
 use crate::noting::{late, next_place, note_abort, note_fitting, runs_with};
 use crate::told::ToldHouse;
@@ -24,16 +24,15 @@ use hv_history::{Cause, Entry, conflict_text};
 use hv_house::{House, HouseFault};
 use hv_shelf::{Place, Shelf};
 use std::alloc::Global;
-use std::slice::from_ref;
 
-/// Commits a transaction with what it wrote in the table of that name, whose files it has put; or aborts it, where a commit conflicts
-/// with it.
+/// Commits a transaction with what it wrote in the table of that name, whose files it has put at these places; or aborts it, where a
+/// commit conflicts with it.
 #[derive(Drop)]
 pub struct CommitWrites {
     pub txn: TxnId,
     pub wrote: List<Touch>,
     pub name: Text,
-    pub put: PutFiles,
+    pub put: List<Place>,
 }
 
 /// How a transaction ended that was to commit.
@@ -45,39 +44,22 @@ pub enum Committed {
     Aborted(Aborted),
 }
 
-/// Whether the house has a mark that the transaction put a file at this place. The newest marks are looked at first.
-fn is_marked<D: Shelf>(house: &House<D>, txn: TxnId, place: &Place) -> bool
-    ensures marked { IsTrue result ↔ HasWritten (trail_of house.now.trail) (Txn txn) place.now }
-{
-    for at in (0..house.marks()).rev() {
-        if house.has_put(txn, at, from_ref(place)) {
-            return true;
-        }
-    }
-    false
-}
-
-/// Whether the house has a mark of each of these files.
+/// Whether the house has a mark of each of these files. Marks of others may stand between them.
 fn are_marked<D: Shelf>(house: &House<D>, txn: TxnId, places: &[Place]) -> bool
     ensures marked { IsTrue result ↔ WerePut (trail_of house.now.trail) txn places.now }
 {
     for place in places {
-        if !is_marked(house, txn, place) {
+        if !house.has_put(txn, place) {
             return false;
         }
     }
     true
 }
 
-/// Whether the house has a mark of each file that was put. They may stand one behind another, or marks of others between them.
-fn is_put<D: Shelf>(house: &House<D>, txn: TxnId, put: &PutFiles) -> bool
-    ensures put { IsTrue result ↔ WerePut (trail_of house.now.trail) txn put.now.places }
+fn is_put<D: Shelf>(house: &House<D>, txn: TxnId, put: &List<Place>) -> bool
+    ensures put { IsTrue result ↔ WerePut (trail_of house.now.trail) txn put.now }
 {
-    if house.has_put(txn, put.since, put.places.as_slice()) {
-        true
-    } else {
-        are_marked(house, txn, put.places.as_slice())
-    }
+    are_marked(house, txn, put.as_slice())
 }
 
 /// The cause of an abort for a conflict, to be noted, and what is told of it.
@@ -158,8 +140,8 @@ fn end_by_conflict<D: Shelf>(
     requires small { IsSmall (entry.Commit due.now.txn due.now.wrote) }
     requires clash { IsClash (state_at (trail_of house.old.trail)) due.now.txn.0 due.now.wrote found }
     requires truly { IsToldHouse D.told house.old
-        → IsCommitDue (trail_of house.old.trail) due.now.txn due.now.wrote due.now.put.places }
-    ensures committed { CommitStep D.told D.faults due.now.txn due.now.wrote due.now.name due.now.put.places
+        → IsCommitDue (trail_of house.old.trail) due.now.txn due.now.wrote due.now.put }
+    ensures committed { CommitStep D.told D.faults due.now.txn due.now.wrote due.now.name due.now.put
         house.old house.new result }
 {
     let at = next_place(house);
@@ -174,12 +156,12 @@ fn end_by_commit<D: Shelf>(house: &mut House<D>, due: CommitWrites) -> Result<Co
     requires whole { IsWhole D.told house.old }
     requires running { RunsWith (trail_of house.old.trail) due.txn 1 }
     requires small { IsSmall (entry.Commit due.txn due.wrote) }
-    requires can { CanBePut (trail_of house.old.trail) due.txn due.wrote due.put.places }
+    requires can { CanBePut (trail_of house.old.trail) due.txn due.wrote due.put }
     requires truly { IsToldHouse D.told house.old
-        → IsCommitDue (trail_of house.old.trail) due.txn due.wrote due.put.places }
+        → IsCommitDue (trail_of house.old.trail) due.txn due.wrote due.put }
     requires unbroken { broken (Txn due.txn) (trail_of house.old.trail) ≡ None }
-    requires put { WerePut (trail_of house.old.trail) due.txn due.put.places }
-    ensures committed { CommitStep D.told D.faults due.txn due.wrote due.name due.put.places
+    requires put { WerePut (trail_of house.old.trail) due.txn due.put }
+    ensures committed { CommitStep D.told D.faults due.txn due.wrote due.name due.put
         house.old house.new result }
 {
     let at = next_place(house);
@@ -200,11 +182,11 @@ fn end_running<D: Shelf>(
     requires whole { IsWhole D.told house.old }
     requires running { RunsWith (trail_of house.old.trail) due.txn 1 }
     requires small { IsSmall (entry.Commit due.txn due.wrote) }
-    requires can { CanBePut (trail_of house.old.trail) due.txn due.wrote due.put.places }
+    requires can { CanBePut (trail_of house.old.trail) due.txn due.wrote due.put }
     requires truly { IsToldHouse D.told house.old
-        → IsCommitDue (trail_of house.old.trail) due.txn due.wrote due.put.places }
+        → IsCommitDue (trail_of house.old.trail) due.txn due.wrote due.put }
     requires unbroken { broken (Txn due.txn) (trail_of house.old.trail) ≡ None }
-    ensures committed { CommitStep D.told D.faults due.txn due.wrote due.name due.put.places
+    ensures committed { CommitStep D.told D.faults due.txn due.wrote due.name due.put
         house.old house.new result }
 {
     if !is_put(house, due.txn, &due.put) {
@@ -223,10 +205,10 @@ fn commit_writes<D: Shelf>(
 ) -> Result<Committed, ActFault>
     requires whole { IsWhole D.told house.old }
     requires small { IsSmall (entry.Commit due.txn due.wrote) }
-    requires can { CanBePut (trail_of house.old.trail) due.txn due.wrote due.put.places }
+    requires can { CanBePut (trail_of house.old.trail) due.txn due.wrote due.put }
     requires truly { IsToldHouse D.told house.old
-        → IsCommitDue (trail_of house.old.trail) due.txn due.wrote due.put.places }
-    ensures committed { CommitStep D.told D.faults due.txn due.wrote due.name due.put.places
+        → IsCommitDue (trail_of house.old.trail) due.txn due.wrote due.put }
+    ensures committed { CommitStep D.told D.faults due.txn due.wrote due.name due.put
         house.old house.new result }
 {
     if !runs_with(house, due.txn, 1) {
@@ -248,8 +230,8 @@ impl<D: Shelf + Drop> Act<D, ToldHouse<D>> for CommitWrites {
 
     type Answer = Result<Committed, ActFault>;
 
-    ghost can = { λ act house. IsSmall (entry.Commit act.txn act.wrote) × CanBePut house.trail act.txn act.wrote act.put.places
-        × (IsTold D.told house.start → IsCommitDue house.trail act.txn act.wrote act.put.places) };
+    ghost can = { λ act house. IsSmall (entry.Commit act.txn act.wrote) × CanBePut house.trail act.txn act.wrote act.put
+        × (IsTold D.told house.start → IsCommitDue house.trail act.txn act.wrote act.put) };
 
     ghost call = { λ act house answer. call_to_commit act.txn act.wrote answer };
 
@@ -257,7 +239,7 @@ impl<D: Shelf + Drop> Act<D, ToldHouse<D>> for CommitWrites {
 
     ghost adds = { λ act answer. adds_commit act.txn act.wrote answer };
 
-    ghost does = { λ act house now answer. CommitAnswers house.trail act.txn act.wrote act.name act.put.places answer
+    ghost does = { λ act house now answer. CommitAnswers house.trail act.txn act.wrote act.name act.put answer
         × AnswerLeaves D.told D.faults act.txn.0 house now answer };
 
     fn act(self, alloc: Global, house: &mut ToldHouse<D>) -> Result<Committed, ActFault> {

@@ -21,7 +21,7 @@ mod reading;
 mod starting;
 mod told;
 
-pub use aborted::{Aborted, PutFiles};
+pub use aborted::Aborted;
 pub use aborting::AbortFor;
 pub use committing::{CommitWrites, Committed};
 pub use counting::CountDues;

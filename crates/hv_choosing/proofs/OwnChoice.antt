@@ -9,7 +9,7 @@ use Rattle.hv_dirs.specs.declared.names.DirName.{DirName}
 use Rattle.hv_dirs.specs.declared.names.DirName.TheVariants as name
 use Rattle.hv_dirs.specs.Names.{IsName, text_of}
 use Rattle.hv_dirs.specs.Choice.{Sight, sight_of, Delta, Own, Wide, low_of, high_of, is_own, base_of, taken_from, chosen_above, base_named, delta_named, bases_in, deltas_in, delta_cmp}
-use Rattle.hv_dirs.specs.Sorting.{sorted_by}
+use Rattle.hv_base.specs.Sorting.{sorted_by}
 use Rattle.hv_dirs.proofs.NameLemmas.{text-same}
 use Rattle.hv_law_visible.specs.Members.{IsIn}
 use Rattle.hv_law_visible.proofs.MemberLemmas.{in-flat, from-flat, in-filter, from-filter, in-map, from-map, any-in, in-any}

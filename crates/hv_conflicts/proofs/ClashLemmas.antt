@@ -19,23 +19,14 @@ use Rattle.hv_book.specs.Briefs.{brief, snapshot_place}
 use Rattle.hv_book.specs.Commits.{touches_of_entry, touches_at, pass, passes_at, is_committed, commits_so, IsRising}
 use Rattle.hv_book.proofs.CommitLaws.{IsTold, told-of}
 use Rattle.hv_book.proofs.BookLaws.{follows}
+use Rattle.hv_meta.specs.Committing.{against, started_place}
+use Rattle.hv_meta.proofs.FactLemmas.{and-left, and-right, and-both}
+use Rattle.hv_meta.proofs.CommitLemmas.{against-same, not-lt, same-place}
 use Rattle.hv_conflicts.specs.declared.meeting.Clash.{Clash}
-use Rattle.hv_conflicts.specs.Clashes.{IsClash, shares, here_or, shared_from, clash_by, clash_with, only_if, clash_behind, first_some, place_or, start_place}
+use Rattle.hv_conflicts.specs.Clashes.{IsClash, shares, here_or, shared_from, clash_by, clash_with, only_if, clash_behind, first_some}
 use Rattle.hv_conflicts.proofs.CommitterLaws.{committer, committed-by}
 
 -- ---- tests
-
-and-left : (a b : Bool) → (a && b) ≡ true → a ≡ true
-and-left true b e = refl
-and-left false b e = e
-
-and-right : (a b : Bool) → (a && b) ≡ true → b ≡ true
-and-right true b e = e
-and-right false b e = cc
-
-and-both : (a b : Bool) → a ≡ true → b ≡ true → (a && b) ≡ true
-and-both true b e h = h
-and-both false b e h = e
 
 and-false : (a : Bool) → (a && false) ≡ false
 and-false true = refl
@@ -56,13 +47,6 @@ or-right false b e = e
 or-left : (a b : Bool) → (a || b) ≡ false → a ≡ false
 or-left true b e = e
 or-left false b e = refl
-
-not-lt : (a b : ℕ) → b ≤ a → nat_lt a b ≡ false
-not-lt a b le = by (nat_lt a b) refl
-  where
-    by : (c : Bool) → nat_lt a b ≡ c → nat_lt a b ≡ false
-    by true e = let less = ltb-true a b e in absurd (omega (arith, less, le))
-    by false e = e
 
 -- ---- the first touch that both share
 
@@ -199,21 +183,11 @@ unmet wrote (Some (entry.Forgot table write)) e = refl
 -- ---- tests of a commit's place and touches
 
 -- behind one place and, in the second, before another
-abbrev pub against : ℕ → List Touch → ℕ → List Touch → Bool
-against place wrote at those = nat_lt place at && touches_conflict wrote those
-
 abbrev pub between : ℕ → ℕ → List Touch → ℕ → List Touch → Bool
 between place end wrote at those = nat_lt place at && (nat_lt at end && touches_conflict wrote those)
 
 abbrev pub stands_at : ℕ → ℕ → List Touch → Bool
 stands_at place at those = at == place
-
-against-same : (place : ℕ) (wrote : List Touch) (o : Option Ending) → is_committed (against place wrote) o ≡ commits_against place wrote o
-against-same place wrote None = refl
-against-same place wrote (Some (Committed at those)) = refl
-against-same place wrote (Some (Aborted at cause)) = refl
-against-same place wrote (Some (Made at table)) = refl
-against-same place wrote (Some (Dropped at table)) = refl
 
 between-same : (place end : ℕ) (wrote : List Touch) (o : Option Ending) → is_committed (between place end wrote) o ≡ commits_before place end wrote o
 between-same place end wrote None = refl
@@ -449,13 +423,6 @@ module _ (entries : List Entry) (places : List ℕ)
       (λ other. sym (against-same place wrote other.ending)) (state_of entries).transactions
       ∙ same (against place wrote) ∙ none
 
-same-place : (t : Transaction) → start_place (Some (brief t)) ≡ place_of_snapshot t.snapshot
-same-place t = by t.snapshot
-  where
-    by : (o : Option Snapshot) → place_or (option_map snapshot_place o) ≡ place_of_snapshot o
-    by None = refl
-    by (Some s) = refl
-
 -- ---- the answer
 
 pub record IsAnswer (state : State) (txn : ℕ) (wrote : List Touch) (result : Option Clash) : Type 0 where
@@ -477,13 +444,13 @@ module _ (entries : List Entry) (places : List ℕ) (rising : IsRising places)
     none = tt;
   }
 
-  answer-in : (o : Option Transaction) → numbered (state_of entries).transactions txn ≡ o → IsSomeAnd o IsRunning → (place : ℕ) → place ≡ start_place (option_map brief o)
+  answer-in : (o : Option Transaction) → numbered (state_of entries).transactions txn ≡ o → IsSomeAnd o IsRunning → (place : ℕ) → place ≡ started_place (option_map brief o)
       → (result : Option Clash) → result ≡ first_some (clash_behind entries place wrote) places → IsAnswer (state_of entries) txn wrote result
   answer-in None there running place is result e = absurd running
   answer-in (Some t) there running place is result e =
       answer-of t there result (ap (λ p. first_some (clash_behind entries p wrote) places) (sym (is ∙ same-place t)) ∙ sym e)
 
-  pub answer : Of (state_of entries) txn IsRunning → (place : ℕ) → place ≡ start_place (option_map brief (numbered (state_of entries).transactions txn))
+  pub answer : Of (state_of entries) txn IsRunning → (place : ℕ) → place ≡ started_place (option_map brief (numbered (state_of entries).transactions txn))
       → (result : Option Clash) → result ≡ first_some (clash_behind entries place wrote) places → IsAnswer (state_of entries) txn wrote result
   answer running place is result e = answer-in (numbered (state_of entries).transactions txn) refl running place is result e
 

@@ -10,7 +10,6 @@ use Rattle.hv_history.specs.declared.entry.Entry.TheVariants as entry
 use Rattle.hv_history.specs.declared.state.Transaction.{Transaction}
 use Rattle.hv_history.specs.State.{State, numbered}
 use Rattle.hv_history.specs.Legal.{IsFirstConflict, place_of_snapshot, touch_conflicts, touches_conflict}
-use Rattle.hv_book.specs.declared.notes.TransactionNote.{TransactionNote}
 use Rattle.hv_conflicts.specs.declared.meeting.Clash.{Clash}
 
 -- The transaction is there, and the first commit behind its snapshot that conflicts with these touches is the clash's, and
@@ -58,12 +57,3 @@ clash_behind entries place wrote at = only_if (nat_lt place at) (clash_with wrot
 abbrev pub first_some : {A B : Type 0} → (A → Option B) → List A → Option B
 first_some f [] = None
 first_some f (x ∷ xs) = option_or (f x) (first_some f xs)
-
-abbrev pub place_or : Option ℕ → ℕ
-place_or None = 0
-place_or (Some place) = place
-
--- the place of a transaction's Start, or 0
-abbrev pub start_place : Option TransactionNote → ℕ
-start_place None = 0
-start_place (Some note) = place_or note.started

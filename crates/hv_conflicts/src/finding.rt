@@ -1,40 +1,22 @@
 ghost use Rattle.std.specs.Prelude.{◌≡◌, IfSome, IfNone};
-ghost use Rattle.std.specs.Option.{option_map};
 ghost use Rattle.std.specs.List.{slice_get};
-ghost use Rattle.hv_history.specs.State.{state_of, numbered};
-ghost use Rattle.hv_history.specs.Legal.{Of, IsRunning, MeetsNoConflict, touch_conflicts};
-ghost use Rattle.hv_book.specs.Briefs.{brief};
+ghost use Rattle.hv_history.specs.State.{state_of};
+ghost use Rattle.hv_history.specs.Legal.{Of, IsRunning, MeetsNoConflict};
 ghost use Rattle.hv_book.specs.Commits.{IsRising};
-ghost use Rattle.hv_conflicts.specs.Clashes.{IsClash, shares, shared_from, clash_with, clash_behind, first_some, start_place};
+ghost use Rattle.hv_conflicts.specs.Clashes.{IsClash, shared_from, clash_with, clash_behind, first_some};
 
 use crate::meeting::Clash;
 use hv_base::{Touch, TxnId};
-use hv_book::{Book, TransactionNote};
-use hv_history::{Entry, numbered};
-
-fn touch_conflicts(a: &Touch, b: &Touch) -> bool
-    ensures { result ≡ touch_conflicts a.now b.now }
-{
-    a.table == b.table && a.partition == b.partition && a.deleted > 0 && b.deleted > 0
-}
-
-fn shares(touch: &Touch, those: &[Touch]) -> bool
-    ensures { result ≡ shares those.now touch.now }
-{
-    for other in those {
-        if touch_conflicts(touch, other) {
-            return true;
-        }
-    }
-    false
-}
+use hv_book::Book;
+use hv_history::Entry;
+use hv_meta::{conflicts_with, note_of, started_place};
 
 /// The place of the first of these touches that conflicts with one of those.
 fn shared_place(wrote: &[Touch], those: &[Touch]) -> Option<usize>
     ensures { result ≡ shared_from 0 wrote.now those.now }
 {
     for at in 0..wrote.len() {
-        if shares(&wrote[at], those) {
+        if conflicts_with(&wrote[at], those) {
             return Some(at);
         }
     }
@@ -71,22 +53,6 @@ fn first_behind(book: &Book, places: &[u64], place: u64, wrote: &[Touch]) -> Opt
     first
 }
 
-fn start_place(note: Option<TransactionNote>) -> u64
-    ensures { result ≡ start_place note }
-{
-    match note {
-        Some(note) => note.started.unwrap_or(0),
-        None => 0,
-    }
-}
-
-/// The note of the transaction of this number.
-fn note_of(book: &Book, txn: u64) -> Option<TransactionNote>
-    ensures note { result ≡ option_map brief (numbered (state_of book.now.entries).transactions txn) }
-{
-    numbered(book.transactions(), txn).copied()
-}
-
 /// The first commit that a transaction's touches conflict with, if there is one: its transaction, and
 /// the place among the touches of the first one that both share. It walks the commits behind the
 /// transaction's Start.
@@ -96,6 +62,6 @@ pub fn clash(book: &Book, txn: TxnId, wrote: &[Touch]) -> Option<Clash>
     ensures none { IfNone result (Of (state_of book.now.entries) txn.0
         (λ t. MeetsNoConflict (state_of book.now.entries) t wrote.now)) }
 {
-    let place = start_place(note_of(book, txn.0));
+    let place = started_place(note_of(book, txn.0));
     first_behind(book, book.commits(), place, wrote)
 }

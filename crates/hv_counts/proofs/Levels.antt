@@ -10,7 +10,7 @@ use Rattle.std.specs.Cmp.Lexicographic.{slice_cmp, pointwise, texts_ties, nat_li
 use Rattle.std.specs.List.{AllByRecursion}
 use Rattle.std.proofs.lemmas.Bool.{eq-eqb, eqb-true, ne_eqb, and_parts}
 use Rattle.std.proofs.lemmas.List.{drop_all}
-use Rattle.hv_dirs.proofs.SortingLemmas.{Rises, Leads}
+use Rattle.hv_base.proofs.SortingLaws.{Rises, Leads}
 use Rattle.hv_counts.specs.declared.tally.Tally.{Tally}
 use Rattle.hv_book.specs.Past.{total, only_if}
 use Rattle.hv_counts.specs.Tallies.{key_cmp, key_total, tally_cmp, is_tally, stored_part, due_part, ends, head_of, first_off}

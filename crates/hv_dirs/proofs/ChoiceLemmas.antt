@@ -16,14 +16,14 @@ use Rattle.hv_dirs.specs.declared.candidate.Candidate.{Candidate}
 use Rattle.hv_dirs.specs.declared.names.DirName.{DirName}
 use Rattle.hv_dirs.specs.declared.names.DirName.TheVariants as dir
 use Rattle.hv_dirs.specs.Names.{IsName}
-use Rattle.hv_dirs.specs.Sorting.{sorted_by}
+use Rattle.hv_base.specs.Sorting.{sorted_by}
 use Rattle.hv_wids.specs.declared.list.Range.{Range}
 use Rattle.hv_wids.specs.declared.list.Range.TheVariants as range
 use Rattle.hv_wids.specs.WriteIds.{WriteIds, is_valid, ids_between, IsRangeOf}
 use Rattle.hv_wids.proofs.RangeLemmas.{some_between, none_between}
 use Rattle.hv_dirs.specs.Choice.{Sight, base_of, base_named, bases_in, base_at, IsBaseAt, IsChosen, Delta, Own, Wide, low_of, high_of, is_own, rank_of, statement_of, delta_cmp, taken_from, chosen_above, of_kind, delta_named, deltas_in, delta_at, AreAt}
 use Rattle.hv_dirs.specs.Candidates.{candidate_cmp, candidate_total, delta_of, IsProper, of_same, candidates_from, places_from, better, best_from}
-use Rattle.hv_dirs.proofs.SortingLemmas.{Leads, Rises, rises_from, rises-permuted, permuted-sorted_by, sorted-sorted_by}
+use Rattle.hv_base.proofs.SortingLaws.{Leads, Rises, rises_from, rises-permuted, permuted-sorted_by, sorted-sorted_by}
 
 -- ---- the order of deltas
 

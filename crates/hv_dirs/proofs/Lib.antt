@@ -2,4 +2,3 @@ pub mod ChoiceLemmas
 pub mod NameLemmas
 pub mod OwnNames
 pub mod ParsingLemmas
-pub mod SortingLemmas

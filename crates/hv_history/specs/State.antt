@@ -17,7 +17,7 @@ use Rattle.hv_logic.specs.declared.meaning.Meaning.{Meaning}
 use Rattle.hv_logic.specs.declared.seen.Seen.{Seen}
 use Rattle.hv_logic.specs.declared.meaning.Meaning.TheVariants.{Change}
 use Rattle.hv_logic.specs.Shapes.{shape_of}
-use Rattle.hv_logic.specs.Sorting.{sorted_by}
+use Rattle.hv_base.specs.Sorting.{sorted_by}
 use Rattle.hv_logic.specs.Rows.{found_cmp}
 use Rattle.hv_meaning.specs.Meaning.{meaning_of}
 use Rattle.hv_meaning.specs.hv_route.specs.Routes.{numbered_rows}

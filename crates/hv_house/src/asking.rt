@@ -111,11 +111,4 @@ impl<D: Shelf> House<D> {
     {
         next_txn(self.trail.book())
     }
-
-    /// How many tables were made.
-    pub fn tables(&self) -> u64
-        ensures tables { result ≡ length (state_of (entries_of self.now)).tables }
-    {
-        self.trail.book().tables().len() as u64
-    }
 }

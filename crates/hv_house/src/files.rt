@@ -1,10 +1,9 @@
-ghost use Rattle.std.specs.Prelude.{◌≡◌, ℕ, ◌<◌, List, None, false, true, length, OnOk};
-ghost use Rattle.std.specs.List.{AllByRecursion};
+ghost use Rattle.std.specs.Prelude.{◌≡◌, ◌↔◌, ℕ, ◌<◌, List, false, IsTrue, OnOk};
 ghost use Rattle.hv_base.specs.declared.ids.Limits.{Limits};
 ghost use Rattle.hv_table_rows.specs.Putting.{CanPut, IsEncoded, bytes_of};
 ghost use Rattle.hv_trail.specs.declared.trail.Reader.TheVariants.{Txn};
 ghost use Rattle.hv_trail.specs.Trail.{broken, HasWritten};
-ghost use Rattle.hv_trail.specs.Kept.{trail_of, are_written};
+ghost use Rattle.hv_trail.specs.Kept.{trail_of};
 ghost use Rattle.hv_trail.specs.Steps as calls;
 ghost use Rattle.hv_shelf.specs.declared.place.Place.{Place};
 ghost use Rattle.hv_house.specs.Faults.{house_fault, put_result};
@@ -89,13 +88,6 @@ impl<D: Shelf> House<D> {
         }
     }
 
-    /// How many marks there are.
-    pub fn marks(&self) -> u64
-        ensures marks { result ≡ length self.now.trail.marks }
-    {
-        self.trail.marks()
-    }
-
     /// The first call on files that failed for a transaction: whether it was to put a file, and the count behind it.
     pub fn broken(&self, by: TxnId) -> Option<(bool, u64)>
         ensures broken { result ≡ broken (Txn by) (trail_of self.now.trail) }
@@ -103,12 +95,10 @@ impl<D: Shelf> House<D> {
         self.trail.broken(Reader::Txn(by))
     }
 
-    /// Whether the marks behind so many say that this transaction put files at these places, one after another.
-    pub fn has_put(&self, by: TxnId, since: u64, places: &[Place]) -> bool
-        ensures exact { result ≡ are_written (Txn by) since places.now self.now.trail.marks }
-        ensures written { result ≡ true
-            → AllByRecursion (HasWritten (trail_of self.now.trail) (Txn by)) places.now }
+    /// Whether this transaction put a file at this place: there is a mark of it.
+    pub fn has_put(&self, by: TxnId, place: &Place) -> bool
+        ensures written { IsTrue result ↔ HasWritten (trail_of self.now.trail) (Txn by) place.now }
     {
-        self.trail.has_written(Reader::Txn(by), since, places)
+        self.trail.has_written(Reader::Txn(by), place)
     }
 }

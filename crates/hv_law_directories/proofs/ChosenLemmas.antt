@@ -14,7 +14,7 @@ use Rattle.hv_wids.specs.WriteIds.{WriteIds}
 use Rattle.hv_dirs.specs.declared.names.DirName.{DirName}
 use Rattle.hv_dirs.specs.Names.{IsName, text_of}
 use Rattle.hv_dirs.specs.Choice.{sight_of, Delta, chosen_above, bases_in, deltas_in, delta_cmp}
-use Rattle.hv_dirs.specs.Sorting.{sorted_by}
+use Rattle.hv_base.specs.Sorting.{sorted_by}
 use Rattle.hv_choosing.specs.declared.dir.Dir.{Dir}
 use Rattle.hv_choosing.specs.declared.dir.Dir.TheVariants as dir
 use Rattle.hv_choosing.specs.declared.dir.Span.{Span}

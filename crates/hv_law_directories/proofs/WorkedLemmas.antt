@@ -14,7 +14,7 @@ use Rattle.hv_rowfile.specs.Layout.{file_spelling, IsFile}
 use Rattle.hv_table.specs.Decimal.{fixed_digits}
 use Rattle.hv_dirs.specs.Names.{own_name, write_end, statement_end}
 use Rattle.hv_dirs.specs.Choice.{Own, chosen_above, sight_of}
-use Rattle.hv_dirs.specs.Sorting.{rising_by}
+use Rattle.hv_base.specs.Sorting.{rising_by}
 use Rattle.hv_choosing.specs.declared.listing.DirFile.{DirFile}
 use Rattle.hv_choosing.specs.Taken.{delta_name}
 use Rattle.hv_choosing.specs.Listing.{AreListed}

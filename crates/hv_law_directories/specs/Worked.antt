@@ -13,7 +13,7 @@ use Rattle.hv_rowfile.specs.Layout.{file_spelling}
 use Rattle.hv_rowfile.specs.declared.record.Rec.{Rec}
 use Rattle.hv_rowfile.specs.declared.record.Rec.TheVariants.{Insert, Delete}
 use Rattle.hv_dirs.specs.Choice.{Own, sight_of}
-use Rattle.hv_dirs.specs.Sorting.{rising_by}
+use Rattle.hv_base.specs.Sorting.{rising_by}
 use Rattle.hv_choosing.specs.declared.dir.Dir.TheVariants as dir
 use Rattle.hv_choosing.specs.declared.listing.DirFile.{DirFile}
 use Rattle.hv_choosing.specs.Listing.{AreListed}

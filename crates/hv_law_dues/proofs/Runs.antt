@@ -11,8 +11,8 @@ use Rattle.hv_base.specs.declared.ids.RowId.{RowId}
 use Rattle.hv_base.specs.Identifiers.{row_id_cmp}
 use Rattle.hv_value.specs.Order.{row_cmp}
 use Rattle.hv_value.specs.declared.row.Row.{Row}
-use Rattle.hv_logic.specs.Sorting.{sorted_by}
-use Rattle.hv_logic.proofs.SortingLaws.{permuted-sorted_by}
+use Rattle.hv_base.specs.Sorting.{sorted_by}
+use Rattle.hv_base.proofs.SortingLaws.{permuted-sorted_by}
 use Rattle.hv_logic.specs.declared.catalog.Shape.{Shape}
 use Rattle.hv_logic.specs.declared.effect.Effect.{Effect}
 use Rattle.hv_logic.specs.declared.effect.Found.{Found}

@@ -1,5 +1,5 @@
 -- What is left of a partition's writes is what is left of the table's in the partition.
-use Rattle.std.proofs.Common.{refl, ◌≡◌, ◌⊎◌, inl, inr, ℕ, nat_eq, Bool, true, false, cond, not, ◌||◌, List, [], ◌∷◌, ◌++◌, map, filter, sym, ap, ◌∙◌, subst}
+use Rattle.std.proofs.Common.{refl, ◌≡◌, ℕ, nat_eq, Bool, true, false, cond, not, ◌||◌, List, [], ◌∷◌, ◌++◌, map, filter, sym, ap, ◌∙◌, subst}
 use Rattle.std.proofs.lemmas.Bool.{and_parts, eqb-true}
 use Rattle.std.proofs.lemmas.List.Elements.{filter-append}
 use mathlib.Core.List.{map-append}
@@ -11,7 +11,6 @@ use Rattle.std.specs.List.{flat_map, list_any}
 use Rattle.hv_base.specs.declared.ids.RowId.{RowId}
 use Rattle.hv_base.specs.Identifiers.{row_id_cmp}
 use Rattle.hv_logic.specs.Rows.{found_cmp}
-use Rattle.hv_logic.specs.Sorting.{placed_by, put_by, sorted_by}
 use Rattle.hv_logic.specs.declared.effect.Found.{Found}
 use Rattle.hv_history.specs.declared.state.Written.{Written}
 use Rattle.hv_history.specs.State.{content_of, is_deleted}
@@ -19,6 +18,7 @@ use Rattle.hv_law_visible.specs.Members.{IsIn}
 use Rattle.hv_law_visible.specs.History as visible
 use Rattle.hv_law_visible.specs.History.{Write, is_row, deletes_of, inserts_of}
 use Rattle.hv_law_visible.proofs.MemberLemmas.{in-flat, from-flat, in-map, from-map, in-filter, from-filter}
+use Rattle.hv_law_visible.proofs.SortingLemmas.{from-sorted, to-sorted}
 use Rattle.hv_law_partitions.specs.Partitions.{id_of, is_of, rows_of, write_in, writes_of}
 use Rattle.hv_law_partitions.specs.Laws.{ContentIsOfPartition}
 
@@ -119,41 +119,6 @@ module _ (partition : List ℕ) where
       in-flat (λ (w : Write Found). w.inserts) (write_in partition written) found (writes_of partition writes)
       (in-map (write_in partition) written writes among)
       (in-filter (is_of partition) found written.inserts row (of-text found.partition partition here))
-
--- ---- a sort
-
-module _ {X : Type 0} (cmp : X → X → Ordering) where
-  in-put-by : (o : Ordering) (z x y : X) (ys put : List X) → (IsIn z put → (x ≡ z) ⊎ IsIn z ys) → IsIn z (placed_by cmp o x y ys put)
-      → (x ≡ z) ⊎ IsIn z (y ∷ ys)
-  in-put-by Less z x y ys put h at = at
-  in-put-by Equal z x y ys put h at = at
-  in-put-by Greater z x y ys put h (inl e) = inr (inl e)
-  in-put-by Greater z x y ys put h (inr at) = elim (h at) [ inl e ↦ inl e | inr there ↦ inr (inr there) ]
-
-  pub from-put : (z x : X) (ys : List X) → IsIn z (put_by cmp x ys) → (x ≡ z) ⊎ IsIn z ys
-  from-put z x [] at = at
-  from-put z x (y ∷ ys) at = in-put-by (cmp x y) z x y ys (put_by cmp x ys) (from-put z x ys) at
-
-  to-put-by : (o : Ordering) (z x y : X) (ys put : List X) → ((x ≡ z) ⊎ IsIn z ys → IsIn z put) → (x ≡ z) ⊎ IsIn z (y ∷ ys)
-      → IsIn z (placed_by cmp o x y ys put)
-  to-put-by Less z x y ys put h at = at
-  to-put-by Equal z x y ys put h at = at
-  to-put-by Greater z x y ys put h (inl e) = inr (h (inl e))
-  to-put-by Greater z x y ys put h (inr (inl e)) = inl e
-  to-put-by Greater z x y ys put h (inr (inr at)) = inr (h (inr at))
-
-  to-put : (z x : X) (ys : List X) → (x ≡ z) ⊎ IsIn z ys → IsIn z (put_by cmp x ys)
-  to-put z x [] at = at
-  to-put z x (y ∷ ys) at = to-put-by (cmp x y) z x y ys (put_by cmp x ys) (to-put z x ys) at
-
-  pub from-sorted : (z : X) (xs : List X) → IsIn z (sorted_by cmp xs) → IsIn z xs
-  from-sorted z [] at = at
-  from-sorted z (x ∷ xs) at = elim (from-put z x (sorted_by cmp xs) at) [ inl e ↦ inl e | inr there ↦ inr (from-sorted z xs there) ]
-
-  pub to-sorted : (z : X) (xs : List X) → IsIn z xs → IsIn z (sorted_by cmp xs)
-  to-sorted z [] at = at
-  to-sorted z (x ∷ xs) (inl e) = to-put z x (sorted_by cmp xs) (inl e)
-  to-sorted z (x ∷ xs) (inr at) = to-put z x (sorted_by cmp xs) (inr (to-sorted z xs at))
 
 -- ---- what is left
 

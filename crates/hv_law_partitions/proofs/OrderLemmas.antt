@@ -1,14 +1,11 @@
 -- What is left of a partition's writes, sorted, is what stands in the table, in the partition.
-use Rattle.std.proofs.Common.{refl, ◌≡◌, inl, inr, ℕ, Bool, true, false, cond, not, List, [], ◌∷◌, ◌++◌, filter, sym, ap, ◌∙◌, subst}
+use Rattle.std.proofs.Common.{refl, ◌≡◌, ℕ, Bool, true, false, cond, not, List, [], ◌∷◌, ◌++◌, filter, sym, ap, ◌∙◌}
 use Rattle.std.proofs.lemmas.List.Elements.{filter-append}
 use Rattle.std.specs.declared.cmp.Ordering.{Ordering}
 use Rattle.std.specs.declared.cmp.Ordering.TheVariants.{Less, Equal, Greater}
-use Rattle.std.specs.Ordering.{ordering_reverse}
-use Rattle.std.specs.Cmp.{IsTotalOrder}
 use Rattle.std.specs.List.{flat_map, AllByRecursion}
-use Rattle.hv_dirs.specs.Sorting as dirs
 use Rattle.hv_logic.specs.Rows.{found_cmp}
-use Rattle.hv_logic.specs.Sorting.{placed_by, put_by, sorted_by}
+use Rattle.hv_base.specs.Sorting.{placed_by, put_by, sorted_by}
 use Rattle.hv_logic.specs.declared.effect.Found.{Found}
 use Rattle.hv_history.specs.declared.state.Written.{Written}
 use Rattle.hv_history.specs.State.{content_of, is_deleted}
@@ -16,72 +13,10 @@ use Rattle.hv_stands.proofs.StandingRows.{found-total}
 use Rattle.hv_law_visible.specs.History as visible
 use Rattle.hv_law_visible.specs.History.{inserts_of}
 use Rattle.hv_law_visible.specs.Visible.{by_id}
-use Rattle.hv_law_visible.proofs.SortingLemmas.{all-from}
-use Rattle.hv_law_visible.proofs.TakenLemmas.{all-in}
+use Rattle.hv_law_visible.proofs.OrderLemmas.{NotOver, Pairs, less-not, equal-not, over-all, pairs-sorted}
 use Rattle.hv_law_partitions.specs.Partitions.{id_of, is_of, rows_of, writes_of}
 use Rattle.hv_law_partitions.specs.Laws.{ContentIsInOrder}
-use Rattle.hv_law_partitions.proofs.ContentLemmas.{by-id, text-of, from-put, deleted-same}
-
--- ---- a sorted list
-
-module _ {X : Type 0} (cmp : X → X → Ordering) (total : IsTotalOrder cmp) where
-  NotOver : X → X → Type 0
-  NotOver x y = cmp x y ≡ Greater → ⊥
-
-  Pairs : List X → Type 0
-  Pairs [] = Unit {0}
-  Pairs (x ∷ xs) = AllByRecursion (NotOver x) xs × Pairs xs
-
-  turn : (x y : X) (o : Ordering) → cmp x y ≡ o → cmp y x ≡ ordering_reverse o
-  turn x y o e = total.antisymm y x ∙ ap ordering_reverse e
-
-  over-by : (x y z : X) (o p : Ordering) → cmp x y ≡ o → cmp y z ≡ p → NotOver x y → NotOver y z → NotOver x z
-  unfolding NotOver
-  over-by x y z Greater p e f a b over = a e
-  over-by x y z Equal p e f a b over = b (sym (total.congr x y z e) ∙ over)
-  over-by x y z Less Greater e f a b over = b f
-  over-by x y z Less Less e f a b over = let g : Less ≡ Greater = sym (total.trans x y z e f) ∙ over in cc
-  over-by x y z Less Equal e f a b over =
-      let back : cmp z x ≡ cmp y x = total.congr z y x (turn y z Equal f) in
-      let g : Less ≡ Greater = sym e ∙ total.antisymm x y ∙ ap ordering_reverse (sym back) ∙ sym (total.antisymm x z) ∙ over in
-      cc
-
-  over-trans : (x y z : X) → NotOver x y → NotOver y z → NotOver x z
-  over-trans x y z = over-by x y z (cmp x y) (cmp y z) refl refl
-
-  less-not : (x y : X) → cmp x y ≡ Less → NotOver x y
-  unfolding NotOver
-  less-not x y e over = let g : Less ≡ Greater = sym e ∙ over in cc
-
-  equal-not : (x y : X) → cmp x y ≡ Equal → NotOver x y
-  unfolding NotOver
-  equal-not x y e over = let g : Equal ≡ Greater = sym e ∙ over in cc
-
-  over-all : (x y : X) (ys : List X) → NotOver x y → Pairs (y ∷ ys) → AllByRecursion (NotOver x) (y ∷ ys)
-  unfolding Pairs
-  over-all x y ys a up = (a, all-from (NotOver x) ys (λ z at. over-trans x y z a (all-in (NotOver y) ys z up.0 at)))
-
-  pairs-put-by : (o : Ordering) (x y : X) (ys : List X) → cmp x y ≡ o → Pairs (y ∷ ys) → Pairs (put_by cmp x ys) → Pairs (placed_by cmp o x y ys (put_by cmp x ys))
-  unfolding Pairs
-  pairs-put-by Less x y ys e up h = (over-all x y ys (less-not x y e) up, up)
-  pairs-put-by Equal x y ys e up h = (over-all x y ys (equal-not x y e) up, up)
-  pairs-put-by Greater x y ys e up h = (
-    all-from (NotOver y) (put_by cmp x ys) (λ z at. elim (from-put cmp z x ys at) [
-      | inl is ↦ subst (NotOver y) is (less-not y x (turn x y Greater e))
-      | inr there ↦ all-in (NotOver y) ys z up.0 there
-    ]),
-    h,
-  )
-
-  pairs-put : (x : X) (ys : List X) → Pairs ys → Pairs (put_by cmp x ys)
-  unfolding Pairs
-  pairs-put x [] up = (tt, tt)
-  pairs-put x (y ∷ ys) up = pairs-put-by (cmp x y) x y ys refl up (pairs-put x ys up.1)
-
-  pairs-sorted : (xs : List X) → Pairs (sorted_by cmp xs)
-  unfolding Pairs
-  pairs-sorted [] = tt
-  pairs-sorted (x ∷ xs) = pairs-put x (sorted_by cmp xs) (pairs-sorted xs)
+use Rattle.hv_law_partitions.proofs.ContentLemmas.{by-id, text-of, deleted-same}
 
 -- ---- the rows of a partition, in a sorted list
 
@@ -104,57 +39,57 @@ module _ (partition : List ℕ) where
 
   -- one of this partition before all others
   put-first : (x : Found) (rows : List Found) → is_of partition x ≡ true → AllByRecursion (NotOver found_cmp found-total x) rows
-      → dirs.put_by (by_id id_of) x (rows_of partition rows) ≡ x ∷ rows_of partition rows
+      → put_by (by_id id_of) x (rows_of partition rows) ≡ x ∷ rows_of partition rows
   unfolding NotOver
   put-first x [] is all = refl
   put-first x (y ∷ rows) is all = by (is_of partition y) refl (put-first x rows is all.1)
     where
-      order : (o : Ordering) → (o ≡ Greater → ⊥) → dirs.placed_by (by_id id_of) o x y (rows_of partition rows) (dirs.put_by (by_id id_of) x (rows_of partition rows))
+      order : (o : Ordering) → (o ≡ Greater → ⊥) → placed_by (by_id id_of) o x y (rows_of partition rows) (put_by (by_id id_of) x (rows_of partition rows))
           ≡ x ∷ y ∷ rows_of partition rows
       order Less h = refl
       order Equal h = refl
       order Greater h = absurd (h refl)
 
-      by : (b : Bool) → is_of partition y ≡ b → dirs.put_by (by_id id_of) x (rows_of partition rows) ≡ x ∷ rows_of partition rows
-          → dirs.put_by (by_id id_of) x (cond b (y ∷ rows_of partition rows) (rows_of partition rows)) ≡ x ∷ cond b (y ∷ rows_of partition rows) (rows_of partition rows)
+      by : (b : Bool) → is_of partition y ≡ b → put_by (by_id id_of) x (rows_of partition rows) ≡ x ∷ rows_of partition rows
+          → put_by (by_id id_of) x (cond b (y ∷ rows_of partition rows) (rows_of partition rows)) ≡ x ∷ cond b (y ∷ rows_of partition rows) (rows_of partition rows)
       by true here rest = order (by_id id_of x y) (λ over. all.0 (sym (here-by x y is here) ∙ over))
       by false here rest = rest
 
   put-here : (x : Found) (rows : List Found) → is_of partition x ≡ true → Sorted rows
-      → dirs.put_by (by_id id_of) x (rows_of partition rows) ≡ rows_of partition (put_by found_cmp x rows)
+      → put_by (by_id id_of) x (rows_of partition rows) ≡ rows_of partition (put_by found_cmp x rows)
   unfolding Sorted Pairs NotOver
   put-here x [] is up = sym (ap (λ b. cond b (x ∷ []) []) is)
   put-here x (y ∷ rows) is up = by (found_cmp x y) refl (put-here x rows is up.1)
     where
-      front : (found_cmp x y ≡ Greater → ⊥) → dirs.put_by (by_id id_of) x (rows_of partition (y ∷ rows)) ≡ rows_of partition (x ∷ y ∷ rows)
+      front : (found_cmp x y ≡ Greater → ⊥) → put_by (by_id id_of) x (rows_of partition (y ∷ rows)) ≡ rows_of partition (x ∷ y ∷ rows)
       front h =
           put-first x (y ∷ rows) is (over-all found_cmp found-total x y rows h up)
           ∙ sym (ap (λ b. cond b (x ∷ rows_of partition (y ∷ rows)) (rows_of partition (y ∷ rows))) is)
 
-      later : dirs.put_by (by_id id_of) x (rows_of partition rows) ≡ rows_of partition (put_by found_cmp x rows)
+      later : put_by (by_id id_of) x (rows_of partition rows) ≡ rows_of partition (put_by found_cmp x rows)
           → found_cmp x y ≡ Greater → (b : Bool) → is_of partition y ≡ b
-          → dirs.put_by (by_id id_of) x (cond b (y ∷ rows_of partition rows) (rows_of partition rows))
+          → put_by (by_id id_of) x (cond b (y ∷ rows_of partition rows) (rows_of partition rows))
           ≡ cond b (y ∷ rows_of partition (put_by found_cmp x rows)) (rows_of partition (put_by found_cmp x rows))
       later rest e true here =
-          ap (λ o. dirs.placed_by (by_id id_of) o x y (rows_of partition rows) (dirs.put_by (by_id id_of) x (rows_of partition rows))) (here-by x y is here ∙ e)
+          ap (λ o. placed_by (by_id id_of) o x y (rows_of partition rows) (put_by (by_id id_of) x (rows_of partition rows))) (here-by x y is here ∙ e)
           ∙ ap (λ (l : List Found). y ∷ l) rest
       later rest e false here = rest
 
-      by : (o : Ordering) → found_cmp x y ≡ o → dirs.put_by (by_id id_of) x (rows_of partition rows) ≡ rows_of partition (put_by found_cmp x rows)
-          → dirs.put_by (by_id id_of) x (rows_of partition (y ∷ rows)) ≡ rows_of partition (placed_by found_cmp o x y rows (put_by found_cmp x rows))
+      by : (o : Ordering) → found_cmp x y ≡ o → put_by (by_id id_of) x (rows_of partition rows) ≡ rows_of partition (put_by found_cmp x rows)
+          → put_by (by_id id_of) x (rows_of partition (y ∷ rows)) ≡ rows_of partition (placed_by found_cmp o x y rows (put_by found_cmp x rows))
       by Less e rest = front (less-not found_cmp found-total x y e)
       by Equal e rest = front (equal-not found_cmp found-total x y e)
       by Greater e rest = later rest e (is_of partition y) refl
 
-  sorted-same : (rows : List Found) → dirs.sorted_by (by_id id_of) (rows_of partition rows) ≡ rows_of partition (sorted_by found_cmp rows)
+  sorted-same : (rows : List Found) → sorted_by (by_id id_of) (rows_of partition rows) ≡ rows_of partition (sorted_by found_cmp rows)
   unfolding Sorted
   sorted-same [] = refl
   sorted-same (x ∷ rows) = by (is_of partition x) refl (sorted-same rows)
     where
-      by : (b : Bool) → is_of partition x ≡ b → dirs.sorted_by (by_id id_of) (rows_of partition rows) ≡ rows_of partition (sorted_by found_cmp rows)
-          → dirs.sorted_by (by_id id_of) (cond b (x ∷ rows_of partition rows) (rows_of partition rows)) ≡ rows_of partition (put_by found_cmp x (sorted_by found_cmp rows))
+      by : (b : Bool) → is_of partition x ≡ b → sorted_by (by_id id_of) (rows_of partition rows) ≡ rows_of partition (sorted_by found_cmp rows)
+          → sorted_by (by_id id_of) (cond b (x ∷ rows_of partition rows) (rows_of partition rows)) ≡ rows_of partition (put_by found_cmp x (sorted_by found_cmp rows))
       by true is rest =
-          ap (dirs.put_by (by_id id_of) x) rest ∙ put-here x (sorted_by found_cmp rows) is (pairs-sorted found_cmp found-total rows)
+          ap (put_by (by_id id_of) x) rest ∙ put-here x (sorted_by found_cmp rows) is (pairs-sorted found_cmp found-total rows)
       by false is rest = rest ∙ sym (put-other x (sorted_by found_cmp rows) is)
 
   -- ---- what is left
@@ -195,6 +130,6 @@ pub content-in-order : ContentIsInOrder
 unfolding content_of
 content-in-order partition writes =
     let rows : List Found = flat_map (λ (w : Written). w.inserts) writes in
-    ap (λ (xs : List Found). dirs.sorted_by (by_id id_of) (filter (λ found. not (visible.is_deleted (writes_of partition writes) (id_of found))) xs)) (inserts-same partition writes)
-    ∙ ap (dirs.sorted_by (by_id id_of)) (left-same partition writes rows)
+    ap (λ (xs : List Found). sorted_by (by_id id_of) (filter (λ found. not (visible.is_deleted (writes_of partition writes) (id_of found))) xs)) (inserts-same partition writes)
+    ∙ ap (sorted_by (by_id id_of)) (left-same partition writes rows)
     ∙ sorted-same partition (filter (λ row. not (is_deleted writes row)) rows)

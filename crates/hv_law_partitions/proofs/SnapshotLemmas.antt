@@ -30,11 +30,11 @@ use Rattle.hv_stands.proofs.Numbers.{one_value, same_one, none_is, found, either
 use Rattle.hv_stands.proofs.Soundness.{all-mapped, all-more, all-numbered, all-changed}
 use Rattle.hv_stands.proofs.Keeping.{open-by, all-open}
 use Rattle.hv_stands.proofs.Written.{of-tables}
+use Rattle.hv_law_visible.proofs.SortingLemmas.{from-sorted}
 use Rattle.hv_law_visible.specs.Members.{IsIn}
 use Rattle.hv_law_visible.specs.History.{write_of}
 use Rattle.hv_law_visible.proofs.MemberLemmas.{from-flat, from-filter}
 use Rattle.hv_law_visible.proofs.TakenLemmas.{all-in}
-use Rattle.hv_law_partitions.proofs.ContentLemmas.{from-sorted}
 use Rattle.hv_law_partitions.proofs.IdLemmas.{numbered-in}
 
 -- ---- tables go on

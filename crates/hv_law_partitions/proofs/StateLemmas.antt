@@ -4,7 +4,7 @@ use Rattle.std.specs.Prelude.{IsTrue}
 use Rattle.std.specs.List.{slice_get}
 use Rattle.hv_wids.specs.WriteIds.{WriteIds}
 use Rattle.hv_dirs.specs.Choice.{sight_of}
-use Rattle.hv_dirs.specs.Sorting.{sorted_by}
+use Rattle.hv_base.specs.Sorting.{sorted_by}
 use Rattle.hv_logic.specs.declared.effect.Found.{Found}
 use Rattle.hv_history.specs.declared.entry.Entry.{Entry}
 use Rattle.hv_history.specs.declared.state.Snapshot.{Snapshot}

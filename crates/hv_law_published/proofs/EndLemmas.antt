@@ -7,7 +7,7 @@ use Rattle.std.specs.Ordering.{is_eq}
 use Rattle.hv_base.specs.declared.ids.RowId.{RowId}
 use Rattle.hv_wids.specs.WriteIds.{WriteIds}
 use Rattle.hv_dirs.specs.Choice.{Sight, sight_of, Delta, Own, Wide, chosen_above, delta_cmp}
-use Rattle.hv_dirs.specs.Sorting.{sorted_by}
+use Rattle.hv_base.specs.Sorting.{sorted_by}
 use Rattle.hv_law_visible.specs.Members.{IsIn}
 use Rattle.hv_law_visible.specs.History.{Write, Compaction, Major, end_of, has_write, write_of, inserts_of, inserts_in, deletes_in, by_deleter, rows_in, IsMadeBase}
 use Rattle.hv_law_visible.specs.Visible.{Tree, base_chosen, by_id}

@@ -4,7 +4,7 @@ use Rattle.std.proofs.lemmas.Bool.{and_parts, and_from}
 use Rattle.std.specs.List.{flat_map}
 use Rattle.hv_base.specs.declared.ids.RowId.{RowId}
 use Rattle.hv_dirs.specs.Choice.{Sight, sight_of, Delta, Own, Wide, chosen_above, delta_cmp}
-use Rattle.hv_dirs.specs.Sorting.{sorted_by}
+use Rattle.hv_base.specs.Sorting.{sorted_by}
 use Rattle.hv_law_visible.specs.Members.{IsIn}
 use Rattle.hv_law_visible.specs.History.{Write, Compaction, has_write, is_upto, by_deleter, write_of, content_of, inserts_in, deletes_in, rows_in}
 use Rattle.hv_law_visible.specs.Visible.{Tree, base_chosen, visible_rows, writes_shown}

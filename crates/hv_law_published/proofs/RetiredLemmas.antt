@@ -5,7 +5,7 @@ use Rattle.std.specs.List.{flat_map}
 use Rattle.hv_base.specs.declared.ids.RowId.{RowId}
 use Rattle.hv_wids.specs.WriteIds.{WriteIds}
 use Rattle.hv_dirs.specs.Choice.{Sight, sight_of, Delta, Wide, low_of, high_of, is_own, taken_from, chosen_above, delta_cmp}
-use Rattle.hv_dirs.specs.Sorting.{sorted_by}
+use Rattle.hv_base.specs.Sorting.{sorted_by}
 use Rattle.hv_law_visible.specs.Members.{IsIn}
 use Rattle.hv_law_visible.specs.History.{Write, Compaction, Minor, Major, CoversDelta, CoversBase, has_write, by_deleter, IsMade, IsMadeBase}
 use Rattle.hv_law_visible.specs.Visible.{Tree, base_chosen}

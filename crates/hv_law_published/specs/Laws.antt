@@ -4,7 +4,7 @@ use Rattle.std.specs.List.{flat_map}
 use Rattle.hv_base.specs.declared.ids.RowId.{RowId}
 use Rattle.hv_wids.specs.WriteIds.{WriteIds}
 use Rattle.hv_dirs.specs.Choice.{Sight, sight_of, Wide}
-use Rattle.hv_dirs.specs.Sorting.{rising_by}
+use Rattle.hv_base.specs.Sorting.{rising_by}
 use Rattle.hv_law_visible.specs.Members.{IsIn}
 use Rattle.hv_law_visible.specs.History.{Write, Compaction, Minor, Major, end_of, mark_of, write_of, content_of, inserts_in, deletes_in, rows_in}
 use Rattle.hv_law_visible.specs.Visible.{Tree, base_chosen, deltas_chosen, deletes_chosen, visible_rows, writes_shown, by_id}

@@ -1,7 +1,7 @@
 -- The list of visible rows is the content.
 use Rattle.std.proofs.Common.{◌≡◌, ℕ, List}
 use Rattle.hv_base.specs.declared.ids.RowId.{RowId}
-use Rattle.hv_dirs.specs.Sorting.{sorted_by, rising_by}
+use Rattle.hv_base.specs.Sorting.{sorted_by, rising_by}
 use Rattle.hv_dirs.specs.Choice.{Sight}
 use Rattle.hv_law_visible.specs.Members.{HasNoTies}
 use Rattle.hv_law_visible.specs.History.{Write, Compaction, content_of}

@@ -6,17 +6,17 @@ use Rattle.std.specs.Ordering.{MatchOrdering, nat_cmp, ordering_then, ordering_r
 use Rattle.std.specs.Cmp.{IsTotalOrder, nat_cmp_total, on_total, then_total}
 use Rattle.std.proofs.lemmas.Cmp.{ranked, back_total}
 use Rattle.std.specs.List.{AllByRecursion}
-use Rattle.hv_dirs.specs.Sorting.{placed_by, put_by, sorted_by}
+use Rattle.hv_base.specs.Sorting.{placed_by, put_by, sorted_by}
 use Rattle.hv_dirs.specs.Choice.{Delta, Own, Wide, low_of, high_of, is_own, rank_of, statement_of, delta_cmp}
 use Rattle.hv_dirs.proofs.ChoiceLemmas.{delta_total}
 use Rattle.hv_law_visible.proofs.TakenLemmas.{Precedes, Ordered, all-in}
 use Rattle.hv_law_visible.proofs.SortingLemmas.{all-from, from-put}
 
 module _ {X : Type 0} (cmp : X → X → Ordering) (total : IsTotalOrder cmp) where
-  NotOver : X → X → Type 0
+  unfoldable pub NotOver : X → X → Type 0
   NotOver x y = cmp x y ≡ Greater → ⊥
 
-  Pairs : List X → Type 0
+  unfoldable pub Pairs : List X → Type 0
   Pairs [] = Unit {0}
   Pairs (x ∷ xs) = AllByRecursion (NotOver x) xs × Pairs xs
 
@@ -37,22 +37,22 @@ module _ {X : Type 0} (cmp : X → X → Ordering) (total : IsTotalOrder cmp) wh
   over-trans : (x y z : X) → NotOver x y → NotOver y z → NotOver x z
   over-trans x y z = over-by x y z (cmp x y) (cmp y z) refl refl
 
-  less-not : (x y : X) → cmp x y ≡ Less → NotOver x y
+  pub less-not : (x y : X) → cmp x y ≡ Less → NotOver x y
   unfolding NotOver
   less-not x y e over = let g : Less ≡ Greater = sym e ∙ over in cc
 
-  equal-not : (x y : X) → cmp x y ≡ Equal → NotOver x y
+  pub equal-not : (x y : X) → cmp x y ≡ Equal → NotOver x y
   unfolding NotOver
   equal-not x y e over = let g : Equal ≡ Greater = sym e ∙ over in cc
 
-  front : (x y : X) (ys : List X) → NotOver x y → Pairs (y ∷ ys) → Pairs (x ∷ y ∷ ys)
+  pub over-all : (x y : X) (ys : List X) → NotOver x y → Pairs (y ∷ ys) → AllByRecursion (NotOver x) (y ∷ ys)
   unfolding Pairs
-  front x y ys a up = ((a, all-from (NotOver x) ys (λ z at. over-trans x y z a (all-in (NotOver y) ys z up.0 at))), up)
+  over-all x y ys a up = (a, all-from (NotOver x) ys (λ z at. over-trans x y z a (all-in (NotOver y) ys z up.0 at)))
 
   pairs-put-by : (o : Ordering) (x y : X) (ys : List X) → cmp x y ≡ o → Pairs (y ∷ ys) → Pairs (put_by cmp x ys) → Pairs (placed_by cmp o x y ys (put_by cmp x ys))
   unfolding Pairs
-  pairs-put-by Less x y ys e up h = front x y ys (less-not x y e) up
-  pairs-put-by Equal x y ys e up h = front x y ys (equal-not x y e) up
+  pairs-put-by Less x y ys e up h = (over-all x y ys (less-not x y e) up, up)
+  pairs-put-by Equal x y ys e up h = (over-all x y ys (equal-not x y e) up, up)
   pairs-put-by Greater x y ys e up h = (
     all-from (NotOver y) (put_by cmp x ys) (λ z at. elim (from-put cmp z x ys at) [
       | inl is ↦ subst (NotOver y) (sym is) (less-not y x (turn x y Greater e))
@@ -66,7 +66,7 @@ module _ {X : Type 0} (cmp : X → X → Ordering) (total : IsTotalOrder cmp) wh
   pairs-put x [] up = (tt, tt)
   pairs-put x (y ∷ ys) up = pairs-put-by (cmp x y) x y ys refl up (pairs-put x ys up.1)
 
-  pairs-sorted : (xs : List X) → Pairs (sorted_by cmp xs)
+  pub pairs-sorted : (xs : List X) → Pairs (sorted_by cmp xs)
   unfolding Pairs
   pairs-sorted [] = tt
   pairs-sorted (x ∷ xs) = pairs-put x (sorted_by cmp xs) (pairs-sorted xs)

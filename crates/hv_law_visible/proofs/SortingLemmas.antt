@@ -6,7 +6,7 @@ use Rattle.std.specs.Ordering.{ordering_reverse}
 use Rattle.std.specs.Cmp.{IsTotalOrder}
 use Rattle.std.specs.List.{flat_map, AllByRecursion}
 use Rattle.hv_law_visible.specs.Members.{HasNoTies, IsIn}
-use Rattle.hv_dirs.specs.Sorting.{placed_by, put_by, sorted_by, merged_by, merge_by, rising_by}
+use Rattle.hv_base.specs.Sorting.{placed_by, put_by, sorted_by, merged_by, merge_by, rising_by}
 use Rattle.hv_law_visible.proofs.MemberLemmas.{in-left, in-right, in-either, in-flat, from-flat}
 use Rattle.hv_law_visible.proofs.TakenLemmas.{all-in}
 

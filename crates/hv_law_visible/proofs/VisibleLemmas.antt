@@ -14,7 +14,7 @@ use Rattle.hv_law_visible.proofs.LooseLemmas.{IsChosen, not-loose, is-chosen}
 use Rattle.hv_law_visible.proofs.SortingLemmas.{from-sorted, to-sorted}
 use Rattle.hv_law_visible.proofs.RowLemmas.{row-write}
 use Rattle.hv_law_visible.proofs.OrderLemmas.{ordered-sorted}
-use Rattle.hv_dirs.specs.Sorting.{sorted_by}
+use Rattle.hv_base.specs.Sorting.{sorted_by}
 use Rattle.hv_law_visible.proofs.ReachedLemmas.{base-most, base-is, IsBase, read, within-from, has-own, has-wide}
 
 module _ {Found : Type 0} (id_of : Found → RowId) (most : ℕ) (sight : Sight) (past : Compaction → Type 0) (foreign : ℕ → Type 0)

@@ -3,7 +3,7 @@ use Rattle.std.specs.Prelude.{◌≡◌, ◌↔◌, ℕ, ◌+◌, ◌<◌, ◌�
 use Rattle.hv_base.specs.declared.ids.RowId.{RowId}
 use Rattle.hv_wids.specs.WriteIds.{WriteIds, IsInOrder, is_valid, is_valid_base}
 use Rattle.hv_dirs.specs.Choice.{Sight, sight_of, Delta}
-use Rattle.hv_dirs.specs.Sorting.{sorted_by, rising_by}
+use Rattle.hv_base.specs.Sorting.{sorted_by, rising_by}
 use Rattle.hv_law_visible.specs.Members.{IsIn}
 use Rattle.hv_law_visible.specs.History.{Write, Compaction, end_of, mark_of, content_of, is_upto}
 use Rattle.hv_law_visible.specs.Visible.{Tree, visible_rows, writes_shown, by_id, base_chosen, deltas_chosen, deletes_chosen}

@@ -1,4 +1,3 @@
-pub mod SortingLaws
 pub mod SizeLemmas
 pub mod Steps
 pub mod NameLemmas

@@ -2,7 +2,7 @@
 use Rattle.std.proofs.Common.{◌≡◌, ℕ, zero, suc, ◌+◌, ◌-◌, ◌≤◌, List, [], ◌∷◌, ◌++◌, length, take, drop, min, refl, sym, ap, ◌∙◌, arith}
 use Rattle.std.specs.declared.cmp.Ordering.{Ordering}
 use Rattle.std.proofs.lemmas.List.{take-take}
-use Rattle.hv_logic.specs.Sorting.{put_by, sorted_by}
+use Rattle.hv_base.specs.Sorting.{put_by, sorted_by}
 
 -- ---- a list that is emptied from its end
 

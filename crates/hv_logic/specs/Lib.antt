@@ -1,4 +1,3 @@
-pub mod Sorting
 pub mod Rows
 pub mod Sizes
 pub mod Tables

@@ -1,6 +1,6 @@
 ghost use Rattle.std.specs.Prelude.{◌≡◌, ◌≤◌, OnOk, IfOk, length, insert};
 ghost use Rattle.hv_logic.specs.Rows.{found_cmp};
-ghost use Rattle.hv_logic.specs.Sorting.{put_by, sorted_by};
+ghost use Rattle.hv_base.specs.Sorting.{put_by, sorted_by};
 
 use crate::effect::Found;
 use hv_base::NoMemory;

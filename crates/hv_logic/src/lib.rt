@@ -8,7 +8,6 @@ mod meaning;
 mod seen;
 mod shape;
 mod sizes;
-mod sort;
 mod tables;
 mod types;
 
@@ -19,6 +18,5 @@ pub use meaning::Meaning;
 pub use seen::Seen;
 pub use shape::{bucket_names, bucket_place, shape_of};
 pub use sizes::{all_fit, row_fits, values_fit};
-pub use sort::sort_rows;
 pub use tables::named;
 pub use types::named_type;

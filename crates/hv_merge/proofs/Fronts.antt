@@ -10,7 +10,7 @@ use Rattle.std.proofs.lemmas.Bool.{and_parts, eqb-true, cond-true, cond-false}
 use Rattle.std.proofs.lemmas.Option.{same_Some}
 use Rattle.hv_base.specs.declared.ids.RowId.{RowId}
 use Rattle.hv_base.specs.Identifiers.{row_id_cmp, row_id_eq, row_id_total, row_id_ties}
-use Rattle.hv_dirs.specs.Sorting.{merged_by, merge_by, rising_by}
+use Rattle.hv_base.specs.Sorting.{merged_by, merge_by, rising_by}
 use Rattle.hv_law_visible.specs.Visible.{by_id}
 use Rattle.hv_law_visible.proofs.SortingLemmas.{Below, Rises}
 use Rattle.hv_merge.specs.declared.shown.Shown.{Shown}

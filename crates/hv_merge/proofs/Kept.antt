@@ -14,8 +14,8 @@ use Rattle.hv_base.specs.declared.ids.RowId.{RowId}
 use Rattle.hv_base.specs.Identifiers.{row_id_cmp, row_id_total, row_id_ties}
 use Rattle.hv_wids.specs.WriteIds.{WriteIds, is_valid}
 use Rattle.hv_dirs.specs.Choice.{sight_of}
-use Rattle.hv_dirs.specs.Sorting.{merged_by, merge_by, rising_by}
-use Rattle.hv_dirs.proofs.SortingLemmas as sorting
+use Rattle.hv_base.specs.Sorting.{merged_by, merge_by, rising_by}
+use Rattle.hv_base.proofs.SortingLaws as sorting
 use Rattle.hv_law_visible.specs.History.{is_row}
 use Rattle.hv_law_visible.specs.Visible.{names_it, is_gone, is_visible}
 use Rattle.hv_law_visible.proofs.SortingLemmas.{Below, Rises, rises-rising}

@@ -12,7 +12,7 @@ use Rattle.std.proofs.lemmas.List.Elements.{filter_map-append}
 use Rattle.hv_base.specs.declared.ids.RowId.{RowId}
 use Rattle.hv_base.specs.Identifiers.{row_id_cmp, row_id_eq, row_id_total, row_id_ties}
 use Rattle.hv_wids.specs.WriteIds.{WriteIds, is_valid}
-use Rattle.hv_dirs.specs.Sorting.{rising_by}
+use Rattle.hv_base.specs.Sorting.{rising_by}
 use Rattle.hv_law_visible.proofs.SortingLemmas.{Below, Rises}
 use Rattle.hv_rowfile.specs.declared.record.Rec.{Rec}
 use Rattle.hv_rowfile.specs.declared.record.Rec.TheVariants as rec

@@ -6,7 +6,7 @@ use Rattle.std.specs.List.{filter_map, flat_map}
 use Rattle.hv_base.specs.declared.ids.RowId.{RowId}
 use Rattle.hv_wids.specs.WriteIds.{WriteIds}
 use Rattle.hv_dirs.specs.Choice.{sight_of}
-use Rattle.hv_dirs.specs.Sorting.{rising_by}
+use Rattle.hv_base.specs.Sorting.{rising_by}
 use Rattle.hv_law_visible.specs.Visible.{visible_among, by_id}
 use Rattle.hv_rowfile.specs.declared.record.Rec.{Rec}
 use Rattle.hv_rowfile.specs.declared.record.Rec.TheVariants as rec

@@ -74,7 +74,7 @@ used wrote (one ∷ given) h = and-both (is_touched wrote one) (are_used wrote g
 
 -- ---- the commits behind a place
 
-against-same : (place : ℕ) (wrote : List Touch) (o : Option Ending) → is_committed (against place wrote) o ≡ commits_against place wrote o
+pub against-same : (place : ℕ) (wrote : List Touch) (o : Option Ending) → is_committed (against place wrote) o ≡ commits_against place wrote o
 against-same place wrote None = refl
 against-same place wrote (Some (Committed at those)) = refl
 against-same place wrote (Some (Aborted at cause)) = refl
@@ -88,7 +88,7 @@ all-against place wrote (t ∷ ts) =
     ap (λ b. b || list_any (commits_so (against place wrote)) ts) (against-same place wrote t.ending)
     ∙ ap (λ b. commits_against place wrote t.ending || b) (all-against place wrote ts)
 
-not-lt : (a b : ℕ) → b ≤ a → nat_lt a b ≡ false
+pub not-lt : (a b : ℕ) → b ≤ a → nat_lt a b ≡ false
 not-lt a b le = by (nat_lt a b) refl
   where
     by : (c : Bool) → nat_lt a b ≡ c → nat_lt a b ≡ false

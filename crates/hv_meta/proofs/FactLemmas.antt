@@ -164,16 +164,6 @@ infos-step ts i (suc n) e =
     let same : n ≡ i = omega (arith, e) in
     infos-at ts i ∙ ap (λ k. info_in (slice_get ts k) ++ live_infos (drop (i + 1) ts)) (sym same)
 
-pub no-info : (o : Option Table) (infos : List TableInfo) → None ≡ option_map brief_table o → infos ≡ infos ++ info_in o
-no-info None infos e = sym (append-nil infos)
-no-info (Some t) infos e = cc
-
-pub dropped-info : (o : Option Table) (infos : List TableInfo) (note : TableNote) → Some note ≡ option_map brief_table o → note.is_live ≡ false → infos ≡ infos ++ info_in o
-dropped-info None infos note e dead = cc
-dropped-info (Some t) infos note e dead =
-    let same : note ≡ brief_table t = cc in
-    sym (append-nil infos) ∙ ap (λ b. infos ++ info_if b t.info) (sym dead ∙ ap (λ (n : TableNote). n.is_live) same)
-
 -- ---- a table that is made
 
 flat-type : (kind : TypeName) → is_flat (type_of kind) ≡ is_flat_name kind

@@ -89,7 +89,8 @@ fn touch_conflicts(a: &Touch, b: &Touch) -> bool
     a.table == b.table && a.partition == b.partition && a.deleted > 0 && b.deleted > 0
 }
 
-fn conflicts_with(touch: &Touch, those: &[Touch]) -> bool
+/// Whether a touch conflicts with one of those.
+pub fn conflicts_with(touch: &Touch, those: &[Touch]) -> bool
     ensures { result ≡ list_any (touch_conflicts touch.now) those.now }
 {
     for other in those {
@@ -155,7 +156,8 @@ fn may_write(book: &Book, txn: TxnId, wrote: &[Touch]) -> bool
     running && whole
 }
 
-fn started_place(note: Option<TransactionNote>) -> u64
+/// The place of a transaction's Start, or 0.
+pub fn started_place(note: Option<TransactionNote>) -> u64
     ensures { result ≡ started_place note }
 {
     match note {

@@ -13,9 +13,10 @@ use Rattle.hv_value.specs.Order.{value_cmp}
 use Rattle.hv_value.specs.OrderLaws.{value_cmp_total, row_cmp_total, row_cmp-IsAntisymmetric}
 use Rattle.hv_value.specs.declared.row.Row.{Row}
 use Rattle.hv_typing.specs.declared.tree.SortKey.{SortKey}
-use Rattle.hv_typing.specs.Order.{placed_by, put_by, sorted_by, value_at, turned, key_cmp, order_cmp, ordered}
+use Rattle.hv_base.specs.Sorting.{placed_by, put_by, sorted_by}
+use Rattle.hv_typing.specs.Order.{value_at, turned, key_cmp, order_cmp, ordered}
 use Rattle.hv_order.specs.First.{first_ordered, IsBounded}
-use Rattle.hv_order.proofs.SortingLaws.{sorted_is, sorted-sorted_by, sorted-permuted}
+use Rattle.hv_base.proofs.SortingLaws.{sorted_is, sorted-sorted_by, sorted-permuted}
 use Rattle.std.proofs.lemmas.List.Sorted.{IsPermutation-refl, IsPermutation-sym, IsPermutation-to_front, IsPermutation-append_comm}
 
 key_total : (key : SortKey) → IsTotalOrder (key_cmp key)

@@ -42,7 +42,7 @@ last-stays : (before more : List Entry) (txn : ℕ) (given : List (ℕ × ℕ)) 
 last-stays before more txn given end.Create fit can = tt
 last-stays before more txn given (end.Commit wrote name put) fit can = record { small = can.small; touched = can.touched; change = by can.change }
   where
-    by : (wrote ≡ []) ⊎ IsOfChange before given wrote put.places → (wrote ≡ []) ⊎ IsOfChange (before ++ more) given wrote put.places
+    by : (wrote ≡ []) ⊎ IsOfChange before given wrote put → (wrote ≡ []) ⊎ IsOfChange (before ++ more) given wrote put
     by (inl none) = inl none
     by (inr change) = inr (record {
       info = change.info;

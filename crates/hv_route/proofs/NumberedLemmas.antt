@@ -12,7 +12,7 @@ use Rattle.hv_value.specs.Order.{row_cmp}
 use Rattle.hv_value.specs.OrderLaws.{row_cmp_total}
 use Rattle.hv_value.specs.declared.row.Row.{Row}
 use Rattle.hv_logic.specs.Rows.{found_cmp}
-use Rattle.hv_logic.specs.Sorting.{sorted_by}
+use Rattle.hv_base.specs.Sorting.{sorted_by}
 use Rattle.hv_logic.specs.declared.catalog.Shape.{Shape}
 use Rattle.hv_logic.specs.declared.effect.Found.{Found}
 use Rattle.hv_route.specs.declared.placed.Placed.{Placed}

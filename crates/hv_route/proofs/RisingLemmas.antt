@@ -19,8 +19,8 @@ use Rattle.hv_base.specs.Identifiers.{row_id_cmp, row_id_total}
 use Rattle.hv_value.specs.Order.{row_cmp}
 use Rattle.hv_value.specs.OrderLaws.{row_cmp_total}
 use Rattle.hv_value.specs.declared.row.Row.{Row}
-use Rattle.hv_logic.specs.Sorting.{placed_by, put_by, sorted_by}
-use Rattle.hv_logic.proofs.SortingLaws.{sorted-sorted_by}
+use Rattle.hv_base.specs.Sorting.{placed_by, put_by, sorted_by}
+use Rattle.hv_base.proofs.SortingLaws.{sorted-sorted_by}
 use Rattle.hv_logic.specs.declared.catalog.Shape.{Shape}
 use Rattle.hv_logic.specs.declared.catalog.TableInfo.{TableInfo}
 use Rattle.hv_logic.specs.declared.effect.Effect.{Effect}

@@ -9,7 +9,7 @@ use Rattle.hv_value.specs.declared.row.Row.{Row}
 use Rattle.hv_value.specs.Order.{row_cmp}
 use Rattle.hv_rowfile.specs.declared.record.Rec.{Rec}
 use Rattle.hv_rowfile.specs.declared.record.Rec.TheVariants as rec
-use Rattle.hv_logic.specs.Sorting.{sorted_by}
+use Rattle.hv_base.specs.Sorting.{sorted_by}
 use Rattle.hv_logic.specs.declared.catalog.Shape.{Shape}
 use Rattle.hv_logic.specs.declared.effect.Found.{Found}
 use Rattle.hv_logic.specs.declared.effect.Effect.{Effect}

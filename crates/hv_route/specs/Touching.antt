@@ -6,7 +6,7 @@ use Rattle.std.specs.List.{list_all, list_any}
 use Rattle.hv_base.specs.declared.ids.Touch.{Touch}
 use Rattle.hv_value.specs.declared.row.Row.{Row}
 use Rattle.hv_logic.specs.Sizes.{values_fit}
-use Rattle.hv_logic.specs.Sorting.{sorted_by}
+use Rattle.hv_base.specs.Sorting.{sorted_by}
 use Rattle.hv_logic.specs.declared.catalog.Shape.{Shape}
 use Rattle.hv_logic.specs.declared.catalog.TableInfo.{TableInfo}
 use Rattle.hv_logic.specs.declared.effect.Found.{Found}

@@ -1,7 +1,7 @@
 ghost use Rattle.std.specs.Prelude.{◌≡◌, ◌⊎◌, ◌++◌, OnOk, IfOk, Err, map};
 ghost use Rattle.std.specs.List.{list_all, list_any};
 ghost use Rattle.std.specs.Ordering.{bool_cmp};
-ghost use Rattle.hv_logic.specs.Sorting.{sorted_by};
+ghost use Rattle.hv_base.specs.Sorting.{sorted_by};
 ghost use Rattle.hv_route.specs.Placing.{placed_cmp};
 ghost use Rattle.hv_route.specs.Touching.{place_of_insert, place_of_delete, rows_touched, touch_of, touches_of, stored_fits, is_long, is_above, within_limits, touched};
 ghost use Rattle.hv_route.specs.declared.fault.RouteFault.TheVariants as fault;

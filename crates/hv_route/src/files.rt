@@ -1,7 +1,7 @@
 ghost use Rattle.std.specs.Prelude.{◌≡◌, ◌++◌, IfOk, OnOk, map};
 ghost use Rattle.hv_base.specs.Identifiers.{row_id_cmp};
 ghost use Rattle.hv_value.specs.Order.{row_cmp};
-ghost use Rattle.hv_logic.specs.Sorting.{sorted_by};
+ghost use Rattle.hv_base.specs.Sorting.{sorted_by};
 ghost use Rattle.hv_route.specs.Back.{AreHeld};
 ghost use Rattle.hv_route.specs.Placing.{placed_cmp};
 ghost use Rattle.hv_route.specs.Routes.{partition_of, bucket_in, stored, place_of_row, place_of_deleted, inserts_from, file_of_rows, delete_by, file_of_deletes, insert_files, delete_files, files_of};

@@ -18,7 +18,7 @@ use Rattle.hv_house.specs.House.{entries_of}
 use Rattle.hv_acts.specs.declared.told.ToldHouse.{ToldHouse}
 use Rattle.hv_session.specs.declared.ready.Way.{Way}
 use Rattle.hv_session.specs.declared.ready.Ready.{Ready}
-use Rattle.hv_session.specs.declared.ready.PutFiles.{PutFiles}
+use Rattle.hv_shelf.specs.declared.place.Place.{Place}
 use Rattle.hv_session.specs.declared.ready.End.{End}
 use Rattle.hv_session.specs.declared.reply.Prepared.TheVariants as prepared
 use Rattle.hv_session.specs.Ending.{EndCanBeNoted, EndIsTrue, IsReadyToEnd, CanChange, giving, idle_end}
@@ -78,7 +78,7 @@ module _ {D : Type 0} (faults : D → ℕ) (asking : Asking) (said : Stmt) (way 
 
   -- ---- with its write id, for a change of rows
 
-  module _ (info : TableInfo) (effect : Effect) (write : WriteId) (put : PutFiles) where
+  module _ (info : TableInfo) (effect : Effect) (write : WriteId) (put : List Place) where
     abbrev noted : Entry
     noted = giving way.txn.0 info.table write
 

@@ -44,7 +44,6 @@ use Rattle.hv_acts.proofs.Steps.{book-is}
 use Rattle.hv_acts.proofs.Meant.{on-way}
 use Rattle.hv_session.specs.Ending.{KeepsCount, committing, creating, aborting, HasReplied}
 use Rattle.hv_session.specs.declared.ready.Ready.{Ready}
-use Rattle.hv_session.specs.declared.ready.PutFiles.{PutFiles}
 use Rattle.hv_session.specs.declared.ready.End.TheVariants as last
 use Rattle.hv_session.proofs.Replied.{commit-replies, abort-replies}
 use Rattle.hv_session.proofs.Touched.{touch-of-table}
@@ -244,7 +243,7 @@ module _ {D : Type 0} (told : D → Option Store) (faults : D → ℕ) (B : List
       goes-on faults B rows told meanwhile low low txn own own' own'' before now after (AbortsFor txn after [] NoCause) (Concludes txn after ready) result (omega arith) adds
       (λ found more is. lacks-concludes txn after ready found more is) goes
 
-  commit-replied : (wrote : List Touch) (name : List ℕ) (put : PutFiles) (text : List ℕ) (found : Committed)
+  commit-replied : (wrote : List Touch) (name : List ℕ) (put : List Place) (text : List ℕ) (found : Committed)
       → AddsOwn faults B own own' before now (commit_adds txn wrote (Ok found)) → IsOpenHouse now → IsCommitEnd now txn name found
       → Goes told faults B meanwhile low txn own own' before now (Concludes txn now (record { end = last.Commit wrote name put; text = text })) (Ok (committed_reply text found))
   commit-replied wrote name put text (committed.At place) adds running ended = record {
@@ -288,7 +287,7 @@ module _ {D : Type 0} (told : D → Option Store) (faults : D → ℕ) (B : List
         halted = tt;
       }
 
-  pub concludes-commit : (wrote : List Touch) (name : List ℕ) (put : PutFiles) (text : List ℕ) (found : Committed) (reply : Done) → reply ≡ committed_reply text found
+  pub concludes-commit : (wrote : List Touch) (name : List ℕ) (put : List Place) (text : List ℕ) (found : Committed) (reply : Done) → reply ≡ committed_reply text found
       → AddsOwn faults B own own' before now (commit_adds txn wrote (Ok found)) → IsOpenHouse now → IsCommitEnd now txn name found
       → Goes told faults B meanwhile low txn own own' before now (Concludes txn now (record { end = last.Commit wrote name put; text = text })) (Ok reply)
   concludes-commit wrote name put text found reply e adds running ended =

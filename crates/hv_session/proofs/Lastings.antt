@@ -108,8 +108,8 @@ module _ {D : Type 0} (told : D → Option Store) (before now : ToldHouse D) (fr
   pub concluding-lasts : (way : Way) (last : End) (text : List ℕ) → CanConclude told before way last text → CanConclude told now way last text
   concluding-lasts way (end.Commit wrote name put) text can = (
     can.0,
-    put-lasts (trail_in before) (trail_in now) front way.txn wrote put.places can.1,
-    λ is. due-lasts way.txn wrote name put.places text (can.2 (earlier is)),
+    put-lasts (trail_in before) (trail_in now) front way.txn wrote put can.1,
+    λ is. due-lasts way.txn wrote name put text (can.2 (earlier is)),
   )
   concluding-lasts way end.Create text can = (λ is. make-lasts (trail_in before) (trail_in now) front way.txn (can.0 (earlier is)), can.1)
 

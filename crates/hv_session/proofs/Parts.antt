@@ -34,7 +34,7 @@ use Rattle.hv_session.specs.declared.ready.Way.{Way}
 use Rattle.hv_session.specs.declared.ready.End.{End}
 use Rattle.hv_session.specs.declared.ready.End.TheVariants as end
 use Rattle.hv_session.specs.declared.ready.Ready.{Ready}
-use Rattle.hv_session.specs.declared.ready.PutFiles.{PutFiles}
+use Rattle.hv_shelf.specs.declared.place.Place.{Place}
 use Rattle.hv_session.proofs.Shorts.{short_idle, short_change}
 use Rattle.hv_session.specs.declared.reply.Done.{Done}
 use Rattle.hv_session.specs.declared.reply.Done.TheVariants as done
@@ -269,7 +269,7 @@ module _ {D : Type 0} (told : D → Option Store) (faults : D → ℕ) (B : List
       by (prepared.Ready ready) added ends = absurd ends
       by (prepared.Ended found) added ends = aborts-more txn c [] (IsFaultOf why) IsWriteFault (λ of is. inl (fault-writes why of is)) found added ends
 
-  pub put-writes : (low : ℕ) (own own' : List ℕ) (a b : ToldHouse D) (info : TableInfo) (effect : Effect) (write : ℕ) (wrote : List Touch) (text : List ℕ) (put : PutFiles) (found : Prepared)
+  pub put-writes : (low : ℕ) (own own' : List ℕ) (a b : ToldHouse D) (info : TableInfo) (effect : Effect) (write : ℕ) (wrote : List Touch) (text : List ℕ) (put : List Place) (found : Prepared)
       → AddsOwn faults B own own' a b [] → IsOpenHouse b → IsChangePut info effect write put → wrote ≡ touches_of info effect → text ≡ counts_line (touches_of info effect)
       → found ≡ prepared.Ready (record { end = end.Commit wrote info.shape.name put; text = text })
       → Goes told faults B meanwhile low txn own own' a b (Writes txn b info effect write) (Ok found)
@@ -365,7 +365,7 @@ make-can told house way shape means = (λ is. record { shape = shape; make = mea
 
 -- with all files of its change
 pub change-can : {D : Type 0} (told : D → Option Store) (house : ToldHouse D) (way : Way) (info : TableInfo) (effect : Effect) (write : ℕ) (wrote : List Touch) (text : List ℕ)
-    (put : PutFiles) → HasItsId told house way.txn info effect write → touched info effect ≡ Ok (touches_of info effect) → wrote ≡ touches_of info effect
+    (put : List Place) → HasItsId told house way.txn info effect write → touched info effect ≡ Ok (touches_of info effect) → wrote ≡ touches_of info effect
     → text ≡ counts_line (touches_of info effect) → IsChangePut info effect write put → CanConclude told house way (end.Commit wrote info.shape.name put) text
 change-can told house way info effect write wrote text put id within are says puts = (
   short_change way.txn.0 info effect wrote within are,

@@ -31,7 +31,6 @@ use Rattle.hv_house.specs.declared.fault.HouseFault.{HouseFault}
 use Rattle.hv_house.specs.declared.house.House.{House}
 use Rattle.hv_house.specs.House.{entries_of, IsSmall, Leaves}
 use Rattle.hv_session.specs.declared.ready.Ready.{Ready}
-use Rattle.hv_session.specs.declared.ready.PutFiles.{PutFiles}
 use Rattle.hv_session.specs.declared.ready.Reply.{Reply}
 use Rattle.hv_session.specs.declared.ready.End.{End}
 use Rattle.hv_session.specs.declared.ready.End.TheVariants as end
@@ -140,16 +139,16 @@ pub record CommitCanEnd (book : List Entry) (txn : ℕ) (given : List (ℕ × �
 
 -- the end of a statement that touches nothing
 abbrev pub idle_end : End
-idle_end = end.Commit [] [] (record { since = 0; places = [] })
+idle_end = end.Commit [] [] []
 
 abbrev pub EndCanBeNoted : List Entry → ℕ → List (ℕ × ℕ) → End → Type 0
-EndCanBeNoted book txn given (end.Commit wrote name put) = CommitCanEnd book txn given wrote put.places
+EndCanBeNoted book txn given (end.Commit wrote name put) = CommitCanEnd book txn given wrote put
 EndCanBeNoted book txn given end.Create = Unit {0}
 
 -- ---- a statement of which all is done but its end
 
 -- it means this change and has its write id; its files can be read again, and these are their places
-pub record IsChangeReady (meaning : Option Meaning) (given : List (ℕ × ℕ)) (name : List ℕ) (put : PutFiles) : Type 0 where
+pub record IsChangeReady (meaning : Option Meaning) (given : List (ℕ × ℕ)) (name : List ℕ) (put : List Place) : Type 0 where
   pub info : TableInfo
   pub effect : Effect
   pub write : ℕ
@@ -158,10 +157,10 @@ pub record IsChangeReady (meaning : Option Meaning) (given : List (ℕ × ℕ)) 
   pub id : given ≡ (info.table.0, write) ∷ []
   pub held : AreHeld effect.inserts
   pub encoded : AllByRecursion HasFile (files_of info.shape write 0 effect)
-  pub places : put.places ≡ places_of_files info.table.0 write (files_of info.shape write 0 effect)
+  pub places : put ≡ places_of_files info.table.0 write (files_of info.shape write 0 effect)
 
 -- the touches are those that it means, the reply is theirs, and where it has a write id it is ready with that change; without one it touches nothing
-pub record CommitIsReady (meaning : Option Meaning) (given : List (ℕ × ℕ)) (wrote : List Touch) (name : List ℕ) (put : PutFiles) (text : List ℕ) : Type 0 where
+pub record CommitIsReady (meaning : Option Meaning) (given : List (ℕ × ℕ)) (wrote : List Touch) (name : List ℕ) (put : List Place) (text : List ℕ) : Type 0 where
   pub meant : TouchesAreMeant wrote meaning
   pub reply : text ≡ committed_text meaning wrote
   pub files_are : ((given ≡ []) × (wrote ≡ [])) ⊎ IsChangeReady meaning given name put

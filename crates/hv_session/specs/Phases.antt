@@ -44,7 +44,6 @@ use Rattle.hv_session.specs.Ending.{giving, aborting, creating, committing, idle
 use Rattle.hv_session.specs.declared.ready.Way.{Way}
 use Rattle.hv_session.specs.declared.ready.Reply.{Reply}
 use Rattle.hv_session.specs.declared.ready.Ready.{Ready}
-use Rattle.hv_session.specs.declared.ready.PutFiles.{PutFiles}
 use Rattle.hv_session.specs.declared.ready.End.{End}
 use Rattle.hv_session.specs.declared.ready.End.TheVariants as end
 use Rattle.hv_session.specs.declared.reply.Done.{Done}
@@ -179,9 +178,9 @@ pub record ComesTo {D : Type 0} (told : D → Option Store) (now : ToldHouse D) 
 -- ---- what it has prepared
 
 -- its files were put under a write id, and these are the touches and the places of its change
-pub record IsChangeReady (info : TableInfo) (effect : Effect) (write : ℕ) (put : PutFiles) (ready : Ready) : Type 0 where
+pub record IsChangeReady (info : TableInfo) (effect : Effect) (write : ℕ) (put : List Place) (ready : Ready) : Type 0 where
   pub end_is : ready.end ≡ end.Commit (touches_of info effect) info.shape.name put
-  pub places : put.places ≡ places_of_files info.table.0 write (files_of info.shape write 0 effect)
+  pub places : put ≡ places_of_files info.table.0 write (files_of info.shape write 0 effect)
   pub text_is : ready.text ≡ counts_line (touches_of info effect)
   pub held : AreHeld effect.inserts
   pub encoded : AllByRecursion HasFile (files_of info.shape write 0 effect)
@@ -196,7 +195,7 @@ PreparesTo txn Plain ready added = (added ≡ []) × IsReadyAs ready idle_end ok
 PreparesTo txn (Make shape) ready added = (added ≡ []) × IsReadyAs ready end.Create ok_line
 PreparesTo txn (Change info effect) ready added =
     ((added ≡ []) × (changes_in effect ≡ 0) × IsReadyAs ready idle_end (counts_line []))
-    ⊎ ((write : WriteId) × (put : PutFiles) × (added ≡ giving txn info.table write ∷ []) × (0 < changes_in effect)
+    ⊎ ((write : WriteId) × (put : List Place) × (added ≡ giving txn info.table write ∷ []) × (0 < changes_in effect)
     × IsChangeReady info effect write.0 put ready)
 PreparesTo txn meaning ready added = ⊥
 
@@ -233,8 +232,8 @@ IsDueSo trail txn wrote name places text =
 -- these are; in a told house it means that
 abbrev pub CanConclude : {D : Type 0} → (D → Option Store) → ToldHouse D → Way → End → List ℕ → Type 0
 CanConclude told now way (end.Commit wrote name put) text =
-    IsSmall (committing way.txn.0 wrote) × CanBePut (trail_in now) way.txn wrote put.places
-    × (IsToldHouse told now.house → IsDueSo (trail_in now) way.txn wrote name put.places text)
+    IsSmall (committing way.txn.0 wrote) × CanBePut (trail_in now) way.txn wrote put
+    × (IsToldHouse told now.house → IsDueSo (trail_in now) way.txn wrote name put text)
 CanConclude told now way end.Create text = (IsToldHouse told now.house → IsMakeMeant (trail_in now) way.txn) × (text ≡ ok_line)
 
 abbrev pub CanConcludeIn : {D : Type 0} → (D → Option Store) → ToldHouse D → Way → Prepared → Type 0
@@ -255,7 +254,7 @@ pub record EndsReady (txn : ℕ) (ready : Ready) (last : Entry) (reply : Reply) 
 pub record EndsInConflict (txn : ℕ) (ready : Ready) (last : Entry) (reply : Reply) : Type 0 where
   pub wrote : List Touch
   pub name : List ℕ
-  pub put : PutFiles
+  pub put : List Place
   pub end_is : ready.end ≡ end.Commit wrote name put
   pub by : TxnId
   pub table : TableId

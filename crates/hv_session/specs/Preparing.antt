@@ -38,7 +38,6 @@ use Rattle.hv_acts.specs.Answers.{HasItsMark}
 use Rattle.hv_acts.specs.Meant.{HasMeant, IsFileMeant, places_of_files}
 use Rattle.hv_session.specs.Ending.{aborting, giving, CanChange, HasEndedAt}
 use Rattle.hv_session.specs.declared.ready.End.{End}
-use Rattle.hv_session.specs.declared.ready.PutFiles.{PutFiles}
 use Rattle.hv_session.specs.declared.ready.Reply.{Reply}
 use Rattle.hv_session.specs.declared.ready.Way.{Way}
 use Rattle.hv_session.specs.declared.reply.Done.{Done}
@@ -171,12 +170,12 @@ pub record ArePutUpTo (table write : ℕ) (files : List OutFile) (places : List 
   pub encoded : AllByRecursion HasFile files
 
 -- all files of a change were put under a write id
-pub record IsChangePut (info : TableInfo) (effect : Effect) (write : ℕ) (put : PutFiles) : Type 0 where
-  pub places : put.places ≡ places_of_files info.table.0 write (files_of info.shape write 0 effect)
+pub record IsChangePut (info : TableInfo) (effect : Effect) (write : ℕ) (put : List Place) : Type 0 where
+  pub places : put ≡ places_of_files info.table.0 write (files_of info.shape write 0 effect)
   pub held : AreHeld effect.inserts
   pub encoded : AllByRecursion HasFile (files_of info.shape write 0 effect)
 
 -- it is ready with its change; or it ended for a fault of its files
 abbrev pub Writes : {D : Type 0} → ℕ → ToldHouse D → TableInfo → Effect → ℕ → Prepared → List Entry → Type 0
-Writes txn now info effect write (prepared.Ready ready) added = (added ≡ []) × ((put : PutFiles) × IsChangeReady info effect write put ready)
+Writes txn now info effect write (prepared.Ready ready) added = (added ≡ []) × ((put : List Place) × IsChangeReady info effect write put ready)
 Writes txn now info effect write (prepared.Ended found) added = AbortsFor txn now [] IsWriteFault found added

@@ -19,10 +19,10 @@ use crate::ready::{End, Ready, Reply, Way};
 use crate::refusing::end_without;
 use crate::reply::Done;
 use hv_actor::Actor;
-use hv_acts::{Aborted, ActFault, CommitWrites, Committed, Made, MakeTable, PutFiles, ToldHouse};
+use hv_acts::{Aborted, ActFault, CommitWrites, Committed, Made, MakeTable, ToldHouse};
 use hv_base::{List, Text, Touch, TxnId};
 use hv_house::HouseFault;
-use hv_shelf::Shelf;
+use hv_shelf::{Place, Shelf};
 use std::alloc::Global;
 
 /// Commits a transaction, or aborts it for a conflict, where that fits.
@@ -32,19 +32,19 @@ fn commit<D: Shelf + Drop, W: Actor<D, ToldHouse<D>>>(
     txn: TxnId,
     wrote: List<Touch>,
     name: Text,
-    put: PutFiles,
+    put: List<Place>,
 ) -> Result<Committed, ActFault>
     requires keeps { W.keeps actor.old }
     requires running { IsOpenHouse (W.house actor.old) }
     requires small { IsSmall (committing txn.0 wrote) }
-    requires can { CanBePut (trail_in (W.house actor.old)) txn wrote put.places }
+    requires can { CanBePut (trail_in (W.house actor.old)) txn wrote put }
     requires due { IsToldHouse D.told (W.house actor.old).house
-        → IsCommitDue (trail_in (W.house actor.old)) txn wrote put.places }
+        → IsCommitDue (trail_in (W.house actor.old)) txn wrote put }
     ensures keeps { W.keeps actor.new }
     ensures adds { AddsOwn D.faults W.between (W.own actor.old) (W.own actor.new) (W.house actor.old) (W.house actor.new)
         (commit_adds txn.0 wrote result) }
     ensures ended { IfOk result (IsCommitEnd (W.house actor.new) txn.0 name) }
-    ensures answered { (text : List ℕ) → IsDueSo (trail_in (W.house actor.old)) txn wrote name put.places text
+    ensures answered { (text : List ℕ) → IsDueSo (trail_in (W.house actor.old)) txn wrote name put text
         → IfOk result (IsCommitAnswered (W.house actor.new) txn.0 text) }
     ensures left { IsLeft D.told W.meanwhile txn.0 (W.house actor.new) result }
     ensures ends { IfErr result EndsAct }
@@ -92,7 +92,7 @@ fn end_by_commit<D: Shelf + Drop, W: Actor<D, ToldHouse<D>>>(
     way: Way,
     wrote: List<Touch>,
     name: Text,
-    put: crate::ready::PutFiles,
+    put: List<Place>,
     text: List<u8>,
 ) -> Result<Done, HouseFault>
     requires keeps { W.keeps actor.old }
@@ -106,11 +106,7 @@ fn end_by_commit<D: Shelf + Drop, W: Actor<D, ToldHouse<D>>>(
     ensures answered { IsToldHouse D.told (W.house actor.old).house → IfOk result (AnswersTruly way.txn.0 (W.house actor.new)) }
     ensures ends { IfErr result EndsRun }
 {
-    let files = PutFiles {
-        since: put.since,
-        places: put.places,
-    };
-    match commit(alloc, actor, way.txn, wrote, name, files) {
+    match commit(alloc, actor, way.txn, wrote, name, put) {
         Ok(found) => Ok(committed(found, text)),
         Err(why) => end_without(alloc, actor, way.txn, why),
     }

@@ -31,7 +31,7 @@ pub use asking::{Asking, How};
 pub use laws::what_is_held_can_be_finished;
 pub use lines::memory_reply;
 pub use paused::{Paused, Point, Taken};
-pub use ready::{End, PutFiles, Ready, Reply, Way};
+pub use ready::{End, Ready, Reply, Way};
 pub use reply::Done;
 pub use statement::take_up;
 pub use taking::finish;

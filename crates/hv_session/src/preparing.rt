@@ -24,7 +24,7 @@ ghost use Rattle.hv_session.specs.Phases.{ComesTo, Prepares, CanConcludeIn, NoCa
 ghost use Rattle.hv_session.specs.Preparing.{ended, ended_by, failed_count, given_entries, EndsFor, MakesReady, ComesToChange, IsGivenSo, IsFaultOf, IsRefusal, HasItsId, Writes};
 
 use crate::putting::put;
-use crate::ready::{End, PutFiles, Ready, Reply, Way};
+use crate::ready::{End, Ready, Reply, Way};
 use crate::refusing::{end_without, refuse};
 use crate::reply::{Done, Prepared};
 use hv_actor::Actor;
@@ -34,18 +34,15 @@ use hv_history::{Cause, counts_line, listing, ok_line};
 use hv_house::HouseFault;
 use hv_logic::{Effect, Meaning, TableInfo};
 use hv_route::{RouteFault, touches};
-use hv_shelf::Shelf;
+use hv_shelf::{Place, Shelf};
 use std::alloc::Global;
 
 /// A commit that touches nothing.
 fn nothing(alloc: Global) -> End
     ensures { result ≡ idle_end }
 {
-    let put = PutFiles {
-        since: 0,
-        places: List::empty(alloc),
-    };
-    End::Commit(List::empty(alloc), Text::from_bytes(Vec::new(alloc)), put)
+    let name = Text::from_bytes(Vec::new(alloc));
+    End::Commit(List::empty(alloc), name, List::empty(alloc))
 }
 
 /// A statement that has ended so, where the run goes on.
@@ -235,7 +232,7 @@ fn break_off<D: Shelf + Drop, W: Actor<D, ToldHouse<D>>>(
 }
 
 /// What is left of a change whose files are put.
-fn written(info: TableInfo, wrote: List<Touch>, text: Vec<u8>, put: PutFiles) -> Prepared
+fn written(info: TableInfo, wrote: List<Touch>, text: Vec<u8>, put: List<Place>) -> Prepared
     ensures { result ≡ found.Ready (record { end = last.Commit wrote info.shape.name put; text = text.items }) }
 {
     Prepared::Ready(Ready {

@@ -10,7 +10,6 @@ ghost use Rattle.hv_acts.specs.Meant.{places_of_files};
 ghost use Rattle.hv_session.specs.Going.{faults_in, AddsOwn, IsOpenHouse};
 ghost use Rattle.hv_session.specs.Preparing.{with_place, IsRefusal, IsFileDue, AreFilesDue, HasItsId, IsChangePut};
 
-use crate::ready::PutFiles;
 use hv_actor::Actor;
 use hv_acts::{ActFault, PutFile, ToldHouse};
 use hv_base::{Duplicate, List, NoMemory, TableId, TxnId, WriteId};
@@ -175,7 +174,7 @@ fn put_each<D: Shelf + Drop, W: Actor<D, ToldHouse<D>>>(
     Ok(places)
 }
 
-/// Puts the files of a change, and answers what was put.
+/// Puts the files of a change, and answers their places.
 fn put_files<D: Shelf + Drop, W: Actor<D, ToldHouse<D>>>(
     alloc: Global,
     actor: &mut W,
@@ -183,7 +182,7 @@ fn put_files<D: Shelf + Drop, W: Actor<D, ToldHouse<D>>>(
     table: TableId,
     write: WriteId,
     files: &[OutFile],
-) -> Result<PutFiles, ActFault>
+) -> Result<List<Place>, ActFault>
     requires keeps { W.keeps actor.old }
     requires running { IsOpenHouse (W.house actor.old) }
     requires can { AllByRecursion CanPut files.now }
@@ -193,15 +192,12 @@ fn put_files<D: Shelf + Drop, W: Actor<D, ToldHouse<D>>>(
     ensures keeps { W.keeps actor.new }
     ensures adds { AddsOwn D.faults W.between (W.own actor.old) (W.own actor.new) (W.house actor.old) (W.house actor.new) [] }
     ensures running { IfOk result (λ _. IsOpenHouse (W.house actor.new)) }
-    ensures places { IfOk result (λ put. put.places ≡ places_of_files table.0 write.0 files.now) }
+    ensures places { IfOk result (λ put. put ≡ places_of_files table.0 write.0 files.now) }
     ensures encoded { IfOk result (λ _. AllByRecursion HasFile files.now) }
     ensures refusal { IfErr result (IsRefusal D.told D.faults W.meanwhile (faults_in D.faults (W.house actor.old)) txn (W.house actor.new)) }
 {
     match put_each(alloc, actor, txn, table, write, files) {
-        Ok(places) => Ok(PutFiles {
-            since: 0,
-            places: List::from_vec(places),
-        }),
+        Ok(places) => Ok(List::from_vec(places)),
         Err(why) => Err(why),
     }
 }
@@ -214,7 +210,7 @@ pub fn put<D: Shelf + Drop, W: Actor<D, ToldHouse<D>>>(
     info: &TableInfo,
     effect: Effect,
     write: WriteId,
-) -> Result<PutFiles, ActFault>
+) -> Result<List<Place>, ActFault>
     requires keeps { W.keeps actor.old }
     requires running { IsOpenHouse (W.house actor.old) }
     requires can { AllByRecursion CanPut (files_of info.now.shape write.0 0 effect) }

@@ -17,18 +17,11 @@ pub struct Way {
     pub place: u64,
 }
 
-/// The files that a statement put, one after another: how many marks the house had before them, and their places.
-#[derive(Drop)]
-pub struct PutFiles {
-    pub since: u64,
-    pub places: List<Place>,
-}
-
 /// What is noted where a statement ends.
 #[derive(Drop)]
 pub enum End {
-    /// A commit with these touches, in the table of that name, of these files.
-    Commit(List<Touch>, Text, PutFiles),
+    /// A commit with these touches, in the table of that name, of the files at these places.
+    Commit(List<Touch>, Text, List<Place>),
     /// The table that it makes.
     Create,
 }

@@ -17,7 +17,7 @@ use Rattle.hv_logic.specs.declared.effect.Effect.{Effect}
 use Rattle.hv_logic.specs.declared.effect.Found.{Found}
 use Rattle.hv_rowfile.specs.declared.record.Rec.{Rec}
 use Rattle.hv_rowfile.specs.Layout.{RowIsTaken, RecIsTaken, RisesFrom, id_of, CanWrite, IsFile}
-use Rattle.hv_logic.specs.Sorting.{sorted_by}
+use Rattle.hv_base.specs.Sorting.{sorted_by}
 use Rattle.hv_base.specs.declared.ids.RowId.{RowId}
 use Rattle.hv_route.specs.declared.runs.Run.{Run}
 use Rattle.hv_route.specs.Placing.{placed_cmp, runs_of}

@@ -6,7 +6,7 @@ use Rattle.std.specs.Ordering.{ordering_reverse}
 use Rattle.std.specs.Cmp.{IsTotalOrder}
 use Rattle.std.specs.List.{AllByRecursion}
 use Rattle.std.specs.List.Sorted.{IsStrictlySortedBy}
-use Rattle.hv_logic.specs.Sorting.{placed_by, put_by, sorted_by}
+use Rattle.hv_base.specs.Sorting.{placed_by, put_by, sorted_by}
 use Rattle.hv_stands.proofs.Soundness.{all-mapped}
 
 module _ {X : Type 0} where

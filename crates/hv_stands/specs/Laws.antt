@@ -18,10 +18,6 @@ use Rattle.hv_dirs.specs.Names.{write_end}
 use Rattle.hv_stands.specs.Files.{records_of, HasRecords, own_dir, own_place, ending_of, IsOwn, IsSaid, IsFiled, Stands}
 use Rattle.hv_stands.specs.Sound.{IsSound}
 
--- a table as it is when it is made
-abbrev pub made_table : ℕ → Shape → Table
-made_table number shape = new_table (record { table = record { 0 = number }; shape = shape })
-
 -- how many rows a change inserts and deletes
 abbrev pub changes_in : Effect → ℕ
 changes_in effect = length effect.inserts + length effect.deletes

@@ -8,7 +8,7 @@ use Rattle.std.specs.List.{flat_map, list_any, AllByRecursion, Contains}
 use Rattle.std.specs.List.Sorted.{IsStrictlySortedBy}
 use Rattle.std.proofs.lemmas.List.Elements.{All-contains, All-from_recursion}
 use Rattle.hv_law_visible.specs.Members.{IsIn}
-use Rattle.hv_logic.specs.Sorting.{placed_by, put_by, sorted_by}
+use Rattle.hv_base.specs.Sorting.{placed_by, put_by, sorted_by}
 
 module _ {X : Type 0} where
   abbrev pub In : X → List X → Type 0

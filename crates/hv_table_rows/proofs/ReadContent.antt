@@ -8,7 +8,7 @@ use Rattle.hv_shelf.specs.Disk.{Tree, places_of}
 use Rattle.hv_logic.specs.declared.catalog.TableInfo.{TableInfo}
 use Rattle.hv_logic.specs.declared.effect.Found.{Found}
 use Rattle.hv_logic.specs.Rows.{found_cmp}
-use Rattle.hv_logic.specs.Sorting.{sorted_by}
+use Rattle.hv_base.specs.Sorting.{sorted_by}
 use Rattle.hv_route.specs.Standing.{stands_in}
 use Rattle.hv_rowfile.specs.declared.record.Rec.{Rec}
 use Rattle.hv_rowfile.specs.Layout.{IsFile, file_spelling}

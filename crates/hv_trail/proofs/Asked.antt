@@ -1,7 +1,6 @@
 -- What is asked of the marks of a trail.
-use Rattle.std.proofs.Common.{◌≡◌, ℕ, zero, suc, ◌+◌, ◌-◌, ◌&&◌, not, Bool, true, false, Option, Some, None, List, [], ◌∷◌, ◌++◌, map, take, drop, refl, sym, ap, ◌∙◌, subst, arith, eqb-true}
+use Rattle.std.proofs.Common.{◌≡◌, ℕ, zero, suc, ◌-◌, ◌&&◌, not, Bool, true, false, Option, Some, None, List, [], ◌∷◌, ◌++◌, map, take, drop, refl, sym, ap, ◌∙◌, subst, arith, eqb-true}
 use Rattle.std.specs.Prelude.{if◌then◌else◌, slice_get, Contains}
-use Rattle.std.specs.List.{AllByRecursion}
 use Rattle.std.specs.declared.cmp.Ordering.{Ordering}
 use Rattle.std.specs.declared.cmp.Ordering.TheVariants.{Less, Equal, Greater}
 use Rattle.std.specs.Ordering.{is_eq}
@@ -17,7 +16,7 @@ use Rattle.hv_trail.specs.declared.trail.Mark.TheVariants.{Wrote, Went, Broke}
 use Rattle.hv_trail.specs.declared.trail.TrailItem.{TrailItem}
 use Rattle.hv_trail.specs.declared.trail.TrailItem.TheVariants.{Noted, Marked}
 use Rattle.hv_trail.specs.Trail.{is_reader, woven_from, broken, HasWritten}
-use Rattle.hv_trail.specs.Kept.{is_fault, fault_of, broken_in, IsQuiet, wrote_at, is_written, are_written}
+use Rattle.hv_trail.specs.Kept.{is_fault, fault_of, broken_in, IsQuiet, wrote_at, is_written}
 
 -- ---- calls that failed
 
@@ -85,10 +84,6 @@ both true true e = (refl, refl)
 both true false e = cc
 both false b e = cc
 
-either : (a rest : Bool) → (if a then rest else false) ≡ true → (a ≡ true) × (rest ≡ true)
-either true rest e = (refl, e)
-either false rest e = cc
-
 same-reader : (reader other : Reader) → is_reader reader (Some other) ≡ true → other ≡ reader
 same-reader (Txn txn) (Txn other) e = ap (λ n. Txn (record { 0 = n })) (sym (eqb-true txn.0 other.0 e))
 same-reader (Txn txn) (Job other) e = cc
@@ -126,7 +121,7 @@ mark-stands before book (mark ∷ marks) (suc at) kept e =
     behind-first : (first : TrailItem) (items : List TrailItem) (item : TrailItem) → Contains items item → Contains (first ∷ items) item
     behind-first first items item h = Contains-append_right (first ∷ []) items item h
 
-written-at : (reader : Reader) (place : Place) (book : List Entry) (marks : List (ℕ × Mark)) (at : ℕ) → is_written reader place (slice_get marks at) ≡ true
+pub written-at : (reader : Reader) (place : Place) (book : List Entry) (marks : List (ℕ × Mark)) (at : ℕ) → is_written reader place (slice_get marks at) ≡ true
     → HasWritten (woven_from 0 book marks) reader place
 written-at reader place book marks at e = by (slice_get marks at) refl e
   where
@@ -134,10 +129,3 @@ written-at reader place book marks at e = by (slice_get marks at) refl e
     by None is e = cc
     by (Some kept) is e =
         subst (λ m. Contains (woven_from 0 book marks) (Marked m)) (mark-is reader place kept.1 e) (mark-stands 0 book marks at kept is)
-
-pub all-written : (reader : Reader) (at : ℕ) (places : List Place) (book : List Entry) (marks : List (ℕ × Mark)) → are_written reader at places marks ≡ true
-    → AllByRecursion (HasWritten (woven_from 0 book marks) reader) places
-all-written reader at [] book marks e = tt
-all-written reader at (place ∷ places) book marks e =
-    let parts = either (is_written reader place (slice_get marks at)) (are_written reader (at + 1) places marks) e in
-    (written-at reader place book marks at parts.0, all-written reader (at + 1) places book marks parts.1)

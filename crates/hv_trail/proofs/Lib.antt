@@ -1,6 +1,7 @@
 pub mod KeptLaws
 pub mod LastingLaws
 pub mod Asked
+pub mod Written
 pub mod MarkLaws
 pub mod OwnLaws
 pub mod StepLaws

@@ -1,5 +1,5 @@
 -- A trail as a house keeps it: the book and the marks apart.
-use Rattle.std.specs.Prelude.{◌≡◌, ℕ, Bool, true, false, ◌&&◌, if◌then◌else◌, ◌+◌, ◌≤◌, Option, Some, None, List, [], ◌∷◌, length, slice_get}
+use Rattle.std.specs.Prelude.{◌≡◌, ℕ, Bool, true, false, ◌&&◌, if◌then◌else◌, ◌+◌, ◌≤◌, Option, Some, None, List, [], ◌∷◌, length}
 use Rattle.hv_shelf.specs.declared.place.Place.{Place}
 use Rattle.hv_shelf.specs.Places.{place_eq}
 use Rattle.hv_history.specs.declared.entry.Entry.{Entry}
@@ -53,7 +53,7 @@ broken_in reader (mark ∷ marks) = first_known (fault_of reader mark.1) (broken
 abbrev pub IsQuiet : Bool → List (ℕ × Mark) → Type 0
 IsQuiet quiet marks = quiet ≡ true → (reader : Reader) → broken_in reader marks ≡ None
 
--- whether the marks from this one on say that this reader put files at these places, one after another
+-- whether a mark says that this reader put a file at this place
 abbrev pub wrote_at : Reader → Place → Mark → Bool
 wrote_at reader place (Wrote by at) = is_reader reader (Some by) && place_eq at place
 wrote_at reader place mark = false
@@ -61,7 +61,3 @@ wrote_at reader place mark = false
 abbrev pub is_written : Reader → Place → Option (ℕ × Mark) → Bool
 is_written reader place None = false
 is_written reader place (Some mark) = wrote_at reader place mark.1
-
-abbrev pub are_written : Reader → ℕ → List Place → List (ℕ × Mark) → Bool
-are_written reader at [] marks = true
-are_written reader at (place ∷ places) marks = if is_written reader place (slice_get marks at) then are_written reader (at + 1) places marks else false

@@ -1,9 +1,9 @@
-ghost use Rattle.std.specs.Prelude.{◌≡◌, ◌+◌, ◌≤◌, ◌<◌, ◌++◌, ◌∷◌, [], length, vec_len, vec_capacity, OnOk, OnErr, IsOk, Some, ◌&&◌, not, true, false, slice_get};
-ghost use Rattle.std.specs.List.{AllByRecursion};
+ghost use Rattle.std.specs.Prelude.{◌≡◌, ◌↔◌, ◌+◌, ◌≤◌, ◌<◌, List, ◌++◌, ◌∷◌, [], length, vec_len, vec_capacity, OnOk, OnErr, IsOk, IsTrue, Some, ◌&&◌, not, true, false, slice_get};
+ghost use Rattle.hv_history.specs.declared.entry.Entry.{Entry};
 ghost use Rattle.hv_history.specs.Book.{tree_of_entry};
 ghost use Rattle.hv_trail.specs.declared.trail.TrailItem.TheVariants as item;
-ghost use Rattle.hv_trail.specs.Trail.{is_reader, broken, HasWritten};
-ghost use Rattle.hv_trail.specs.Kept.{trail_of, is_fault, fault_of, broken_in, wrote_at, is_written, are_written};
+ghost use Rattle.hv_trail.specs.Trail.{is_reader, woven_from, broken, HasWritten};
+ghost use Rattle.hv_trail.specs.Kept.{trail_of, is_fault, fault_of, broken_in, wrote_at, is_written};
 
 use crate::trail::{Mark, Reader};
 use hv_ast::Stmt;
@@ -132,18 +132,16 @@ fn is_written(reader: Reader, place: &Place, marks: &[(u64, Mark)], at: usize) -
     }
 }
 
-/// Whether the marks from this one on say that this reader put files at these places, one after another.
-fn are_written(reader: Reader, first: usize, places: &[Place], marks: &[(u64, Mark)]) -> bool
-    ensures { result ≡ are_written reader first places.now marks.now }
+/// Whether one of the marks says that this reader put a file at this place. The newest are looked at first.
+fn any_written(reader: Reader, place: &Place, marks: &[(u64, Mark)]) -> bool
+    ensures written { (book : List Entry) → IsTrue result ↔ HasWritten (woven_from 0 book marks.now) reader place.now }
 {
-    let mut at = first;
-    for place in places {
-        if !is_written(reader, place, marks, at) {
-            return false;
+    for at in (0..marks.len()).rev() {
+        if is_written(reader, place, marks, at) {
+            return true;
         }
-        at += 1;
     }
-    true
+    false
 }
 
 fn append(marks: &mut Vec<(u64, Mark)>, before: u64, mark: Mark)
@@ -274,13 +272,6 @@ impl KeptTrail {
         append(&mut self.marks, before, mark);
     }
 
-    /// How many marks there are.
-    pub fn marks(&self) -> u64
-        ensures marks { result ≡ length self.now.marks }
-    {
-        self.marks.len() as u64
-    }
-
     /// The first call that failed for this reader: whether it was to put a file, and the count behind it.
     pub fn broken(&self, reader: Reader) -> Option<(bool, u64)>
         ensures broken { result ≡ broken reader (trail_of self.now) }
@@ -292,11 +283,10 @@ impl KeptTrail {
         }
     }
 
-    /// Whether the marks from this one on say that this reader put files at these places, one after another.
-    pub fn has_written(&self, reader: Reader, first: u64, places: &[Place]) -> bool
-        ensures exact { result ≡ are_written reader first places.now self.now.marks }
-        ensures written { result ≡ true → AllByRecursion (HasWritten (trail_of self.now) reader) places.now }
+    /// Whether a mark says that this reader put a file at this place.
+    pub fn has_written(&self, reader: Reader, place: &Place) -> bool
+        ensures written { IsTrue result ↔ HasWritten (trail_of self.now) reader place.now }
     {
-        are_written(reader, first as usize, places, &self.marks)
+        any_written(reader, place, &self.marks)
     }
 }

@@ -2,29 +2,13 @@
 -- Source: Hive Language Manual, Sort By and Select. That the whole row decides behind the keys is this project's profile.
 use Rattle.std.specs.Prelude.{ℕ, Bool, if◌then◌else◌, List, [], ◌∷◌, Option, Some, None, take, slice_index_or}
 use Rattle.std.specs.declared.cmp.Ordering.{Ordering}
-use Rattle.std.specs.declared.cmp.Ordering.TheVariants.{Less, Equal, Greater}
 use Rattle.std.specs.Ordering.{ordering_then, flip_args, on}
+use Rattle.hv_base.specs.Sorting.{sorted_by}
 use Rattle.hv_value.specs.declared.value.Value.{Value}
 use Rattle.hv_value.specs.declared.value.Value.TheVariants.{Null}
 use Rattle.hv_value.specs.declared.row.Row.{Row}
 use Rattle.hv_value.specs.Order.{value_cmp, row_cmp}
 use Rattle.hv_typing.specs.declared.tree.SortKey.{SortKey}
-
--- ---- a list sorted by an order: each item is put before the first one that doesn't come before it
-module _ {X : Type 0} (cmp : X → X → Ordering) where
-  abbrev pub placed_by : Ordering → X → X → List X → List X → List X
-  placed_by Greater x y later put = y ∷ put
-  placed_by Less x y later put = x ∷ y ∷ later
-  placed_by Equal x y later put = x ∷ y ∷ later
-
-  -- x put into a sorted list
-  abbrev pub put_by : X → List X → List X
-  put_by x [] = x ∷ []
-  put_by x (y ∷ ys) = placed_by (cmp x y) x y ys (put_by x ys)
-
-  abbrev pub sorted_by : List X → List X
-  sorted_by [] = []
-  sorted_by (x ∷ xs) = put_by x (sorted_by xs)
 
 -- ---- the keys
 abbrev pub value_at : ℕ → Row → Value

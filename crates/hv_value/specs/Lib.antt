@@ -1,6 +1,5 @@
 pub mod Order
 pub mod OrderLaws
-pub mod Sorting
 pub mod Hashing
 pub mod HashingLaws
 pub mod Bytes

@@ -15,7 +15,7 @@ use Rattle.hv_value.specs.declared.value.Value.{Value}
 use Rattle.hv_value.specs.declared.value.Value.TheOpen.{Value-F}
 use Rattle.hv_value.specs.declared.value.Value.TheFolds.{fold-Value, fold_out-Value, ind-Value, map-Value}
 use Rattle.hv_value.specs.declared.value.Value.TheViews.{out-Value, roll-Value, out-roll-Value, roll-out-Value}
-use Rattle.hv_value.specs.Sorting.{sorted_same}
+use Rattle.hv_base.proofs.SortingLaws.{sorted_same}
 use Rattle.hv_value.specs.Order.{value_cmp, row_cmp, scalar_cmp, layer_cmp, compares_with, kind_of, truth_of, number_of, width_of, bytes_of, items_of}
 
 -- ---- the order's equation

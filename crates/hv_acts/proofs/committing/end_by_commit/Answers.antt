@@ -6,24 +6,24 @@ use Rattle.hv_acts.proofs.committing.end_by_commit.Goals as goal
 
 pub note_fitting-requires-clause-marked : goal.note_fitting-requires-clause-marked
 note_fitting-requires-clause-marked g c =
-    can-commit c.args.house.now c.args.due.txn c.args.due.wrote c.args.due.put.places c.requires.running.0 c.requires.unbroken c.requires.can c.requires.put
+    can-commit c.args.house.now c.args.due.txn c.args.due.wrote c.args.due.put c.requires.running.0 c.requires.unbroken c.requires.can c.requires.put
 
 pub note_fitting-requires-clause-truly : goal.note_fitting-requires-clause-truly
 note_fitting-requires-clause-truly g c told fits =
     true-house c.args.house.now (entry.Commit c.args.due.txn c.args.due.wrote)
-    (commit-true (trail_of c.args.house.now.trail) c.args.due.txn c.requires.running.0 c.args.due.wrote c.args.due.put.places c.requires.running.1 fits c.requires.put
+    (commit-true (trail_of c.args.house.now.trail) c.args.due.txn c.requires.running.0 c.args.due.wrote c.args.due.put c.requires.running.1 fits c.requires.put
     (c.requires.truly told))
 
 pub returns-in-Ok : goal.returns-in-Ok
 returns-in-Ok g c = record {
   committed =
-      commit-done g.D.Shelf.told g.D.Shelf.faults c.args.due.txn c.args.due.wrote c.args.due.name c.args.due.put.places c.next_place-at.result c.args.house.now
+      commit-done g.D.Shelf.told g.D.Shelf.faults c.args.due.txn c.args.due.wrote c.args.due.name c.args.due.put c.next_place-at.result c.args.house.now
       c.note_fitting.new.house c.next_place-at.ensures.place c.requires.unbroken c.requires.put c.requires.running.1 c.in-Ok.ensures.noted;
 }
 
 pub returns : goal.returns
 returns g c = record {
   committed =
-      commit-failed g.D.Shelf.told g.D.Shelf.faults c.args.due.txn c.args.due.wrote c.args.due.name c.args.due.put.places c.in-Err.fault c.args.house.now
+      commit-failed g.D.Shelf.told g.D.Shelf.faults c.args.due.txn c.args.due.wrote c.args.due.name c.args.due.put c.in-Err.fault c.args.house.now
       c.note_fitting.new.house c.in-Err.ensures.noted;
 }

@@ -35,7 +35,7 @@ note_conflict-requires-clause-truly g c told =
     let of = c.in-Ok.ensures.conflict c.requires.clash.touch
     (subst (λ (ts : List Touch). slice_get ts c.args.found.at ≡ Some c.requires.clash.touch) (sym c.as_slice.ensures) c.requires.clash.found) in
     found-true c.args.house.now c.args.due.now.txn c.args.due.now.wrote c.args.found c.requires.clash c.requires.running c.args.due.now.name
-    c.next_place-at.result c.in-Ok.conflict of c.args.due.now.put.places (c.requires.truly told)
+    c.next_place-at.result c.in-Ok.conflict of c.args.due.now.put (c.requires.truly told)
 
 pub note_conflict-requires-clause-place : goal.note_conflict-requires-clause-place
 note_conflict-requires-clause-place g c =
@@ -54,7 +54,7 @@ returns-in-Ok g c =
     let of = c.in-Ok.ensures.conflict c.requires.clash.touch
     (subst (λ (ts : List Touch). slice_get ts c.args.found.at ≡ Some c.requires.clash.touch) (sym c.as_slice.ensures) c.requires.clash.found) in
     record {
-      committed = c.note_conflict.ensures.committed c.args.due.now.wrote c.args.due.now.name c.args.due.now.put.places
+      committed = c.note_conflict.ensures.committed c.args.due.now.wrote c.args.due.now.name c.args.due.now.put
           (found-met c.args.house.now c.args.due.now.txn c.args.due.now.wrote c.args.found c.requires.clash c.requires.running c.args.due.now.name
           c.next_place-at.result c.in-Ok.conflict of);
     }
@@ -62,6 +62,6 @@ returns-in-Ok g c =
 pub returns-in-Err : goal.returns-in-Err
 returns-in-Err g c = record {
   committed =
-      commit-lacks g.D.Shelf.told g.D.Shelf.faults c.args.due.now.txn c.args.due.now.wrote c.args.due.now.name c.args.due.now.put.places
+      commit-lacks g.D.Shelf.told g.D.Shelf.faults c.args.due.now.txn c.args.due.now.wrote c.args.due.now.name c.args.due.now.put
       c.args.house.now c.requires.whole;
 }

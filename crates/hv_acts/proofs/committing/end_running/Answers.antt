@@ -10,7 +10,7 @@ use Rattle.hv_acts.proofs.committing.end_running.Goals as goal
 pub returns-then-not-is_put : goal.returns-then-not-is_put
 returns-then-not-is_put g c = record {
   committed =
-      commit-late g.D.Shelf.told g.D.Shelf.faults c.args.due.txn c.args.due.wrote c.args.due.name c.args.due.put.places c.late.result c.args.house.now
+      commit-late g.D.Shelf.told g.D.Shelf.faults c.args.due.txn c.args.due.wrote c.args.due.name c.args.due.put c.late.result c.args.house.now
       c.requires.whole c.late.ensures.late (λ is. no-true c.is_put.result c.if-not-is_put.true (c.is_put.ensures.put.1 is.put));
 }
 

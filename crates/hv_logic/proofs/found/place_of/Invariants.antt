@@ -1,6 +1,6 @@
 use Rattle.std.proofs.Common.{◌≡◌, ◌++◌, take, drop}
 use Rattle.hv_logic.specs.Rows.{found_cmp}
-use Rattle.hv_logic.specs.Sorting.{put_by}
+use Rattle.hv_base.specs.Sorting.{put_by}
 use Rattle.hv_logic.proofs.found.place_of.Given as goal
 
 abbrev pub invariant-loop-i : goal.invariant-loop-i

@@ -1,7 +1,7 @@
 -- The last row that is left is put before those behind it.
 use Rattle.std.proofs.Common.{ap, sym, ◌∙◌, vec_len}
 use Rattle.hv_logic.specs.Rows.{found_cmp}
-use Rattle.hv_logic.specs.Sorting.{put_by}
+use Rattle.hv_base.specs.Sorting.{put_by}
 use Rattle.hv_logic.proofs.Steps.{popped_rest, popped_put}
 use Rattle.hv_logic.proofs.found.sort_found.Goals as goal
 

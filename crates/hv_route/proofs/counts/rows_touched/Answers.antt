@@ -1,6 +1,6 @@
 use Rattle.std.proofs.Common.{◌≡◌, rules, subst, IsPermutation}
 use Rattle.std.specs.Cmp.{bool_cmp_total}
-use Rattle.hv_logic.proofs.SortingLaws.{sorted_is}
+use Rattle.hv_base.proofs.SortingLaws.{sorted_is}
 use Rattle.hv_route.specs.Placing.{placed_total}
 use Rattle.hv_route.specs.Touching.{rows_touched}
 use Rattle.hv_route.proofs.PlacedLemmas.{placed-same, bool-same}

@@ -1,6 +1,6 @@
 use Rattle.std.proofs.Common.{map, subst, IsPermutation}
 use Rattle.hv_base.specs.Identifiers.{row_id_total}
-use Rattle.hv_logic.proofs.SortingLaws.{sorted_is}
+use Rattle.hv_base.proofs.SortingLaws.{sorted_is}
 use Rattle.hv_route.specs.Placing.{placed_total}
 use Rattle.hv_route.specs.Routes.{place_of_deleted}
 use Rattle.hv_route.proofs.PlacedLemmas.{placed-same, id-same}

@@ -1,6 +1,6 @@
 use Rattle.std.proofs.Common.{map, subst, IsPermutation}
 use Rattle.hv_value.specs.OrderLaws.{row_cmp_total, row_cmp-IsAntisymmetric}
-use Rattle.hv_logic.proofs.SortingLaws.{sorted_is}
+use Rattle.hv_base.proofs.SortingLaws.{sorted_is}
 use Rattle.hv_route.specs.Placing.{placed_total}
 use Rattle.hv_route.specs.Routes.{place_of_row}
 use Rattle.hv_route.proofs.PlacedLemmas.{placed-same}

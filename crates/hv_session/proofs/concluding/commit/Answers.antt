@@ -9,8 +9,8 @@ hold-requires-clause-can g c = λ house kept reached.
     let before = g.W.Actor.house c.args.actor.now in
     let front = reached-front g.D.Shelf.told g.D.Shelf.faults g.W.Actor.meanwhile g.met.W.Actor.goes_on before house reached in (
       c.requires.small,
-      put-lasts (trail_in before) (trail_in house) front c.args.txn c.args.wrote c.args.put.places c.requires.can,
-      λ told. commit-lasts (trail_in before) (trail_in house) front c.args.txn c.args.wrote c.args.put.places
+      put-lasts (trail_in before) (trail_in house) front c.args.txn c.args.wrote c.args.put c.requires.can,
+      λ told. commit-lasts (trail_in before) (trail_in house) front c.args.txn c.args.wrote c.args.put
           (c.requires.due (found-told g.D.Shelf.told g.D.Shelf.faults g.W.Actor.meanwhile g.met.W.Actor.goes_on before house house reached told)),
     )
 
@@ -26,19 +26,19 @@ returns-clause-adds g c =
 pub returns-clause-ended : goal.returns-clause-ended
 returns-clause-ended g c =
     commit-ended g.D.Shelf.told g.D.Shelf.faults g.W.Actor.meanwhile g.met.W.Actor.goes_on (g.W.Actor.house c.args.actor.now) (g.W.Actor.house c.hold.new.self)
-    c.args.txn c.args.wrote c.args.name c.args.put.places c.hold.result c.hold.ensures.held
+    c.args.txn c.args.wrote c.args.name c.args.put c.hold.result c.hold.ensures.held
 
 pub returns-clause-answered : goal.returns-clause-answered
 returns-clause-answered g c = λ text due.
     commit-answered g.D.Shelf.told g.D.Shelf.faults g.W.Actor.meanwhile g.met.W.Actor.goes_on (g.W.Actor.house c.args.actor.now) (g.W.Actor.house c.hold.new.self)
-    c.args.txn c.args.wrote c.args.name c.args.put.places c.hold.result c.hold.ensures.held text due
+    c.args.txn c.args.wrote c.args.name c.args.put c.hold.result c.hold.ensures.held text due
 
 pub returns-clause-left : goal.returns-clause-left
 returns-clause-left g c =
     let held = c.hold.ensures.held in
     act-left g.D.Shelf.told g.D.Shelf.faults g.W.Actor.meanwhile g.met.W.Actor.goes_on (g.W.Actor.house c.args.actor.now) (g.W.Actor.house c.hold.new.self)
     _ c.hold.result _ c.args.txn.0 held c.requires.running
-    (commit-names c.args.txn c.args.wrote (trail_in held.house) c.args.name c.args.put.places c.hold.result held.does_it.0) held.does_it.1
+    (commit-names c.args.txn c.args.wrote (trail_in held.house) c.args.name c.args.put c.hold.result held.does_it.0) held.does_it.1
 
 pub returns-clause-ends : goal.returns-clause-ends
 returns-clause-ends g c = commit-ends c.args.txn c.args.wrote c.hold.result c.hold.ensures.held.step.may

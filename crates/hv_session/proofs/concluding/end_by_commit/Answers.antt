@@ -14,7 +14,7 @@ commit-requires-clause-can g c = c.requires.can.1
 
 pub commit-requires-clause-due : goal.commit-requires-clause-due
 commit-requires-clause-due g c = λ told.
-    so-due (trail_in (g.W.Actor.house c.args.actor.now)) c.args.way.txn c.args.wrote c.args.name c.args.put.places c.args.text (c.requires.can.2 told)
+    so-due (trail_in (g.W.Actor.house c.args.actor.now)) c.args.way.txn c.args.wrote c.args.name c.args.put c.args.text (c.requires.can.2 told)
 
 pub end_without-requires-clause-was : goal.end_without-requires-clause-was
 end_without-requires-clause-was g c =

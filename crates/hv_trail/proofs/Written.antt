@@ -1,6 +1,6 @@
--- Which files the marks of a house say were put.
+-- Which files the marks of a trail say were put.
 use Rattle.std.proofs.Common.{◌≡◌, ◌⊎◌, inl, inr, ℕ, zero, suc, ◌-◌, ◌<◌, Bool, true, false, Some, IsTrue, List, [], ◌∷◌, ◌++◌, length, map, take, drop, true≢false, eq-eqb, refl, sym, ap, ◌∙◌, arith}
-use Rattle.std.specs.Prelude.{◌&&◌, ◌||◌, if◌then◌else◌, ◌↔◌, slice_get, Contains}
+use Rattle.std.specs.Prelude.{◌&&◌, ◌||◌, ◌↔◌, slice_get, Contains}
 use Rattle.std.specs.List.{slice_index_or, list_any}
 use Rattle.std.specs.Cmp.{tied_itself}
 use Rattle.std.specs.Ordering.{is_eq}
@@ -14,7 +14,7 @@ use Rattle.hv_trail.specs.declared.trail.Mark.TheVariants.{Wrote}
 use Rattle.hv_trail.specs.declared.trail.TrailItem.{TrailItem}
 use Rattle.hv_trail.specs.declared.trail.TrailItem.TheVariants.{Noted, Marked}
 use Rattle.hv_trail.specs.Trail.{is_reader, woven_from, HasWritten}
-use Rattle.hv_trail.specs.Kept.{wrote_at, is_written, are_written}
+use Rattle.hv_trail.specs.Kept.{wrote_at, is_written}
 
 -- one of these marks is of a file that this reader put at that place
 abbrev pub any_put : Reader → Place → List (ℕ × Mark) → Bool
@@ -89,14 +89,6 @@ kept reader place before book (mark ∷ marks) h =
 
 -- ---- the walk over the marks, the newest first
 
-written-one : (reader : Reader) (place : Place) (at : ℕ) (marks : List (ℕ × Mark)) → are_written reader at (place ∷ []) marks ≡ false
-    → is_written reader place (slice_get marks at) ≡ false
-written-one reader place at marks e = by (is_written reader place (slice_get marks at)) e
-  where
-    by : (b : Bool) → (if b then true else false) ≡ false → b ≡ false
-    by true e = e
-    by false e = refl
-
 or-both : (a b : Bool) → a ≡ false → b ≡ false → a || b ≡ false
 or-both true b e h = e
 or-both false b e h = h
@@ -110,14 +102,17 @@ none-more reader place (mark ∷ marks) zero none here = or-both (wrote_at reade
 none-more reader place (mark ∷ marks) (suc at) none here = none-more reader place marks at none here
 
 pub walked : (reader : Reader) (place : Place) (marks : List (ℕ × Mark)) (at : ℕ) → 0 < at → any_put reader place (drop at marks) ≡ false
-    → are_written reader (at - 1) (place ∷ []) marks ≡ false → any_put reader place (drop (at - 1) marks) ≡ false
+    → is_written reader place (slice_get marks (at - 1)) ≡ false → any_put reader place (drop (at - 1) marks) ≡ false
 walked reader place marks at some none here =
-    none-more reader place marks (at - 1) (ap (λ n. any_put reader place (drop n marks)) (counted at some) ∙ none) (written-one reader place (at - 1) marks here)
+    none-more reader place marks (at - 1) (ap (λ n. any_put reader place (drop n marks)) (counted at some) ∙ none) here
   where
     counted : (n : ℕ) → 0 < n → suc (n - 1) ≡ n
     counted n some_ = omega (arith, some_)
 
 -- ---- what the walk answers
+
+pub is-so : (P : Type 0) → P → IsTrue true ↔ P
+is-so P p = (λ so. p, λ is. refl)
 
 pub is-not-so : (P : Type 0) → (P → ⊥) → IsTrue false ↔ P
 is-not-so P not = (λ never. absurd (true≢false (sym never)), λ p. absurd (not p))

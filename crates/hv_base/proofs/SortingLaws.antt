@@ -7,8 +7,8 @@ use Rattle.std.specs.Ordering.{is_lt, ordering_reverse}
 use Rattle.std.specs.Cmp.{IsTotalOrder, tied_itself}
 use Rattle.std.specs.FinMap.{IsAntisymmetric}
 use Rattle.std.proofs.lemmas.List.Sums.{sum_by-cons}
-use Rattle.std.proofs.lemmas.List.Sorted.{IsPermutation-refl, IsPermutation-cons, IsPermutation-middle, IsPermutation-trans, sum_by-IsPermutation, ranks_by, sorted_far}
-use Rattle.hv_dirs.specs.Sorting.{placed_by, put_by, sorted_by}
+use Rattle.std.proofs.lemmas.List.Sorted.{IsPermutation-refl, IsPermutation-sym, IsPermutation-cons, IsPermutation-middle, IsPermutation-trans, sum_by-IsPermutation, ranks_by, sorted_far}
+use Rattle.hv_base.specs.Sorting.{placed_by, put_by, sorted_by}
 
 module _ {X : Type 0} (R : X → X → Ordering) where
   -- no member of the list comes before x
@@ -102,6 +102,11 @@ module _ {X : Type 0} {R : X → X → Ordering} (total : IsTotalOrder R) (same 
   unfolding SameCounts
   rises-permuted xs ys up up' permuted = rising_same xs ys up up' (λ f. sum_by-IsPermutation f xs ys permuted)
 
+-- two sorted lists with the same members are one list
+pub sorted_same : {X : Type 0} {R : X → X → Ordering} → IsTotalOrder R → IsAntisymmetric R → (xs ys : List X) → IsSorted R xs → IsSorted R ys
+    → IsPermutation xs ys → xs ≡ ys
+sorted_same total same xs ys up up' permuted = rises-permuted total same xs ys (rises_from total xs up) (rises_from total ys up') permuted
+
 module _ {X : Type 0} (R : X → X → Ordering) where
   -- no item comes before the one in front of it
   Rising : List X → Type 0
@@ -178,3 +183,17 @@ module _ {X : Type 0} (R : X → X → Ordering) where
 
 pub sorted-sorted_by : {X : Type 0} {R : X → X → Ordering} → IsTotalOrder R → (xs : List X) → IsSorted R (sorted_by R xs)
 sorted-sorted_by {R = R} total xs = rising-sorted R (sorted_by R xs) (rising-sorted_by R total xs)
+
+-- a sorted list with the same members is the list sorted by insertion
+pub sorted_is : {X : Type 0} {R : X → X → Ordering} → IsTotalOrder R → IsAntisymmetric R → (xs ys : List X) → IsPermutation xs ys → IsSorted R ys
+    → ys ≡ sorted_by R xs
+sorted_is {R = R} total same xs ys permuted up =
+    sorted_same total same ys (sorted_by R xs) up (sorted-sorted_by total xs)
+    (IsPermutation-trans ys xs (sorted_by R xs) (IsPermutation-sym xs ys permuted) (permuted-sorted_by R xs))
+
+-- lists with the same members, counted, are sorted to one list
+pub sorted-permuted : {X : Type 0} {R : X → X → Ordering} → IsTotalOrder R → IsAntisymmetric R → (xs ys : List X) → IsPermutation xs ys
+    → sorted_by R xs ≡ sorted_by R ys
+sorted-permuted {R = R} total same xs ys permuted =
+    sorted_is total same ys (sorted_by R xs)
+    (IsPermutation-trans ys xs (sorted_by R xs) (IsPermutation-sym xs ys permuted) (permuted-sorted_by R xs)) (sorted-sorted_by total xs)

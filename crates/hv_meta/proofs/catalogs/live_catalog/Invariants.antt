@@ -1,7 +1,0 @@
-use Rattle.std.proofs.Common.{◌≡◌, ◌++◌, drop}
-use Rattle.hv_history.specs.State.{state_of}
-use Rattle.hv_meta.specs.Catalogs.{live_infos}
-use Rattle.hv_meta.proofs.catalogs.live_catalog.Given as goal
-
-abbrev pub invariant-loop-i : goal.invariant-loop-i
-invariant-loop-i l = l.infos.items ++ live_infos (drop l.i (state_of l.book.entries).tables) ≡ live_infos (state_of l.book.entries).tables
