@@ -9,7 +9,7 @@ ghost use Rattle.tests_replay.specs.Replay.{meaning_over, meant_with};
 use crate::content::seen_tables;
 use hv_ast::Stmt;
 use hv_base::{Boxed, Duplicate, List, NoMemory};
-use hv_effect::meaning_in;
+use hv_effect::{Touching, meaning_in};
 use hv_history::{Statement, Table, Transaction, Written, given_in, written_by};
 use hv_logic::{Meaning, Seen, named};
 use hv_names::names_in;
@@ -52,7 +52,10 @@ fn meaning_over(
     let seen = seen_tables(alloc, tables)?;
     let tables = its_tables(alloc, tree, &seen)?;
     match meaning_in(alloc, tree, tables)? {
-        Some(meaning) => Ok(Some(Boxed::new(alloc, meaning)?)),
+        Some(found) => {
+            let Touching { meaning, .. } = found;
+            Ok(Some(Boxed::new(alloc, meaning)?))
+        }
         None => Ok(None),
     }
 }
