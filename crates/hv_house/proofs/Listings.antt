@@ -18,7 +18,7 @@ use Rattle.hv_choosing.specs.declared.listing.DirFile.{DirFile}
 use Rattle.hv_history.specs.declared.entry.Entry.{Entry}
 use Rattle.hv_history.specs.State.{nothing_yet, state_of}
 use Rattle.hv_history.specs.Legal.{AllFit}
-use Rattle.hv_earlier.specs.Lists.{catalog_at, info_of_name}
+use Rattle.hv_earlier.specs.Lists.{catalog_at}
 use Rattle.hv_stands.specs.Reading.{table_of_name}
 use Rattle.hv_stands.specs.Files.{Stands}
 use Rattle.hv_stands.proofs.Keeping.{sound-all, nothing-sound}
@@ -30,6 +30,7 @@ use Rattle.hv_house.specs.declared.fault.RowFault.TheVariants as row_fault
 use Rattle.hv_house.specs.declared.house.House.{House}
 use Rattle.hv_house.specs.Faults.{house_fault, HasRisen}
 use Rattle.hv_house.specs.House.{entries_of, IsAsked, IsReadyWithin, StaysPutWithin}
+use Rattle.hv_house.specs.Seeing.{info_of_name}
 use Rattle.hv_house.specs.Steps.{seen_of, fault_outcome, outcome_of, GainsBy, IsMarkedFor}
 use Rattle.hv_house.specs.Listing.{AreTaken, AreTakenOf, IsMade, ReadStep, info_in}
 use Rattle.hv_house.proofs.Rooms.{front-fits}
@@ -157,12 +158,13 @@ pub on-found : {T E : Type 0} (r : Result T E) (P Q : T → Type 0) → ((x : T)
 on-found (Ok x) P Q f p = f x p
 on-found (Err e) P Q f p = tt
 
-pub found-named : (limits : Limits) (book : List Entry) (place : ℕ) → AllFit limits nothing_yet book → (entries : List Entry) → entries ≡ book → (name : List ℕ)
-    → (found : Option TableInfo) → found ≡ info_of_name name (catalog_at entries place)
+pub found-named : (limits : Limits) (book : List Entry) (place : ℕ) → AllFit limits nothing_yet book → (entries : List Entry) → entries ≡ book → (name : List ℕ) (infos : List TableInfo)
+    → infos ≡ catalog_at entries place → (found : Option TableInfo) → found ≡ info_of_name name infos
     → found ≡ option_map info_in (table_of_name name (state_of (take place book)).tables)
-found-named limits book place fit entries is name found named =
+found-named limits book place fit entries is name infos catalog found named =
     let sound = sound-all limits nothing_yet (take place book) (front-fits limits book nothing_yet place fit) nothing-sound in
-    named ∙ ap (λ b. info_of_name name (catalog_at b place)) is ∙ infos-named name (state_of (take place book)).tables sound.tables.live
+    named ∙ ap (info_of_name name) (catalog ∙ ap (λ b. catalog_at b place) is)
+    ∙ infos-named name (state_of (take place book)).tables sound.tables.live
 
 pub taken-told : (table : TableId) (o : Option Store) (places : List Place) (list : WriteIds) (inserts deletes : List DirFile)
     → Tells o (λ s. places ≡ places_of table s.tree) → AreTakenOf places list inserts deletes → Tells o (λ s. AreTaken table list s.tree inserts deletes)
