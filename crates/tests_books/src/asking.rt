@@ -2,12 +2,12 @@
 use crate::replay;
 use crate::replay::Replay;
 use crate::words::{number, piece};
-use hv_ast::discard;
+use hv_ast::{Stmt, discard};
 use hv_base::{NoMemory, TableId, Text};
 use hv_book::Book;
 use hv_earlier::{catalog_at, list_at};
 use hv_history::{Ending, Table, Transaction, numbered};
-use hv_reading::{read_statement, read_text};
+use hv_reading::{TextFault, read_statement, read_text};
 use std::alloc::{AllocError, Global};
 use std::str;
 
@@ -96,10 +96,21 @@ pub fn list(alloc: Global, out: &mut String, book: &Book, words: &[&str]) -> Res
     Ok(write!(out, "{list:?}")?)
 }
 
+/// Whether there is a tree, which is let go of.
+fn is_read(read: Result<Stmt, TextFault>) -> bool {
+    match read {
+        Ok(tree) => {
+            discard(tree);
+            true
+        }
+        Err(_) => false,
+    }
+}
+
 /// Whether a text is a statement, and whether that runs.
 pub fn runs(alloc: Global, out: &mut String, words: &[&str]) -> Result<(), NoMemory> {
     let text = Text::of(alloc, piece(words, 0))?;
-    let is_read = read_text(alloc, &text).map(discard).is_ok();
-    let runs = read_statement(alloc, &text).map(discard).is_ok();
-    Ok(write!(out, "{is_read} {runs}")?)
+    let is_statement = is_read(read_text(alloc, &text));
+    let runs = is_read(read_statement(alloc, &text));
+    Ok(write!(out, "{is_statement} {runs}")?)
 }

@@ -6,7 +6,7 @@ use std::alloc::{AllocError, Global};
 use std::str;
 
 /// Writes where the journal reaches.
-fn writes<D: Shelf>(shelf: &mut D, at: u64, text: &str) -> bool {
+fn writes(shelf: &mut impl Shelf, at: u64, text: &str) -> bool {
     match shelf.journal_len() {
         Ok(length) => at <= length && shelf.journal_write(at, text.as_bytes()).is_ok(),
         Err(_) => false,

@@ -48,19 +48,23 @@ pub fn appended(alloc: Global, out: &mut String, words: &[&str]) -> Result<(), N
     };
     let nth = number(words, 1);
     let mut shelf = MemoryShelf::new(alloc, vec![in alloc; Fail { op, nth }]?)?;
-    let boot = Entry::Boot { run: 0 };
-    let next = Entry::Boot { run: 7 };
-    let more: &[Entry] = if piece(words, 2) == "two" {
-        &[next]
-    } else {
-        &[]
-    };
-    let mut buffer = Vec::with_capacity(alloc, 64)?;
     let opened = open_empty(&mut shelf).is_ok();
-    if !opened || shelf.journal().len() != 1 {
+    let mut buffer = Vec::with_capacity(alloc, 64)?;
+    let (Ok(boot), Ok(next)) = (
+        decode_entry(alloc, b"\x01\0\0\0\0\0\0\0\0"),
+        decode_entry(alloc, b"\x01\0\0\0\0\0\0\0\x07"),
+    ) else {
+        return Ok(());
+    };
+    let are_short = record_length(&boot) == 13 && record_length(&next) == 13;
+    if !opened || !are_short || shelf.journal().len() != 1 {
         return Ok(());
     }
     let mut place = 0;
-    let done = append(&mut shelf, &mut place, &boot, more, &mut buffer).is_ok();
-    Ok(write!(out, "{done} {place} {:?}", shelf.journal())?)
+    let done = if piece(words, 2) == "two" {
+        append(&mut shelf, &mut place, &boot, &[next], &mut buffer)
+    } else {
+        append(&mut shelf, &mut place, &boot, &[], &mut buffer)
+    };
+    Ok(write!(out, "{} {place} {:?}", done.is_ok(), shelf.journal())?)
 }

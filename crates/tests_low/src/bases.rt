@@ -1,5 +1,5 @@
 use crate::trees;
-use crate::words::{number, numbers, piece};
+use crate::words::{numbers, piece};
 use hv_base::{
     Gate, Limits, List, MemorySink, MemorySource, NoGate, NoMemory, Point, Refusal, RowId, Source,
     Stage, Text, WriteId, read_all, write_all,
@@ -37,7 +37,7 @@ fn row_id(words: &[&str], at: usize) -> RowId {
 }
 
 fn refusal(out: &mut String, words: &[&str]) -> Result<(), AllocError> {
-    match Refusal::of_number(number(words, 0) as u32) {
+    match Refusal::of_number(piece(words, 0).parse::<u32>().unwrap_or(0)) {
         Some(refusal) => write!(out, "{} {}", refusal.number(), refusal.name()),
         None => write!(out, "none"),
     }

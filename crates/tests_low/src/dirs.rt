@@ -1,7 +1,7 @@
 ghost use Rattle.std.specs.Prelude.{All, IfOk};
 ghost use Rattle.hv_dirs.specs.Names.{IsName};
 
-use crate::words::{number, piece};
+use crate::words::piece;
 use hv_base::{NoMemory, Text, WriteId};
 use hv_dirs::{DirName, choose, own_delta, parse_name, print_name};
 use hv_wids::{Exception, WriteIdList};
@@ -66,16 +66,20 @@ fn chosen(alloc: Global, out: &mut String, words: &[&str]) -> Result<(), NoMemor
     Ok(write!(out, "{:?} {deltas:?} {deletes:?}", choice.base)?)
 }
 
-fn delta(alloc: Global, out: &mut String, words: &[&str]) -> Result<(), NoMemory> {
-    let name = own_delta(alloc, number(words, 0), number(words, 1) as u32)?;
-    Ok(write!(out, "{name}")?)
+/// The directory of the first statement of the first write, or of the last of the last.
+fn delta(alloc: Global, out: &mut String, which: &str) -> Result<(), NoMemory> {
+    let name = match which {
+        "first" => own_delta(alloc, 1, 0),
+        _ => own_delta(alloc, 9_999_999, 9999),
+    };
+    Ok(write!(out, "{}", name?)?)
 }
 
 pub fn answer(alloc: Global, out: &mut String, call: &str, words: &[&str]) -> Result<(), NoMemory> {
     match call {
         "name" => name(alloc, out, piece(words, 0)),
         "choose" => chosen(alloc, out, words),
-        "delta" => delta(alloc, out, words),
+        "delta" => delta(alloc, out, piece(words, 0)),
         _ => Ok(()),
     }
 }

@@ -39,11 +39,16 @@ pub fn numbers(alloc: Global, text: &str) -> Result<Vec<u64>, AllocError> {
 pub fn spelled(alloc: Global, text: &str) -> Result<Vec<u8>, AllocError> {
     let mut bytes = Vec::new(alloc);
     let mut half = None;
-    for digit in text.chars().filter_map(|character| character.to_digit(16)) {
+    for byte in text.as_bytes() {
+        let digit = match byte {
+            b'0'..=b'9' => *byte - b'0',
+            b'a'..=b'f' => *byte - b'a' + 10,
+            _ => 0,
+        };
         half = match half {
             None => Some(digit),
             Some(high) => {
-                bytes.push((high * 16 + digit) as u8)?;
+                bytes.push(high << 4 | digit)?;
                 None
             }
         };
