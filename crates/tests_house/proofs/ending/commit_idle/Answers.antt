@@ -7,4 +7,4 @@ use Rattle.tests_house.proofs.ending.commit_idle.Goals as goal
 pub note_commit-requires : goal.note_commit-requires
 note_commit-requires g c κs within =
     let small = subst (λ w. IsSmall (entry.Commit c.args.txn w)) (sym c.empty.ensures) (short_idle c.args.txn) in
-    (search rules, (c.requires.ready, (small, record { unbroken = search rules; put = inl c.empty.ensures })))
+    (search rules, (c.requires.1, (small, record { unbroken = search rules; put = inl c.empty.ensures })))
