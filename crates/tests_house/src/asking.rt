@@ -1,17 +1,15 @@
 //! What is asked before a call, so that its condition holds.
-ghost use Rattle.std.specs.Prelude.{◌≡◌, ◌<◌, ◌≤◌, None, true, false, IfOk, IfSome};
+ghost use Rattle.std.specs.Prelude.{◌≡◌, ◌<◌, ◌≤◌, true, false, IfOk, IfSome};
 ghost use Rattle.hv_dirs.specs.Names.{write_end};
 ghost use Rattle.hv_history.specs.State.{given_in};
 ghost use Rattle.hv_book.specs.Briefs.{held_by};
 ghost use Rattle.hv_rowfile.specs.Layout.{RowIsTaken, RecIsTaken};
 ghost use Rattle.hv_value.specs.declared.value.Value.TheVariants.{Int};
 ghost use Rattle.hv_table_rows.specs.Putting.{CanPut};
-ghost use Rattle.hv_trail.specs.declared.trail.Reader.TheVariants.{Txn};
-ghost use Rattle.hv_trail.specs.Trail.{broken};
 ghost use Rattle.hv_trail.specs.Kept.{trail_of};
 ghost use Rattle.hv_house.specs.House.{entries_of};
 ghost use Rattle.hv_house.specs.Steps.{HoldsId};
-ghost use Rattle.tests_house.specs.Asking.{IsTableOf, AreFilesPut, IsDone};
+ghost use Rattle.tests_house.specs.Asking.{IsTableOf, IsDone};
 
 use hv_base::{NoMemory, TableId, TxnId, WriteId};
 use hv_book::{Book, Held};
@@ -109,37 +107,7 @@ pub(crate) fn can_put(file: &OutFile) -> bool
     }
 }
 
-/// Whether a transaction put these files: there is a mark of each.
-fn are_put(
-    alloc: Global,
-    house: &House<MemoryShelf>,
-    txn: TxnId,
-    table: TableId,
-    write: WriteId,
-    files: &[OutFile],
-) -> Result<bool, NoMemory>
-    requires first { 1 ≤ write.0 }
-    requires last { write.0 < write_end }
-    ensures { IfOk result (λ put. put ≡ true
-        → AreFilesPut (trail_of house.now.trail) txn table.0 write.0 files.now) }
-{
-    for file in files {
-        let place = place_of_file(alloc, table, write, file)?;
-        if !house.has_put(txn, &place) {
-            return Ok(false);
-        }
-    }
-    Ok(true)
-}
-
-/// Whether no call on files failed for a transaction.
-pub(crate) fn is_unbroken(house: &House<MemoryShelf>, txn: TxnId) -> bool
-    ensures { result ≡ true → broken (Txn txn) (trail_of house.now.trail) ≡ None }
-{
-    house.broken(txn).is_none()
-}
-
-/// Whether a transaction put these files under its write id, and no call on files failed for it.
+/// Whether a transaction put these files under its write id, each of which has its mark, and no call on files failed for it.
 pub(crate) fn is_done(
     alloc: Global,
     house: &House<MemoryShelf>,
@@ -153,8 +121,14 @@ pub(crate) fn is_done(
     ensures { IfOk result (λ done. done ≡ true → IsDone
         (entries_of house.now) (trail_of house.now.trail) txn table.0 write.0 files.now) }
 {
-    let put = are_put(alloc, house, txn, table, write, files)?;
-    let holds = holds_id(house.book(), txn, table, write);
-    let unbroken = is_unbroken(house, txn);
-    Ok(put && holds && unbroken)
+    if !holds_id(house.book(), txn, table, write) {
+        return Ok(false);
+    }
+    for file in files {
+        let place = place_of_file(alloc, table, write, file)?;
+        if !house.has_put(txn, &place) {
+            return Ok(false);
+        }
+    }
+    Ok(house.broken(txn).is_none())
 }

@@ -16,6 +16,7 @@ use hv_reading::read_statement;
 use hv_shelf::MemoryShelf;
 use std::alloc::Global;
 use std::io;
+use std::io::ErrorKind;
 
 /// The longest text of a statement.
 const MOST_TEXT: usize = 32_768;
@@ -24,7 +25,6 @@ const MOST_TEXT: usize = 32_768;
 const UNBOUNDED: Limits = Limits { entries: u64::MAX };
 
 /// What a call was answered.
-#[derive(Clone, Copy)]
 pub(crate) enum Said {
     Done,
     /// It wasn't made, since its condition doesn't hold.
@@ -35,22 +35,16 @@ pub(crate) enum Said {
     Begun(u64, u64),
 }
 
-pub(crate) fn said_text(alloc: Global, said: Said) -> io::Result<String> {
+/// What is printed of it. A call that failed ends the run.
+pub(crate) fn said_text(alloc: Global, said: Result<Said, HouseFault>) -> io::Result<String> {
     let text = match said {
-        Said::Done => format!(in alloc; "done"),
-        Said::Refused => format!(in alloc; "refused"),
-        Said::Of(what, number) => format!(in alloc; "{what} {number}"),
-        Said::Begun(txn, place) => format!(in alloc; "transaction {txn} starts at {place}"),
+        Ok(Said::Done) => format!(in alloc; "done"),
+        Ok(Said::Refused) => format!(in alloc; "refused"),
+        Ok(Said::Of(what, number)) => format!(in alloc; "{what} {number}"),
+        Ok(Said::Begun(txn, place)) => format!(in alloc; "transaction {txn} starts at {place}"),
+        Err(_) => return Err(ErrorKind::Other.into()),
     };
     Ok(text?)
-}
-
-/// What stands in the way of a statement that can't begin.
-fn hindrance(state: LockState) -> Said {
-    match state {
-        LockState::Waiting { blocker } => Said::Of("waits for", blocker.0),
-        LockState::Granted => Said::Refused,
-    }
 }
 
 /// Begins a statement, or says what stands in its way.
@@ -70,7 +64,10 @@ fn begin(
     if !house.can_begin(&tree) {
         let state = house.check(&tree);
         discard(tree);
-        return Ok(hindrance(state));
+        return match state {
+            LockState::Waiting { blocker } => Ok(Said::Of("waits for", blocker.0)),
+            LockState::Granted => Ok(Said::Refused),
+        };
     }
     match house.begin(session, 1, text, tree) {
         Ok((txn, place)) => Ok(Said::Begun(txn.0, place)),

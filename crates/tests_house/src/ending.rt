@@ -8,7 +8,7 @@ ghost use Rattle.hv_house.specs.House.{entries_of, IsReadyWithin, IsSmall};
 ghost use Rattle.hv_house.specs.Steps.{CanCommit};
 ghost use Rattle.tests_house.specs.Asking.{AreTouches, IsTable, told_memory};
 
-use crate::asking::{is_done, is_unbroken};
+use crate::asking::is_done;
 use crate::calls::Said;
 use hv_base::{List, NoMemory, Touch, TxnId, WriteId};
 use hv_conflicts::clash;
@@ -100,8 +100,8 @@ pub(crate) fn commit_idle(
     requires ready { IsReadyWithin limits told_memory house.old }
     ensures ready { IfOk result (λ _. IsReadyWithin limits told_memory house.new) }
 {
-    if !is_unbroken(house, txn) {
-        return Ok(Said::Refused);
+    match house.broken(txn) {
+        Some(_) => Ok(Said::Refused),
+        None => note_commit(house, txn, List::empty(alloc)),
     }
-    note_commit(house, txn, List::empty(alloc))
 }

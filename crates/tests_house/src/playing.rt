@@ -9,7 +9,7 @@ use crate::changes::change;
 use crate::ending::commit_idle;
 use crate::seeing::see;
 use crate::showing::{book_text, files_text};
-use crate::stores::{cut, fresh, image, kept, lay, leave, number, opened};
+use crate::stores::{copied, cut, fresh, kept, lay, leave, number, say};
 use hv_base::{Limits, TableId, TxnId};
 use hv_house::{BootFault, House, HouseFault};
 use hv_shelf::MemoryShelf;
@@ -23,15 +23,7 @@ pub(crate) const LIMITS: Limits = Limits { entries: 131_072 };
 /// More than a house can have.
 const MOST: u64 = 9_999_999;
 
-/// A line with what is said to it.
-fn say(said: &mut String, line: &str, text: &str) -> io::Result<()> {
-    said.push_str(line)?;
-    said.push_str(text)?;
-    said.push_str("\n")?;
-    Ok(())
-}
-
-/// Makes the call of a line that makes one.
+/// Makes the call of a line.
 fn call(
     alloc: Global,
     house: &mut House<MemoryShelf>,
@@ -64,40 +56,6 @@ fn call(
     }
 }
 
-/// Makes the call of a line, or shows what it asks for.
-fn answered(alloc: Global, house: &mut House<MemoryShelf>, line: &str) -> io::Result<String>
-    ghost limits: { Limits }
-    requires ready { IsReadyWithin limits told_memory house.old }
-    ensures ready { IfOk result (λ _. IsReadyWithin limits told_memory house.new) }
-{
-    let (word, rest) = cut(line, ' ');
-    match word {
-        "book" => book_text(alloc, house.book()),
-        "files" => files_text(alloc, house.shelf()),
-        "see" => see(alloc, house, rest),
-        _ => match call(alloc, house, word, rest) {
-            Ok(said) => said_text(alloc, said),
-            Err(_) => Err(ErrorKind::Other.into()),
-        },
-    }
-}
-
-/// Does a line that leaves the house open, and says it.
-fn call_line(
-    alloc: Global,
-    house: &mut House<MemoryShelf>,
-    line: &str,
-    said: &mut String,
-) -> io::Result<()>
-    ghost limits: { Limits }
-    requires ready { IsReadyWithin limits told_memory house.old }
-    ensures ready { IfOk result (λ _. IsReadyWithin limits told_memory house.new) }
-{
-    let text = answered(alloc, house, line)?;
-    said.push_str(line)?;
-    say(said, ": ", text.as_str())
-}
-
 /// Goes on with an empty store, and with room for so many entries.
 fn renewed(
     alloc: Global,
@@ -112,51 +70,33 @@ fn renewed(
         return Err(ErrorKind::Other.into());
     }
     *room = Limits { entries };
-    say(said, line, "")?;
+    said.push_str(line)?;
+    said.push_str("\n")?;
     fresh(alloc, *room)
 }
 
-/// What is said of a store that was not opened again.
-fn closed_text(alloc: Global, why: BootFault, before: &[u8], now: &[u8]) -> io::Result<String> {
+/// What is said of a store that was not opened again: whether it is as before.
+fn closed_text(
+    alloc: Global,
+    why: BootFault,
+    before: &MemoryShelf,
+    now: &MemoryShelf,
+) -> io::Result<String> {
     let BootFault::Full { entries } = why else {
         return Err(ErrorKind::Other.into());
     };
-    let kept = if now == before {
-        "as before"
-    } else {
-        "changed"
-    };
-    Ok(format!(in alloc; "again: full with {entries}, {kept}")?)
+    let same = now.journal() == before.journal() && now.files() == before.files();
+    let kept = if same { "as before" } else { "changed" };
+    Ok(format!(in alloc; "full with {entries}, {kept}")?)
 }
 
-/// Opens a store once more. Where there is no room for that, goes on with an empty one.
-fn again(
+/// Opens a store once more, behind a file that is laid into it where the line says so. Where there is no room for that, goes on with an
+/// empty one.
+fn reopened(
     alloc: Global,
     store: MemoryShelf,
     limits: Limits,
-    said: &mut String,
-) -> io::Result<House<MemoryShelf>>
-    requires most { limits.entries ≤ 9999999 }
-    ensures ready { IfOk result (IsReadyWithin limits told_memory) }
-{
-    let before = image(alloc, &store);
-    match House::boot(alloc, store, limits) {
-        Ok(house) => kept(house, say(said, "again: done", "")),
-        Err((why, store)) => {
-            let now = image(alloc, &store);
-            leave(store);
-            let text = closed_text(alloc, why, &before?, &now?)?;
-            say(said, text.as_str(), "")?;
-            fresh(alloc, limits)
-        }
-    }
-}
-
-/// Lays a file into a store, and opens it once more.
-fn laid(
-    alloc: Global,
-    store: MemoryShelf,
-    limits: Limits,
+    word: &str,
     rest: &str,
     said: &mut String,
 ) -> io::Result<House<MemoryShelf>>
@@ -164,12 +104,25 @@ fn laid(
     ensures ready { IfOk result (IsReadyWithin limits told_memory) }
 {
     let mut store = store;
-    let text = match lay(alloc, &mut store, rest) {
-        Ok(true) => "lay: done",
-        _ => "lay: refused",
+    let laid = rest.is_empty() || lay(alloc, &mut store, rest) == Ok(true);
+    let Ok(before) = copied(alloc, &store) else {
+        leave(store);
+        return Err(ErrorKind::OutOfMemory.into());
     };
-    let house = opened(alloc, store, limits)?;
-    kept(house, say(said, text, ""))
+    match House::boot(alloc, store, limits) {
+        Ok(house) => {
+            leave(before);
+            let answer = if laid { Said::Done } else { Said::Refused };
+            kept(house, word, said_text(alloc, Ok(answer)), said)
+        }
+        Err((why, store)) => {
+            let text = closed_text(alloc, why, &before, &store);
+            leave(before);
+            leave(store);
+            say(said, word, text)?;
+            fresh(alloc, limits)
+        }
+    }
 }
 
 /// Does what a line says. `new` and `room` go on with an empty store, `again` opens the store once more, and `lay` lays a file into it
@@ -195,11 +148,22 @@ fn step(
             leave(house.close());
             renewed(alloc, room, number(rest), line, said)
         }
-        "again" => again(alloc, house.close(), *room, said),
-        "lay" => laid(alloc, house.close(), *room, rest, said),
+        "again" | "lay" => reopened(alloc, house.close(), *room, word, rest, said),
+        "book" => {
+            let text = book_text(alloc, house.book());
+            kept(house, line, text, said)
+        }
+        "files" => {
+            let text = files_text(alloc, house.shelf());
+            kept(house, line, text, said)
+        }
+        "see" => {
+            let text = see(alloc, &house, rest);
+            kept(house, line, text, said)
+        }
         _ => {
-            let done = call_line(alloc, &mut house, line, said);
-            kept(house, done)
+            let done = call(alloc, &mut house, word, rest);
+            kept(house, line, said_text(alloc, done), said)
         }
     }
 }

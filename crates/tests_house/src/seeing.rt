@@ -9,8 +9,7 @@ use crate::playing::LIMITS;
 use crate::stores::{copied, cut, leave, number};
 use hv_acts::ToldHouse;
 use hv_base::{Text, TxnId};
-use hv_book::Book;
-use hv_history::{FilePlace, numbered};
+use hv_history::numbered;
 use hv_house::{House, RowFault};
 use hv_logic::{Found, Seen};
 use hv_session::see_table;
@@ -22,35 +21,23 @@ use std::io;
 use std::io::ErrorKind;
 use std::mem::ManuallyDrop;
 
-/// The place of a transaction's Start.
-fn started(book: &Book, txn: TxnId) -> Option<u64> {
-    match numbered(book.transactions(), txn.0) {
-        Some(note) => note.started,
-        None => None,
-    }
-}
-
-/// A row: its partition, its identifier and its number.
-fn row_text(alloc: Global, found: &Found) -> io::Result<String> {
-    let id = found.id;
-    let number = match found.row.values.as_slice() {
-        [Value::Int(number), ..] => *number,
-        _ => 0,
-    };
-    Ok(format!(in alloc;
-        "{} {}.{}.{}.{}={number}",
-        found.partition, id.write.0, id.statement, id.bucket, id.row
-    )?)
-}
-
-/// Rows, with commas between.
+/// Rows, with commas between: of each its partition, its identifier and its number.
 fn rows_text(alloc: Global, rows: &[Found]) -> io::Result<String> {
     let mut text = String::new(alloc);
     for found in rows {
         if !text.is_empty() {
             text.push_str(", ")?;
         }
-        text.push_str(row_text(alloc, found)?.as_str())?;
+        let number = match found.row.values.as_slice() {
+            [Value::Int(number), ..] => *number,
+            _ => 0,
+        };
+        let (partition, id) = (&found.partition, found.id);
+        let row = format!(in alloc;
+            "{partition} {}.{}.{}.{}={number}",
+            id.write.0, id.statement, id.bucket, id.row
+        )?;
+        text.push_str(row.as_str())?;
     }
     if text.is_empty() {
         text.push_str("no row")?;
@@ -58,22 +45,21 @@ fn rows_text(alloc: Global, rows: &[Found]) -> io::Result<String> {
     Ok(text)
 }
 
-fn damage_text(alloc: Global, at: &FilePlace) -> io::Result<String> {
-    let (offset, partition) = (at.at, &at.partition);
-    Ok(format!(in alloc;
-        "damaged at {offset} of {partition} {} {}",
-        at.dir, at.bucket
-    )?)
-}
-
 /// What was seen.
 fn seen_text(alloc: Global, found: &Result<Option<Seen>, RowFault>) -> io::Result<String> {
-    match found {
-        Ok(Some(seen)) => rows_text(alloc, seen.rows.as_slice()),
-        Ok(None) => Ok(String::from_str(alloc, "no table")?),
-        Err(RowFault::Damaged(at)) => damage_text(alloc, at),
-        Err(RowFault::House(_)) => Err(ErrorKind::Other.into()),
-    }
+    let text = match found {
+        Ok(Some(seen)) => return rows_text(alloc, seen.rows.as_slice()),
+        Ok(None) => format!(in alloc; "no table"),
+        Err(RowFault::Damaged(at)) => {
+            let (offset, partition) = (at.at, &at.partition);
+            format!(in alloc;
+                "damaged at {offset} of {partition} {} {}",
+                at.dir, at.bucket
+            )
+        }
+        Err(RowFault::House(_)) => return Err(ErrorKind::Other.into()),
+    };
+    Ok(text?)
 }
 
 /// A house over this store, for those who act on it, whose book has this place.
@@ -123,11 +109,13 @@ pub(crate) fn see(alloc: Global, house: &House<MemoryShelf>, words: &str) -> io:
     let Ok(name) = Text::of(alloc, name) else {
         return Err(ErrorKind::OutOfMemory.into());
     };
-    match started(house.book(), txn) {
-        Some(place) => {
-            let store = copied(alloc, house.shelf())?;
-            seen_at(alloc, store, txn, place, &name)
-        }
-        None => Ok(String::from_str(alloc, "refused")?),
-    }
+    let place = match numbered(house.book().transactions(), txn.0) {
+        Some(note) => note.started,
+        None => None,
+    };
+    let Some(place) = place else {
+        return Ok(String::from_str(alloc, "refused")?);
+    };
+    let store = copied(alloc, house.shelf())?;
+    seen_at(alloc, store, txn, place, &name)
 }

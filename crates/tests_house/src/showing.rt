@@ -5,14 +5,6 @@ use hv_shelf::MemoryShelf;
 use std::alloc::Global;
 use std::io;
 
-fn cause_text(cause: &Cause) -> &'static str {
-    match cause {
-        Cause::Lost => "lost",
-        Cause::Memory => "memory",
-        _ => "else",
-    }
-}
-
 /// An entry in short.
 fn entry_text(alloc: Global, entry: &Entry) -> io::Result<String> {
     let text = match entry {
@@ -23,7 +15,14 @@ fn entry_text(alloc: Global, entry: &Entry) -> io::Result<String> {
             format!(in alloc; "give {} {}.{}", txn.0, table.0, write.0)
         }
         Entry::Commit { txn, wrote } => format!(in alloc; "commit {} {}", txn.0, wrote.len()),
-        Entry::Abort { txn, cause } => format!(in alloc; "abort {} {}", txn.0, cause_text(cause)),
+        Entry::Abort { txn, cause } => {
+            let why = match cause {
+                Cause::Lost => "lost",
+                Cause::Memory => "memory",
+                _ => "else",
+            };
+            format!(in alloc; "abort {} {why}", txn.0)
+        }
         Entry::Create { txn, table } => format!(in alloc; "create {} {}", txn.0, table.0),
         _ => format!(in alloc; "else"),
     };

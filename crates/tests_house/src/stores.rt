@@ -1,6 +1,6 @@
 //! Stores in memory, and houses over them. No house and no store is let go of piece by piece: a house gives its store back, and a store
 //! is left to the end of the program.
-ghost use Rattle.std.specs.Prelude.{◌≡◌, ◌≤◌, IfOk, OnOk, IsOk};
+ghost use Rattle.std.specs.Prelude.{◌≡◌, ◌≤◌, IfOk};
 ghost use Rattle.hv_house.specs.House.{IsReadyWithin};
 ghost use Rattle.tests_house.specs.Asking.{told_memory};
 
@@ -29,15 +29,14 @@ pub(crate) fn leave(store: MemoryShelf) {
     let _left = ManuallyDrop::new(store);
 }
 
-/// A house over this store, with these limits.
-pub(crate) fn opened(
-    alloc: Global,
-    store: MemoryShelf,
-    limits: Limits,
-) -> io::Result<House<MemoryShelf>>
+/// A house over an empty store, with these limits.
+pub(crate) fn fresh(alloc: Global, limits: Limits) -> io::Result<House<MemoryShelf>>
     requires most { limits.entries ≤ 9999999 }
     ensures ready { IfOk result (IsReadyWithin limits told_memory) }
 {
+    let Ok(store) = MemoryShelf::new(alloc, Vec::new(alloc)) else {
+        return Err(ErrorKind::OutOfMemory.into());
+    };
     match House::boot(alloc, store, limits) {
         Ok(house) => Ok(house),
         Err((_, store)) => {
@@ -47,26 +46,26 @@ pub(crate) fn opened(
     }
 }
 
-/// A house over an empty store.
-pub(crate) fn fresh(alloc: Global, limits: Limits) -> io::Result<House<MemoryShelf>>
-    requires most { limits.entries ≤ 9999999 }
-    ensures ready { IfOk result (IsReadyWithin limits told_memory) }
-{
-    match MemoryShelf::new(alloc, Vec::new(alloc)) {
-        Ok(store) => opened(alloc, store, limits),
-        Err(_) => Err(ErrorKind::OutOfMemory.into()),
-    }
+/// Says a line, with what came of it.
+pub(crate) fn say(said: &mut String, line: &str, text: io::Result<String>) -> io::Result<()> {
+    let text = text?;
+    said.push_str(line)?;
+    said.push_str(": ")?;
+    said.push_str(text.as_str())?;
+    said.push_str("\n")?;
+    Ok(())
 }
 
-/// The house, where that went well; else it is closed.
+/// Says a line, with what came of it, where the house goes on; else it is closed.
 pub(crate) fn kept(
     house: House<MemoryShelf>,
-    done: io::Result<()>,
+    line: &str,
+    text: io::Result<String>,
+    said: &mut String,
 ) -> io::Result<House<MemoryShelf>>
     ensures same { IfOk result (λ kept. kept ≡ house) }
-    ensures went { OnOk result (IsOk done) }
 {
-    match done {
+    match say(said, line, text) {
         Ok(()) => Ok(house),
         Err(why) => {
             leave(house.close());
@@ -90,15 +89,6 @@ pub(crate) fn copied(alloc: Global, store: &MemoryShelf) -> io::Result<MemoryShe
         leave(copy);
         Err(ErrorKind::OutOfMemory.into())
     }
-}
-
-/// The bytes of a store's journal and files.
-pub(crate) fn image(alloc: Global, store: &MemoryShelf) -> io::Result<Vec<u8>> {
-    let mut bytes = Vec::from_slice(alloc, store.journal())?;
-    for file in store.files().values() {
-        bytes.extend_from_slice(file.as_slice())?;
-    }
-    Ok(bytes)
 }
 
 /// Lays the file of a line into a store, and says whether it stands there: `TABLE PARTITION DIRECTORY BUCKET BYTES`.

@@ -1,4 +1,4 @@
 use Rattle.tests_house.proofs.playing.step.Given as goal
 
-abbrev pub ghost-call_line : goal.ghost-call_line
-ghost-call_line a = a.room.now
+abbrev pub ghost-call : goal.ghost-call
+ghost-call a = a.room.now

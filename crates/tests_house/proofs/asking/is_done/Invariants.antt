@@ -1,7 +1,7 @@
 use Rattle.std.proofs.Common.{drop}
 use Rattle.hv_trail.specs.Kept.{trail_of}
 use Rattle.tests_house.specs.Asking.{AreFilesPut}
-use Rattle.tests_house.proofs.asking.are_put.Given as goal
+use Rattle.tests_house.proofs.asking.is_done.Given as goal
 
 abbrev pub invariant-loop-file : goal.invariant-loop-file
 invariant-loop-file l =
