@@ -4,7 +4,6 @@ pub mod Stays
 pub mod Openings
 pub mod Boots
 pub mod Faithful
-pub mod Passing
 pub mod Steps
 pub mod Reading
 pub mod Ready

@@ -42,10 +42,6 @@ pub record FileCause {T : Type 0} (faults faults' : ℕ) (result : Result T Hous
   pub later : faults ≤ faults'
   pub failed : IfErr result (HasRisen faults faults')
 
-pub record ReadCause {T : Type 0} (faults faults' : ℕ) (result : Result T RowFault) : Type 0 where
-  pub later : faults ≤ faults'
-  pub failed : IfErr result (HasRisenReading faults faults')
-
 -- the fault ends the run: the journal failed, or memory lacks; no fault of a file does
 abbrev pub EndsRun : HouseFault → Type 0
 EndsRun (fault.Failed count) = ⊥

@@ -130,9 +130,6 @@ abbrev pub StaysReadWithin : {D : Type 0} → Limits → (D → Option Store) �
 StaysReadWithin limits told (row_fault.House why) now = StaysPutWithin limits told why now
 StaysReadWithin limits told (row_fault.Damaged place) now = IsReadyWithin limits told now
 
-abbrev pub StaysRead : {D : Type 0} → (D → Option Store) → RowFault → House D → Type 0
-StaysRead told why now = StaysReadWithin profile told why now
-
 -- the journal is as it was
 abbrev pub KeepsJournal : Store → Store → Type 0
 KeepsJournal before now = now.journal ≡ before.journal

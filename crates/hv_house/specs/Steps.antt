@@ -54,14 +54,10 @@ abbrev pub outcome_of : {T : Type 0} → Result T HouseFault → Outcome
 outcome_of (Ok x) = Done
 outcome_of (Err why) = fault_outcome why
 
--- how a call that reads ended
+-- how a call that read ended
 abbrev pub reading_outcome : RowFault → Outcome
 reading_outcome (row_fault.Damaged place) = Refused
 reading_outcome (row_fault.House why) = fault_outcome why
-
-abbrev pub read_outcome : {T : Type 0} → Result T RowFault → Outcome
-read_outcome (Ok x) = Done
-read_outcome (Err why) = reading_outcome why
 
 -- no mark was made, and what the house was opened over stands, with its limits
 pub record KeepsMarks {D : Type 0} (before now : House D) : Type 0 where

@@ -14,7 +14,7 @@ use Rattle.hv_house.specs.declared.fault.RowFault.TheVariants as row_fault
 use Rattle.hv_acts.specs.declared.told.ToldHouse.{ToldHouse}
 use Rattle.hv_acts.specs.Told.{seen_in, trail_in}
 use Rattle.hv_acts.specs.Going.{faults_in, IsOpenHouse, AddsOwn}
-use Rattle.hv_viewing.specs.Looking.{IsSoft}
+use Rattle.hv_viewing.specs.Damage.{IsSoft}
 use Rattle.hv_session.specs.Tables.{RisesTo, LooksOver, HasLookedOver}
 
 went-none : (between : List TrailItem → Type 0) → AreRows between → (own : List ℕ) (trail : List TrailItem) → Went between [] own own trail trail

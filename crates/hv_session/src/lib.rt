@@ -34,4 +34,5 @@ pub use paused::{Paused, Point, Taken};
 pub use ready::{End, Ready, Reply, Way};
 pub use reply::Done;
 pub use statement::take_up;
+pub use tables::see_table;
 pub use taking::finish;

@@ -19,14 +19,13 @@ use Rattle.hv_counts.specs.declared.counted.Counted.{Counted}
 use Rattle.hv_counts.specs.declared.due.Due.{Due}
 use Rattle.hv_counts.specs.Counts.{AreOwn, IsCounted, due_at}
 use Rattle.hv_counts.specs.Miscounts.{counted_of, AreCounted, IsMiscounted}
-use Rattle.hv_counts.specs.Files.{AreSheets, AreCountedBoth, IsUncounted, IsToldUncounted}
+use Rattle.hv_counts.specs.Files.{AreSheets, IsUncounted, IsToldUncounted}
 use Rattle.hv_house.specs.declared.fault.RowFault.{RowFault}
 use Rattle.hv_house.specs.declared.fault.RowFault.TheVariants as fault
 use Rattle.hv_house.specs.Faults.{IsDamage}
 use Rattle.hv_house.specs.Listing.{AreTaken}
-use Rattle.hv_viewing.specs.Counting.{counted_at, counted_in, CountsUpTo, TellsUncounted, HasKindCounts, IsKindUncounted, TellsKind, IsAmissOf, TellsAmiss}
-use Rattle.hv_viewing.specs.Damage.{TellsOne}
-use Rattle.hv_viewing.proofs.Sheets.{reads-none, reads-next, damage-told, spoiled-told}
+use Rattle.hv_viewing.specs.Counting.{counted_at, counted_in, CountsUpTo, TellsUncounted, HasKindCounts, IsKindUncounted, TellsKind, IsAmissOf}
+use Rattle.hv_viewing.proofs.Sheets.{reads-none, reads-next, spoiled-told}
 
 -- ---- what was counted
 
@@ -84,12 +83,6 @@ kind-told (Some s) deletes table taken counts dues (fault.Damaged told) done all
     inr (record { sheets = reads.sheets; files_are = reads.files_are; each = reads.each; place = is.0; place_is = is.1; miscounted = is.2 })
 kind-told (Some s) deletes table taken counts dues (fault.House why) done all = tt
 
-pub kind-one : (o : Option Store) (deletes : Bool) (table : ℕ) (taken : List DirFile) (dues : List Due) (why : RowFault) → Tells o (λ s. TellsOne deletes s.tree taken why)
-    → Tells o (λ s. TellsKind deletes table s.tree taken dues why)
-kind-one None deletes table taken dues why one = tt
-kind-one (Some s) deletes table taken dues (fault.Damaged told) one = inl one
-kind-one (Some s) deletes table taken dues (fault.House why) one = tt
-
 -- what is passed up
 pub err-up : {T : Type 0} (P : RowFault → Type 0) (result : Result T RowFault) (why : RowFault) → IsErrAnd result (λ w. w ≡ why) → P why → IfErr result P
 err-up P (Ok x) why left given = absurd left
@@ -100,9 +93,6 @@ err-up P (Err w) why left given = subst P (sym left) given
 -- as many rows, by every weight
 abbrev pub AreAsMany : List Due → List Due → Type 0
 AreAsMany dues others = (weight : Due → ℕ) → total weight dues ≡ total weight others
-
-counted-as : (deletes : Bool) (dues others : List Due) (sheets : List Sheet) → AreAsMany dues others → IsCounted deletes dues sheets → IsCounted deletes others sheets
-counted-as deletes dues others sheets same counted write partition = counted write partition ∙ same (due_at deletes write partition)
 
 miscounted-as : (deletes : Bool) (table : ℕ) (dues others : List Due) (sheets : List Sheet) (place : Place) (at : ℕ) → AreAsMany dues others
     → IsMiscounted deletes table dues sheets place at → IsMiscounted deletes table others sheets place at
@@ -122,22 +112,6 @@ module _ (info : TableInfo) (list : WriteIds) (inserts deletes : List DirFile) w
       → Rattle.std.specs.List.AllByRecursion (Rattle.hv_table_rows.specs.Reading.IsSheet kind files) sheets → AreSheets kind info list files sheets
   are-sheets true files sheets taken are each = record { named = taken.named; listed = taken.listed; files_are = are ∙ taken.deletes_are; each = each }
   are-sheets false files sheets taken are each = record { named = taken.named; listed = taken.listed; files_are = are ∙ taken.inserts_are; each = each }
-
-  pub both-counted : (o : Option Store) (dues others : List Due) → AreAsMany dues others → Tells o (λ s. AreTaken info.table list s.tree inserts deletes)
-      → Tells o (λ s. HasKindCounts true s.tree deletes dues) → Tells o (λ s. HasKindCounts false s.tree inserts dues) → Tells o (λ s. AreCountedBoth info list s.tree others)
-  both-counted None dues others same taken removed added = tt
-  both-counted (Some s) dues others same taken removed added = by
-    where
-      one : (kind : Bool) → HasKindCounts kind s.tree (of_kind kind) dues → Rattle.hv_counts.specs.Files.HasCounts kind info list s.tree others
-      one kind is = record {
-        sheets = is.sheets;
-        read = are-sheets kind s.tree is.sheets taken is.files_are is.each;
-        counted = λ own. counted-as kind dues others is.sheets same (is.counted (subst AreOwn is.files_are own));
-      }
-
-      by : AreCountedBoth info list s.tree others
-      by true = one true removed
-      by false = one false added
 
   told-one : (s : Store) (kind : Bool) (dues others : List Due) (told : FilePlace) → AreAsMany dues others → AreTaken info.table list s.tree inserts deletes
       → IsKindUncounted kind info.table.0 s.tree (of_kind kind) dues told → IsToldUncounted info list s.tree others told
@@ -163,14 +137,6 @@ module _ (info : TableInfo) (list : WriteIds) (inserts deletes : List DirFile) w
   kind-is true files taken = taken.deletes_are
   kind-is false files taken = taken.inserts_are
 
-  pub amiss-told : (o : Option Store) (kind : Bool) (dues others : List Due) (why : RowFault) → AreAsMany dues others → Tells o (λ s. AreTaken info.table list s.tree inserts deletes)
-      → Tells o (λ s. TellsKind kind info.table.0 s.tree (of_kind kind) dues why) → Tells o (λ s. TellsAmiss info list s.tree others why)
-  amiss-told None kind dues others why same taken told = tt
-  amiss-told (Some s) kind dues others (fault.House why) same taken told = tt
-  amiss-told (Some s) kind dues others (fault.Damaged place) same taken (inl one) =
-      inl (damage-told info list (Some s) (places_of info.table s.tree) taken.named kind (of_kind kind) (fault.Damaged place) refl taken.listed (kind-is kind s.tree taken) one)
-  amiss-told (Some s) kind dues others (fault.Damaged place) same taken (inr is) = inr (told-one s kind dues others place same taken is)
-
   pub amiss-so : (o : Option Store) (kind : Bool) (dues others : List Due) (why : RowFault) → AreAsMany dues others → Tells o (λ s. AreTaken info.table list s.tree inserts deletes)
       → Tells o (λ s. TellsKind kind info.table.0 s.tree (of_kind kind) dues why) → IsDamage why → Tells o (λ s. IsAmissOf info list s.tree others)
   amiss-so None kind dues others why same taken told damage = tt
@@ -189,10 +155,3 @@ module _ (info : TableInfo) (list ids : WriteIds) (is : list ≡ ids) (first : O
       subst (λ l. Tells first (λ s. IsAmissOf info l s.tree others)) is
       (amiss-so info list inserts deletes first kind dues others why same taken
       (subst (λ (x : Option Store). Tells x (λ s. TellsKind kind info.table.0 s.tree (of_kind info list inserts deletes kind) dues why)) at told) damage)
-
-  pub counted-taken : (second third : Option Store) → second ≡ first → third ≡ second → Tells second (λ s. HasKindCounts true s.tree deletes dues)
-      → Tells third (λ s. HasKindCounts false s.tree inserts dues) → Tells first (λ s. AreCountedBoth info ids s.tree others)
-  counted-taken second third at here removed added =
-      subst (λ l. Tells first (λ s. AreCountedBoth info l s.tree others)) is
-      (both-counted info list inserts deletes first dues others same taken (subst (λ (x : Option Store). Tells x (λ s. HasKindCounts true s.tree deletes dues)) at removed)
-      (subst (λ (x : Option Store). Tells x (λ s. HasKindCounts false s.tree inserts dues)) (here ∙ at) added))

@@ -1,32 +1,16 @@
 -- What is seen of a table that was found by its name.
-use Rattle.std.proofs.Common.{◌≡◌, ℕ, Bool, true, false, Option, Some, None, Result, Ok, Err, List, [], option_map, refl, sym, ap, ◌∙◌, subst}
-use Rattle.std.specs.Prelude.{IfErr, IsErrAnd}
+use Rattle.std.proofs.Common.{◌≡◌, ℕ, Bool, false, Option, Some, None, List, [], option_map, refl, sym, ap, ◌∙◌, subst}
 use Rattle.hv_base.specs.Told.{Tells}
 use Rattle.hv_shelf.specs.Disk.{Store}
-use Rattle.hv_wids.specs.WriteIds.{WriteIds}
 use Rattle.hv_logic.specs.declared.catalog.TableInfo.{TableInfo}
 use Rattle.hv_logic.specs.declared.effect.Found.{Found}
 use Rattle.hv_history.specs.declared.state.Table.{Table}
 use Rattle.hv_history.specs.State.{State}
 use Rattle.hv_stands.specs.Reading.{table_of_name}
-use Rattle.hv_table_rows.specs.Reading.{AreRows}
 use Rattle.hv_counts.specs.Counts.{dues_in}
-use Rattle.hv_house.specs.declared.fault.RowFault.{RowFault}
-use Rattle.hv_house.specs.Faults.{IsDamage}
 use Rattle.hv_house.specs.Listing.{info_in}
 use Rattle.hv_house.specs.Seeing.{ids_in, AreRead, IsSeenOf}
 use Rattle.hv_viewing.specs.Counting.{IsAmissOf, IsAmiss}
-
--- ---- rows
-
-pub read-told : (o : Option Store) (info : TableInfo) (list : WriteIds) (reads : Bool) (rows : List Found) → Tells o (λ s. AreRows info list s.tree rows)
-    → Tells o (AreRead reads info list rows)
-read-told None info list reads rows are = tt
-read-told (Some s) info list reads rows are = λ _. are
-
-pub unread : (o : Option Store) (info : TableInfo) (list : WriteIds) (reads : Bool) (rows : List Found) → reads ≡ false → Tells o (AreRead reads info list rows)
-unread None info list reads rows none = tt
-unread (Some s) info list reads rows none = λ some. let never : true ≡ false = sym some ∙ none in cc
 
 -- ---- by the name
 
@@ -76,10 +60,3 @@ amiss told name state found info is some lacks =
       named = by.named;
       amiss = subst (λ (i : TableInfo). Tells told (λ s. IsAmissOf i (ids_in state i.table.0) s.tree (dues_in state i.table.0))) (sym by.info_is) lacks;
     }
-
--- ---- what is passed up of a fault
-
-pub damage-up : {T : Type 0} (S : Type 0) (result : Result T RowFault) (why : RowFault) → IsErrAnd result (λ w. w ≡ why) → (IsDamage why → S)
-    → IfErr result (λ w. IsDamage w → S)
-damage-up S (Ok x) why left spoils = absurd left
-damage-up S (Err w) why left spoils = subst (λ (v : RowFault). IsDamage v → S) (sym left) spoils

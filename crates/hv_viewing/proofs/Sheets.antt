@@ -1,5 +1,5 @@
 -- Files that were read, one after another.
-use Rattle.std.proofs.Common.{◌≡◌, ℕ, ◌+◌, ◌<◌, inl, inr, Bool, true, false, cond, not, Option, Some, None, List, [], ◌∷◌, ◌++◌, filter, map, length, get_or, take, refl, sym, ap, ◌∙◌, subst, append-nil, IsPermutation, IfErr, Result, Err}
+use Rattle.std.proofs.Common.{◌≡◌, ℕ, ◌+◌, ◌<◌, inr, Bool, true, false, cond, not, Option, Some, None, List, [], ◌∷◌, ◌++◌, filter, map, length, get_or, take, refl, sym, ap, ◌∙◌, subst, append-nil, IsPermutation, IfErr, Result, Err}
 use Rattle.std.specs.FinMap as tree
 use Rattle.std.specs.Ordering.{is_eq}
 use Rattle.std.specs.List.{flat_map, Contains}
@@ -21,21 +21,21 @@ use Rattle.hv_choosing.specs.Dirs.{span_of}
 use Rattle.hv_choosing.specs.Listing.{AreListed}
 use Rattle.hv_choosing.specs.Taken.{files_taken}
 use Rattle.hv_rowfile.specs.declared.record.Rec.{Rec}
-use Rattle.hv_rowfile.specs.Layout.{IsFile, IsDamagedAt, file_spelling}
+use Rattle.hv_rowfile.specs.Layout.{IsFile, file_spelling}
 use Rattle.hv_rowfile.proofs.Books.{file_one}
 use Rattle.hv_history.specs.declared.entry.FilePlace.{FilePlace}
 use Rattle.hv_table_rows.specs.declared.row_at.RowAt.{RowAt}
 use Rattle.hv_table_rows.specs.Orders.{row_at_cmp}
 use Rattle.hv_table_rows.specs.Reading.{HoldsAt, LacksAt, Sheet, sheet_file, IsSheet, Reads, founds_in, deleted_in, at_of, is_gone, left_of, left_in, AreOnce, AreRows, IsSpoiled}
 use Rattle.hv_table_rows.specs.Amiss.{first_amiss}
-use Rattle.hv_table_rows.specs.Damage.{no_offset, IsWrongAt, told_place, IsOneDamaged, IsOneSpoiled}
+use Rattle.hv_table_rows.specs.Damage.{IsWrongAt, told_place, IsOneDamaged, IsOneSpoiled}
 use Rattle.hv_table_rows.proofs.Names.{one, all-append}
 use Rattle.hv_table_rows.proofs.Fronts.{none-amiss, own-none}
 use Rattle.hv_house.specs.declared.fault.RowFault.{RowFault}
 use Rattle.hv_house.specs.declared.fault.RowFault.TheVariants as fault
 use Rattle.hv_house.specs.Faults.{IsDamage}
 use Rattle.hv_house.specs.Listing.{AreTaken}
-use Rattle.hv_viewing.specs.Damage.{TellsPlace, TellsFile, TellsOne, TellsDamage}
+use Rattle.hv_viewing.specs.Damage.{TellsPlace, TellsFile, TellsOne}
 
 -- ---- one file
 
@@ -68,22 +68,6 @@ file-told files place deletes span at (fault.Damaged told) is wrong none = recor
   lacks = none;
 }
 file-told files place deletes span at (fault.House cause) is wrong none = tt
-
-pub tells-none : (o : Option Store) (place : Place) (deletes : Bool) (span : Span) (why : RowFault) → TellsPlace place no_offset why
-    → Tells o (λ s. None ≡ tree.get s.tree place) → Tells o (λ s. TellsFile s.tree place deletes span why)
-tells-none None place deletes span why is got = tt
-tells-none (Some s) place deletes span why is got =
-    file-told s.tree place deletes span no_offset why is (subst (λ (o : Option (List ℕ)). IsWrongAt deletes place.bucket span o no_offset) got refl)
-    (λ recs held. let never : None ≡ Some (file_spelling deletes place.bucket recs) = got ∙ held.bytes in cc)
-
-pub tells-bad : (o : Option Store) (place : Place) (deletes : Bool) (span : Span) (at : ℕ) (bytes : List ℕ) (why : RowFault) → TellsPlace place at why
-    → Tells o (λ s. Some bytes ≡ tree.get s.tree place) → IsDamagedAt bytes at
-    → ((kind : Bool) (bucket : ℕ) (recs : List Rec) → IsFile kind bucket recs → bytes ≡ file_spelling kind bucket recs → ⊥)
-    → Tells o (λ s. TellsFile s.tree place deletes span why)
-tells-bad None place deletes span at bytes why is got bad never = tt
-tells-bad (Some s) place deletes span at bytes why is got bad never =
-    file-told s.tree place deletes span at why is (subst (λ (o : Option (List ℕ)). IsWrongAt deletes place.bucket span o at) got (inl bad))
-    (λ recs held. never deletes place.bucket recs held.file (one (got ∙ held.bytes)))
 
 pub tells-other : (o : Option Store) (place : Place) (deletes : Bool) (span : Span) (at : ℕ) (kind : Bool) (other : ℕ) (bytes : List ℕ) (recs : List Rec) (why : RowFault)
     → TellsPlace place at why → Tells o (λ s. Some bytes ≡ tree.get s.tree place) → IsFile kind other recs → bytes ≡ file_spelling kind other recs
@@ -192,15 +176,6 @@ module _ (info : TableInfo) (list : WriteIds) where
         ∙ left-same gone others permuted (flat_map (founds_in list info.shape) inserts.sheets)) risen;
   }
 
-  pub rows-told : (o : Option Store) (places : List Place) (named inserted deleted : List DirFile) (gone others : List RowAt) (rows once : List Found) → Tells o (λ s. places ≡ places_of info.table s.tree)
-      → AreListed places named → deleted ≡ files_taken true list named → inserted ≡ files_taken false list named → IsPermutation gone others
-      → Tells o (λ s. Reads true s.tree deleted (deleted_in list) gone)
-      → Tells o (λ s. Reads false s.tree inserted (left_in list others info.shape) rows) → AreOnce found_cmp rows once
-      → Tells o (λ s. AreRows info list s.tree once)
-  rows-told None places named inserted deleted gone others rows once are listed dare iare permuted deletes inserts risen = tt
-  rows-told (Some s) places named inserted deleted gone others rows once are listed dare iare permuted deletes inserts risen =
-      rows-one s places named inserted deleted gone others rows once are listed dare iare permuted deletes inserts risen
-
   spoiled-one : (s : Store) (places : List Place) (named : List DirFile) (deletes : Bool) (taken : List DirFile) (told : FilePlace) → places ≡ places_of info.table s.tree
       → AreListed places named → taken ≡ files_taken deletes list named → IsOneDamaged deletes s.tree taken told → IsOneSpoiled info list s.tree told
   spoiled-one s places named deletes taken told are listed tare one = record {
@@ -209,12 +184,6 @@ module _ (info : TableInfo) (list : WriteIds) where
     listed = subst (λ (ps : List Place). AreListed ps named) are listed;
     one = subst (λ (fs : List DirFile). IsOneDamaged deletes s.tree fs told) tare one;
   }
-
-  pub damage-told : (o : Option Store) (places : List Place) (named : List DirFile) (deletes : Bool) (taken : List DirFile) (why : RowFault) → Tells o (λ s. places ≡ places_of info.table s.tree)
-      → AreListed places named → taken ≡ files_taken deletes list named → Tells o (λ s. TellsOne deletes s.tree taken why) → Tells o (λ s. TellsDamage info list s.tree why)
-  damage-told None places named deletes taken why are listed tare one = tt
-  damage-told (Some s) places named deletes taken (fault.Damaged told) are listed tare one = spoiled-one s places named deletes taken told are listed tare one
-  damage-told (Some s) places named deletes taken (fault.House cause) are listed tare one = tt
 
   pub spoiled-told : (o : Option Store) (places : List Place) (named : List DirFile) (deletes : Bool) (taken : List DirFile) (why : RowFault) → Tells o (λ s. places ≡ places_of info.table s.tree)
       → AreListed places named → taken ≡ files_taken deletes list named → Tells o (λ s. TellsOne deletes s.tree taken why) → IsDamage why → Tells o (λ s. IsSpoiled info list s.tree)
@@ -246,35 +215,3 @@ module _ (info : TableInfo) (list ids : WriteIds) (same : list ≡ ids) (first :
       by (Some s) are ds is =
           subst (λ l. AreRows info l s.tree once) same
           (rows-one info list s (places_of info.table s.tree) are.named inserted deleted gone others rows once refl are.listed are.deletes_are are.inserts_are permuted ds is risen)
-
-  pub damage-taken : (deletes : Bool) (why : RowFault) (second : Option Store) → second ≡ first → Tells second (λ s. TellsOne deletes s.tree (cond deletes deleted inserted) why)
-      → Tells first (λ s. TellsDamage info ids s.tree why)
-  damage-taken deletes why second at one = by deletes first taken (subst (λ (x : Option Store). Tells x (λ s. TellsOne deletes s.tree (cond deletes deleted inserted) why)) at one)
-    where
-      by : (d : Bool) (o : Option Store) → Tells o (λ s. AreTaken info.table list s.tree inserted deleted) → Tells o (λ s. TellsOne d s.tree (cond d deleted inserted) why)
-          → Tells o (λ s. TellsDamage info ids s.tree why)
-      by d None are told = tt
-      by true (Some s) are told = subst (λ l. TellsDamage info l s.tree why) same (damage-told info list (Some s) (places_of info.table s.tree) are.named true deleted why refl are.listed are.deletes_are told)
-      by false (Some s) are told = subst (λ l. TellsDamage info l s.tree why) same (damage-told info list (Some s) (places_of info.table s.tree) are.named false inserted why refl are.listed are.inserts_are told)
-
-  pub spoiled-taken : (deletes : Bool) (why : RowFault) (second : Option Store) → second ≡ first → Tells second (λ s. TellsOne deletes s.tree (cond deletes deleted inserted) why)
-      → IsDamage why → Tells first (λ s. IsSpoiled info ids s.tree)
-  spoiled-taken deletes why second at one damage = by deletes first taken (subst (λ (x : Option Store). Tells x (λ s. TellsOne deletes s.tree (cond deletes deleted inserted) why)) at one)
-    where
-      by : (d : Bool) (o : Option Store) → Tells o (λ s. AreTaken info.table list s.tree inserted deleted) → Tells o (λ s. TellsOne d s.tree (cond d deleted inserted) why)
-          → Tells o (λ s. IsSpoiled info ids s.tree)
-      by d None are told = tt
-      by true (Some s) are told =
-          subst (λ l. IsSpoiled info l s.tree) same (spoiled-told info list (Some s) (places_of info.table s.tree) are.named true deleted why refl are.listed are.deletes_are told damage)
-      by false (Some s) are told =
-          subst (λ l. IsSpoiled info l s.tree) same (spoiled-told info list (Some s) (places_of info.table s.tree) are.named false inserted why refl are.listed are.inserts_are told damage)
-
--- no damage is told
-pub told-none : (info : TableInfo) (ids : WriteIds) (o : Option Store) (why : RowFault) → (IsDamage why → ⊥) → Tells o (λ s. TellsDamage info ids s.tree why)
-told-none info ids None why none = tt
-told-none info ids (Some s) (fault.Damaged place) none = absurd (none tt)
-told-none info ids (Some s) (fault.House why) none = tt
-
--- what was told of a store that wasn't changed
-pub told-at : (P : Store → Type 0) (o before : Option Store) → o ≡ before → Tells o P → Tells before P
-told-at P o before same told = subst (λ (x : Option Store). Tells x P) same told

@@ -14,12 +14,12 @@ use Rattle.hv_choosing.specs.declared.listing.DirFile.{DirFile}
 use Rattle.hv_rowfile.specs.declared.record.Rec.{Rec}
 use Rattle.hv_rowfile.specs.Layout.{file_spelling}
 use Rattle.hv_table_rows.specs.Reading.{Sheet, sheet_file, IsSheet, Reads, IsSpoiled as IsSpoiledOf}
-use Rattle.hv_table_rows.specs.Damage.{told_place, IsOneDamaged, IsOneSpoiled}
+use Rattle.hv_table_rows.specs.Damage.{told_place, IsOneDamaged}
 use Rattle.hv_counts.specs.declared.counted.Counted.{Counted}
 use Rattle.hv_counts.specs.declared.due.Due.{Due}
 use Rattle.hv_counts.specs.Counts.{AreOwn, IsCounted, dues_in}
 use Rattle.hv_counts.specs.Miscounts.{counted_of, IsMiscounted}
-use Rattle.hv_counts.specs.Files.{IsUncounted, IsToldUncounted}
+use Rattle.hv_counts.specs.Files.{IsUncounted}
 use Rattle.hv_house.specs.declared.fault.RowFault.{RowFault}
 use Rattle.hv_house.specs.declared.fault.RowFault.TheVariants as fault
 use Rattle.hv_house.specs.Seeing.{ids_in}
@@ -69,10 +69,6 @@ TellsKind deletes table files taken dues (fault.House why) = Unit {0}
 
 abbrev pub IsAmissOf : TableInfo → WriteIds → Tree → List Due → Type 0
 IsAmissOf info list files dues = IsSpoiledOf info list files ⊎ IsUncounted info list files dues
-
-abbrev pub TellsAmiss : TableInfo → WriteIds → Tree → List Due → RowFault → Type 0
-TellsAmiss info list files dues (fault.Damaged told) = IsOneSpoiled info list files told ⊎ IsToldUncounted info list files dues told
-TellsAmiss info list files dues (fault.House why) = Unit {0}
 
 -- of a table that is found by a name, a file doesn't stand, or the files don't have as many records as its commits say
 pub record IsAmiss (told : Option Store) (state : State) : Type 0 where

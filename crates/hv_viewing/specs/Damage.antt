@@ -2,13 +2,19 @@
 use Rattle.std.specs.Prelude.{◌≡◌, ℕ, Bool, List}
 use Rattle.hv_shelf.specs.declared.place.Place.{Place}
 use Rattle.hv_shelf.specs.Disk.{Tree}
-use Rattle.hv_logic.specs.declared.catalog.TableInfo.{TableInfo}
-use Rattle.hv_wids.specs.WriteIds.{WriteIds}
 use Rattle.hv_choosing.specs.declared.dir.Span.{Span}
 use Rattle.hv_choosing.specs.declared.listing.DirFile.{DirFile}
-use Rattle.hv_table_rows.specs.Damage.{told_place, IsDamagedFile, IsOneDamaged, IsOneSpoiled}
+use Rattle.hv_table_rows.specs.Damage.{told_place, IsDamagedFile, IsOneDamaged}
+use Rattle.hv_house.specs.declared.fault.HouseFault.TheVariants as house_fault
 use Rattle.hv_house.specs.declared.fault.RowFault.{RowFault}
 use Rattle.hv_house.specs.declared.fault.RowFault.TheVariants as fault
+
+-- the fault is none of the store: a file is damaged, or memory lacks
+abbrev pub IsSoft : RowFault → Type 0
+IsSoft (fault.Damaged place) = Unit {0}
+IsSoft (fault.House house_fault.NoMemory) = Unit {0}
+IsSoft (fault.House house_fault.Store) = ⊥
+IsSoft (fault.House (house_fault.Failed count)) = ⊥
 
 -- where damage is told, it is that of this place and offset
 abbrev pub TellsPlace : Place → ℕ → RowFault → Type 0
@@ -24,8 +30,3 @@ TellsFile files place deletes span (fault.House why) = Unit {0}
 abbrev pub TellsOne : Bool → Tree → List DirFile → RowFault → Type 0
 TellsOne deletes files taken (fault.Damaged told) = IsOneDamaged deletes files taken told
 TellsOne deletes files taken (fault.House why) = Unit {0}
-
--- it is that of one of the files of a table that are read
-abbrev pub TellsDamage : TableInfo → WriteIds → Tree → RowFault → Type 0
-TellsDamage info list files (fault.Damaged told) = IsOneSpoiled info list files told
-TellsDamage info list files (fault.House why) = Unit {0}

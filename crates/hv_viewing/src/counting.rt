@@ -9,8 +9,7 @@ ghost use Rattle.hv_house.specs.Faults.{IsShortDamage};
 ghost use Rattle.hv_counts.specs.Counts.{AreOwn, IsCounted};
 ghost use Rattle.hv_counts.specs.Miscounts.{AreCounted};
 ghost use Rattle.hv_viewing.specs.Counting.{counted_at, TellsUncounted};
-ghost use Rattle.hv_viewing.specs.Damage.{TellsFile};
-ghost use Rattle.hv_viewing.specs.Looking.{IsSoft};
+ghost use Rattle.hv_viewing.specs.Damage.{IsSoft, TellsFile};
 
 use crate::damage::{damaged, records_of};
 use hv_base::{NoMemory, TableId};

@@ -9,8 +9,7 @@ ghost use Rattle.hv_table_rows.specs.Faults.{IsShort};
 ghost use Rattle.hv_table_rows.specs.Damage.{told_place};
 ghost use Rattle.hv_table_rows.specs.Reading.{HoldsAt};
 ghost use Rattle.hv_house.specs.Faults.{IsShortDamage};
-ghost use Rattle.hv_viewing.specs.Damage.{TellsPlace, TellsFile};
-ghost use Rattle.hv_viewing.specs.Looking.{IsSoft};
+ghost use Rattle.hv_viewing.specs.Damage.{IsSoft, TellsPlace, TellsFile};
 
 use hv_base::{Duplicate, NoMemory};
 use hv_choosing::Span;

@@ -1,14 +1,10 @@
-//! What a transaction sees of a table as it stood at a place of a house's book: its files are listed by one call of the house and got each by one.
+//! What is told of the files of a table that are read: where one is damaged, and where they haven't as many records as the commits say.
 #![tactic(auto)]
 
 mod counting;
 mod damage;
 mod laws;
-mod reading;
-mod seeing;
 
 pub use counting::{check_counts, counted_records};
 pub use damage::damaged;
 pub use laws::none_amiss;
-pub use reading::read_rows;
-pub use seeing::see;

@@ -1,6 +1,6 @@
 -- What holds between two lines of a case.
-use Rattle.std.specs.Prelude.{◌≡◌, ◌≤◌, Option, Some, None, List, [], ◌∷◌, ◌++◌, length}
-use Rattle.std.specs.List.{AllByRecursion}
+use Rattle.std.specs.Prelude.{◌≡◌, ℕ, ◌≤◌, Option, Some, None, List, IfSome, length}
+use Rattle.hv_shelf.specs.Plan.{Memory}
 use Rattle.hv_shelf.specs.Disk.{Store}
 use Rattle.hv_acts.specs.declared.told.ToldHouse.{ToldHouse}
 use Rattle.hv_acts.specs.Told.{IsWholeOrClosed}
@@ -12,30 +12,29 @@ use Rattle.hv_session.specs.declared.paused.Taken.TheVariants as taken
 use Rattle.hv_session.specs.Doing.{CanFinish, IsHold}
 use Rattle.tests_actor.specs.declared.desk.Desk.{Desk}
 
+-- what a store in memory tells, and its count of faults
+abbrev pub told_memory : Memory → Option Store
+told_memory m = Some m.store
+
+abbrev pub faults_memory : Memory → ℕ
+faults_memory m = m.plan.faults
+
 -- a statement that can be taken up
 pub record CanTakeUp (asking : Asking) : Type 0 where
   pub short : length asking.text ≤ 32768
   pub named : length asking.session ≤ 32
   pub hold : IsHold asking.hold
 
-abbrev pub IsAsked : Option Asking → Type 0
-IsAsked None = Unit {0}
-IsAsked (Some asking) = CanTakeUp asking
-
--- the statements that are held behind one that was taken up
-abbrev pub held_behind : Taken → List Paused → List Paused
+-- the statement that is held behind one that was taken up
+abbrev pub held_behind : Taken → Option Paused → Option Paused
 held_behind (taken.Ended found) held = held
-held_behind (taken.Kept paused) held = held ++ paused ∷ []
-
--- each of these, which are held, can be finished
-abbrev pub CanFinishEach : {D : Type 0} → (D → Option Store) → ToldHouse D → List Paused → Type 0
-CanFinishEach told house held = AllByRecursion (CanFinish told house) held
+held_behind (taken.Kept paused) held = Some paused
 
 -- acts can go on
 pub record CanGoOn {D : Type 0} (told : D → Option Store) (house : ToldHouse D) (desk : Desk) : Type 0 where
   pub running : IsOpenHouse house
   pub hold : IsHold desk.hold
-  pub held : CanFinishEach told house desk.held.items
+  pub held : IfSome desk.held (CanFinish told house)
 
 -- and the house is as acts keep it
 pub record IsAtHand {D : Type 0} (told : D → Option Store) (desk : Desk) (house : ToldHouse D) : Type 0 where

@@ -1,106 +1,148 @@
 //! A statement of one's own, over whoever acts on the house.
-ghost use Rattle.std.specs.Prelude.{◌≡◌, ◌++◌, [], ◌∷◌, OnOk};
-ghost use Rattle.tests_actor.specs.Keeping.{held_behind, CanGoOn};
+ghost use Rattle.std.specs.Prelude.{◌≡◌, ◌≤◌, length, IfSome, IfOk, OnOk};
+ghost use Rattle.hv_session.specs.Doing.{IsHold};
+ghost use Rattle.tests_actor.specs.Keeping.{told_memory, held_behind, CanTakeUp, CanGoOn};
 
-use crate::asking::{HOW, asking};
 use crate::desk::Desk;
-use crate::saying::{say, say_done};
+use crate::saying::{cut, say, say_done};
 use hv_actor::Actor;
 use hv_acts::ToldHouse;
-use hv_base::NoMemory;
-use hv_house::HouseFault;
-use hv_session::{Paused, Taken, finish, take_up, what_is_held_can_be_finished};
-use hv_shelf::Shelf;
+use hv_base::{Stage, Text};
+use hv_session::{Asking, How, Taken, finish, take_up, what_is_held_can_be_finished};
+use hv_shelf::MemoryShelf;
 use std::alloc::Global;
+use std::io;
+use std::io::ErrorKind;
+use std::mem::ManuallyDrop;
 
-/// A statement of a session that is to be taken up, or the one that was held last, which is to be finished.
-#[derive(Clone, Copy)]
-pub(crate) enum Order<'a> {
-    Take { session: &'a str, text: &'a str },
-    Finish,
+/// Nobody waits, and there is one worker.
+pub(crate) const HOW: How = How {
+    waits: false,
+    workers: 1,
+};
+
+/// The longest text of a statement, and the longest name of a session.
+const MOST_TEXT: usize = 32_768;
+
+const MOST_NAME: usize = 32;
+
+/// The stage of that name; a statement is held at none where there is no such stage.
+pub(crate) fn stage(word: &str) -> Option<Stage>
+    ensures hold { IsHold result }
+{
+    match word {
+        "start" => Some(Stage::Start),
+        "read" => Some(Stage::Read),
+        "commit" => Some(Stage::Commit),
+        _ => None,
+    }
 }
 
-/// Keeps a statement that is held.
-fn keep(held: &mut Vec<Paused>, paused: Paused) -> Result<(), NoMemory>
-    ensures kept { OnOk result (held.new.items ≡ held.old.items ++ paused ∷ []) }
+/// The statement of a session, where neither is too long and memory doesn't lack.
+pub(crate) fn asking(
+    alloc: Global,
+    session: &str,
+    words: &str,
+    hold: Option<Stage>,
+) -> Option<Asking>
+    requires hold { IsHold hold }
+    ensures asked { IfSome result CanTakeUp }
 {
-    held.push(paused)?;
-    Ok(())
+    let Ok(name) = Text::of(alloc, session) else {
+        return None;
+    };
+    let Ok(text) = Text::of(alloc, words) else {
+        return None;
+    };
+    if name.len() > MOST_NAME || text.len() > MOST_TEXT {
+        return None;
+    }
+    Some(Asking {
+        session: name,
+        place: 0,
+        number: 0,
+        text,
+        hold,
+    })
 }
 
 /// Says how a statement ended, or keeps it where it is held.
-fn keep_or_say(alloc: Global, desk: &mut Desk, taken: Taken) -> Result<(), HouseFault>
+fn keep_or_say(alloc: Global, desk: &mut Desk, taken: Taken, said: &mut String) -> io::Result<()>
     ensures hold { desk.new.hold ≡ desk.old.hold }
-    ensures held { OnOk result (desk.new.held.items ≡ held_behind taken desk.old.held.items) }
+    ensures held { desk.new.held ≡ held_behind taken desk.old.held }
 {
     match taken {
-        Taken::Ended(done) => Ok(say_done(alloc, &mut desk.said, &done)?),
+        Taken::Ended(done) => say_done(alloc, said, &done),
         Taken::Kept(paused) => {
-            keep(&mut desk.held, paused)?;
-            Ok(say(&mut desk.said, "held")?)
+            let _last = ManuallyDrop::new(desk.held.replace(paused));
+            say(said, "held")
         }
     }
 }
 
 /// Takes up a statement.
-fn take<D: Shelf + Drop, W: Actor<D, ToldHouse<D>>>(
+fn take<W: Actor<MemoryShelf, ToldHouse<MemoryShelf>>>(
     alloc: Global,
     actor: &mut W,
     desk: &mut Desk,
     session: &str,
     text: &str,
-) -> Result<(), HouseFault>
+    said: &mut String,
+) -> io::Result<()>
     requires keeps { W.keeps actor.old }
-    requires can { CanGoOn D.told (W.house actor.old) desk.old }
+    requires can { CanGoOn told_memory (W.house actor.old) desk.old }
     ensures keeps { W.keeps actor.new }
-    ensures can { OnOk result (CanGoOn D.told (W.house actor.new) desk.new) }
+    ensures can { OnOk result (CanGoOn told_memory (W.house actor.new) desk.new) }
 {
-    what_is_held_can_be_finished::<D, W>();
+    what_is_held_can_be_finished::<MemoryShelf, W>();
     let hold = desk.hold.take();
-    let Some(asking) = asking(alloc, session, text, hold)? else {
-        return Ok(say(&mut desk.said, "too long")?);
+    let Some(asking) = asking(alloc, session, text, hold) else {
+        return say(said, "not asked");
     };
     match take_up(alloc, actor, asking, HOW) {
-        Ok(taken) => keep_or_say(alloc, desk, taken),
-        Err(why) => Err(why),
+        Ok(taken) => keep_or_say(alloc, desk, taken, said),
+        Err(_) => Err(ErrorKind::Other.into()),
     }
 }
 
-/// Finishes the statement that was held last, if there is one.
-fn finish_held<D: Shelf + Drop, W: Actor<D, ToldHouse<D>>>(
+/// Finishes the statement that is held, if there is one.
+fn finish_held<W: Actor<MemoryShelf, ToldHouse<MemoryShelf>>>(
     alloc: Global,
     actor: &mut W,
     desk: &mut Desk,
-) -> Result<(), HouseFault>
+    said: &mut String,
+) -> io::Result<()>
     requires keeps { W.keeps actor.old }
-    requires can { CanGoOn D.told (W.house actor.old) desk.old }
+    requires can { CanGoOn told_memory (W.house actor.old) desk.old }
     ensures keeps { W.keeps actor.new }
-    ensures can { OnOk result (CanGoOn D.told (W.house actor.new) desk.new) }
+    ensures can { OnOk result (CanGoOn told_memory (W.house actor.new) desk.new) }
 {
-    what_is_held_can_be_finished::<D, W>();
-    match desk.held.pop() {
+    match desk.held.take() {
         Some(paused) => match finish(alloc, actor, paused) {
-            Ok(done) => Ok(say_done(alloc, &mut desk.said, &done)?),
-            Err(why) => Err(why),
+            Ok(done) => say_done(alloc, said, &done),
+            Err(_) => Err(ErrorKind::Other.into()),
         },
-        None => Ok(say(&mut desk.said, "none is held")?),
+        None => say(said, "none is held"),
     }
 }
 
-/// Does what one is to do.
-pub(crate) fn do_order<D: Shelf + Drop, W: Actor<D, ToldHouse<D>>>(
+/// Takes up a statement, as `ada SELECT * FROM t`; without one, finishes what is held.
+pub(crate) fn do_order<W: Actor<MemoryShelf, ToldHouse<MemoryShelf>>>(
     alloc: Global,
     actor: &mut W,
     desk: &mut Desk,
-    order: Order<'_>,
-) -> Result<(), HouseFault>
+    order: &str,
+    said: &mut String,
+) -> io::Result<()>
     requires keeps { W.keeps actor.old }
-    requires can { CanGoOn D.told (W.house actor.old) desk.old }
+    requires can { CanGoOn told_memory (W.house actor.old) desk.old }
     ensures keeps { W.keeps actor.new }
-    ensures can { OnOk result (CanGoOn D.told (W.house actor.new) desk.new) }
+    ensures can { OnOk result (CanGoOn told_memory (W.house actor.new) desk.new) }
 {
-    match order {
-        Order::Take { session, text } => take(alloc, actor, desk, session, text),
-        Order::Finish => finish_held(alloc, actor, desk),
+    let (session, text) = cut(order);
+    if text.is_empty() {
+        finish_held(alloc, actor, desk, said)
+    } else {
+        take(alloc, actor, desk, session, text, said)
     }
 }

@@ -1,30 +1,33 @@
 //! What is kept between two lines of a case.
-ghost use Rattle.std.specs.Prelude.{◌≡◌, None, []};
+ghost use Rattle.std.specs.Prelude.{◌≡◌, None};
 
-use crate::others::Move;
 use hv_base::Stage;
 use hv_session::Paused;
-use std::alloc::Global;
+use std::mem::ManuallyDrop;
 
-/// What others will do, where the next statement is to be held, those that are held, and what is printed.
-#[derive(Drop)]
+/// What others will do when they come, a line a move; where the next statement is to be held; and one that is held.
 pub(crate) struct Desk {
-    pub(crate) moves: Vec<Move>,
+    pub(crate) moves: String,
     pub(crate) hold: Option<Stage>,
-    pub(crate) held: Vec<Paused>,
-    pub(crate) said: String,
+    pub(crate) held: Option<Paused>,
 }
 
-impl Desk {
-    pub(crate) fn new(alloc: Global) -> Desk
-        ensures hold { result.hold ≡ None }
-        ensures held { result.held.items ≡ [] }
-    {
-        Desk {
-            moves: Vec::new(alloc),
-            hold: None,
-            held: Vec::new(alloc),
-            said: String::new(alloc),
-        }
-    }
+/// Begins anew: what was held is left.
+pub(crate) fn clear(desk: &mut Desk)
+    ensures hold { desk.new.hold ≡ None }
+    ensures held { desk.new.held ≡ None }
+{
+    let _left = ManuallyDrop::new(desk.held.take());
+    desk.moves.clear();
+    desk.hold = None;
+}
+
+/// Lets go of a desk, and leaves what is held.
+pub(crate) fn leave_desk(desk: Desk) {
+    let Desk {
+        moves: _moves,
+        hold: _hold,
+        held,
+    } = desk;
+    let _left = ManuallyDrop::new(held);
 }

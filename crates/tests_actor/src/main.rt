@@ -5,37 +5,23 @@
 #![tactic(auto)]
 
 mod acting;
-mod asking;
-mod crowding;
 mod desk;
 mod house;
 mod others;
-mod parts;
 mod playing;
 mod saying;
 
-use crate::parts::{Part, read_parts};
 use crate::playing::play;
-use hv_shelf::MemoryShelf;
-use std::alloc::Global;
 use std::io;
-use std::io::ErrorKind;
-
-/// Plays one case over an empty store.
-fn play_part(alloc: Global, part: &Part) -> io::Result<String> {
-    match MemoryShelf::new(alloc, Vec::new(alloc)) {
-        Ok(store) => play(alloc, store, &part.lines),
-        Err(_) => Err(ErrorKind::OutOfMemory.into()),
-    }
-}
+use std::io::{BufRead, BufReader};
 
 fn main(rt: HostRuntime) -> io::Result<()> {
     let alloc = rt.alloc();
-    let parts = read_parts(alloc, rt.reader())?;
-    for part in parts {
-        let text = play_part(alloc, &part)?;
-        let title = part.title;
-        print!(rt; "==== {title}\n{text}")?;
+    let mut lines: Vec<String> = Vec::new(alloc);
+    for line in BufReader::new(alloc, rt.reader())?.lines(alloc) {
+        lines.push(line?)?;
     }
-    Ok(())
+    let mut said = String::new(alloc);
+    play(alloc, &lines, &mut said)?;
+    print!(rt; "{said}")
 }

@@ -1,169 +1,164 @@
 //! The lines of a case.
-ghost use Rattle.std.specs.Prelude.{◌≡◌, IfOk, OnOk};
-ghost use Rattle.hv_acts.specs.Told.{IsWholeOrClosed};
-ghost use Rattle.hv_session.specs.Going.{IsOpenHouse};
-ghost use Rattle.tests_actor.specs.Keeping.{IsAtHand};
+ghost use Rattle.std.specs.Prelude.{◌≡◌, IsOk, IfOk, OnOk};
+ghost use Rattle.tests_actor.specs.Keeping.{told_memory, IsAtHand};
 
-use crate::acting::{Order, do_order};
-use crate::asking::{cut, number, stage};
-use crate::crowding::among;
-use crate::desk::Desk;
-use crate::house::{kept_or_closed, open_store};
-use crate::others::{Deed, Move};
-use crate::saying::say;
+use crate::acting::{do_order, stage};
+use crate::desk::{Desk, clear, leave_desk};
+use crate::house::{close, fresh, kept, open_store};
+use crate::others::Scripted;
+use crate::saying::{cut, number, own_line, say};
+use hv_actor::Crowd;
 use hv_acts::ToldHouse;
-use hv_base::{NoMemory, TxnId};
-use hv_house::HouseFault;
-use hv_shelf::Shelf;
+use hv_shelf::MemoryShelf;
 use std::alloc::Global;
 use std::io;
 use std::io::ErrorKind;
+use std::mem::replace;
 
-/// Keeps what others will do at one of their comings.
-fn plan(moves: &mut Vec<Move>, at: u64, deed: Deed) -> Result<(), NoMemory> {
-    moves.push(Move { at, deed })?;
+/// Says what others did before, how often they came, and which places are one's own, where the run goes on.
+fn say_others(
+    alloc: Global,
+    said: &mut String,
+    done: io::Result<()>,
+    own: io::Result<String>,
+    others: &Scripted,
+) -> io::Result<()>
+    ensures went { OnOk result (IsOk done) }
+{
+    done?;
+    let own = own?;
+    if others.lacks {
+        return Err(ErrorKind::OutOfMemory.into());
+    }
+    said.push_str(others.said.as_str())?;
+    let line = format!(in alloc; "others came {} times\n{own}", others.comings)?;
+    say(said, line.as_str())
+}
+
+/// Does what one is to do among others, who have room for so many of one's own places to be kept: `32 ada SELECT * FROM t`.
+fn among(
+    alloc: Global,
+    house: ToldHouse<MemoryShelf>,
+    desk: &mut Desk,
+    rest: &str,
+    said: &mut String,
+) -> io::Result<ToldHouse<MemoryShelf>>
+    requires ready { IsAtHand told_memory desk.old house }
+    ensures ready { IfOk result (IsAtHand told_memory desk.new) }
+{
+    let (places, order) = cut(rest);
+    let others = Scripted {
+        moves: replace(&mut desk.moves, String::new(alloc)),
+        comings: 0,
+        said: String::new(alloc),
+        lacks: false,
+    };
+    let Ok(mut crowd) = Crowd::new(alloc, house, others, number(places) as usize) else {
+        return Err(ErrorKind::OutOfMemory.into());
+    };
+    let done = do_order(alloc, &mut crowd, desk, order, said);
+    let own = own_line(alloc, crowd.kept(), crowd.since());
+    let (house, others) = crowd.into_parts();
+    let told = say_others(alloc, said, done, own, &others);
+    kept(house, told)
+}
+
+/// Keeps what others will do at one of their comings: `4 bo SELECT * FROM t` or `4 abort 7`.
+fn plan(moves: &mut String, rest: &str) -> io::Result<()> {
+    moves.push_str(rest)?;
+    moves.push_str("\n")?;
     Ok(())
 }
 
-/// Keeps that others will take up a statement: `4 bo SELECT * FROM t`.
-fn plan_take(alloc: Global, moves: &mut Vec<Move>, rest: &str) -> Result<(), NoMemory> {
-    let (at, rest) = cut(rest);
-    let (session, text) = cut(rest);
-    let session = String::from_str(alloc, session)?;
-    let text = String::from_str(alloc, text)?;
-    plan(moves, number(at), Deed::Take { session, text })
-}
-
-/// Keeps that others will abort a transaction: `4 7`.
-fn plan_abort(moves: &mut Vec<Move>, rest: &str) -> Result<(), NoMemory> {
-    let (at, txn) = cut(rest);
-    let txn = TxnId(number(txn));
-    plan(moves, number(at), Deed::Abort { txn })
-}
-
-/// The statement of a line: `ada SELECT * FROM t`; without one, what is held.
-fn order<'a>(rest: &'a str) -> Order<'a> {
-    let (session, text) = cut(rest);
-    if text.is_empty() {
-        Order::Finish
-    } else {
-        Order::Take { session, text }
-    }
-}
-
 /// Does a line for which nobody else comes.
-fn line_alone<D: Shelf + Drop>(
+fn line_alone(
     alloc: Global,
-    house: &mut ToldHouse<D>,
+    house: &mut ToldHouse<MemoryShelf>,
     desk: &mut Desk,
     word: &str,
     rest: &str,
-) -> Result<(), HouseFault>
-    requires ready { IsAtHand D.told desk.old house.old }
-    ensures ready { OnOk result (IsAtHand D.told desk.new house.new) }
+    said: &mut String,
+) -> io::Result<()>
+    requires ready { IsAtHand told_memory desk.old house.old }
+    ensures ready { OnOk result (IsAtHand told_memory desk.new house.new) }
 {
     match word {
-        "alone" => do_order(alloc, house, desk, order(rest)),
-        "others" => Ok(plan_take(alloc, &mut desk.moves, rest)?),
-        "abort" => Ok(plan_abort(&mut desk.moves, rest)?),
+        "alone" => do_order(alloc, house, desk, rest, said),
+        "others" => plan(&mut desk.moves, rest),
         "hold" => {
             desk.hold = stage(rest);
             Ok(())
         }
-        _ => Ok(say(&mut desk.said, "no such line")?),
+        _ => say(said, "no such line"),
     }
 }
 
-/// Closes the house, and opens its store again; what was held is lost.
-fn again<D: Shelf + Drop>(
+/// Does a line. `====` goes on with an empty store, and `again` opens the store once more; what was held is lost.
+fn step(
     alloc: Global,
-    house: ToldHouse<D>,
-    desk: &mut Desk,
-) -> Result<ToldHouse<D>, HouseFault>
-    requires ready { IsAtHand D.told desk.old house }
-    ensures ready { IfOk result (IsAtHand D.told desk.new) }
-{
-    desk.held.clear();
-    open_store(alloc, house.into_house().close())
-}
-
-/// Does a line.
-fn step<D: Shelf + Drop>(
-    alloc: Global,
-    house: ToldHouse<D>,
+    house: ToldHouse<MemoryShelf>,
     desk: &mut Desk,
     line: &str,
-) -> Result<ToldHouse<D>, HouseFault>
-    requires ready { IsAtHand D.told desk.old house }
-    ensures ready { IfOk result (IsAtHand D.told desk.new) }
+    said: &mut String,
+) -> io::Result<ToldHouse<MemoryShelf>>
+    requires ready { IsAtHand told_memory desk.old house }
+    ensures ready { IfOk result (IsAtHand told_memory desk.new) }
 {
     let mut house = house;
     let (word, rest) = cut(line);
     match word {
-        "again" => again(alloc, house, desk),
-        "among" => {
-            let (places, rest) = cut(rest);
-            among(alloc, house, desk, number(places) as usize, order(rest))
+        "====" => {
+            close(house);
+            clear(desk);
+            fresh(alloc)
         }
+        "again" => {
+            clear(desk);
+            open_store(alloc, house.into_house().close())
+        }
+        "among" => among(alloc, house, desk, rest, said),
         _ => {
-            let done = line_alone(alloc, &mut house, desk, word, rest);
-            kept_or_closed(house, done)
+            let done = line_alone(alloc, &mut house, desk, word, rest, said);
+            kept(house, done)
         }
     }
 }
 
 /// Says the line, and does it.
-fn told_step<D: Shelf + Drop>(
+fn told_step(
     alloc: Global,
-    house: ToldHouse<D>,
+    house: ToldHouse<MemoryShelf>,
     desk: &mut Desk,
     line: &str,
-) -> Result<ToldHouse<D>, HouseFault>
-    requires ready { IsAtHand D.told desk.old house }
-    ensures ready { IfOk result (IsAtHand D.told desk.new) }
+    said: &mut String,
+) -> io::Result<ToldHouse<MemoryShelf>>
+    requires ready { IsAtHand told_memory desk.old house }
+    ensures ready { IfOk result (IsAtHand told_memory desk.new) }
 {
-    match say(&mut desk.said, line) {
-        Ok(()) => step(alloc, house, desk, line),
-        Err(NoMemory) => kept_or_closed(house, Err(HouseFault::NoMemory)),
+    match say(said, line) {
+        Ok(()) => step(alloc, house, desk, line, said),
+        Err(why) => kept(house, Err(why)),
     }
 }
 
-fn failed(why: HouseFault) -> io::Error {
-    match why {
-        HouseFault::NoMemory => ErrorKind::OutOfMemory.into(),
-        HouseFault::Store | HouseFault::Failed { .. } => ErrorKind::Other.into(),
-    }
-}
-
-/// Does the lines of a case, up to one that fails, and gives what is to be printed.
-fn play_lines<D: Shelf + Drop>(
-    alloc: Global,
-    house: ToldHouse<D>,
-    lines: &[String],
-) -> io::Result<String>
-    requires keeps { IsWholeOrClosed D.told house.house }
-    requires running { IsOpenHouse house }
-{
-    let mut house = house;
-    let mut desk = Desk::new(alloc);
+/// Does the lines of all cases, up to one that fails.
+pub(crate) fn play(alloc: Global, lines: &[String], said: &mut String) -> io::Result<()> {
+    let mut house = fresh(alloc)?;
+    let mut desk = Desk {
+        moves: String::new(alloc),
+        hold: None,
+        held: None,
+    };
     for line in lines {
-        match told_step(alloc, house, &mut desk, line.as_str()) {
+        match told_step(alloc, house, &mut desk, line.as_str(), said) {
             Ok(next) => house = next,
-            Err(why) => return Err(failed(why)),
+            Err(why) => {
+                leave_desk(desk);
+                return Err(why);
+            }
         }
     }
-    let _store = house.into_house().close();
-    Ok(desk.said)
-}
-
-/// Plays a case over a store.
-pub(crate) fn play<D: Shelf + Drop>(
-    alloc: Global,
-    store: D,
-    lines: &[String],
-) -> io::Result<String> {
-    match open_store(alloc, store) {
-        Ok(house) => play_lines(alloc, house, lines),
-        Err(why) => Err(failed(why)),
-    }
+    close(house);
+    leave_desk(desk);
+    Ok(())
 }

@@ -10,7 +10,6 @@ use Rattle.std.proofs.lemmas.List.{length-append}
 use Rattle.std.proofs.lemmas.List.Concat.{flat_map-cons}
 use Rattle.hv_base.specs.declared.ids.TxnId.{TxnId}
 use Rattle.hv_base.specs.declared.ids.TableId.{TableId}
-use Rattle.hv_base.specs.declared.ids.WriteId.{WriteId}
 use Rattle.hv_base.specs.declared.ids.Touch.{Touch}
 use Rattle.hv_bytes.proofs.Lengths.{length-four, length-eight, length-text}
 use Rattle.hv_journal.proofs.Lengths.{length-touches}
@@ -34,13 +33,8 @@ use Rattle.hv_history.specs.State.{state_of, numbered}
 use Rattle.hv_book.specs.declared.notes.TableNote.{TableNote}
 use Rattle.hv_book.specs.Briefs.{brief_table}
 use Rattle.hv_logic.specs.declared.catalog.Shape.{Shape}
-use Rattle.hv_route.specs.declared.files.OutFile.{OutFile}
-use Rattle.hv_stands.specs.Files.{place_of_file}
-use Rattle.hv_trail.specs.declared.trail.TrailItem.{TrailItem}
-use Rattle.hv_trail.specs.declared.trail.Reader.TheVariants.{Txn}
-use Rattle.hv_trail.specs.Trail.{HasWritten}
 use Rattle.hv_house.specs.House.{IsSmall}
-use Rattle.tests_house.specs.Asking.{AreTouches, IsTable, AreFilesPut}
+use Rattle.tests_house.specs.Asking.{AreTouches, IsTable}
 
 -- ---- a row of one number
 
@@ -93,26 +87,13 @@ is_table book number shape note (Some t) here is id made =
     let shape_is : t.info.shape ≡ shape = made t here in
     record { table = t; here = here; same = λ k. record { table = record { 0 = number_is k }; shape = shape_is k } }
 
--- ---- files by their places
-
-pub of_places : (trail : List TrailItem) (txn : TxnId) (table write : ℕ) (files : List OutFile)
-    → AllByRecursion (HasWritten trail (Txn txn)) (map (place_of_file table write) files) → AreFilesPut trail txn table write files
-of_places trail txn table write [] all = tt
-of_places trail txn table write (file ∷ files) all = (all.0, of_places trail txn table write files all.1)
-
 -- ---- short entries
-
-pub short_given : (txn : TxnId) (table : TableId) (write : WriteId) → IsSmall (entry.Given txn table write)
-short_given txn table write = grind (arith, length-append, length-eight)
 
 pub short_memory : (txn : TxnId) → IsSmall (entry.Abort txn cause.Memory)
 short_memory txn = grind (arith, length-append, length-eight)
 
 pub short_full : (txn : TxnId) → IsSmall (entry.Abort txn cause.Full)
 short_full txn = grind (arith, length-append, length-eight)
-
-pub short_create : (txn : TxnId) (table : TableId) → IsSmall (entry.Create txn table)
-short_create txn table = grind (arith, length-append, length-eight)
 
 pub short_idle : (txn : TxnId) → IsSmall (entry.Commit txn [])
 short_idle txn = grind (arith, length-append, length-eight, length-touches)

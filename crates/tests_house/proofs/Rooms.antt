@@ -7,9 +7,6 @@ use Rattle.hv_history.specs.declared.state.Table.{Table}
 use Rattle.hv_history.specs.declared.state.Transaction.{Transaction}
 use Rattle.hv_history.specs.State.{State, state_of, numbered}
 use Rattle.hv_history.specs.Legal.{is_open, Of, StartFits, GivenFits}
-use Rattle.hv_shelf.specs.Disk.{Store}
-use Rattle.hv_house.specs.declared.house.House.{House}
-use Rattle.hv_house.specs.House.{IsReadyWithin}
 use Rattle.hv_house.specs.Calls.{CanBeGiven, CanStart, IfOpen}
 
 pub of_open : (P : Transaction → Type 0) (o : Option Transaction) → IsSomeAnd o P → IsSomeAnd o (λ t. IsTrue (is_open t) → P t)
@@ -39,6 +36,3 @@ pub can_start : (limits : Limits) (b book : List Entry) (txn statement : ℕ) �
     → IfOpen (state_of book) txn (CanStart (state_of book))
 can_start limits b book txn statement same fits =
     subst (λ e. IfOpen (state_of e) txn (CanStart (state_of e))) same (start_of limits (state_of b) statement (numbered (state_of b).transactions txn) fits)
-
-pub own_limits : {D : Type 0} (told : D → Option Store) (limits : Limits) (house : House D) → IsReadyWithin limits told house → IsReadyWithin house.limits told house
-own_limits told limits house ready = subst (λ l. IsReadyWithin l told house) (sym ready.limits_are) ready

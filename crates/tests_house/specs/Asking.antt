@@ -16,8 +16,6 @@ use Rattle.hv_stands.specs.Files.{place_of_file}
 use Rattle.hv_trail.specs.declared.trail.TrailItem.{TrailItem}
 use Rattle.hv_trail.specs.declared.trail.Reader.TheVariants.{Txn}
 use Rattle.hv_trail.specs.Trail.{HasWritten, broken}
-use Rattle.hv_house.specs.declared.house.House.{House}
-use Rattle.hv_house.specs.House.{IsReady}
 use Rattle.hv_house.specs.Steps.{HoldsId}
 
 -- a table of the book
@@ -34,12 +32,9 @@ IsTableOf book (Some info) = IsTable book info
 abbrev pub AreFilesPut : List TrailItem → TxnId → (table write : ℕ) → List OutFile → Type 0
 AreFilesPut trail txn table write files = AllByRecursion (λ file. HasWritten trail (Txn txn) (place_of_file table write file)) files
 
--- a house over a store in memory, between two calls
+-- what a store in memory tells
 abbrev pub told_memory : Memory → Option Store
 told_memory m = Some m.store
-
-abbrev pub IsOpen : House Memory → Type 0
-IsOpen house = IsReady told_memory house
 
 -- the touches of a change that is within its limits
 pub record AreTouches (info : TableInfo) (effect : Effect) (wrote : List Touch) : Type 0 where

@@ -1,18 +1,15 @@
 //! What is asked before a call, so that its condition holds.
-ghost use Rattle.std.specs.Prelude.{◌≡◌, ◌<◌, ◌≤◌, map, None, true, false, IfOk, IfSome};
+ghost use Rattle.std.specs.Prelude.{◌≡◌, ◌<◌, ◌≤◌, true, false, IfOk, IfSome};
 ghost use Rattle.hv_dirs.specs.Names.{write_end};
 ghost use Rattle.hv_history.specs.State.{given_in};
 ghost use Rattle.hv_book.specs.Briefs.{held_by};
-ghost use Rattle.hv_stands.specs.Files.{place_of_file};
 ghost use Rattle.hv_rowfile.specs.Layout.{RowIsTaken, RecIsTaken};
 ghost use Rattle.hv_value.specs.declared.value.Value.TheVariants.{Int};
 ghost use Rattle.hv_table_rows.specs.Putting.{CanPut};
-ghost use Rattle.hv_trail.specs.declared.trail.Reader.TheVariants.{Txn};
-ghost use Rattle.hv_trail.specs.Trail.{broken};
 ghost use Rattle.hv_trail.specs.Kept.{trail_of};
 ghost use Rattle.hv_house.specs.House.{entries_of};
 ghost use Rattle.hv_house.specs.Steps.{HoldsId};
-ghost use Rattle.tests_house.specs.Asking.{IsTableOf, AreFilesPut, IsDone};
+ghost use Rattle.tests_house.specs.Asking.{IsTableOf, IsDone};
 
 use hv_base::{NoMemory, TableId, TxnId, WriteId};
 use hv_book::{Book, Held};
@@ -22,7 +19,7 @@ use hv_logic::TableInfo;
 use hv_meta::{is_running, made_shape};
 use hv_route::OutFile;
 use hv_rowfile::Rec;
-use hv_shelf::{Place, Shelf};
+use hv_shelf::MemoryShelf;
 use hv_table_rows::place_of_file;
 use hv_value::{Row, Value};
 use std::alloc::Global;
@@ -110,56 +107,11 @@ pub(crate) fn can_put(file: &OutFile) -> bool
     }
 }
 
-/// Where these files stand.
-fn places_of(
+/// Whether a transaction put these files under its write id, each of which has its mark, and no call on files failed for it.
+pub(crate) fn is_done(
     alloc: Global,
-    table: TableId,
-    write: WriteId,
-    files: &[OutFile],
-) -> Result<Vec<Place>, NoMemory>
-    requires first { 1 ≤ write.0 }
-    requires last { write.0 < write_end }
-    ensures { IfOk result (λ places. places.items ≡ map (place_of_file table.0 write.0) files.now) }
-{
-    let mut places = Vec::new(alloc);
-    for file in files {
-        places.push(place_of_file(alloc, table, write, file)?)?;
-    }
-    Ok(places)
-}
-
-/// Whether the marks behind so many say that a transaction put these files.
-fn are_put<D: Shelf>(
-    alloc: Global,
-    house: &House<D>,
+    house: &House<MemoryShelf>,
     txn: TxnId,
-    since: u64,
-    table: TableId,
-    write: WriteId,
-    files: &[OutFile],
-) -> Result<bool, NoMemory>
-    requires first { 1 ≤ write.0 }
-    requires last { write.0 < write_end }
-    ensures { IfOk result (λ put. put ≡ true
-        → AreFilesPut (trail_of house.now.trail) txn table.0 write.0 files.now) }
-{
-    let places = places_of(alloc, table, write, files)?;
-    Ok(house.has_put(txn, since, &places))
-}
-
-/// Whether no call on files failed for a transaction.
-pub(crate) fn is_unbroken<D: Shelf>(house: &House<D>, txn: TxnId) -> bool
-    ensures { result ≡ true → broken (Txn txn) (trail_of house.now.trail) ≡ None }
-{
-    house.broken(txn).is_none()
-}
-
-/// Whether a transaction put these files under its write id, and no call on files failed for it.
-pub(crate) fn is_done<D: Shelf>(
-    alloc: Global,
-    house: &House<D>,
-    txn: TxnId,
-    since: u64,
     table: TableId,
     write: WriteId,
     files: &[OutFile],
@@ -169,8 +121,14 @@ pub(crate) fn is_done<D: Shelf>(
     ensures { IfOk result (λ done. done ≡ true → IsDone
         (entries_of house.now) (trail_of house.now.trail) txn table.0 write.0 files.now) }
 {
-    let put = are_put(alloc, house, txn, since, table, write, files)?;
-    let holds = holds_id(house.book(), txn, table, write);
-    let unbroken = is_unbroken(house, txn);
-    Ok(put && holds && unbroken)
+    if !holds_id(house.book(), txn, table, write) {
+        return Ok(false);
+    }
+    for file in files {
+        let place = place_of_file(alloc, table, write, file)?;
+        if !house.has_put(txn, &place) {
+            return Ok(false);
+        }
+    }
+    Ok(house.broken(txn).is_none())
 }

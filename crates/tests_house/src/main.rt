@@ -3,17 +3,25 @@
 #![tactic(auto)]
 
 mod asking;
+mod calls;
 mod changes;
 mod ending;
-mod laying;
-mod opening;
 mod playing;
-mod room;
+mod seeing;
 mod showing;
+mod stores;
 
 use crate::playing::play;
 use std::io;
+use std::io::{BufRead, BufReader};
 
 fn main(rt: HostRuntime) -> io::Result<()> {
-    play(&rt, rt.alloc())
+    let alloc = rt.alloc();
+    let mut lines: Vec<String> = Vec::new(alloc);
+    for line in BufReader::new(alloc, rt.reader())?.lines(alloc) {
+        lines.push(line?)?;
+    }
+    let mut said = String::new(alloc);
+    play(alloc, &lines, &mut said)?;
+    print!(rt; "{said}")
 }

@@ -1,211 +1,183 @@
 //! The lines of the input, one call each.
-ghost use Rattle.std.specs.Prelude.{IfOk};
-ghost use Rattle.hv_house.specs.House.{IsReady};
-ghost use Rattle.tests_house.specs.Asking.{IsOpen};
+ghost use Rattle.std.specs.Prelude.{◌≤◌, IfOk};
+ghost use Rattle.hv_base.specs.declared.ids.Limits.{Limits};
+ghost use Rattle.hv_house.specs.House.{IsReadyWithin};
+ghost use Rattle.tests_house.specs.Asking.{told_memory};
 
-use crate::changes::{Kept, number, piece, put};
-use crate::ending::commit;
-use crate::laying::lay;
-use crate::opening::{abort, answer, begin, create, give, see};
-use crate::room::room;
+use crate::calls::{Said, abort, abort_full, create, give, said_text, start, statement};
+use crate::changes::change;
+use crate::ending::commit_idle;
+use crate::seeing::see;
 use crate::showing::{book_text, files_text};
+use crate::stores::{copied, cut, fresh, kept, lay, leave, number, say};
 use hv_base::{Limits, TableId, TxnId};
-use hv_house::{House, HouseFault};
-use hv_shelf::{MemoryShelf, Shelf};
+use hv_house::{BootFault, House, HouseFault};
+use hv_shelf::MemoryShelf;
 use std::alloc::Global;
 use std::io;
-use std::io::{BufRead, BufReader, ErrorKind};
-use std::mem::replace;
+use std::io::ErrorKind;
 
 /// The limits of this project's profile.
-const LIMITS: Limits = Limits { entries: 131_072 };
+pub(crate) const LIMITS: Limits = Limits { entries: 131_072 };
 
-/// A house over this store.
-fn opened(alloc: Global, store: MemoryShelf) -> io::Result<House<MemoryShelf>>
-    ensures ready { IfOk result IsOpen }
-{
-    match House::boot(alloc, store, LIMITS) {
-        Ok(house) => Ok(house),
-        Err(_) => Err(ErrorKind::Other.into()),
-    }
-}
-
-/// A house over an empty store.
-fn fresh(alloc: Global) -> io::Result<House<MemoryShelf>>
-    ensures ready { IfOk result IsOpen }
-{
-    match MemoryShelf::new(alloc, Vec::new(alloc)) {
-        Ok(store) => opened(alloc, store),
-        Err(_) => Err(ErrorKind::OutOfMemory.into()),
-    }
-}
-
-/// Does what a line says to the house.
-fn act<D: Shelf>(
-    alloc: Global,
-    house: &mut House<D>,
-    kept: &mut Vec<Kept>,
-    line: &str,
-) -> Result<String, HouseFault>
-    requires ready { IsReady D.told house.old }
-    ensures ready { IfOk result (λ _. IsReady D.told house.new) }
-{
-    if let Some(text) = line.strip_prefix("begin ") {
-        return begin(alloc, house, text);
-    }
-    let words: Vec<&str> = line.split(' ').collect(alloc)?;
-    let txn = TxnId(number(piece(&words, 1)));
-    let table = TableId(number(piece(&words, 2)));
-    match piece(&words, 0) {
-        "see" => see(alloc, house, txn, piece(&words, 2)),
-        "give" => give(alloc, house, txn, table),
-        "put" => put(alloc, house, kept, txn, table, line),
-        "commit" => commit(alloc, house, kept, txn),
-        "abort" => abort(alloc, house, txn),
-        "create" => create(alloc, house, txn),
-        _ => Ok(answer(alloc, "no such call")?),
-    }
-}
-
-/// Does what a line says, or shows what it asks for.
-fn answered(
-    alloc: Global,
-    house: &mut House<MemoryShelf>,
-    kept: &mut Vec<Kept>,
-    line: &str,
-) -> Result<String, HouseFault>
-    requires ready { IsOpen house.old }
-    ensures ready { IfOk result (λ _. IsOpen house.new) }
-{
-    match line {
-        "book" => Ok(book_text(alloc, house.book())?),
-        "files" => Ok(files_text(alloc, house.shelf())?),
-        _ => act(alloc, house, kept, line),
-    }
-}
-
-/// Puts this house in the place of another, which gives its store back: so no house is let go of as a whole.
-fn exchanged(house: &mut House<MemoryShelf>, next: House<MemoryShelf>) -> MemoryShelf
-    requires ready { IsOpen next }
-    ensures ready { IsOpen house.new }
-{
-    replace(house, next).close()
-}
-
-/// Goes on with an empty store, and gives back the one that was.
-fn renew(alloc: Global, house: &mut House<MemoryShelf>) -> io::Result<MemoryShelf>
-    ensures ready { IfOk result (λ _. IsOpen house.new) }
-{
-    let next = fresh(alloc)?;
-    Ok(exchanged(house, next))
-}
-
-/// Goes on with this store.
-fn reopen(alloc: Global, house: &mut House<MemoryShelf>, store: MemoryShelf) -> io::Result<()>
-    ensures ready { IfOk result (λ _. IsOpen house.new) }
-{
-    let next = opened(alloc, store)?;
-    let _spare = exchanged(house, next);
-    Ok(())
-}
-
-/// Opens the store once more.
-fn again(alloc: Global, house: &mut House<MemoryShelf>) -> io::Result<()>
-    ensures ready { IfOk result (λ _. IsOpen house.new) }
-{
-    let store = renew(alloc, house)?;
-    reopen(alloc, house, store)
-}
-
-/// Lays a file into the store while no house is open over it, and says whether it stands.
-fn lay_between(alloc: Global, house: &mut House<MemoryShelf>, line: &str) -> io::Result<bool>
-    ensures ready { IfOk result (λ _. IsOpen house.new) }
-{
-    let mut store = renew(alloc, house)?;
-    let laid = lay(alloc, &mut store, line) == Ok(true);
-    reopen(alloc, house, store)?;
-    Ok(laid)
-}
-
-/// A line with what is said to it.
-fn with_answer(alloc: Global, line: &str, text: &str) -> io::Result<String> {
-    Ok(format!(in alloc; "{line}: {text}")?)
-}
-
-/// Fills a house with room for so many entries.
-fn room_line(alloc: Global, line: &str, entries: u64) -> io::Result<String> {
-    match room(alloc, entries) {
-        Ok(text) => with_answer(alloc, line, text.as_str()),
-        Err(_) => Err(ErrorKind::Other.into()),
-    }
-}
+/// More than a house can have.
+const MOST: u64 = 9_999_999;
 
 /// Makes the call of a line.
-fn call_line(
+fn call(
     alloc: Global,
     house: &mut House<MemoryShelf>,
-    kept: &mut Vec<Kept>,
-    line: &str,
-) -> io::Result<String>
-    requires ready { IsOpen house.old }
-    ensures ready { IfOk result (λ _. IsOpen house.new) }
+    word: &str,
+    rest: &str,
+) -> Result<Said, HouseFault>
+    ghost limits: { Limits }
+    requires ready { IsReadyWithin limits told_memory house.old }
+    ensures ready { IfOk result (λ _. IsReadyWithin limits told_memory house.new) }
 {
-    match answered(alloc, house, kept, line) {
-        Ok(text) => with_answer(alloc, line, text.as_str()),
-        Err(_) => Err(ErrorKind::Other.into()),
+    let (first, more) = cut(rest, ' ');
+    let txn = TxnId(number(first));
+    match word {
+        "begin" => statement(alloc, house, false, rest),
+        "open" => statement(alloc, house, true, rest),
+        "start" => start(house, txn),
+        "give" => give(house, txn, TableId(number(more))),
+        "put" => change(alloc, house, false, txn, more),
+        "commit" => {
+            if more.is_empty() {
+                commit_idle(alloc, house, txn)
+            } else {
+                change(alloc, house, true, txn, more)
+            }
+        }
+        "abort" => abort(house, txn),
+        "full" => abort_full(house, txn),
+        "create" => create(house, txn),
+        _ => Ok(Said::Refused),
     }
 }
 
-/// Does what a line of the input says, and answers what is to be printed. `new` goes on with an empty store, `again` opens the
-/// store once more, and `lay` lays a file into it before.
-fn told(
+/// Goes on with an empty store, and with room for so many entries.
+fn renewed(
     alloc: Global,
-    house: &mut House<MemoryShelf>,
-    kept: &mut Vec<Kept>,
+    room: &mut Limits,
+    entries: u64,
     line: &str,
-) -> io::Result<String>
-    requires ready { IsOpen house.old }
-    ensures ready { IfOk result (λ _. IsOpen house.new) }
+    said: &mut String,
+) -> io::Result<House<MemoryShelf>>
+    ensures ready { IfOk result (IsReadyWithin room.new told_memory) }
 {
-    if line.starts_with("new ") {
-        renew(alloc, house)?;
-        kept.clear();
-        return Ok(String::from_str(alloc, line)?);
+    if entries > MOST {
+        return Err(ErrorKind::Other.into());
     }
-    if line == "again" {
-        again(alloc, house)?;
-        return Ok(String::from_str(alloc, "again: done")?);
-    }
-    if line.starts_with("lay ") {
-        let laid = lay_between(alloc, house, line)?;
-        let said = if laid { "lay: done" } else { "lay: refused" };
-        return Ok(String::from_str(alloc, said)?);
-    }
-    if let Some(entries) = line.strip_prefix("room ") {
-        return room_line(alloc, line, number(entries));
-    }
-    call_line(alloc, house, kept, line)
+    *room = Limits { entries };
+    said.push_str(line)?;
+    said.push_str("\n")?;
+    fresh(alloc, *room)
 }
 
-/// Does what each line of the input says, up to one that fails.
-fn play_lines(rt: &HostRuntime, alloc: Global, house: &mut House<MemoryShelf>) -> io::Result<()>
-    requires ready { IsOpen house.old }
+/// What is said of a store that was not opened again: whether it is as before.
+fn closed_text(
+    alloc: Global,
+    why: BootFault,
+    before: &MemoryShelf,
+    now: &MemoryShelf,
+) -> io::Result<String> {
+    let BootFault::Full { entries } = why else {
+        return Err(ErrorKind::Other.into());
+    };
+    let same = now.journal() == before.journal() && now.files() == before.files();
+    let kept = if same { "as before" } else { "changed" };
+    Ok(format!(in alloc; "full with {entries}, {kept}")?)
+}
+
+/// Opens a store once more, behind a file that is laid into it where the line says so. Where there is no room for that, goes on with an
+/// empty one.
+fn reopened(
+    alloc: Global,
+    store: MemoryShelf,
+    limits: Limits,
+    word: &str,
+    rest: &str,
+    said: &mut String,
+) -> io::Result<House<MemoryShelf>>
+    requires most { limits.entries ≤ 9999999 }
+    ensures ready { IfOk result (IsReadyWithin limits told_memory) }
 {
-    let mut kept: Vec<Kept> = Vec::new(alloc);
-    for line in BufReader::new(alloc, rt.reader())?.lines(alloc) {
-        let line = line?;
-        let Ok(text) = told(alloc, house, &mut kept, line.as_str()) else {
-            return println!(rt; "stopped");
-        };
-        println!(rt; "{text}")?;
+    let mut store = store;
+    let laid = rest.is_empty() || lay(alloc, &mut store, rest) == Ok(true);
+    let Ok(before) = copied(alloc, &store) else {
+        leave(store);
+        return Err(ErrorKind::OutOfMemory.into());
+    };
+    match House::boot(alloc, store, limits) {
+        Ok(house) => {
+            leave(before);
+            let answer = if laid { Said::Done } else { Said::Refused };
+            kept(house, word, said_text(alloc, Ok(answer)), said)
+        }
+        Err((why, store)) => {
+            let text = closed_text(alloc, why, &before, &store);
+            leave(before);
+            leave(store);
+            say(said, word, text)?;
+            fresh(alloc, limits)
+        }
     }
+}
+
+/// Does what a line says. `new` and `room` go on with an empty store, `again` opens the store once more, and `lay` lays a file into it
+/// before.
+fn step(
+    alloc: Global,
+    house: House<MemoryShelf>,
+    room: &mut Limits,
+    line: &str,
+    said: &mut String,
+) -> io::Result<House<MemoryShelf>>
+    requires ready { IsReadyWithin room.old told_memory house }
+    ensures ready { IfOk result (IsReadyWithin room.new told_memory) }
+{
+    let mut house = house;
+    let (word, rest) = cut(line, ' ');
+    match word {
+        "new" => {
+            leave(house.close());
+            renewed(alloc, room, LIMITS.entries, line, said)
+        }
+        "room" => {
+            leave(house.close());
+            renewed(alloc, room, number(rest), line, said)
+        }
+        "again" | "lay" => reopened(alloc, house.close(), *room, word, rest, said),
+        "book" => {
+            let text = book_text(alloc, house.book());
+            kept(house, line, text, said)
+        }
+        "files" => {
+            let text = files_text(alloc, house.shelf());
+            kept(house, line, text, said)
+        }
+        "see" => {
+            let text = see(alloc, &house, rest);
+            kept(house, line, text, said)
+        }
+        _ => {
+            let done = call(alloc, &mut house, word, rest);
+            kept(house, line, said_text(alloc, done), said)
+        }
+    }
+}
+
+/// Does what each line says, up to one that fails.
+pub(crate) fn play(alloc: Global, lines: &[String], said: &mut String) -> io::Result<()> {
+    let mut room = LIMITS;
+    let mut house = fresh(alloc, room)?;
+    for line in lines {
+        match step(alloc, house, &mut room, line.as_str(), said) {
+            Ok(next) => house = next,
+            Err(why) => return Err(why),
+        }
+    }
+    leave(house.close());
     Ok(())
-}
-
-/// Does what each line of the input says.
-pub(crate) fn play(rt: &HostRuntime, alloc: Global) -> io::Result<()> {
-    let mut house = fresh(alloc)?;
-    let played = play_lines(rt, alloc, &mut house);
-    let _store = house.close();
-    played
 }

@@ -2,19 +2,18 @@ use Rattle.std.proofs.Common.{rules, ◌∙◌, subst}
 use Rattle.std.specs.Prelude.{IfSome}
 use Rattle.hv_trail.specs.Kept.{trail_of}
 use Rattle.hv_house.specs.House.{entries_of}
-use Rattle.tests_house.specs.Asking.{IsTableOf, AreTouches}
+use Rattle.tests_house.specs.Asking.{AreTouches}
 use Rattle.tests_house.proofs.Facts.{short_change}
 use Rattle.tests_house.proofs.Commits.{can_commit}
 use Rattle.tests_house.proofs.ending.commit_change.Goals as goal
 
 pub note_commit-requires : goal.note_commit-requires
 note_commit-requires g c κs within =
-    let info = c.in-Some.info in
-    let effect = c.in_ok-effect.effect in
-    let touches = subst (λ o. IfSome o (AreTouches info effect)) c.in-Some-2.is c.in_ok-wrote.ensures in
-    let small = short_change c.args.kept.now.txn info effect c.in-Some-2.wrote touches in
+    let info = c.args.info.now in
+    let effect = c.args.effect in
+    let touches = subst (λ o. IfSome o (AreTouches info effect)) c.in-Some.is c.in_ok-wrote.ensures in
+    let small = short_change c.args.txn info effect c.in-Some.wrote touches in
     let can =
-    can_commit (entries_of c.args.house.now) (trail_of c.args.house.now.trail) c.args.kept.now.txn info effect c.args.kept.now.write.0 c.in-Some-2.wrote c.deref.result.now
-    (subst (λ o. IsTableOf (entries_of c.args.house.now) o) c.in-Some.is (subst (λ b. IsTableOf b c.in_ok-info.field-0) c.book.ensures.entries c.in_ok-info.ensures))
-    touches (c.deref.ensures.value ∙ c.in_ok-files.ensures.files) (c.in_ok-done.ensures c.if-not-done.false) in
+    can_commit (entries_of c.args.house.now) (trail_of c.args.house.now.trail) c.args.txn info effect c.args.write.0 c.in-Some.wrote c.deref.result.now
+    c.requires.1.1.0 touches (c.deref.ensures.value ∙ c.in_ok-files.ensures.files) (c.in_ok-done.ensures c.if-not-done.false) in
     (search rules, (c.requires.1.0, (small, can)))

@@ -1,5 +1,0 @@
-use Rattle.hv_history.specs.Legal.{profile}
-use Rattle.tests_house.proofs.opening.abort.Given as goal
-
-abbrev pub ghost-note : goal.ghost-note
-ghost-note g a = profile
