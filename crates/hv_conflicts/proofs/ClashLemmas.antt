@@ -19,9 +19,9 @@ use Rattle.hv_book.specs.Briefs.{brief, snapshot_place}
 use Rattle.hv_book.specs.Commits.{touches_of_entry, touches_at, pass, passes_at, is_committed, commits_so, IsRising}
 use Rattle.hv_book.proofs.CommitLaws.{IsTold, told-of}
 use Rattle.hv_book.proofs.BookLaws.{follows}
-use Rattle.hv_meta.specs.Committing.{against, started_place}
+use Rattle.hv_meta.specs.Committing.{against, started_place, place_or}
 use Rattle.hv_meta.proofs.FactLemmas.{and-left, and-right, and-both}
-use Rattle.hv_meta.proofs.CommitLemmas.{against-same, not-lt, same-place}
+use Rattle.hv_meta.proofs.CommitLemmas.{against-same, not-lt}
 use Rattle.hv_conflicts.specs.declared.meeting.Clash.{Clash}
 use Rattle.hv_conflicts.specs.Clashes.{IsClash, shares, here_or, shared_from, clash_by, clash_with, only_if, clash_behind, first_some}
 use Rattle.hv_conflicts.proofs.CommitterLaws.{committer, committed-by}
@@ -423,6 +423,13 @@ module _ (entries : List Entry) (places : List ℕ)
       (λ other. sym (against-same place wrote other.ending)) (state_of entries).transactions
       ∙ same (against place wrote) ∙ none
 
+place-same : (t : Transaction) → started_place (Some (brief t)) ≡ place_of_snapshot t.snapshot
+place-same t = by t.snapshot
+  where
+    by : (o : Option Snapshot) → place_or (option_map snapshot_place o) ≡ place_of_snapshot o
+    by None = refl
+    by (Some s) = refl
+
 -- ---- the answer
 
 pub record IsAnswer (state : State) (txn : ℕ) (wrote : List Touch) (result : Option Clash) : Type 0 where
@@ -448,7 +455,7 @@ module _ (entries : List Entry) (places : List ℕ) (rising : IsRising places)
       → (result : Option Clash) → result ≡ first_some (clash_behind entries place wrote) places → IsAnswer (state_of entries) txn wrote result
   answer-in None there running place is result e = absurd running
   answer-in (Some t) there running place is result e =
-      answer-of t there result (ap (λ p. first_some (clash_behind entries p wrote) places) (sym (is ∙ same-place t)) ∙ sym e)
+      answer-of t there result (ap (λ p. first_some (clash_behind entries p wrote) places) (sym (is ∙ place-same t)) ∙ sym e)
 
   pub answer : Of (state_of entries) txn IsRunning → (place : ℕ) → place ≡ started_place (option_map brief (numbered (state_of entries).transactions txn))
       → (result : Option Clash) → result ≡ first_some (clash_behind entries place wrote) places → IsAnswer (state_of entries) txn wrote result

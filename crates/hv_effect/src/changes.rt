@@ -7,6 +7,7 @@ ghost use Rattle.hv_effect.specs.Tables.{found_of};
 
 use crate::deletes::{deleted, matched};
 use crate::rows::{rows_alone, rows_selected, rows_updated};
+use crate::touching::{Touching, untouched};
 use hv_base::{Duplicate, List, NoMemory};
 use hv_changes::columns_of;
 use hv_exec::run;
@@ -76,13 +77,16 @@ fn change_effect(
     })
 }
 
-fn within_limits(alloc: Global, info: &TableInfo, effect: Effect) -> Result<Meaning, NoMemory>
+fn within_limits(alloc: Global, info: &TableInfo, effect: Effect) -> Result<Touching, NoMemory>
     ensures { IfOk result (λ meaning. meaning ≡ within_limits info.now effect) }
 {
     match touches(alloc, info, &effect) {
-        Ok(_touches) => Ok(Meaning::Change(info.duplicate(alloc)?, effect)),
-        Err(RouteFault::RowLimit) => Ok(Meaning::RowLimit),
-        Err(RouteFault::PartitionLimit) => Ok(Meaning::PartitionLimit),
+        Ok(touches) => Ok(Touching {
+            meaning: Meaning::Change(info.duplicate(alloc)?, effect),
+            touches,
+        }),
+        Err(RouteFault::RowLimit) => Ok(untouched(alloc, Meaning::RowLimit)),
+        Err(RouteFault::PartitionLimit) => Ok(untouched(alloc, Meaning::PartitionLimit)),
         Err(RouteFault::NoMemory) => Err(NoMemory),
     }
 }
@@ -102,7 +106,7 @@ pub(crate) fn changed_in(
     infos: &[TableInfo],
     tables: &[TableRows],
     change: &TypedChange,
-) -> Result<Option<Meaning>, NoMemory>
+) -> Result<Option<Touching>, NoMemory>
     ensures { IfOk result (λ meaning. meaning ≡ changed_in (slice_get infos.now change.now.table)
         (slice_get (found_of tables.now) change.now.table) (tables_of (found_of tables.now)) change.now) }
 {

@@ -5,5 +5,7 @@ mod changes;
 mod deletes;
 mod rows;
 mod statement;
+mod touching;
 
 pub use statement::meaning_in;
+pub use touching::Touching;

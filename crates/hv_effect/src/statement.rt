@@ -5,6 +5,7 @@ ghost use Rattle.hv_meaning.specs.Meaning.{info_of, found_in, tables_of, column_
 ghost use Rattle.hv_effect.specs.Tables.{found_of};
 
 use crate::changes::{changed_in, query_rows};
+use crate::touching::{Touching, untouched};
 use hv_analysis::analyse;
 use hv_ast::Stmt;
 use hv_base::{Duplicate, List, NoMemory, Refusal, Text};
@@ -46,20 +47,20 @@ fn names_of(alloc: Global, columns: &[OutputColumn]) -> Result<List<Text>, NoMem
 }
 
 // The names of a query's columns, and its rows.
-fn listed(alloc: Global, query: &TypedQuery, rows: &[TableRows]) -> Result<Meaning, NoMemory>
+fn listed(alloc: Global, query: &TypedQuery, rows: &[TableRows]) -> Result<Touching, NoMemory>
     ensures { IfOk result (λ meaning. meaning ≡ listed query.now (tables_of (found_of rows.now))) }
 {
     let found = query_rows(alloc, query, rows)?;
     let names = names_of(alloc, query.columns.as_slice())?;
-    Ok(Meaning::Listing(names, List::from_vec(found)))
+    Ok(untouched(alloc, Meaning::Listing(names, List::from_vec(found))))
 }
 
-fn refused_for(why: Refusal) -> Option<Meaning>
+fn refused_for(alloc: Global, why: Refusal) -> Option<Touching>
     ensures { result ≡ refused_for why }
 {
     match why {
         Refusal::Syntax => None,
-        _ => Some(Meaning::Refused(why)),
+        _ => Some(untouched(alloc, Meaning::Refused(why))),
     }
 }
 
@@ -68,14 +69,14 @@ fn meant(
     infos: &[TableInfo],
     rows: &[TableRows],
     logic: Logic,
-) -> Result<Option<Meaning>, NoMemory>
+) -> Result<Option<Touching>, NoMemory>
     ensures { IfOk result (λ meaning. meaning ≡ meant infos.now (found_of rows.now) (Ok logic)) }
 {
     match logic {
         Logic::Query(query) => Ok(Some(listed(alloc, &query, rows)?)),
         Logic::Change(change) => changed_in(alloc, infos, rows, &change),
-        Logic::Make(shape) => Ok(Some(Meaning::Make(shape))),
-        Logic::Nothing => Ok(Some(Meaning::Plain)),
+        Logic::Make(shape) => Ok(Some(untouched(alloc, Meaning::Make(shape)))),
+        Logic::Nothing => Ok(Some(untouched(alloc, Meaning::Plain))),
     }
 }
 
@@ -84,24 +85,24 @@ fn meaning_over(
     tree: &Stmt,
     infos: &[TableInfo],
     rows: &[TableRows],
-) -> Result<Option<Meaning>, NoMemory>
+) -> Result<Option<Touching>, NoMemory>
     ensures { IfOk result (λ meaning. meaning ≡ meaning_over tree.now infos.now (found_of rows.now)) }
 {
     match analyse(alloc, infos, tree) {
         Ok(logic) => meant(alloc, infos, rows, logic),
-        Err(TypeFault::Refused(why)) => Ok(refused_for(why)),
+        Err(TypeFault::Refused(why)) => Ok(refused_for(alloc, why)),
         Err(TypeFault::NoMemory) => Err(NoMemory),
     }
 }
 
-/// What a statement comes to over the tables that it names, in the order in which it names them; None
-/// where its form isn't built.
+/// What a statement comes to over the tables that it names, in the order in which it names them, with the
+/// touches of a change; None where its form isn't built.
 #[tactic(auto, unfolding(hv_meaning::specs::Meaning::meaning_in))]
 pub fn meaning_in(
     alloc: Global,
     tree: &Stmt,
     tables: Vec<Seen>,
-) -> Result<Option<Meaning>, NoMemory>
+) -> Result<Option<Touching>, NoMemory>
     ensures { IfOk result (λ meaning. meaning ≡ meaning_in tree.now tables.items) }
 {
     let Parts { infos, rows } = parts_of(alloc, tables)?;

@@ -88,6 +88,8 @@ impl<S: System + Drop> FileShelf<S> {
 impl<S: System + Drop> Shelf for FileShelf<S> {
     ghost told = { λ _. None };
 
+    ghost unsynced = { λ _ left. left ≡ None };
+
     ghost faults = { λ s. s.counts.faults };
 
     ghost hard = { λ s. s.counts.hard };

@@ -10,18 +10,18 @@ ghost use Rattle.hv_law_serial.specs.Scripts.{ScriptHistory};
 
 /// Where no device fails and memory is found, what a run makes of a script's actions is what one thread makes of them: the same book, and
 /// the same statements wait.
-pub fn serial_history()
+pub(crate) fn serial_history()
     ensures law { SerialHistory }
 {}
 
 /// So a script that was done whole, while no count of faults rose and memory was found, leaves its serial history in the store.
-pub fn script_history()
+pub(crate) fn script_history()
     ensures law { ScriptHistory }
 {}
 
 /// Worked out by hand: a CREATE TABLE that is held at its start, and one of the same name beside it, which is refused as blocked by it;
 /// released, the first makes its table.
-pub fn worked_by_hand()
+pub(crate) fn worked_by_hand()
     ensures runs { text_runs text_by_hand ≡ true }
     ensures starts { due (Some stage.Start) (state_of (take 1 book_by_hand)) 1 ≡ slice_get book_by_hand 1 }
     ensures held { due (Some stage.Start) (state_of (take 2 book_by_hand)) 1 ≡ None }

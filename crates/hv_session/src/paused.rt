@@ -1,7 +1,7 @@
 use crate::ready::{Ready, Way};
 use crate::reply::Done;
 use hv_ast::Stmt;
-use hv_logic::Meaning;
+use hv_effect::Touching;
 
 /// How far a held statement has come.
 #[derive(Drop)]
@@ -9,7 +9,7 @@ pub enum Point {
     /// It has its snapshot.
     Started,
     /// What it comes to is known.
-    Meant(Meaning),
+    Meant(Touching),
     /// Its files are put; its end is to be noted.
     Ready(Ready),
 }

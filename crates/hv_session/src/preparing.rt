@@ -30,10 +30,10 @@ use crate::reply::{Done, Prepared};
 use hv_actor::Actor;
 use hv_acts::{Aborted, ActFault, GiveId, Given, ToldHouse, what_was_meant_is_meant};
 use hv_base::{List, NoMemory, Text, Touch, TxnId, WriteId};
+use hv_effect::Touching;
 use hv_history::{Cause, counts_line, listing, ok_line};
 use hv_house::HouseFault;
 use hv_logic::{Effect, Meaning, TableInfo};
-use hv_route::{RouteFault, touches};
 use hv_shelf::{Place, Shelf};
 use std::alloc::Global;
 
@@ -111,36 +111,6 @@ struct RowChange {
     effect: Effect,
     wrote: List<Touch>,
     text: Vec<u8>,
-}
-
-/// The touches of a change that is within its limits.
-fn touches_within(alloc: Global, info: &TableInfo, effect: &Effect) -> Result<List<Touch>, NoMemory>
-    requires { touched info.now effect.now ≡ Ok (touches_of info.now effect.now) }
-    ensures { IfOk result (λ wrote. wrote ≡ touches_of info.now effect.now) }
-{
-    match touches(alloc, info, effect) {
-        Ok(wrote) => Ok(wrote),
-        Err(RouteFault::NoMemory) => Err(NoMemory),
-        Err(RouteFault::RowLimit | RouteFault::PartitionLimit) => unreachable!(),
-    }
-}
-
-/// A change with its touches and its reply.
-fn worked_out(alloc: Global, info: TableInfo, effect: Effect) -> Result<RowChange, NoMemory>
-    requires { touched info effect ≡ Ok (touches_of info effect) }
-    ensures info { IfOk result (λ change. change.info ≡ info) }
-    ensures effect { IfOk result (λ change. change.effect ≡ effect) }
-    ensures wrote { IfOk result (λ change. change.wrote ≡ touches_of info effect) }
-    ensures text { IfOk result (λ change. change.text.items ≡ counts_line (touches_of info effect)) }
-{
-    let wrote = touches_within(alloc, &info, &effect)?;
-    let text = counts_line(alloc, wrote.as_slice())?;
-    Ok(RowChange {
-        info,
-        effect,
-        wrote,
-        text,
-    })
 }
 
 /// Whether a change inserts or deletes a row.
@@ -310,11 +280,13 @@ fn prepare_rows<D: Shelf + Drop, W: Actor<D, ToldHouse<D>>>(
     way: Way,
     info: TableInfo,
     effect: Effect,
+    wrote: List<Touch>,
 ) -> Result<Prepared, HouseFault>
     requires keeps { W.keeps actor.old }
     requires running { IsOpenHouse (W.house actor.old) }
     requires comes { ComesToChange D.told (W.house actor.old) way info effect }
     requires some { 0 < changes_in effect }
+    requires wrote { wrote ≡ touches_of info effect }
     ensures keeps { W.keeps actor.new }
     ensures goes { Goes D.told D.faults W.between W.meanwhile (faults_in D.faults (W.house actor.old)) way.txn.0
         (W.own actor.old) (W.own actor.new) (W.house actor.old) (W.house actor.new)
@@ -322,23 +294,33 @@ fn prepare_rows<D: Shelf + Drop, W: Actor<D, ToldHouse<D>>>(
     ensures can { IfOk result (CanConcludeIn D.told (W.house actor.new) way) }
     ensures ends { IfErr result EndsRun }
 {
-    match worked_out(alloc, info, effect) {
-        Ok(change) => change_rows(alloc, actor, way, change),
+    match counts_line(alloc, wrote.as_slice()) {
+        Ok(text) => {
+            let change = RowChange {
+                info,
+                effect,
+                wrote,
+                text,
+            };
+            change_rows(alloc, actor, way, change)
+        }
         Err(NoMemory) => withdraw(alloc, actor, way.txn, Cause::Memory),
     }
 }
 
-/// Prepares a change.
+/// Prepares a change of these touches.
 fn prepare_change<D: Shelf + Drop, W: Actor<D, ToldHouse<D>>>(
     alloc: Global,
     actor: &mut W,
     way: Way,
     info: TableInfo,
     effect: Effect,
+    wrote: List<Touch>,
 ) -> Result<Prepared, HouseFault>
     requires keeps { W.keeps actor.old }
     requires running { IsOpenHouse (W.house actor.old) }
     requires comes { ComesToChange D.told (W.house actor.old) way info effect }
+    requires wrote { wrote ≡ touches_of info effect }
     ensures keeps { W.keeps actor.new }
     ensures goes { Goes D.told D.faults W.between W.meanwhile (faults_in D.faults (W.house actor.old)) way.txn.0
         (W.own actor.old) (W.own actor.new) (W.house actor.old) (W.house actor.new)
@@ -347,7 +329,7 @@ fn prepare_change<D: Shelf + Drop, W: Actor<D, ToldHouse<D>>>(
     ensures ends { IfErr result EndsRun }
 {
     if changes_rows(&effect) {
-        prepare_rows(alloc, actor, way, info, effect)
+        prepare_rows(alloc, actor, way, info, effect, wrote)
     } else {
         made_ready(
             alloc,
@@ -368,7 +350,7 @@ pub fn prepare<D: Shelf + Drop, W: Actor<D, ToldHouse<D>>>(
     alloc: Global,
     actor: &mut W,
     way: Way,
-    meaning: Meaning,
+    meaning: Touching,
 ) -> Result<Prepared, HouseFault>
     requires keeps { W.keeps actor.old }
     requires running { IsOpenHouse (W.house actor.old) }
@@ -381,12 +363,18 @@ pub fn prepare<D: Shelf + Drop, W: Actor<D, ToldHouse<D>>>(
     ensures ends { IfErr result EndsRun }
 {
     let txn = way.txn;
-    match meaning {
+    let Touching {
+        meaning: comes,
+        touches,
+    } = meaning;
+    match comes {
         Meaning::Listing(names, rows) => {
             let text = listing(alloc, names.as_slice(), rows.as_slice());
             made_ready(alloc, actor, txn, nothing(alloc), text)
         }
-        Meaning::Change(info, effect) => prepare_change(alloc, actor, way, info, effect),
+        Meaning::Change(info, effect) => {
+            prepare_change(alloc, actor, way, info, effect, touches)
+        }
         Meaning::Make(_) => made_ready(alloc, actor, txn, End::Create, ok_line(alloc)),
         Meaning::Refused(refusal) => {
             let number = refusal.number();

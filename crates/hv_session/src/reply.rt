@@ -1,5 +1,5 @@
 use crate::ready::{Ready, Reply, Way};
-use hv_logic::Meaning;
+use hv_effect::Touching;
 
 /// How a statement ended.
 #[derive(Drop)]
@@ -26,7 +26,7 @@ pub enum Opened {
 /// What a started statement comes to.
 #[derive(Drop)]
 pub enum Outcome {
-    Means(Meaning),
+    Means(Touching),
     Ended(Done),
 }
 

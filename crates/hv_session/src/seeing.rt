@@ -4,7 +4,6 @@ ghost use Rattle.std.specs.Prelude.{◌≡◌, ◌≤◌, ◌<◌, ℕ, ◌++◌
 ghost use Rattle.hv_base.specs.declared.ids.TxnId.{TxnId};
 ghost use Rattle.hv_ast.specs.declared.statement.Stmt.{Stmt};
 ghost use Rattle.hv_built.specs.Built.{IsBuilt};
-ghost use Rattle.hv_typing.specs.Columns.{columns_of};
 ghost use Rattle.hv_meaning.specs.Meaning.{meaning_in};
 ghost use Rattle.hv_meaning.specs.Laws.{MeansSomething, are_values, reads_rows};
 ghost use Rattle.hv_logic.specs.Tables.{named};
@@ -34,10 +33,10 @@ use hv_actor::Actor;
 use hv_acts::ToldHouse;
 use hv_ast::{Rows, Stmt};
 use hv_base::{Duplicate, NoMemory, Text, TxnId};
-use hv_effect::meaning_in;
+use hv_effect::{Touching, meaning_in};
 use hv_history::Cause;
 use hv_house::{HouseFault, RowFault};
-use hv_logic::{Meaning, Seen, TableInfo, named};
+use hv_logic::{Meaning, Seen, named};
 use hv_names::names_in;
 use hv_shelf::Shelf;
 use std::alloc::Global;
@@ -193,34 +192,34 @@ fn seen<D: Shelf + Drop, W: Actor<D, ToldHouse<D>>>(
 /// The most columns of a table that a row file counts.
 const MOST_COLUMNS: usize = 65_535;
 
-fn is_narrow(info: &TableInfo) -> bool
-    ensures { result ≡ true → length (columns_of info.now.shape) ≤ 65535 }
+/// Whether a row file counts the columns of the table that is changed. No legal book has a table of more columns
+/// than 64.
+fn is_narrow(touching: &Touching) -> bool
+    ensures narrow { result ≡ true → IsNarrow touching.now }
 {
-    let columns = info.shape.columns.len();
-    let parts = info.shape.parts.len();
-    columns <= MOST_COLUMNS && parts <= MOST_COLUMNS - columns
+    match &touching.meaning {
+        Meaning::Change(info, _) => {
+            let columns = info.shape.columns.len();
+            let parts = info.shape.parts.len();
+            columns <= MOST_COLUMNS && parts <= MOST_COLUMNS - columns
+        }
+        _ => true,
+    }
 }
 
-/// The same meaning, where a row file counts the columns of the table that is changed. No legal book
-/// has a table of more columns than 64.
-fn narrow(meaning: Meaning) -> Result<Meaning, NoMemory>
+fn narrow(meaning: Touching) -> Result<Touching, NoMemory>
     ensures same { IfOk result (λ narrow. narrow ≡ meaning) }
     ensures narrow { IfOk result IsNarrow }
 {
-    match meaning {
-        Meaning::Change(info, effect) => {
-            if is_narrow(&info) {
-                Ok(Meaning::Change(info, effect))
-            } else {
-                Err(NoMemory)
-            }
-        }
-        other => Ok(other),
+    if is_narrow(&meaning) {
+        Ok(meaning)
+    } else {
+        Err(NoMemory)
     }
 }
 
 /// What a statement of a form that is built comes to over what was seen.
-fn meaning(alloc: Global, tree: &Stmt, seen: Vec<Seen>) -> Result<Meaning, NoMemory>
+fn meaning(alloc: Global, tree: &Stmt, seen: Vec<Seen>) -> Result<Touching, NoMemory>
     requires means { MeansSomething (meaning_in tree.now seen.items) }
     ensures means { IfOk result (λ meaning. meaning_in tree.now seen.items ≡ Some meaning) }
     ensures narrow { IfOk result IsNarrow }
@@ -237,7 +236,7 @@ fn see_meaning<D: Shelf + Drop, W: Actor<D, ToldHouse<D>>>(
     actor: &mut W,
     way: Way,
     tree: &Stmt,
-) -> Result<Meaning, RowFault>
+) -> Result<Touching, RowFault>
     requires keeps { W.keeps actor.old }
     requires running { IsOpenHouse (W.house actor.old) }
     requires place { HasPlace (trail_in (W.house actor.old)) way.place }

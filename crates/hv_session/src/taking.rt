@@ -27,6 +27,7 @@ use hv_actor::Actor;
 use hv_acts::ToldHouse;
 use hv_ast::{Stmt, discard};
 use hv_base::{Stage, Text};
+use hv_effect::Touching;
 use hv_house::HouseFault;
 use hv_logic::Meaning;
 use hv_shelf::Shelf;
@@ -43,10 +44,10 @@ fn taken(found: Result<Done, HouseFault>) -> Result<Carried, HouseFault>
 }
 
 /// Whether a statement is refused for what it says.
-fn is_refused(meaning: &Meaning) -> bool
-    ensures refused { result ≡ is_refused meaning.now }
+fn is_refused(touching: &Touching) -> bool
+    ensures refused { result ≡ is_refused touching.now }
 {
-    matches!(meaning, Meaning::Refused(_))
+    matches!(&touching.meaning, Meaning::Refused(_))
 }
 
 /// Ends a started statement by what it means.
@@ -54,7 +55,7 @@ fn end_as<D: Shelf + Drop, W: Actor<D, ToldHouse<D>>>(
     alloc: Global,
     actor: &mut W,
     way: Way,
-    meaning: Meaning,
+    meaning: Touching,
 ) -> Result<Done, HouseFault>
     requires keeps { W.keeps actor.old }
     requires running { IsOpenHouse (W.house actor.old) }
@@ -107,7 +108,7 @@ fn keep_meant<D: Shelf + Drop, W: Actor<D, ToldHouse<D>>>(
     actor: &mut W,
     way: Way,
     tree: Stmt,
-    meaning: Meaning,
+    meaning: Touching,
 ) -> Result<Carried, HouseFault>
     requires keeps { W.keeps actor.old }
     requires running { IsOpenHouse (W.house actor.old) }
@@ -170,7 +171,7 @@ fn keep_ready<D: Shelf + Drop, W: Actor<D, ToldHouse<D>>>(
     actor: &mut W,
     way: Way,
     tree: Stmt,
-    meaning: Meaning,
+    meaning: Touching,
 ) -> Result<Carried, HouseFault>
     requires keeps { W.keeps actor.old }
     requires running { IsOpenHouse (W.house actor.old) }

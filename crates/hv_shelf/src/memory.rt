@@ -63,6 +63,8 @@ impl MemoryShelf {
 impl Shelf for MemoryShelf {
     ghost told = { λ m. Some m.store };
 
+    ghost unsynced = { λ m left. left ≡ Some m.store };
+
     ghost faults = { λ m. m.plan.faults };
 
     ghost hard = { λ m. m.plan.hard };

@@ -16,6 +16,9 @@ use std::alloc::Global;
 pub trait Shelf {
     ghost told: { Self → Option Store };
 
+    /// What a sync of the journal that fails may leave of what the store holds.
+    ghost unsynced: { Self → Option Store → Type 0 };
+
     ghost faults: { Self → ℕ };
 
     ghost hard: { Self → ℕ };
@@ -48,14 +51,19 @@ pub trait Shelf {
             (Moves (HasWritten at bytes.now) (told self.old) (told self.new)) }
         ensures torn { IsErrOf result ShelfFault.Failed →
             Moves (TornWrite at (length bytes.now)) (told self.old) (told self.new) }
+        ensures unsynced { OnOk result ((left : Option Store) → unsynced self.new left →
+            Moves (TornWrite at (length bytes.now)) (told self.old) left) }
         ensures no_memory { IsErrOf result ShelfFault.NoMemory → told self.new ≡ told self.old }
         ensures cause { HardCause (IsErrOf result ShelfFault.Failed)
             (faults self.old) (faults self.new) (hard self.old) (hard self.new) }
         ensures stays { ¬ (IsErrOf result ShelfFault.Failed) → hard self.new ≡ hard self.old };
 
-    /// Makes all that was written to the journal survive a stop.
+    /// Makes all that was written to the journal survive a stop. Where it fails right behind a write,
+    /// the bytes of that write may be anything; where other calls came between, the journal's may.
     fn journal_sync(&mut self) -> Result<(), Failed>
-        ensures same { told self.new ≡ told self.old }
+        ensures same { OnOk result (told self.new ≡ told self.old) }
+        ensures torn { OnErr result (unsynced self.old (told self.new)) }
+        ensures tree { Moves (λ before now. now.tree ≡ before.tree) (told self.old) (told self.new) }
         ensures cause { HardCause (IsErr result)
             (faults self.old) (faults self.new) (hard self.old) (hard self.new) }
         ensures stays { ¬ (IsErr result) → hard self.new ≡ hard self.old };

@@ -1,1 +1,2 @@
--- Worked examples.
+pub mod Replay
+pub mod Following

@@ -35,7 +35,7 @@ fn answer(
     let named = tables.named_in(alloc, stmt.get())?;
     match meaning_in(alloc, stmt.get(), named)? {
         None => Ok(out.extend_from_slice(b"no meaning")?),
-        Some(meaning) => tables.take(alloc, meaning, out),
+        Some(found) => tables.take(alloc, found.meaning, out),
     }
 }
 

@@ -1,0 +1,33 @@
+//! The store in memory and the store over a folder, by rows of calls: the program prints the rows that are answered
+//! otherwise. A row is
+//!     KIND WORD|CALL;ARGUMENT;ARGUMENT..|CALL.. → ANSWER ANSWER..
+//! with as KIND `folder`, and the store at the path WORD is opened for the row; or `memory`, and the store is a new one
+//! that fails at the calls WORD; or `none`, where no store is open. A line that begins with # says what follows.
+#![tactic(auto)]
+
+mod folders;
+mod rows;
+mod steps;
+mod words;
+
+use std::io;
+use std::io::{BufRead, BufReader};
+
+fn main(rt: HostRuntime) -> io::Result<()> {
+    let alloc = rt.alloc();
+    let mut right = 0u64;
+    for line in BufReader::new(alloc, rt.reader())?.lines(alloc) {
+        let line = line?;
+        if line.starts_with("#") {
+            continue;
+        }
+        let (asked, wanted) = line.as_str().split_once(" → ").unwrap_or(("", "an answer"));
+        let mut out = String::new(alloc);
+        if rows::answer(&rt, &mut out, asked).is_ok() && out.as_str().trim() == wanted {
+            right = right.wrapping_add(1);
+        } else {
+            println!(rt; "not so: {line}: {out}")?;
+        }
+    }
+    println!(rt; "{right} rows are so")
+}

@@ -1,0 +1,85 @@
+use crate::folders::folder;
+use crate::steps;
+use crate::words::{number, piece};
+use hv_base::NoMemory;
+use hv_files::FileShelf;
+use hv_shelf::{Fail, MemoryShelf, Op, Shelf};
+
+fn step<D: Shelf>(
+    rt: &HostRuntime,
+    out: &mut String,
+    shelf: &mut D,
+    words: &[&str],
+) -> Result<(), NoMemory> {
+    let alloc = rt.alloc();
+    match piece(words, 0) {
+        "put" | "get" => steps::file(alloc, out, shelf, words),
+        "list" | "rename" | "remove" => steps::dir(alloc, out, shelf, words),
+        "length" | "read" | "write" | "sync" | "counts" => Ok(steps::journal(out, shelf, words)?),
+        _ => Ok(folder(rt, out, words)?),
+    }
+}
+
+fn all_steps<D: Shelf>(
+    rt: &HostRuntime,
+    out: &mut String,
+    shelf: &mut D,
+    calls: &[&str],
+) -> Result<(), NoMemory> {
+    for call in calls.iter().skip(1) {
+        let words: Vec<&str> = call.split(';').collect(rt.alloc())?;
+        step(rt, out, shelf, &words)?;
+    }
+    Ok(())
+}
+
+/// The kind of call of that name.
+fn op_of(name: &str) -> Op {
+    match name {
+        "length" => Op::JournalLen,
+        "read" => Op::JournalRead,
+        "write" => Op::JournalWrite,
+        "sync" => Op::JournalSync,
+        "list" => Op::List,
+        "get" => Op::Get,
+        "put" => Op::Put,
+        "rename" => Op::Rename,
+        _ => Op::Remove,
+    }
+}
+
+/// With a store in memory that fails at a call of the kind and number that the first word has.
+fn in_memory(rt: &HostRuntime, out: &mut String, calls: &[&str]) -> Result<(), NoMemory> {
+    let words: Vec<&str> = piece(calls, 0).split(';').collect(rt.alloc())?;
+    let fail = Fail {
+        op: op_of(piece(&words, 0)),
+        nth: number(&words, 1),
+    };
+    let mut shelf = MemoryShelf::new(rt.alloc(), vec![in rt.alloc(); fail]?)?;
+    all_steps(rt, out, &mut shelf, calls)
+}
+
+fn in_folder(rt: &HostRuntime, out: &mut String, calls: &[&str]) -> Result<(), NoMemory> {
+    match FileShelf::at(rt.alloc(), *rt, piece(calls, 0)) {
+        Ok(mut shelf) => all_steps(rt, out, &mut shelf, calls),
+        Err(_) => Ok(()),
+    }
+}
+
+fn without(rt: &HostRuntime, out: &mut String, calls: &[&str]) -> Result<(), NoMemory> {
+    for call in calls.iter().skip(1) {
+        let words: Vec<&str> = call.split(';').collect(rt.alloc())?;
+        folder(rt, out, &words)?;
+    }
+    Ok(())
+}
+
+pub fn answer(rt: &HostRuntime, out: &mut String, row: &str) -> Result<(), NoMemory> {
+    let (kind, rest) = row.split_once(' ').unwrap_or((row, ""));
+    let calls: Vec<&str> = rest.split('|').collect(rt.alloc())?;
+    match kind {
+        "memory" => in_memory(rt, out, &calls),
+        "folder" => in_folder(rt, out, &calls),
+        _ => without(rt, out, &calls),
+    }
+}
