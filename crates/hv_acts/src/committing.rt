@@ -56,6 +56,7 @@ fn are_marked<D: Shelf>(house: &House<D>, txn: TxnId, places: &[Place]) -> bool
     true
 }
 
+/// Whether the house has a mark of each file that was put.
 fn is_put<D: Shelf>(house: &House<D>, txn: TxnId, put: &List<Place>) -> bool
     ensures put { IsTrue result ↔ WerePut (trail_of house.now.trail) txn put.now }
 {

@@ -1,5 +1,5 @@
 //! Statements begin, or are opened and started one by one, and note their entries by the names of these.
-ghost use Rattle.std.specs.Prelude.{◌≤◌, IfOk, length};
+ghost use Rattle.std.specs.Prelude.{◌≤◌, IsOk, IfOk, OnOk, length};
 ghost use Rattle.hv_base.specs.declared.ids.Limits.{Limits};
 ghost use Rattle.hv_built.specs.Running.{Runs};
 ghost use Rattle.hv_house.specs.House.{IsReadyWithin};
@@ -36,7 +36,9 @@ pub(crate) enum Said {
 }
 
 /// What is printed of it. A call that failed ends the run.
-pub(crate) fn said_text(alloc: Global, said: Result<Said, HouseFault>) -> io::Result<String> {
+pub(crate) fn said_text(alloc: Global, said: Result<Said, HouseFault>) -> io::Result<String>
+    ensures went { OnOk result (IsOk said) }
+{
     let text = match said {
         Ok(Said::Done) => format!(in alloc; "done"),
         Ok(Said::Refused) => format!(in alloc; "refused"),

@@ -1,6 +1,6 @@
 //! Stores in memory, and houses over them. No house and no store is let go of piece by piece: a house gives its store back, and a store
 //! is left to the end of the program.
-ghost use Rattle.std.specs.Prelude.{◌≡◌, ◌≤◌, IfOk};
+ghost use Rattle.std.specs.Prelude.{◌≡◌, ◌≤◌, IsOk, IfOk, OnOk};
 ghost use Rattle.hv_house.specs.House.{IsReadyWithin};
 ghost use Rattle.tests_house.specs.Asking.{told_memory};
 
@@ -47,7 +47,9 @@ pub(crate) fn fresh(alloc: Global, limits: Limits) -> io::Result<House<MemoryShe
 }
 
 /// Says a line, with what came of it.
-pub(crate) fn say(said: &mut String, line: &str, text: io::Result<String>) -> io::Result<()> {
+pub(crate) fn say(said: &mut String, line: &str, text: io::Result<String>) -> io::Result<()>
+    ensures went { OnOk result (IsOk text) }
+{
     let text = text?;
     said.push_str(line)?;
     said.push_str(": ")?;
@@ -64,6 +66,7 @@ pub(crate) fn kept(
     said: &mut String,
 ) -> io::Result<House<MemoryShelf>>
     ensures same { IfOk result (λ kept. kept ≡ house) }
+    ensures went { OnOk result (IsOk text) }
 {
     match say(said, line, text) {
         Ok(()) => Ok(house),
