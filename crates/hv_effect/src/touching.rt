@@ -15,7 +15,6 @@ impl Model for Touching {
     ghost use Rattle.std.specs.Prelude.{◌≡◌};
     ghost use Rattle.hv_logic.specs.declared.meaning.Meaning.{Meaning as MeaningOf};
     ghost use Rattle.hv_effect.specs.Touches.{touches_in};
-
     ghost use Rattle.hv_value.specs.contracts.value.Value as value;
     ghost use Rattle.std.specs.Coded.{codes};
 
