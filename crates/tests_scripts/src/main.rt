@@ -1,30 +1,38 @@
 //! Runs scripts over stores in memory and prints what each prints, and its status. What is to be printed was worked
-//! out by hand, or by another engine where README says so.
-//!
-//! A line `==== new TITLE` begins a script over an empty store, and `==== again TITLE` one over the store that the
-//! script before it left. The lines behind it, up to the next such line, are the script.
+//! out by hand, or by another engine where README says so. `parts` and `settings` say what the input's lines mean.
 #![tactic(auto)]
 
-mod cases;
+mod changes;
+mod files;
+mod parts;
+mod playing;
 mod running;
+mod settings;
 
-use crate::cases::read_cases;
-use crate::running::{empty, run};
+use crate::parts::{Part, take_line};
+use crate::playing::play;
+use hv_shelf::MemoryShelf;
 use std::io;
+use std::io::{BufRead, BufReader, ErrorKind};
 
 fn main(rt: HostRuntime) -> io::Result<()> {
     let alloc = rt.alloc();
-    let cases = read_cases(alloc, rt.reader())?;
-    let mut store = empty(alloc)?;
-    for case in cases {
-        if case.is_new {
-            store = empty(alloc)?;
-        }
-        let (printed, next) = run(&rt, alloc, store, case.script.as_bytes())?;
-        store = next;
-        let title = case.title;
-        let text = String::from_utf8(printed.text).unwrap_or(String::new(alloc));
-        print!(rt; "==== {title}\n{text}status {}\n", printed.status)?;
+    let mut parts: Vec<Part> = Vec::new(alloc);
+    for line in BufReader::new(alloc, rt.reader())?.lines(alloc) {
+        let line = line?;
+        take_line(alloc, &mut parts, line.as_str())?;
+    }
+    let Ok(mut store) = MemoryShelf::new(alloc, Vec::new(alloc)) else {
+        return Err(ErrorKind::OutOfMemory.into());
+    };
+    for part in &parts {
+        let mut text = String::new(alloc);
+        let Ok(left) = play(&rt, alloc, store, &parts, part, &mut text) else {
+            return Err(ErrorKind::Other.into());
+        };
+        store = left;
+        let title = &part.title;
+        print!(rt; "==== {title}\n{text}")?;
     }
     Ok(())
 }

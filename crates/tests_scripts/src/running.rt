@@ -1,43 +1,142 @@
-//! One script over one store.
+//! Scripts over stores, with what they print, their status, and the store's count of faults where that isn't 0.
 
-use hv_base::{MemorySink, MemorySource, NoGate};
+use crate::settings::{THEN, numbers, script_bytes, setting, words};
+use hv_base::{MemorySink, MemorySource, NoGate, NoMemory};
 use hv_program::hive;
-use hv_shelf::MemoryShelf;
+use hv_shelf::{Fail, MemoryShelf, Op, Shelf, ShelfFault};
 use std::alloc::Global;
-use std::io;
-use std::io::ErrorKind;
 use std::sync::Wait;
 use std::thread::Threads;
 
-/// What a script printed, and its status.
+/// More calls of one kind than any script makes of which each is to fail.
+const MOST: u64 = 100;
+
+/// What a script is run with.
 #[derive(Drop)]
-pub(crate) struct Printed {
-    pub(crate) text: Vec<u8>,
-    pub(crate) status: u8,
+struct Streams {
+    words: Vec<String>,
+    source: MemorySource,
+    sink: MemorySink,
+    /// Whether the number of printed bytes is shown in their place.
+    shows_size: bool,
 }
 
-/// A store without journal and files.
-pub(crate) fn empty(alloc: Global) -> io::Result<MemoryShelf> {
-    match MemoryShelf::new(alloc, Vec::new(alloc)) {
-        Ok(store) => Ok(store),
-        Err(_) => Err(ErrorKind::OutOfMemory.into()),
+/// What a script is run with as these settings say.
+fn prepared(alloc: Global, settings: &str, script: &str) -> Result<Streams, NoMemory> {
+    let words = words(alloc, settings)?;
+    let reads = numbers(alloc, settings, "read")?;
+    let writes = numbers(alloc, settings, "write")?;
+    let source = MemorySource::new(script_bytes(alloc, script)?, reads);
+    let sink = MemorySink::new(writes);
+    Ok(Streams {
+        words,
+        source,
+        sink,
+        shows_size: setting(settings, "size").is_some(),
+    })
+}
+
+/// Appends what a script printed.
+fn push_printed(alloc: Global, text: &mut String, with: &Streams) -> Result<(), NoMemory> {
+    let printed = with.sink.written();
+    if with.shows_size {
+        let line = format!(in alloc; "{} bytes\n", printed.len())?;
+        return Ok(text.push_str(line.as_str())?);
     }
+    Ok(text.push_str(str::from_utf8(printed).unwrap_or("no text\n"))?)
 }
 
-/// Runs a script over a store, and gives the store back.
-pub(crate) fn run<R: Threads + Wait + Sync>(
+fn push_status(alloc: Global, text: &mut String, status: u8, faults: u64) -> Result<(), NoMemory> {
+    let line = if faults == 0 {
+        format!(in alloc; "status {status}\n")?
+    } else {
+        format!(in alloc; "status {status}, faults {faults}\n")?
+    };
+    Ok(text.push_str(line.as_str())?)
+}
+
+/// Runs one script over a store, and gives the store back.
+fn run<R: Threads + Wait + Sync>(
     rt: &R,
     alloc: Global,
     store: MemoryShelf,
-    script: &[u8],
-) -> io::Result<(Printed, MemoryShelf)> {
-    let words = vec![in alloc; String::from_str(alloc, "run")?]?;
-    let mut source = MemorySource::new(Vec::from_slice(alloc, script)?, Vec::new(alloc));
-    let mut sink = MemorySink::new(Vec::new(alloc));
-    let ended = hive(rt, alloc, &words, &mut source, &mut sink, store, &NoGate);
-    let printed = Printed {
-        text: Vec::from_slice(alloc, sink.written())?,
-        status: ended.status,
-    };
-    Ok((printed, ended.shelf))
+    with: &mut Streams,
+    text: &mut String,
+) -> Result<MemoryShelf, NoMemory> {
+    let words = &with.words;
+    let source = &mut with.source;
+    let ended = hive(rt, alloc, words, source, &mut with.sink, store, &NoGate);
+    let faults = ended.shelf.fault_count();
+    push_printed(alloc, text, with)?;
+    push_status(alloc, text, ended.status, faults)?;
+    Ok(ended.shelf)
+}
+
+/// Runs scripts, each over the store that the one before it left, and gives the last one's back.
+pub(crate) fn run_all<R: Threads + Wait + Sync>(
+    rt: &R,
+    alloc: Global,
+    store: MemoryShelf,
+    settings: &str,
+    scripts: &str,
+    text: &mut String,
+) -> Result<MemoryShelf, ShelfFault> {
+    let mut store = store;
+    for script in scripts.split(THEN) {
+        let mut with = prepared(alloc, settings, script)?;
+        store = run(rt, alloc, store, &mut with, text)?;
+    }
+    Ok(store)
+}
+
+/// Runs scripts over a new store of which one call fails: the store's count of faults.
+fn run_failing<R: Threads + Wait + Sync>(
+    rt: &R,
+    alloc: Global,
+    fail: Fail,
+    settings: &str,
+    scripts: &str,
+    text: &mut String,
+) -> Result<u64, ShelfFault> {
+    let store = MemoryShelf::new(alloc, Vec::from_slice(alloc, &[fail])?)?;
+    let left = run_all(rt, alloc, store, settings, scripts, text)?;
+    Ok(left.fault_count())
+}
+
+/// Appends what was printed where a call failed, where it isn't the same as before.
+fn push_other(
+    alloc: Global,
+    text: &mut String,
+    nth: u64,
+    before: &mut String,
+    now: String,
+) -> Result<(), NoMemory> {
+    if now == *before {
+        return Ok(());
+    }
+    let line = format!(in alloc; "from {nth}:\n{now}")?;
+    *before = now;
+    Ok(text.push_str(line.as_str())?)
+}
+
+/// Runs scripts over new stores of which one call fails, the first, the second and so on up to the first that isn't
+/// made. Where they print other than before it, the call's number and what they print is appended.
+pub(crate) fn run_each<R: Threads + Wait + Sync>(
+    rt: &R,
+    alloc: Global,
+    op: Op,
+    settings: &str,
+    scripts: &str,
+    text: &mut String,
+) -> Result<(), ShelfFault> {
+    let mut before = String::new(alloc);
+    for nth in 0..MOST {
+        let mut now = String::new(alloc);
+        let faults = run_failing(rt, alloc, Fail { op, nth }, settings, scripts, &mut now)?;
+        push_other(alloc, text, nth, &mut before, now)?;
+        if faults == 0 {
+            break;
+        }
+    }
+    Ok(())
 }
