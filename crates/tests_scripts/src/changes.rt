@@ -16,7 +16,7 @@ use hv_base::NoMemory;
 use hv_shelf::{MemoryShelf, ShelfFault};
 use std::alloc::Global;
 
-/// Appends bytes, two digits each.
+/// Appends bytes, each as a space and two digits.
 fn push_bytes(alloc: Global, text: &mut String, bytes: &[u8]) -> Result<(), NoMemory> {
     for byte in bytes {
         let digits = format!(in alloc; " {byte:02x}")?;
@@ -38,7 +38,7 @@ fn push_file_bytes(
     }
 }
 
-/// Does what a line says that changes a file: whether it could be done.
+/// Does what a line says that changes a file. Whether that could be done.
 fn changed(alloc: Global, store: &mut MemoryShelf, words: &[&str]) -> Result<bool, ShelfFault> {
     if word(words, 0) == "take" {
         return take(alloc, store, words);
@@ -46,7 +46,7 @@ fn changed(alloc: Global, store: &mut MemoryShelf, words: &[&str]) -> Result<boo
     change(alloc, store, words)
 }
 
-/// Appends what the store holds, as a line asks: whether it is such a line.
+/// Appends what the store holds, as `files`, `bytes` or `journal` asks. Whether it is such a line.
 fn shown(
     alloc: Global,
     text: &mut String,
@@ -63,7 +63,7 @@ fn shown(
     Ok(true)
 }
 
-/// Does what a line says, and appends what is answered.
+/// Does what a line says, and appends it with what is answered: `LINE: done`, `LINE: refused`, or `LINE:` and what is shown.
 fn answer(
     alloc: Global,
     store: &mut MemoryShelf,
@@ -71,14 +71,16 @@ fn answer(
     text: &mut String,
 ) -> Result<(), ShelfFault> {
     let words: Vec<&str> = line.split(' ').collect(alloc)?;
-    if shown(alloc, text, store, &words)? {
-        return Ok(());
+    text.push_str(line)?;
+    text.push_str(":")?;
+    if !shown(alloc, text, store, &words)? {
+        let done = changed(alloc, store, &words)?;
+        text.push_str(if done { " done" } else { " refused" })?;
     }
-    let done = changed(alloc, store, &words)?;
-    Ok(text.push_str(if done { " done" } else { " refused" })?)
+    Ok(text.push_str("\n")?)
 }
 
-/// Does what each of these lines says, appends them with what is answered, and gives the store back.
+/// Does what each of these lines says, and gives the store back. Empty lines are passed over.
 pub(crate) fn change_all(
     alloc: Global,
     store: MemoryShelf,
@@ -88,10 +90,7 @@ pub(crate) fn change_all(
     let mut store = store;
     for line in lines.lines() {
         if !line.is_empty() {
-            text.push_str(line)?;
-            text.push_str(":")?;
             answer(alloc, &mut store, line, text)?;
-            text.push_str("\n")?;
         }
     }
     Ok(store)

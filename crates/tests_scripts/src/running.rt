@@ -8,7 +8,7 @@ use std::alloc::Global;
 use std::sync::Wait;
 use std::thread::Threads;
 
-/// More calls of one kind than any script makes of which each is to fail.
+/// More than the calls of one kind that the scripts make of which each is to fail.
 const MOST: u64 = 100;
 
 /// What a script is run with.
@@ -36,16 +36,7 @@ fn prepared(alloc: Global, settings: &str, script: &str) -> Result<Streams, NoMe
     })
 }
 
-/// Appends what a script printed.
-fn push_printed(alloc: Global, text: &mut String, with: &Streams) -> Result<(), NoMemory> {
-    let printed = with.sink.written();
-    if with.shows_size {
-        let line = format!(in alloc; "{} bytes\n", printed.len())?;
-        return Ok(text.push_str(line.as_str())?);
-    }
-    Ok(text.push_str(str::from_utf8(printed).unwrap_or("no text\n"))?)
-}
-
+/// Appends a line `status NUMBER`, or `status NUMBER, faults NUMBER`.
 fn push_status(alloc: Global, text: &mut String, status: u8, faults: u64) -> Result<(), NoMemory> {
     let line = if faults == 0 {
         format!(in alloc; "status {status}\n")?
@@ -53,6 +44,24 @@ fn push_status(alloc: Global, text: &mut String, status: u8, faults: u64) -> Res
         format!(in alloc; "status {status}, faults {faults}\n")?
     };
     Ok(text.push_str(line.as_str())?)
+}
+
+/// Appends what a script printed, or a line `NUMBER bytes` in its place, and its status.
+fn push_ended(
+    alloc: Global,
+    text: &mut String,
+    with: &Streams,
+    status: u8,
+    faults: u64,
+) -> Result<(), NoMemory> {
+    let printed = with.sink.written();
+    if with.shows_size {
+        let line = format!(in alloc; "{} bytes\n", printed.len())?;
+        text.push_str(line.as_str())?;
+    } else {
+        text.push_str(str::from_utf8(printed).unwrap_or("no text\n"))?;
+    }
+    push_status(alloc, text, status, faults)
 }
 
 /// Runs one script over a store, and gives the store back.
@@ -67,8 +76,7 @@ fn run<R: Threads + Wait + Sync>(
     let source = &mut with.source;
     let ended = hive(rt, alloc, words, source, &mut with.sink, store, &NoGate);
     let faults = ended.shelf.fault_count();
-    push_printed(alloc, text, with)?;
-    push_status(alloc, text, ended.status, faults)?;
+    push_ended(alloc, text, with, ended.status, faults)?;
     Ok(ended.shelf)
 }
 
