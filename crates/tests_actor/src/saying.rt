@@ -25,19 +25,17 @@ pub(crate) fn say(said: &mut String, line: &str) -> io::Result<()> {
 
 /// How a statement ended, and where.
 pub(crate) fn say_done(alloc: Global, said: &mut String, done: &Done) -> io::Result<()> {
-    let (text, how) = match done {
-        Done::Replied(reply) => {
-            let how = match reply.ended {
-                Some(at) => format!(in alloc; "ended at {at}"),
-                None => format!(in alloc; "never opened"),
-            };
-            (reply.text.as_slice(), how)
-        }
-        Done::Gone { at } => (b"".as_slice(), format!(in alloc; "gone at {at}")),
+    if let Done::Replied(reply) = done {
+        said.push_str(str::from_utf8(reply.text.as_slice()).unwrap_or("no text\n"))?;
+    }
+    let line = match done {
+        Done::Replied(reply) => match reply.ended {
+            Some(at) => format!(in alloc; "ended at {at}"),
+            None => format!(in alloc; "never opened"),
+        },
+        Done::Gone { at } => format!(in alloc; "gone at {at}"),
     };
-    let how = how?;
-    said.push_str(str::from_utf8(text).unwrap_or("no text\n"))?;
-    say(said, how.as_str())
+    say(said, line?.as_str())
 }
 
 /// The places of the trail that are one's own: those that are kept, and from where on each is.
