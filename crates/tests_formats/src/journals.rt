@@ -1,3 +1,7 @@
+ghost use Rattle.std.specs.Prelude.{◌≡◌, ◌≤◌, ◌<◌, ◌^◌, length, vec_capacity};
+ghost use Rattle.hv_history.specs.Spelling.{entry_spelling};
+ghost use Rattle.hv_history.specs.Journal.{record_of};
+
 use crate::words::{number, piece, spelled};
 use hv_base::NoMemory;
 use hv_history::Entry;
@@ -7,8 +11,10 @@ use hv_journal::{
 use hv_shelf::{Fail, MemoryShelf, Op};
 use std::alloc::Global;
 
-/// Whether an entry is written to these bytes behind their length.
-fn is_written(alloc: Global, entry: &Entry, body: &[u8]) -> Result<bool, NoMemory> {
+// Whether an entry is written to these bytes behind their length.
+fn is_written(alloc: Global, entry: &Entry, body: &[u8]) -> Result<bool, NoMemory>
+    requires { length (entry_spelling entry.now) < 2 ^ 32 }
+{
     let mut record = Vec::with_capacity(alloc, record_length(entry))?;
     encode_entry(&mut record, entry);
     let length = u32::try_from(body.len()).unwrap_or(0).to_be_bytes();
@@ -18,6 +24,9 @@ fn is_written(alloc: Global, entry: &Entry, body: &[u8]) -> Result<bool, NoMemor
 /// The entry that the bytes spell, and whether it is written to them again.
 pub fn entry(alloc: Global, out: &mut String, words: &[&str]) -> Result<(), NoMemory> {
     let body = spelled(alloc, piece(words, 0))?;
+    if 1000 < body.len() {
+        return Ok(());
+    }
     match decode_entry(alloc, &body) {
         Ok(entry) => {
             let again = is_written(alloc, &entry, &body)?;
@@ -38,6 +47,29 @@ pub fn records(alloc: Global, out: &mut String, words: &[&str]) -> Result<(), No
     Ok(done?)
 }
 
+#[tactic(auto, using(hv_journal::proofs::Room::room), unfolding(hv_history::specs::Journal::record_of))]
+fn opening(run: u64) -> Entry
+    ensures can { length (entry_spelling result) < 2 ^ 32 }
+    ensures long { length (record_of result) ≡ 13 }
+{
+    Entry::Boot { run }
+}
+
+// Whether an append of a Boot, or of two at once, is acknowledged, and where the closed gate is said to stand.
+fn append_openings(shelf: &mut MemoryShelf, two: bool, buffer: &mut Vec<u8>) -> (bool, u64)
+    requires empty { length shelf.old.store.journal ≡ 1 }
+    requires room { 64 ≤ vec_capacity buffer.old }
+{
+    let mut place = 0;
+    let boot = opening(0);
+    let done = if two {
+        append(shelf, &mut place, &boot, &[opening(7)], buffer).is_ok()
+    } else {
+        append(shelf, &mut place, &boot, &[], buffer).is_ok()
+    };
+    (done, place)
+}
+
 /// Appends a Boot, or two at once, to an empty journal whose write or sync of that number fails. Shows whether it was
 /// acknowledged, where the closed gate is said to stand, and the journal.
 pub fn appended(alloc: Global, out: &mut String, words: &[&str]) -> Result<(), NoMemory> {
@@ -47,24 +79,11 @@ pub fn appended(alloc: Global, out: &mut String, words: &[&str]) -> Result<(), N
         Op::JournalSync
     };
     let nth = number(words, 1);
-    let mut shelf = MemoryShelf::new(alloc, vec![in alloc; Fail { op, nth }]?)?;
-    let opened = open_empty(&mut shelf).is_ok();
     let mut buffer = Vec::with_capacity(alloc, 64)?;
-    let (Ok(boot), Ok(next)) = (
-        decode_entry(alloc, b"\x01\0\0\0\0\0\0\0\0"),
-        decode_entry(alloc, b"\x01\0\0\0\0\0\0\0\x07"),
-    ) else {
-        return Ok(());
-    };
-    let are_short = record_length(&boot) == 13 && record_length(&next) == 13;
-    if !opened || !are_short || shelf.journal().len() != 1 {
+    let mut shelf = MemoryShelf::new(alloc, vec![in alloc; Fail { op, nth }]?)?;
+    if open_empty(&mut shelf).is_err() || shelf.journal().len() != 1 {
         return Ok(());
     }
-    let mut place = 0;
-    let done = if piece(words, 2) == "two" {
-        append(&mut shelf, &mut place, &boot, &[next], &mut buffer)
-    } else {
-        append(&mut shelf, &mut place, &boot, &[], &mut buffer)
-    };
-    Ok(write!(out, "{} {place} {:?}", done.is_ok(), shelf.journal())?)
+    let (done, place) = append_openings(&mut shelf, piece(words, 2) == "two", &mut buffer);
+    Ok(write!(out, "{done} {place} {:?}", shelf.journal())?)
 }
