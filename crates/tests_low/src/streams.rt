@@ -31,24 +31,21 @@ fn halted<'a>(alloc: Global, left: &'a [u8], words: &[&str]) -> Halting<'a> {
 }
 
 impl Halting<'_> {
-    /// What this call answers in place of its work: an error, or 0.
-    fn halts(&mut self) -> Option<io::Result<usize>> {
+    /// Whether this call answers an error, or 0, in place of its work.
+    fn halts(&mut self) -> bool {
         let halts = self.calls == self.nth;
         self.calls = self.calls.saturating_add(1);
-        if !halts {
-            return None;
-        }
-        match self.answer {
-            Some(kind) => Some(Err(io::Error::from(kind))),
-            None => Some(Ok(0)),
-        }
+        halts
     }
 }
 
 impl Read for Halting<'_> {
     fn read(&mut self, out: &mut [u8]) -> io::Result<usize> {
-        if let Some(answer) = self.halts() {
-            return answer;
+        if self.halts() {
+            return match self.answer {
+                Some(kind) => Err(io::Error::from(kind)),
+                None => Ok(0),
+            };
         }
         let count = out.len().min(self.left.len()).min(1);
         let (front, rest) = self.left.split_at(count);
@@ -60,8 +57,11 @@ impl Read for Halting<'_> {
 
 impl Write for Halting<'_> {
     fn write(&mut self, bytes: &[u8]) -> io::Result<usize> {
-        if let Some(answer) = self.halts() {
-            return answer;
+        if self.halts() {
+            return match self.answer {
+                Some(kind) => Err(io::Error::from(kind)),
+                None => Ok(0),
+            };
         }
         let count = bytes.len().min(2);
         self.taken.extend_from_slice(&bytes[..count])?;
