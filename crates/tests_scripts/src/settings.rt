@@ -100,14 +100,16 @@ fn push_bytes(script: &mut Vec<u8>, said: &str) -> Result<(), NoMemory> {
 /// with one.
 pub(crate) fn script_bytes(alloc: Global, lines: &str) -> Result<Vec<u8>, NoMemory> {
     let mut script = Vec::new(alloc);
-    let mut gap = "";
+    let mut is_first = true;
     for line in lines.lines() {
         if let Some(said) = line.strip_prefix("== bytes ") {
             push_bytes(&mut script, said)?;
         } else if !line.starts_with("== ") {
-            script.extend_from_slice(gap.as_bytes())?;
+            if !is_first {
+                script.push(b'\n')?;
+            }
             script.extend_from_slice(line.as_bytes())?;
-            gap = "\n";
+            is_first = false;
         }
     }
     Ok(script)
