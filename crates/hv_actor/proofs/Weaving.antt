@@ -256,18 +256,10 @@ settled since end = cases (end - since) refl
         let same : min since end ≡ since = omega (arith, e)
         in ap (λ n. numbers_from n (end - n)) same
 
-pub kept-one : (at now : ℕ) → at < now → now ≤ at + 1 → numbers_from at (now - at) ≡ at ∷ []
-kept-one at now below most =
-    let one : now - at ≡ suc zero = omega (arith, below, most)
-    in ap (numbers_from at) one
-
 pub kept-none : (at now : ℕ) → at ≤ now → (at < now → ⊥) → numbers_from at (now - at) ≡ []
 kept-none at now least not =
     let none : now - at ≡ zero = omega (arith, least, not)
     in ap (numbers_from at) none
-
-pub settled-own : (early : List ℕ) (since : ℕ) (trail : List TrailItem) → own_among early (min since (length trail)) trail ≡ own_among early since trail
-settled-own early since trail = ap (λ places. early ++ places) (settled since (length trail))
 
 -- a step adds two items at most
 pub two-more : (call : Call) (outcome : Outcome) (at end : ℕ) (house now : List TrailItem) → at ≡ length house → end ≡ length now

@@ -1,7 +1,6 @@
 -- A transaction that is committed by an act, or aborted since a commit conflicts with it.
 use Rattle.std.proofs.Common.{◌≡◌, inl, inr, ℕ, zero, suc, ◌<◌, slice_get, Bool, true, false, append-nil, arith, Option, Some, None, Ok, Err, List, [], ◌∷◌, length, refl, sym, ◌∙◌, subst}
 use Rattle.std.specs.Prelude.{IsSomeAnd}
-use Rattle.hv_base.specs.Told.{Moves}
 use Rattle.hv_base.specs.declared.ids.TxnId.{TxnId}
 use Rattle.hv_base.specs.declared.ids.TableId.{TableId}
 use Rattle.hv_base.specs.declared.ids.Touch.{Touch}
@@ -29,6 +28,7 @@ use Rattle.hv_house.specs.declared.house.House.{House}
 use Rattle.hv_house.specs.House.{entries_of, IsSmall}
 use Rattle.hv_house.specs.Steps.{seen_of, fault_outcome, IsPutWhole, CanCommit}
 use Rattle.hv_telling.specs.Telling.{IsWhole}
+use Rattle.hv_house.proofs.Steps.{moves-by}
 use Rattle.hv_acts.specs.declared.aborted.Aborted.{Aborted}
 use Rattle.hv_acts.specs.declared.committing.Conflict.{Conflict}
 use Rattle.hv_acts.specs.declared.committing.Committed.TheVariants as committed
@@ -147,12 +147,6 @@ pub commit-runs : {D : Type 0} (house : House D) (txn : TxnId) (wrote : List Tou
 commit-runs house txn wrote fits = runs-by (state_at (trail_of house.trail)) wrote (numbered (state_at (trail_of house.trail)).transactions txn.0) fits
 
 -- ---- the steps
-
-moves-by : (a b : Option Store) (P Q : Store → Store → Type 0) → ((x y : Store) → P x y → Q x y) → Moves P a b → Moves Q a b
-moves-by None None P Q f moved = tt
-moves-by None (Some y) P Q f moved = absurd moved
-moves-by (Some x) None P Q f moved = absurd moved
-moves-by (Some x) (Some y) P Q f moved = f x y moved
 
 module _ {D : Type 0} (told : D → Option Store) (faults : D → ℕ) (txn : TxnId) (wrote : List Touch) (before now : HouseSeen D) where
   commit-fails : (why : HouseFault) → Step told faults (Note (entry.Commit txn wrote)) (fault_outcome why) before now

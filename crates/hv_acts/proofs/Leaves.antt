@@ -2,13 +2,9 @@
 -- and the store's count of faults rose.
 use Rattle.std.proofs.Common.{◌≡◌, inl, ℕ, Bool, true, false, Option, Some, None, Ok, Err, Result, List, [], ◌∷◌, true≢false, sym, ◌∙◌, subst, arith}
 use Rattle.std.specs.Prelude.{◌||◌}
-use Rattle.std.specs.Global.{Vec}
 use Rattle.hv_base.specs.Faults.{Rose}
 use Rattle.hv_base.specs.declared.ids.TxnId.{TxnId}
-use Rattle.hv_base.specs.declared.ids.TableId.{TableId}
 use Rattle.hv_shelf.specs.Disk.{Store}
-use Rattle.hv_logic.specs.declared.catalog.TableInfo.{TableInfo}
-use Rattle.hv_counts.specs.declared.due.Due.{Due}
 use Rattle.hv_history.specs.declared.entry.Entry.{Entry}
 use Rattle.hv_journal.specs.Appending.{Holds, HoldsMore}
 use Rattle.hv_stands.specs.Running.{Asking, IsOf}
@@ -17,12 +13,10 @@ use Rattle.hv_trail.specs.Kept.{trail_of}
 use Rattle.hv_trail.specs.Steps.{HouseSeen, shuts}
 use Rattle.hv_house.specs.declared.fault.HouseFault.{HouseFault}
 use Rattle.hv_house.specs.declared.fault.HouseFault.TheVariants as fault
-use Rattle.hv_house.specs.declared.listing.GetFault.{GetFault}
 use Rattle.hv_house.specs.declared.listing.GetFault.TheVariants as get_fault
 use Rattle.hv_house.specs.declared.house.House.{House}
 use Rattle.hv_house.specs.Faults.{HasRisen}
 use Rattle.hv_house.specs.House.{entries_of, Leaves, IsHalted, StaysPut}
-use Rattle.hv_house.specs.Listing.{get_outcome}
 use Rattle.hv_house.specs.Steps.{seen_of, fault_outcome}
 use Rattle.hv_acts.specs.declared.opening.Begun.{Begun}
 use Rattle.hv_acts.specs.declared.fault.BeginFault.{BeginFault}
@@ -31,8 +25,6 @@ use Rattle.hv_acts.specs.declared.fault.ActFault.{ActFault}
 use Rattle.hv_acts.specs.declared.fault.ActFault.TheVariants as act
 use Rattle.hv_acts.specs.Answers.{IsLate, EntryFits, act_outcome, answer_outcome, FaultLeaves, WhyLeaves, AnswerLeaves, FaultRises}
 use Rattle.hv_acts.specs.Beginning.{begin_outcome, BeginLeaves}
-use Rattle.hv_acts.specs.Counting.{CountAnswers}
-use Rattle.hv_acts.specs.Reading.{FindAnswers, IsFindWhy, GetLeaves}
 use Rattle.hv_acts.proofs.Steps.{book-is}
 
 -- nothing more is noted
@@ -46,10 +38,6 @@ still-open true is e open_ shut = true≢false open_
 still-open false is e open_ shut = true≢false (sym shut ∙ e)
 
 module _ {D : Type 0} (told : D → Option Store) (faults : D → ℕ) where
-  -- a closed house is no open one
-  pub shut-leaves : (txn : ℕ) (before now : HouseSeen D) → before.closed ≡ true → FaultLeaves told faults txn before now fault.Store
-  shut-leaves txn before now shut = λ open_. absurd (true≢false (sym shut ∙ open_))
-
   -- one entry was to be noted
   pub noted-leaves : (txn : ℕ) (event : Entry) (why : HouseFault) (before now : House D) → before.trail.closed ≡ false → IsOf txn event
       → EntryFits (trail_of before.trail) event → IsHalted told event why before now → HasRisen (faults before.shelf) (faults now.shelf) why
@@ -115,12 +103,6 @@ module _ {D : Type 0} (told : D → Option Store) (faults : D → ℕ) where
   answer-rises txn (Ok x) before now leaves closed was is = absurd (still-open before.closed now.closed closed was is)
   answer-rises txn (Err why) before now leaves closed was is = why-rises txn why before now leaves closed was is
 
-  pub get-rises : {T : Type 0} (txn : ℕ) (result : Result T GetFault) (before now : HouseSeen D) → GetLeaves told faults txn before now result
-      → now.closed ≡ before.closed || shuts (get_outcome result) → before.closed ≡ false → now.closed ≡ true → Rose (faults before.shelf) (faults now.shelf)
-  get-rises txn (Ok x) before now leaves closed was is = absurd (still-open before.closed now.closed closed was is)
-  get-rises txn (Err get_fault.NotFound) before now leaves closed was is = absurd (still-open before.closed now.closed closed was is)
-  get-rises txn (Err (get_fault.House why)) before now leaves closed was is = fault-rises txn why before now leaves closed was is
-
   pub begin-rises : (asking : Asking) (result : Result Begun BeginFault) (before now : HouseSeen D) → BeginLeaves told faults asking before now result
       → now.closed ≡ before.closed || shuts (begin_outcome result) → before.closed ≡ false → now.closed ≡ true → Rose (faults before.shelf) (faults now.shelf)
   begin-rises asking (Ok start) before now leaves closed was is = absurd (still-open before.closed now.closed closed was is)
@@ -129,30 +111,6 @@ module _ {D : Type 0} (told : D → Option Store) (faults : D → ℕ) where
   begin-rises asking (Err (hindered.House fault.Store)) before now leaves closed was is = (leaves was).1
   begin-rises asking (Err (hindered.House fault.NoMemory)) before now leaves closed was is = absurd (still-open before.closed now.closed closed was is)
   begin-rises asking (Err (hindered.House (fault.Failed count))) before now leaves closed was is = absurd leaves
-
--- ---- who only asked closes nothing
-
-asked-open : {D : Type 0} (why : ActFault) (before now : HouseSeen D) → IsFindWhy before.closed why → now.closed ≡ before.closed || shuts (act_outcome why)
-    → before.closed ≡ false → now.closed ≡ true → ⊥
-asked-open (act.Ended at) before now find closed was is = find
-asked-open (act.Full entries) before now find closed was is = find
-asked-open (act.Held by) before now find closed was is = find
-asked-open (act.Broken put count) before now find closed was is = find
-asked-open act.Unfit before now find closed was is = find
-asked-open (act.House fault.Store) before now find closed was is = true≢false (sym find ∙ was)
-asked-open (act.House fault.NoMemory) before now find closed was is = still-open before.closed now.closed closed was is
-asked-open (act.House (fault.Failed count)) before now find closed was is = find
-
-module _ {D : Type 0} (before now : HouseSeen D) where
-  pub find-open : (place : ℕ) (name : List ℕ) (result : Result (Option TableInfo) ActFault) → FindAnswers before place name result
-      → now.closed ≡ before.closed || shuts (answer_outcome result) → before.closed ≡ false → now.closed ≡ true → ⊥
-  find-open place name (Ok found) answers closed was is = still-open before.closed now.closed closed was is
-  find-open place name (Err why) answers closed was is = asked-open why before now answers closed was is
-
-  pub count-open : (place : ℕ) (table : TableId) (result : Result (Vec Due) ActFault) → CountAnswers before place table result
-      → now.closed ≡ before.closed || shuts (answer_outcome result) → before.closed ≡ false → now.closed ≡ true → ⊥
-  count-open place table (Ok dues) answers closed was is = still-open before.closed now.closed closed was is
-  count-open place table (Err why) answers closed was is = asked-open why before now answers closed was is
 
 -- a call on files that failed has its count
 pub rises-by : {D : Type 0} (faults : D → ℕ) (before : HouseSeen D) (count : ℕ) (why : HouseFault) → HasRisen (faults before.shelf) count why → FaultRises faults before why

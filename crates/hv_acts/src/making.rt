@@ -22,7 +22,7 @@ pub struct MakeTable {
 }
 
 /// A table that was made: its number, and the place of its Create in the book.
-#[derive(Clone, Copy, Debug)]
+#[derive(Clone, Copy)]
 pub struct Made {
     pub table: TableId,
     pub at: u64,

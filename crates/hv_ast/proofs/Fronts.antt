@@ -1,19 +1,18 @@
 -- What a text begins with: it is never empty, lies within the text, and the tokens go on behind it.
-use Rattle.std.proofs.Common.{◌≡◌, ◌≢◌, ℕ, zero, suc, ◌+◌, ◌-◌, ◌^◌, ◌<◌, ◌≤◌, Bool, true, false, not, ◌||◌, ◌&&◌, ◌==◌, nat_eq, nat_lt, nat_le, cond, Option, Some, None, Result, Ok, Err, List, [], ◌∷◌, ◌++◌, take, drop, length, map, get_or, arith, rules, refl, length-append, length-drop, length-take, sym, ◌∙◌, subst, ap, codes}
+use Rattle.std.proofs.Common.{◌≡◌, ◌≢◌, ℕ, zero, suc, ◌+◌, ◌-◌, ◌^◌, ◌<◌, ◌≤◌, Bool, true, false, not, ◌||◌, ◌&&◌, ◌==◌, nat_eq, nat_le, cond, Option, Some, None, Result, Ok, Err, List, [], ◌∷◌, ◌++◌, take, drop, length, get_or, arith, refl, length-append, length-drop, length-take, ◌∙◌, subst, ap, codes}
 use Rattle.std.specs.Prelude.{find, position, slice_index}
 use Rattle.std.proofs.lemmas.Bool.Decides.{nat_tests, Decides-eqb}
-use Rattle.std.specs.List.{prefix_len, take_while, starts_with, list_all}
+use Rattle.std.specs.List.{prefix_len, starts_with, list_all}
 use Rattle.std.specs.Str.Parse.{digits_value}
 use Rattle.std.proofs.lemmas.Slice.Eq.{starts_is}
 use Rattle.std.proofs.lemmas.List.Quantifiers.{position-Some}
-use Rattle.std.specs.Char.{is_ascii_digit, is_ascii_alphabetic, is_ascii_alphanumeric}
+use Rattle.std.specs.Char.{is_ascii_digit}
 use Rattle.std.specs.Option.{option_map}
 use Rattle.std.proofs.lemmas.List.Sums.{prefix_len-le-length}
 use Rattle.std.proofs.lemmas.List.Folds.{length-prefix_len}
 use Rattle.hv_ast.specs.declared.token.Lexeme.{Lexeme}
-use Rattle.hv_ast.specs.declared.token.Token.{Token}
 use Rattle.hv_ast.specs.declared.token.Symbol.{Symbol}
-use Rattle.hv_ast.specs.Tokens.{Text, Fault, Front, gap, token, fault, Tokens, is_space, is_quote, is_backquote, is_printable, begins_word, continues_word, comment, word, number, lone, string, string_until, closing, quoted, quoted_until, quoted_by, name_of, first_is, is_big_mark, symbol, symbol_of, symbols, front, from_front, after_token, tokens_from}
+use Rattle.hv_ast.specs.Tokens.{Text, Fault, Front, gap, token, fault, Tokens, is_space, is_quote, is_backquote, begins_word, continues_word, word, number, lone, string, string_until, closing, quoted, quoted_until, quoted_by, name_of, first_is, is_big_mark, symbol_of, symbols, front, from_front, after_token, tokens_from}
 
 -- ---- the tokens behind a front
 
@@ -46,12 +45,6 @@ tokens_token at n what [] some long begins = absurd (omega arith)
 tokens_token at n what (b ∷ rest) some long begins =
     ap (λ (f : Front). from_front at f (λ k. tokens_from (k - 1) (at + 1) rest)) begins
     ∙ ap (λ (t : Tokens). after_token (record { what = what; at = at }) t) (tokens_behind n at b rest long)
-
-pub tokens_fault : (at : ℕ) (e : Fault) (text : Text) → 0 < length text → front at text ≡ fault e
-    → tokens_from 0 at text ≡ Err e
-tokens_fault at e [] some begins = absurd (omega arith)
-tokens_fault at e (b ∷ rest) some begins =
-    ap (λ (f : Front). from_front at f (λ k. tokens_from (k - 1) (at + 1) rest)) begins
 
 -- ---- a front is not empty and lies within its text
 

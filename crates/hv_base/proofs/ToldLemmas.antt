@@ -1,4 +1,4 @@
-use Rattle.std.proofs.Common.{◌≡◌, Option, Some, None, sym, subst}
+use Rattle.std.proofs.Common.{◌≡◌, Option, Some, None}
 use Rattle.hv_base.specs.Told.{Moves, StaysTold}
 
 -- two steps make a third one, told or not
@@ -29,9 +29,6 @@ stays_by step a b = Moves-weaken step (λ _ _. Unit {0}) (λ x y p. tt) a b
 
 pub stays_same : {A : Type 0} (a : Option A) → StaysTold a a
 stays_same a = Moves-same (λ _ _. Unit {0}) (λ x. tt) a
-
-pub stays_equal : {A : Type 0} (a b : Option A) → b ≡ a → StaysTold a b
-stays_equal a b e = subst (StaysTold a) (sym e) (stays_same a)
 
 pub stays_stays : {A : Type 0} (a b c : Option A) → StaysTold a b → StaysTold b c → StaysTold a c
 stays_stays a b c =

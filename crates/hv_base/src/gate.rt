@@ -1,5 +1,5 @@
 /// Where a session stands between two steps of a statement, under no hold.
-#[derive(Clone, Copy, Debug, PartialEq, Eq)]
+#[derive(Clone, Copy, Debug)]
 pub struct Point {
     /// The session's place in the script, from 0.
     pub session: u64,
@@ -9,7 +9,7 @@ pub struct Point {
 }
 
 /// Which step comes next, or that the statement's reply stands.
-#[derive(Clone, Copy, Debug, PartialEq, Eq)]
+#[derive(Clone, Copy, Debug)]
 pub enum Stage {
     Taken,
     Start,
@@ -25,7 +25,7 @@ pub trait Gate {
 }
 
 /// The gate of the program: it returns at once.
-#[derive(Clone, Copy, Debug, PartialEq, Eq)]
+#[derive(Clone, Copy)]
 pub struct NoGate;
 
 impl Gate for NoGate {

@@ -7,7 +7,7 @@ use std::alloc::Global;
 use std::cmp::Ordering;
 
 /// A transaction, numbered from 1 over the warehouse.
-#[derive(Clone, Copy, Debug, PartialEq, Eq, PartialOrd, Ord, Hash)]
+#[derive(Clone, Copy, Debug, PartialEq, Eq, PartialOrd, Ord)]
 pub struct TxnId(pub u64);
 
 impl Duplicate for TxnId {
@@ -17,7 +17,7 @@ impl Duplicate for TxnId {
 }
 
 /// A write to one table, numbered from 1 in that table.
-#[derive(Clone, Copy, Debug, PartialEq, Eq, PartialOrd, Ord, Hash)]
+#[derive(Clone, Copy, Debug, PartialEq, Eq, PartialOrd, Ord)]
 pub struct WriteId(pub u64);
 
 impl Duplicate for WriteId {
@@ -27,7 +27,7 @@ impl Duplicate for WriteId {
 }
 
 /// A table, numbered from 1 over the warehouse.
-#[derive(Clone, Copy, Debug, PartialEq, Eq, PartialOrd, Ord, Hash)]
+#[derive(Clone, Copy, Debug, PartialEq, Eq, PartialOrd, Ord)]
 pub struct TableId(pub u64);
 
 impl Duplicate for TableId {
@@ -37,7 +37,7 @@ impl Duplicate for TableId {
 }
 
 /// A compaction job, numbered from 1 over the warehouse.
-#[derive(Clone, Copy, Debug, PartialEq, Eq, PartialOrd, Ord, Hash)]
+#[derive(Clone, Copy, Debug, PartialEq, Eq)]
 pub struct JobId(pub u64);
 
 impl Duplicate for JobId {
@@ -48,7 +48,7 @@ impl Duplicate for JobId {
 
 /// The identifier of a row within its partition: the write that inserted it, the statement of that
 /// transaction, the bucket, and its number among the rows that the statement put there.
-#[derive(Clone, Copy, Debug, PartialEq, Eq, Hash)]
+#[derive(Clone, Copy, Debug, PartialEq, Eq)]
 pub struct RowId {
     pub write: WriteId,
     pub statement: u32,
@@ -100,7 +100,7 @@ impl Ord for RowId {
 
 /// How many rows a transaction inserted and deleted in one partition of one table. The text of an
 /// unpartitioned table is empty.
-#[derive(Debug, Drop, PartialEq, Eq)]
+#[derive(Debug, Drop)]
 pub struct Touch {
     pub table: TableId,
     pub partition: Text,
@@ -120,7 +120,7 @@ impl Duplicate for Touch {
 }
 
 /// How much a warehouse may hold.
-#[derive(Clone, Copy, Debug, PartialEq, Eq)]
+#[derive(Clone, Copy)]
 pub struct Limits {
     /// The most entries of a journal.
     pub entries: u64,

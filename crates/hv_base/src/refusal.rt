@@ -3,7 +3,7 @@ ghost use Rattle.std.specs.List.{find};
 ghost use Rattle.hv_base.specs.Refusals.{number, name, IsNumbered};
 
 /// Why a statement is refused. A refused statement prints its number and its name.
-#[derive(Clone, Copy, Debug, PartialEq, Eq)]
+#[derive(Clone, Copy)]
 pub enum Refusal {
     /// A character of the text begins no token.
     BadCharacter = 1,

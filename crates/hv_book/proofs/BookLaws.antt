@@ -10,6 +10,7 @@ use Rattle.hv_history.specs.declared.entry.Cause.TheVariants as cause
 use Rattle.hv_history.specs.declared.entry.JobCause.{JobCause}
 use Rattle.hv_history.specs.declared.entry.JobCause.TheVariants as job_cause
 use Rattle.hv_history.specs.State.{State, Openings, openings_behind, aborting, failing, after, state_of, nothing_yet, changed, changed_at, numbered, opening_tree, created_shape}
+use Rattle.hv_history.proofs.StateLaws.{fold-snoc}
 use Rattle.hv_book.specs.declared.notes.TableNote.{TableNote}
 use Rattle.hv_book.specs.Notes.{Notes, Counted, noted, noted_next, counted_of, notes_of, no_notes, ending, one_more, gone}
 use Rattle.hv_book.proofs.NoteLaws.{TransactionsFollow, TablesFollow, JobsFollow, OpenFollows, transactions-follow, tables-follow, jobs-follow, open-follows}
@@ -27,10 +28,6 @@ use Rattle.hv_book.specs.declared.notes.TransactionNote.{TransactionNote}
 use Rattle.hv_book.specs.Commits.{touches_by, wrote_by, wrote_in}
 
 -- ---- the notes go on by one entry
-
-fold-snoc : {A B : Type 0} (f : B → A → B) (b : B) (xs : List A) (x : A) → fold f b (xs ++ x ∷ []) ≡ f (fold f b xs) x
-fold-snoc f b [] x = refl
-fold-snoc f b (y ∷ xs) x = fold-snoc f (f b y) xs x
 
 count-from : (xs : List Entry) (c : Counted) → (fold noted_next c xs).count ≡ c.count + length xs
 count-from [] c = omega arith

@@ -1,6 +1,6 @@
 -- The live tables by name: one entry more, and the search for a name.
 use Rattle.std.proofs.Common.{◌≡◌, ℕ, zero, suc, ◌+◌, ◌<◌, ◌≤◌, Bool, true, false, Option, Some, None, List, [], ◌∷◌, ◌++◌, length, filter, get_or, refl, sym, ap, ◌∙◌, subst, arith, inl, inr}
-use Rattle.std.specs.Prelude.{◌==◌, ◌&&◌, ◌||◌, ◌⊎◌, not, nat_eq, if◌then◌else◌, IsTrue, IsFalse}
+use Rattle.std.specs.Prelude.{if◌then◌else◌, ◌==◌, ◌&&◌, ◌||◌, ◌⊎◌, not, nat_eq, IsTrue, IsFalse}
 use Rattle.std.specs.Option.{option_map}
 use Rattle.std.specs.List.{slice_get, insert, list_any, AllByRecursion, AllWithin}
 use Rattle.std.specs.List.Sorted.{IsPartitionedBy}
@@ -13,11 +13,9 @@ use Rattle.std.proofs.lemmas.Bool.{eqb-true, eq-eqb}
 use Rattle.hv_history.specs.declared.entry.Entry.{Entry}
 use Rattle.hv_history.specs.declared.entry.Entry.TheVariants as entry
 use Rattle.hv_history.specs.declared.state.Table.{Table}
-use Rattle.hv_history.specs.declared.state.Transaction.{Transaction}
-use Rattle.hv_history.specs.State.{State, numbered, changed, owned, dropped, forgot, tables_behind, commits, made_by, made_shape, created_shape, acted, after}
+use Rattle.hv_history.specs.State.{State, numbered, changed, owned, dropped, forgot, tables_behind, commits, made_by, acted, after}
 use Rattle.hv_history.specs.Legal.{is_named}
 use Rattle.hv_book.specs.Notes.{other_than}
-use Rattle.hv_book.specs.Briefs.{tree_in}
 use Rattle.hv_book.specs.Names.{name_in, name_at, live_in, is_live_at, is_below, is_above, NamesRise, is_among, IsNamed, IsNamePoint, IsNamePlace, names_behind}
 use Rattle.hv_book.proofs.HeldLaws.{same_or_not, numbered-here, numbered-other}
 use Rattle.hv_book.proofs.TableLaws.{kept-changed, behind-keeps}
@@ -455,8 +453,3 @@ names-none = record { live = tt; all = λ n. none n; rise = tt }
     none : (n : ℕ) → is_live_at [] n ≡ true → is_among n [] ≡ true
     none zero live = cc
     none (suc n) live = cc
-
--- the shape that a transaction makes is that of its text
-pub made-shape : (o : Option Transaction) → created_shape (tree_in o) ≡ made_shape o
-made-shape None = refl
-made-shape (Some t) = refl

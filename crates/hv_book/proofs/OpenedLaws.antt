@@ -65,7 +65,7 @@ rising-snoc : (places : List ℕ) (place : ℕ) → AllByRecursion (λ (at : ℕ
 rising-snoc [] place below h = (tt, tt)
 rising-snoc (x ∷ places) place below h = (all-snoc (λ (other : ℕ). x < other) places place h.0 below.0, rising-snoc places place below.1 h.1)
 
-only-none : (b : Bool) → only_if b 0 ≡ 0
+pub only-none : (b : Bool) → only_if b 0 ≡ 0
 only-none true = refl
 only-none false = refl
 

@@ -1,6 +1,6 @@
 -- What is kept for the earlier places of a book goes with its entries.
 use Rattle.std.proofs.Common.{◌≡◌, ℕ, zero, suc, ◌+◌, ◌<◌, ◌≤◌, Bool, true, false, Option, Some, None, List, [], ◌∷◌, ◌++◌, length, map, filter, take, refl, sym, ap, ◌∙◌, subst, arith, inl, inr}
-use Rattle.std.specs.Prelude.{◌==◌, ◌&&◌, ◌⊎◌, not, is_none, is_some, nat_lt, if◌then◌else◌, IsSomeAnd}
+use Rattle.std.specs.Prelude.{if◌then◌else◌, ◌==◌, ◌&&◌, ◌⊎◌, not, is_none, is_some, nat_lt, IsSomeAnd}
 use Rattle.std.specs.Option.{option_map}
 use Rattle.std.specs.List.{slice_get, AllByRecursion}
 use Rattle.std.proofs.lemmas.Bool.{eqb-true, lt-ltb, ltb-true, le-ltb, ltb-false}
@@ -586,7 +586,7 @@ past-next done event past h =
       given_rising = given-rising (length done) (notes_of done) event past h.given_below h.given_rising;
     }
 
-nothing-numbered : {A : Type 0} (n : ℕ) → numbered {A = A} [] n ≡ None
+pub nothing-numbered : {A : Type 0} (n : ℕ) → numbered {A = A} [] n ≡ None
 nothing-numbered zero = refl
 nothing-numbered (suc n) = refl
 

@@ -49,7 +49,7 @@ module _ {A B : Type 0} (has : Option A → B) (f : A → A) where
   other-changed xs (suc k) zero other = refl
   other-changed xs (suc k) (suc n) other = other_at xs k n (λ e. other (ap suc e))
 
-here_at : {A : Type 0} (f : A → A) (xs : List A) (n : ℕ) → slice_get (changed_at f xs n) n ≡ option_map f (slice_get xs n)
+pub here_at : {A : Type 0} (f : A → A) (xs : List A) (n : ℕ) → slice_get (changed_at f xs n) n ≡ option_map f (slice_get xs n)
 here_at f [] n = refl
 here_at f (x ∷ xs) zero = refl
 here_at f (x ∷ xs) (suc n) = here_at f xs n

@@ -4,22 +4,14 @@ use Rattle.std.proofs.lemmas.List.{append-nil}
 use Rattle.hv_base.specs.declared.refusal.Refusal.{Refusal}
 use Rattle.hv_expr.specs.declared.tree.TypedExpr.{TypedExpr}
 use Rattle.hv_logic.specs.declared.catalog.Column.{Column}
-use Rattle.hv_typing.specs.Faults.{in_front}
 use Rattle.hv_typing.specs.Nodes.{as_kind}
 use Rattle.hv_typing.specs.Inserts.{converted_row, first_type}
 use Rattle.hv_typing.specs.Selects.{behind}
-
-pub behind-in_front : {A : Type 0} (done : List A) (a : A) (rest : Result (List A) Refusal) → behind done (in_front a rest) ≡ behind (done ++ a ∷ []) rest
-behind-in_front done a (Ok rest) = ap Ok (sym (append_assoc done (a ∷ []) rest))
-behind-in_front done a (Err refusal) = refl
+use Rattle.hv_typing.proofs.Equations.{behind-in_front, behind-nothing}
 
 pub behind-behind : {A : Type 0} (done more : List A) (rest : Result (List A) Refusal) → behind done (behind more rest) ≡ behind (done ++ more) rest
 behind-behind done more (Ok rest) = ap Ok (sym (append_assoc done more rest))
 behind-behind done more (Err refusal) = refl
-
-pub behind-nothing : {A : Type 0} (rest : Result (List A) Refusal) → behind [] rest ≡ rest
-behind-nothing (Ok rest) = refl
-behind-nothing (Err refusal) = refl
 
 -- ---- a row that is converted value by value
 

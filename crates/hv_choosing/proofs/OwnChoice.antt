@@ -49,7 +49,7 @@ texts-are false sight run own =
 
 -- ---- the deltas of a run
 
-in-option : {A B : Type 0} (f : A → Option B) (x : A) (y : B) (xs : List A) → IsIn x xs → f x ≡ Some y → IsIn y (filter_map f xs)
+pub in-option : {A B : Type 0} (f : A → Option B) (x : A) (y : B) (xs : List A) → IsIn x xs → f x ≡ Some y → IsIn y (filter_map f xs)
 in-option f x y [] h e = absurd h
 in-option f x y (z ∷ xs) (inl same) e = subst (λ o. IsIn y (cons_option o (filter_map f xs))) (sym (ap f same ∙ e)) (inl refl)
 in-option f x y (z ∷ xs) (inr h) e = by (f z) (in-option f x y xs h e)
@@ -58,7 +58,7 @@ in-option f x y (z ∷ xs) (inr h) e = by (f z) (in-option f x y xs h e)
     by None rest = rest
     by (Some w) rest = inr rest
 
-from-option : {A B : Type 0} (f : A → Option B) (y : B) (xs : List A) → IsIn y (filter_map f xs) → (x : A) × IsIn x xs × (f x ≡ Some y)
+pub from-option : {A B : Type 0} (f : A → Option B) (y : B) (xs : List A) → IsIn y (filter_map f xs) → (x : A) × IsIn x xs × (f x ≡ Some y)
 from-option {A = A} {B = B} f y [] h = absurd h
 from-option {A = A} {B = B} f y (z ∷ xs) h = by (f z) refl h (from-option f y xs)
   where

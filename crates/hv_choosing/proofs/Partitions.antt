@@ -16,10 +16,6 @@ prefix-bound p (x ∷ xs) = by (p x) (prefix-bound p xs)
     by true h = omega (arith, h)
     by false h = omega arith
 
-pub run-bound : (files : List DirFile) → run_length files ≤ length files
-run-bound [] = omega arith
-run-bound (file ∷ files) = prefix-bound (is_beside file) (file ∷ files)
-
 pub all-take : {X : Type 0} (P : X → Type 0) (n : ℕ) (xs : List X) → AllByRecursion P xs → AllByRecursion P (take n xs)
 all-take P zero xs all = tt
 all-take P (suc n) [] all = tt

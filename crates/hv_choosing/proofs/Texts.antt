@@ -18,7 +18,7 @@ use Rattle.hv_choosing.specs.Dirs.{name_of, dir_named, IsAt}
 use Rattle.hv_choosing.specs.Listing.{IsNamed}
 use Rattle.hv_choosing.specs.Taken.{names_of, delta_name, base_text, base_in, delta_text, is_in_one, run_taken, text_there, text_at, base_at, texts_at}
 
-value_of : {A : Type 0} → A → Option A → A
+pub value_of : {A : Type 0} → A → Option A → A
 value_of d None = d
 value_of d (Some x) = x
 
@@ -106,7 +106,7 @@ base-text-at run all number (Some place) is = by (slice_get run place) refl (ap 
 
 -- ---- the files of a run
 
-filter-agree : {X : Type 0} (p q : X → Bool) → ((x : X) → p x ≡ q x) → (xs : List X) → filter p xs ≡ filter q xs
+pub filter-agree : {X : Type 0} (p q : X → Bool) → ((x : X) → p x ≡ q x) → (xs : List X) → filter p xs ≡ filter q xs
 filter-agree p q same [] = refl
 filter-agree p q same (x ∷ xs) = λ i. cond (same x i) (x ∷ filter-agree p q same xs i) (filter-agree p q same xs i)
 

@@ -1,6 +1,6 @@
 -- What the walk over the places of the commits finds is the first conflict of the state.
 use Rattle.std.proofs.Common.{◌≡◌, ℕ, zero, suc, ◌+◌, ◌<◌, ◌≤◌, Option, Some, None, List, [], ◌∷◌, length, get_or, take, drop, refl, sym, ap, ◌∙◌, subst, arith}
-use Rattle.std.specs.Prelude.{Bool, true, false, ◌&&◌, ◌||◌, ◌==◌, if◌then◌else◌, nat_lt, nat_eq, IsTrue, IsFalse, IsSomeAnd, IfSome, IfNone, option_and_then}
+use Rattle.std.specs.Prelude.{if◌then◌else◌, Bool, true, false, ◌&&◌, ◌||◌, ◌==◌, nat_lt, nat_eq, IsTrue, IsFalse, IsSomeAnd, IfSome, IfNone, option_and_then}
 use Rattle.std.specs.Option.{option_map, option_or}
 use Rattle.std.specs.List.{slice_get, list_any, AllByRecursion}
 use Rattle.std.specs.Cmp.Lexicographic.{pointwise}
@@ -10,12 +10,11 @@ use Rattle.hv_base.specs.declared.ids.Touch.{Touch}
 use Rattle.hv_history.specs.declared.entry.Entry.{Entry}
 use Rattle.hv_history.specs.declared.entry.Entry.TheVariants as entry
 use Rattle.hv_history.specs.declared.state.Transaction.{Transaction}
-use Rattle.hv_history.specs.declared.state.Snapshot.{Snapshot}
 use Rattle.hv_history.specs.declared.state.Ending.{Ending}
 use Rattle.hv_history.specs.declared.state.Ending.TheVariants.{Committed, Aborted, Made, Dropped}
 use Rattle.hv_history.specs.State.{State, numbered, state_of}
 use Rattle.hv_history.specs.Legal.{Of, IsRunning, ConflictFits, MeetsNoConflict, IsFirstConflict, first_shared, commits_against, commits_before, deletes_in, deleted_behind, place_of_snapshot, touch_conflicts, touches_conflict}
-use Rattle.hv_book.specs.Briefs.{brief, snapshot_place}
+use Rattle.hv_book.specs.Briefs.{brief}
 use Rattle.hv_book.specs.Commits.{touches_of_entry, touches_at, pass, passes_at, is_committed, commits_so, IsRising}
 use Rattle.hv_book.proofs.CommitLaws.{IsTold, told-of}
 use Rattle.hv_book.proofs.BookLaws.{follows}
@@ -40,7 +39,7 @@ or-false : (a b : Bool) → a ≡ false → b ≡ false → (a || b) ≡ false
 or-false true b e h = e
 or-false false b e h = h
 
-or-right : (a b : Bool) → (a || b) ≡ false → b ≡ false
+pub or-right : (a b : Bool) → (a || b) ≡ false → b ≡ false
 or-right true b e = cc
 or-right false b e = e
 

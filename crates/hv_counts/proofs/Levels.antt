@@ -1,6 +1,6 @@
 -- What first differs, one after another and by sums.
 use Rattle.std.proofs.Common.{◌≡◌, ℕ, suc, ◌+◌, ◌<◌, ◌≤◌, Bool, true, false, Option, Some, None, List, [], ◌∷◌, length, drop, get_or, refl, sym, ap, ◌∙◌, subst, arith, true≢false, ltb, ltb-true, ltb-false, drop-cons, Bor}
-use Rattle.std.specs.Prelude.{◌==◌, ◌&&◌, nat_eq, not, if◌then◌else◌, is_some, IfSome}
+use Rattle.std.specs.Prelude.{if◌then◌else◌, ◌==◌, ◌&&◌, nat_eq, not, is_some, IfSome}
 use Rattle.std.specs.Option.{option_copied}
 use Rattle.std.specs.declared.cmp.Ordering.{Ordering}
 use Rattle.std.specs.declared.cmp.Ordering.TheVariants.{Less, Equal, Greater}
@@ -8,9 +8,11 @@ use Rattle.std.specs.Ordering.{MatchOrdering, nat_cmp, is_eq, is_lt, ordering_th
 use Rattle.std.specs.Cmp.{unsigned_ties, tied_then, ranks}
 use Rattle.std.specs.Cmp.Lexicographic.{slice_cmp, pointwise, texts_ties, nat_list_cmp_total}
 use Rattle.std.specs.List.{AllByRecursion}
-use Rattle.std.proofs.lemmas.Bool.{eq-eqb, eqb-true, ne_eqb, and_parts}
+use Rattle.std.proofs.lemmas.Bool.{eq-eqb, eqb-true, and_parts}
 use Rattle.std.proofs.lemmas.List.{drop_all}
 use Rattle.hv_base.proofs.SortingLaws.{Rises, Leads}
+use Rattle.hv_stands.proofs.FileRecords.{tied}
+use Rattle.hv_book.proofs.OpenedLaws.{only-none as only-nothing}
 use Rattle.hv_counts.specs.declared.tally.Tally.{Tally}
 use Rattle.hv_book.specs.Past.{total, only_if}
 use Rattle.hv_counts.specs.Tallies.{key_cmp, key_total, tally_cmp, is_tally, stored_part, due_part, ends, head_of, first_off}
@@ -40,11 +42,6 @@ off-same s d t more is same =
     ap (λ b. if b then (if s + t.stored == d + t.due then first_off 0 0 more else Some t) else first_off (s + t.stored) (d + t.due) more) is
     ∙ ap (λ b. if b then first_off 0 0 more else Some t) (eq-eqb (s + t.stored) (d + t.due) same)
 
-pub off-here : (s d : ℕ) (t : Tally) (more : List Tally) → ends t (head_of more) ≡ true → (s + t.stored ≡ d + t.due → ⊥) → first_off s d (t ∷ more) ≡ Some t
-off-here s d t more is other =
-    ap (λ b. if b then (if s + t.stored == d + t.due then first_off 0 0 more else Some t) else first_off (s + t.stored) (d + t.due) more) is
-    ∙ ap (λ b. if b then first_off 0 0 more else Some t) (ne_eqb (s + t.stored) (d + t.due) other)
-
 -- ---- texts and keys
 
 pub text-of : (a b : List ℕ) → pointwise nat_eq a b ≡ true → a ≡ b
@@ -54,11 +51,6 @@ text-of (x ∷ xs) [] e = cc
 text-of (x ∷ xs) (y ∷ ys) e =
     let p = and_parts (nat_eq x y) (pointwise nat_eq xs ys) e in
     λ i. eqb-true x y p.0 i ∷ text-of xs ys p.1 i
-
-tied : (o : Ordering) → o ≡ ordering_reverse o → o ≡ Equal
-tied Less e = cc
-tied Equal e = refl
-tied Greater e = cc
 
 pub of-text : (a : List ℕ) → pointwise nat_eq a a ≡ true
 of-text a = texts_ties a a ∙ ap is_eq (tied (slice_cmp nat_cmp a a) (nat_list_cmp_total.antisymm a a))
@@ -83,10 +75,6 @@ tally-key t u =
     ∙ tied_then (nat_cmp u.write t.write) (slice_cmp nat_cmp u.partition t.partition)
 
 -- ---- by sums
-
-only-nothing : (b : Bool) → only_if b 0 ≡ 0
-only-nothing true = refl
-only-nothing false = refl
 
 only-more : (b : Bool) (m n k : ℕ) → only_if b m + (only_if b n + k) ≡ only_if b (m + n) + k
 only-more true m n k = omega arith

@@ -1,9 +1,8 @@
 -- From what stands beside each other to the files and the commits: sums, and the last file of a write id in a partition.
 use Rattle.std.proofs.Common.{◌≡◌, ℕ, zero, suc, ◌+◌, ◌<◌, ◌≤◌, ◌⊎◌, inl, inr, Bool, true, false, Option, Some, None, List, [], ◌∷◌, ◌++◌, length, map, refl, sym, ap, ◌∙◌, subst, arith, IsPermutation, IsSorted}
 use Rattle.std.specs.Prelude.{◌==◌, ◌&&◌, nat_eq}
-use Rattle.std.specs.List.{slice_get, list_all, sum_by, All, AllByRecursion}
+use Rattle.std.specs.List.{slice_get, list_all, All, AllByRecursion}
 use Rattle.std.specs.Cmp.Lexicographic.{pointwise}
-use Rattle.std.proofs.lemmas.List.Sums.{sum_by-cons}
 use Rattle.std.proofs.lemmas.List.Sorted.{sum_by-IsPermutation, All-permutation, IsPermutation-sym}
 use Rattle.std.proofs.lemmas.List.Elements.{All-from_recursion}
 use Rattle.std.proofs.lemmas.Bool.{eq-eqb, and_parts}
@@ -17,6 +16,8 @@ use Rattle.hv_book.specs.Past.{total, only_if}
 use Rattle.hv_stands.specs.Files.{own_place}
 use Rattle.hv_table_rows.specs.Reading.{Sheet, sheet_file}
 use Rattle.hv_table_rows.specs.Damage.{no_offset}
+use Rattle.hv_book.proofs.IdLaws.{all-append, total-append}
+use Rattle.hv_earlier.proofs.SortedLaws.{total-sum}
 use Rattle.hv_counts.specs.declared.due.Due.{Due}
 use Rattle.hv_counts.specs.declared.counted.Counted.{Counted}
 use Rattle.hv_counts.specs.declared.tally.Tally.{Tally}
@@ -27,14 +28,6 @@ use Rattle.hv_counts.proofs.Levels.{text-of, of-text, IsUpTo, none-off, some-off
 
 -- ---- lists
 
-total-append : {A : Type 0} (weight : A → ℕ) (xs ys : List A) → total weight (xs ++ ys) ≡ total weight xs + total weight ys
-total-append weight [] ys = omega arith
-total-append weight (x ∷ xs) ys = omega (arith, total-append weight xs ys)
-
-total-sum : {A : Type 0} (f : A → ℕ) (xs : List A) → total f xs ≡ sum_by f xs
-total-sum f [] = refl
-total-sum f (x ∷ xs) = omega (arith, total-sum f xs, sum_by-cons f x xs)
-
 total-permuted : {A : Type 0} (f : A → ℕ) (xs ys : List A) → IsPermutation xs ys → total f ys ≡ total f xs
 total-permuted f xs ys same = total-sum f ys ∙ sum_by-IsPermutation f xs ys same ∙ sym (total-sum f xs)
 
@@ -44,10 +37,6 @@ by-recursion P (x ∷ xs) h = (h 0 x (omega arith), by-recursion P xs (λ k d lt
 
 all-permuted : {A : Type 0} (P : A → Type 0) (xs ys : List A) → IsPermutation xs ys → AllByRecursion P xs → AllByRecursion P ys
 all-permuted P xs ys same h = by-recursion P ys (All-permutation P xs ys same (All-from_recursion P xs h))
-
-all-append : {A : Type 0} (P : A → Type 0) (xs ys : List A) → AllByRecursion P xs → AllByRecursion P ys → AllByRecursion P (xs ++ ys)
-all-append P [] ys h k = k
-all-append P (x ∷ xs) ys h k = (h.0, all-append P xs ys h.1 k)
 
 all-front : {A : Type 0} (P : A → Type 0) (xs ys : List A) → AllByRecursion P (xs ++ ys) → AllByRecursion P xs
 all-front P [] ys h = tt
@@ -284,11 +273,6 @@ get-mapped : {A B : Type 0} (f : A → B) (xs : List A) (n : ℕ) (x : A) → sl
 get-mapped f [] n x e = cc
 get-mapped f (y ∷ xs) zero x e = let same : y ≡ x = cc in ap (λ z. Some (f z)) same
 get-mapped f (y ∷ xs) (suc n) x e = get-mapped f xs n x e
-
-get-within : {A : Type 0} (xs : List A) (n : ℕ) (x : A) → slice_get xs n ≡ Some x → n < length xs
-get-within [] n x e = cc
-get-within (y ∷ xs) zero x e = omega arith
-get-within (y ∷ xs) (suc n) x e = omega (arith, get-within xs n x e)
 
 length-mapped : {A B : Type 0} (f : A → B) (xs : List A) → length (map f xs) ≡ length xs
 length-mapped f [] = refl

@@ -105,7 +105,7 @@ kind-same false false x y e = (refl, ap (drop 6) e)
 kind-same true false x y e = absurd (let h : 101 ≡ 116 = ap (letter 3) e in omega arith)
 kind-same false true x y e = absurd (let h : 116 ≡ 101 = ap (letter 3) e in omega arith)
 
-own-not-wide : (write statement low high : ℕ) → write < write_end → low < write_end → high < write_end → own_rest write statement ≡ wide_rest low high → ⊥
+pub own-not-wide : (write statement low high : ℕ) → write < write_end → low < write_end → high < write_end → own_rest write statement ≡ wide_rest low high → ⊥
 unfolding letter
 own-not-wide write statement low high p q r e =
     let one = fixed-parts 7 write low (behind write statement) (codes "_" ++ fixed_digits 7 high) p q e in

@@ -1,7 +1,7 @@
 -- Which directories of a partition a reader takes under its list of write ids.
 -- Source: Hive Transactions, base and delta directories; the order of the deltas, and which of them is passed over,
 -- are those of Hive's own reader (org.apache.hadoop.hive.ql.io.AcidUtils).
-use Rattle.std.specs.Prelude.{◌≡◌, ℕ, ◌==◌, nat_lt, max, Bool, true, false, ◌&&◌, if◌then◌else◌, Option, Some, None, List, [], ◌∷◌, map, slice_get, option_and_then}
+use Rattle.std.specs.Prelude.{if◌then◌else◌, ◌≡◌, ℕ, ◌==◌, nat_lt, max, Bool, true, false, ◌&&◌, Option, Some, None, List, [], ◌∷◌, map, slice_get, option_and_then}
 use Rattle.std.specs.declared.cmp.Ordering.{Ordering}
 use Rattle.std.specs.Ordering.{nat_cmp, on, then_cmp, flip_args}
 use Rattle.std.specs.List.{filter_map, list_any}

@@ -1,5 +1,5 @@
 -- A table of an earlier place is the table of that number in the whole book.
-use Rattle.std.proofs.Common.{◌≡◌, ℕ, zero, suc, ◌≤◌, true, false, Option, Some, None, List, [], ◌∷◌, ◌++◌, length, take, drop, refl, sym, ap, ◌∙◌, subst, arith}
+use Rattle.std.proofs.Common.{◌≡◌, ℕ, zero, suc, ◌≤◌, true, Option, Some, None, List, [], ◌∷◌, ◌++◌, length, take, drop, refl, sym, ap, ◌∙◌, subst, arith}
 use Rattle.std.specs.Prelude.{is_some, IsSomeAnd}
 use Rattle.std.specs.Option.{option_map}
 use Rattle.std.specs.List.{slice_get}
@@ -18,7 +18,7 @@ use Rattle.hv_meta.specs.Catalogs.{info_if, info_in, live_infos}
 use Rattle.hv_earlier.specs.Places.{live_so}
 use Rattle.hv_earlier.proofs.PlaceLaws.{go-on}
 
-table-later : (entries : List Entry) (position n : ℕ) (t : Table) → numbered (state_of (take position entries)).tables n ≡ Some t
+pub table-later : (entries : List Entry) (position n : ℕ) (t : Table) → numbered (state_of (take position entries)).tables n ≡ Some t
     → IsSomeAnd (numbered (state_of entries).tables n) (TableLater t)
 table-later entries position n t is =
     subst (λ (state : State). IsSomeAnd (numbered state.tables n) (TableLater t)) (sym (go-on entries position))
@@ -46,10 +46,6 @@ live-info entries position n note tree noted live told = by (numbered (state_of 
     by (Some t) is lives =
         ap (λ b. info_if b t.info) lives
         ∙ ap (λ info. info ∷ []) (info-as t (numbered (state_of entries).tables n) note tree (table-later entries position n t is) noted told)
-
-pub dead-info : (o : Option Table) (infos : List TableInfo) → live_so (option_map table_live o) ≡ false → infos ≡ infos ++ info_in o
-dead-info None infos dead = sym (append-nil infos)
-dead-info (Some t) infos dead = sym (append-nil infos) ∙ ap (λ b. infos ++ info_if b t.info) (sym dead)
 
 pub live-there : (o : Option Table) → live_so (option_map table_live o) ≡ true → is_some o ≡ true
 live-there None live = cc
@@ -83,11 +79,15 @@ no-more-tables entries position =
         so t (numbered (state_of entries).tables (suc (length (state_of entries).tables))) none
         (table-later entries position (suc (length (state_of entries).tables)) t is)
 
+pub none-left : (entries : List Entry) (position i : ℕ) → length (state_of entries).tables ≤ i
+    → live_infos (drop i (state_of (take position entries)).tables) ≡ []
+none-left entries position i past =
+    let fewer = no-more-tables entries position in
+    ap live_infos (drop_all i (state_of (take position entries)).tables (omega (arith, fewer, past)))
+
 -- the end of the loop over the tables
 pub catalog-end : (entries : List Entry) (position i : ℕ) (infos : List TableInfo) → length (state_of entries).tables ≤ i
     → infos ++ live_infos (drop i (state_of (take position entries)).tables) ≡ live_infos (state_of (take position entries)).tables
     → infos ≡ live_infos (state_of (take position entries)).tables
 catalog-end entries position i infos past kept =
-    let fewer = no-more-tables entries position in
-    sym (append-nil infos)
-    ∙ ap (λ (ts : List Table). infos ++ live_infos ts) (sym (drop_all i (state_of (take position entries)).tables (omega (arith, fewer, past)))) ∙ kept
+    sym (append-nil infos) ∙ ap (λ (more : List TableInfo). infos ++ more) (sym (none-left entries position i past)) ∙ kept

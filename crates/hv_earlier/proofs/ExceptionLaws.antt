@@ -1,6 +1,6 @@
 -- The exceptions that the notes give are those of the list, each once: every weight adds up to the same over both.
 use Rattle.std.proofs.Common.{◌≡◌, ℕ, suc, ◌+◌, ◌<◌, ◌≤◌, Bool, true, false, Option, Some, None, List, [], ◌∷◌, ◌++◌, length, map, filter, take, refl, sym, ap, ◌∙◌, arith}
-use Rattle.std.specs.Prelude.{◌==◌, ◌&&◌, ◌||◌, nat_le, if◌then◌else◌}
+use Rattle.std.specs.Prelude.{if◌then◌else◌, ◌==◌, ◌&&◌, ◌||◌, nat_le}
 use Rattle.std.specs.Option.{option_map}
 use Rattle.std.specs.List.{slice_get, list_any, flat_map, AllByRecursion}
 use Rattle.std.proofs.lemmas.Bool.{lt-ltb, le-leb, lt-leb, leb-false, ne_eqb}
@@ -39,14 +39,14 @@ total-flat weight f g same (x ∷ xs) =
 upto : ℕ → (ℕ → ℕ → ℕ) → ℕ → ℕ → ℕ
 upto high weight write txn = only_if (nat_le write high) (weight write txn)
 
-upto-none : (high : ℕ) (weight : ℕ → ℕ → ℕ) (write : ℕ) (owners : List ℕ) → high < write → total_from (upto high weight) write owners ≡ 0
+pub upto-none : (high : ℕ) (weight : ℕ → ℕ → ℕ) (write : ℕ) (owners : List ℕ) → high < write → total_from (upto high weight) write owners ≡ 0
 unfolding upto
 upto-none high weight write [] above = refl
 upto-none high weight write (txn ∷ owners) above =
     let first : only_if (nat_le write high) (weight write txn) ≡ 0 = ap (λ b. only_if b (weight write txn)) (lt-leb write high above) in
     omega (arith, first, upto-none high weight (write + 1) owners (omega (arith, above)))
 
-upto-front : (high : ℕ) (weight : ℕ → ℕ → ℕ) (write : ℕ) (owners more : List ℕ) → write + length owners ≡ high + 1
+pub upto-front : (high : ℕ) (weight : ℕ → ℕ → ℕ) (write : ℕ) (owners more : List ℕ) → write + length owners ≡ high + 1
     → total_from (upto high weight) write (owners ++ more) ≡ total_from weight write owners
 unfolding upto
 upto-front high weight write [] more long = upto-none high weight write more (omega (arith, long))

@@ -4,3 +4,4 @@ pub mod WalkLaws
 pub mod ExceptionLaws
 pub mod SortedLaws
 pub mod CatalogLemmas
+pub mod NameLemmas

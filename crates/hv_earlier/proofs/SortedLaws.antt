@@ -142,7 +142,7 @@ sorted-list xs ys up rise totals = same-lists 1 xs ys (not-falling xs up) rise t
 
 -- ---- a sort keeps totals
 
-total-sum : {A : Type 0} (f : A → ℕ) (xs : List A) → total f xs ≡ sum_by f xs
+pub total-sum : {A : Type 0} (f : A → ℕ) (xs : List A) → total f xs ≡ sum_by f xs
 total-sum f [] = refl
 total-sum f (x ∷ xs) = omega (arith, total-sum f xs, sum_by-cons f x xs)
 

@@ -1,6 +1,7 @@
 -- The write id list of a table and the catalog at a place of a book, from the state that the entries before it leave.
 -- Source: Hive Transactions; Camacho-Rodríguez et al., SIGMOD 2019 (write id lists).
-use Rattle.std.specs.Prelude.{ℕ, ◌+◌, ◌==◌, Bool, true, false, Option, Some, None, List, [], ◌∷◌, ◌++◌, length, map, take}
+use Rattle.std.specs.Prelude.{ℕ, ◌+◌, ◌==◌, nat_eq, Bool, true, false, if◌then◌else◌, Option, Some, None, List, [], ◌∷◌, ◌++◌, length, map, take}
+use Rattle.std.specs.Cmp.Lexicographic.{pointwise}
 use Rattle.std.specs.List.{list_any}
 use Rattle.hv_wids.specs.declared.list.Exception.{Exception}
 use Rattle.hv_wids.specs.WriteIds.{WriteIds}
@@ -50,3 +51,8 @@ list_at book position table = list_in (state_of (take position book)) table
 
 abbrev pub catalog_at : List Entry → ℕ → List TableInfo
 catalog_at book position = live_infos (state_of (take position book)).tables
+
+-- the first of these tables that has that name
+abbrev pub info_of_name : List ℕ → List TableInfo → Option TableInfo
+info_of_name name [] = None
+info_of_name name (info ∷ infos) = if pointwise nat_eq info.shape.name name then Some info else info_of_name name infos

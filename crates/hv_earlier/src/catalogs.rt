@@ -1,14 +1,14 @@
-ghost use Rattle.std.specs.Prelude.{◌≡◌, ◌++◌, IfOk, OnOk, take};
-ghost use Rattle.std.specs.Option.{option_copied, option_map};
+ghost use Rattle.std.specs.Prelude.{◌≡◌, ◌++◌, Some, is_some, IfOk, OnOk, take};
+ghost use Rattle.std.specs.Option.{option_copied, option_map, option_to_list};
 ghost use Rattle.hv_history.specs.State.{state_of, numbered, created_shape};
 ghost use Rattle.hv_meta.specs.Catalogs.{info_in};
 ghost use Rattle.hv_book.specs.Past.{table_live};
-ghost use Rattle.hv_earlier.specs.Lists.{catalog_at};
+ghost use Rattle.hv_earlier.specs.Lists.{catalog_at, info_of_name};
 ghost use Rattle.hv_earlier.specs.Places.{live_so};
 
 use crate::counts::was_live;
 use hv_ast::Stmt;
-use hv_base::{List, NoMemory, TableId};
+use hv_base::{List, NoMemory, TableId, Text};
 use hv_book::{Book, TableNote};
 use hv_history::numbered;
 use hv_logic::{Catalog, TableInfo};
@@ -38,6 +38,25 @@ fn is_live_at(book: &Book, position: usize, table: u64) -> bool
     }
 }
 
+/// The table of this number, where it was live at that place.
+fn info_at(
+    alloc: Global,
+    book: &Book,
+    position: usize,
+    table: u64,
+) -> Result<Option<TableInfo>, NoMemory>
+    ensures { IfOk result (λ info. option_to_list info
+        ≡ info_in (numbered (state_of (take position book.now.entries)).tables table)) }
+{
+    if !is_live_at(book, position, table) {
+        return Ok(None);
+    }
+    match numbered(book.tables(), table) {
+        Some(note) => Ok(Some(made_info(alloc, note, book.table_tree(table))?)),
+        None => Ok(None),
+    }
+}
+
 /// Appends the table of this number, where it was live at that place.
 fn put_info(
     alloc: Global,
@@ -49,11 +68,8 @@ fn put_info(
     ensures { OnOk result (infos.new.items ≡ infos.old.items
         ++ info_in (numbered (state_of (take position book.now.entries)).tables table)) }
 {
-    if !is_live_at(book, position, table) {
-        return Ok(());
-    }
-    if let Some(note) = numbered(book.tables(), table) {
-        infos.push(made_info(alloc, note, book.table_tree(table))?)?;
+    if let Some(info) = info_at(alloc, book, position, table)? {
+        infos.push(info)?;
     }
     Ok(())
 }
@@ -71,4 +87,41 @@ pub fn catalog_at(alloc: Global, book: &Book, position: usize) -> Result<Catalog
     Ok(Catalog {
         tables: List::from_vec(infos),
     })
+}
+
+/// The name of the table that this text makes, empty where it makes none.
+fn made_name(tree: Option<&Stmt>) -> &str
+    ensures name { result.now ≡ (created_shape (option_copied tree.entry)).name }
+{
+    match tree {
+        Some(Stmt::CreateTable(create)) => create.table.as_str(),
+        _ => "",
+    }
+}
+
+/// Whether the table of this number was live at that place, and has this name.
+fn is_named_at(book: &Book, position: usize, table: u64, name: &Text) -> bool
+    ensures named { result ≡ is_some (info_of_name name.now
+        (info_in (numbered (state_of (take position book.now.entries)).tables table))) }
+{
+    is_live_at(book, position, table) && made_name(book.table_tree(table)) == name.as_str()
+}
+
+/// The first of the live tables at a place of the book, from 0, that has this name. Only that one is made.
+pub fn find_at(
+    alloc: Global,
+    book: &Book,
+    position: usize,
+    name: &Text,
+) -> Result<Option<TableInfo>, NoMemory>
+    ensures found { IfOk result (λ found.
+        found ≡ info_of_name name.now (catalog_at book.now.entries position)) }
+{
+    for i in 0..book.tables().len() {
+        let table = i as u64 + 1;
+        if is_named_at(book, position, table, name) {
+            return info_at(alloc, book, position, table);
+        }
+    }
+    Ok(None)
 }

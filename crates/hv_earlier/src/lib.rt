@@ -7,5 +7,5 @@ mod earlier;
 mod exceptions;
 mod fates;
 
-pub use catalogs::catalog_at;
+pub use catalogs::{catalog_at, find_at};
 pub use earlier::{PastIds, ids_at, list_at};

@@ -1,5 +1,5 @@
 -- Aggregates as folds: what one value and two give, and that they split over parts.
-use Rattle.std.proofs.Common.{◌≡◌, ℕ, Bool, true, false, not, List, [], ◌∷◌, ◌++◌, length, length-append, ℤ, pos, Option, None, Some, option_map, if◌then◌else◌, refl, sym, ap, ◌∙◌, true≢false, IsTrue, subst, w64}
+use Rattle.std.proofs.Common.{if◌then◌else◌, ◌≡◌, ℕ, Bool, true, false, not, List, [], ◌∷◌, ◌++◌, length, length-append, ℤ, pos, Option, None, Some, option_map, refl, sym, ap, ◌∙◌, true≢false, IsTrue, subst, w64}
 use Rattle.std.specs.Int.{int_wrap}
 use Rattle.std.specs.declared.cmp.Ordering.{Ordering}
 use Rattle.std.specs.declared.cmp.Ordering.TheVariants.{Less, Equal, Greater}
@@ -23,13 +23,10 @@ use Rattle.hv_expr.specs.Values.{is_null, number_of, layer_number, or_null, laye
 use Rattle.hv_expr.specs.Groups.{those, known, plus, sum_of, sum_value, first_of, last_of, least, greatest, comparable, over_values}
 use Rattle.hv_seen.specs.declared.seen.Seen.{Seen}
 use Rattle.hv_seen.specs.Seen.{seen_layer, seen_value}
+use Rattle.hv_expr.proofs.Equations.{zero_wraps}
 use Rattle.hv_eval.specs.Accumulating.{merged, single, Splits}
 
 -- ---- counts
-
-zero_wraps : int_wrap w64 (pos 0) ≡ pos 0
-unfolding int_wrap
-zero_wraps = refl
 
 one_wraps : int_wrap w64 (pos 1) ≡ pos 1
 unfolding int_wrap
@@ -141,7 +138,7 @@ no_items (Value-F.Str t) e = refl
 no_items (Value-F.Day z) e = refl
 no_items (Value-F.Array items) e = absurd (true≢false (sym e))
 
-then_equal : (o : Ordering) → ordering_then o Equal ≡ o
+pub then_equal : (o : Ordering) → ordering_then o Equal ≡ o
 then_equal Less = refl
 then_equal Equal = refl
 then_equal Greater = refl

@@ -11,14 +11,10 @@ use Rattle.hv_value.specs.Order.{scalar_cmp, layer_cmp, value_cmp}
 use Rattle.hv_value.specs.OrderLaws.{value_cmp-out}
 use Rattle.hv_seen.specs.declared.seen.Seen.{Seen}
 use Rattle.hv_seen.specs.Seen.{seen_layer, seen_value}
+use Rattle.hv_eval.proofs.Accumulators.{then_equal}
 
 ranked : (x y : Value-F Value) → value_cmp (roll-Value x) (roll-Value y) ≡ layer_cmp value_cmp x y
 ranked x y = value_cmp-out (roll-Value x) (roll-Value y) ∙ (λ i. layer_cmp value_cmp (out-roll-Value x i) (out-roll-Value y i))
-
-then_equal : (o : Ordering) → ordering_then o Equal ≡ o
-then_equal Less = refl
-then_equal Equal = refl
-then_equal Greater = refl
 
 then_all_equal : (o : Ordering) → ordering_then (ordering_then (ordering_then o Equal) Equal) Equal ≡ o
 then_all_equal Less = refl

@@ -1,5 +1,5 @@
 -- The value of each kind of expression by the values of its parts.
-use Rattle.std.proofs.Common.{◌≡◌, ℕ, Bool, List, [], ◌∷◌, map, slice_get, if◌then◌else◌, Option, Some, None, option_map, pos, refl, sym, ap, ◌∙◌}
+use Rattle.std.proofs.Common.{if◌then◌else◌, ◌≡◌, ℕ, Bool, List, [], ◌∷◌, map, slice_get, Option, Some, None, option_map, pos, refl, sym, ap, ◌∙◌}
 use Rattle.std.specs.Int.{int_wrap, w64}
 use Rattle.hv_value.specs.declared.value.Value.{Value}
 use Rattle.hv_value.specs.declared.value.Value.TheVariants as value
@@ -136,7 +136,7 @@ value_in-Aggregate function distinct kind argument group row =
 
 -- ---- on a row alone
 
-zero_wraps : int_wrap w64 (pos 0) ≡ pos 0
+pub zero_wraps : int_wrap w64 (pos 0) ≡ pos 0
 unfolding int_wrap
 zero_wraps = refl
 

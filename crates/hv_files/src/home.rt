@@ -52,6 +52,18 @@ fn open_locked<S: System>(system: &mut S, path: &str) -> Result<Option<File>, Fi
     }
 }
 
+/// Makes a file and locks it, where none is held yet.
+fn make_locked<S: System>(
+    system: &mut S,
+    held: &mut Option<File>,
+    path: &str,
+) -> Result<(), FileFault> {
+    if held.is_none() {
+        *held = Some(locked(system.make_file(path)?)?);
+    }
+    Ok(())
+}
+
 /// Looks at the folder in which a store's folder is to be made.
 fn look_above<S: System>(system: &mut S, folder: &str) -> Result<(), FileFault> {
     if system.is_folder(above(folder))? {
@@ -123,13 +135,21 @@ impl Home {
         let lock = lock_path(self.alloc, self.folder.as_str())?;
         let file = journal_path(self.alloc, self.folder.as_str())?;
         let tables = tables_path(self.alloc, self.folder.as_str())?;
+        self.make_parts(system, journal, &lock, &file, &tables)
+    }
+
+    /// Makes what isn't there yet, under these paths.
+    fn make_parts<S: System>(
+        &mut self,
+        system: &mut S,
+        journal: &mut Journal,
+        lock: &String,
+        file: &String,
+        tables: &String,
+    ) -> Result<(), FileFault> {
         self.make_folder(system, journal.file.is_none())?;
-        if self.lock.is_none() {
-            self.lock = Some(locked(system.make_file(lock.as_str())?)?);
-        }
-        if journal.file.is_none() {
-            journal.file = Some(locked(system.make_file(file.as_str())?)?);
-        }
+        make_locked(system, &mut self.lock, lock.as_str())?;
+        make_locked(system, &mut journal.file, file.as_str())?;
         system.make_folder(tables.as_str())?;
         system.sync_folder(self.folder.as_str())
     }

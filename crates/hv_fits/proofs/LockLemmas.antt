@@ -1,6 +1,6 @@
 -- Where the texts of a book run, each transaction has one text.
 use Rattle.std.proofs.Common.{◌≡◌, ℕ, zero, suc, ◌+◌, Option, Some, None, List, [], ◌∷◌, ◌++◌, map, fold, refl, sym, ap, ◌∙◌, arith}
-use Rattle.std.specs.Prelude.{Bool, true, false, not, ◌&&◌, ◌↔◌, IsTrue, IsFalse, IsSomeAnd, ◌||◌, if◌then◌else◌, is_none, is_some}
+use Rattle.std.specs.Prelude.{if◌then◌else◌, Bool, true, false, not, ◌&&◌, ◌↔◌, IsTrue, IsSomeAnd, ◌||◌, is_none, is_some}
 use Rattle.std.specs.Option.{option_map}
 use Rattle.std.specs.List.{slice_get, flat_map, list_any, AllByRecursion}
 use Rattle.std.proofs.lemmas.List.{append-nil}
@@ -16,10 +16,11 @@ use Rattle.hv_history.specs.declared.state.Transaction.{Transaction}
 use Rattle.hv_history.specs.declared.state.Ending.{Ending}
 use Rattle.hv_history.specs.declared.state.Ending.TheVariants.{Aborted, Made}
 use Rattle.hv_history.specs.State.{State, numbered, changed, changed_at, while_open, unless_ended, started, given_id, committed, ended, meant_in, wrote_as, opened, statement_tree, opening_tree, acted, after, nothing_yet, state_of}
-use Rattle.hv_history.specs.Legal.{Fits, AllFit, Of, is_open, is_started, IsRunning, IsWaiting, HasRoom, StartFits, BlockedFits, locks_of, locks_of_tree, locks_conflict, holds_against, first_holder}
+use Rattle.hv_history.specs.Legal.{Fits, AllFit, Of, is_open, is_started, IsRunning, IsWaiting, BlockedFits, locks_of, locks_of_tree, locks_conflict, holds_against, first_holder}
 use Rattle.hv_book.specs.Briefs.{brief, open_from, open_next, end_of, tree_in}
 use Rattle.hv_meta.specs.States.{state_by, transaction_state}
-use Rattle.hv_meta.proofs.FactLemmas.{of-both}
+use Rattle.hv_meta.proofs.FactLemmas.{and-left, and-right, and-both, false-is}
+use Rattle.hv_book.proofs.TextLaws.{all-snoc}
 use Rattle.hv_fits.specs.Texts.{text_of, HasOneText, TextsRun, holds_at, holds_among, first_among, is_waiting_state, IsReady}
 
 -- ---- a transaction's text stays
@@ -51,10 +52,6 @@ all-changed : {A : Type 0} (P : A → Type 0) (f : A → A) → ((x : A) → P x
     → AllByRecursion P xs → AllByRecursion P (changed f xs n)
 all-changed P f goes xs zero h = h
 all-changed P f goes xs (suc n) h = all-changed_at P f goes xs n h
-
-all-snoc : {A : Type 0} (P : A → Type 0) (xs : List A) (x : A) → AllByRecursion P xs → P x → AllByRecursion P (xs ++ x ∷ [])
-all-snoc P [] x h p = (p, tt)
-all-snoc P (y ∷ xs) x h p = (h.0, all-snoc P xs x h.1 p)
 
 on-one : (f : Transaction → Transaction) → ((t : Transaction) → map text_of (f t).statements ≡ map text_of t.statements)
     → (ts : List Transaction) (n : ℕ) → AllByRecursion HasOneText ts → AllByRecursion HasOneText (changed (while_open f) ts n)
@@ -197,24 +194,6 @@ none-free locks m (t ∷ ts) = by (holds_against locks t) refl (none-free locks 
     by false is rest =
         ap (λ b. is_none (if b then Some m else first_holder locks (m + 1) ts)) is ∙ rest ∙ sym (ap (λ b. not (b || list_any (holds_against locks) ts)) is)
 
--- ---- truth
-
-pub and-left : (a b : Bool) → (a && b) ≡ true → a ≡ true
-and-left true b e = refl
-and-left false b e = e
-
-pub and-right : (a b : Bool) → (a && b) ≡ true → b ≡ true
-and-right true b e = e
-and-right false b e = cc
-
-pub and-both : (a b : Bool) → a ≡ true → b ≡ true → (a && b) ≡ true
-and-both true b e h = h
-and-both false b e h = e
-
-false-is : (b : Bool) → IsTrue (not b) ↔ IsFalse b
-false-is true = (λ e. cc, λ e. cc)
-false-is false = (λ e. refl, λ e. refl)
-
 -- ---- who waits
 
 waits-by : (t : Transaction) (e : Option Ending) → t.ending ≡ e → IsTrue (is_waiting_state (state_by t.ending (is_started t))) ↔ IsWaiting t
@@ -275,14 +254,6 @@ pub ready-law : (state : State) (n : ℕ) (tree : Stmt) → TextsRun state → S
     → (IsTrue w ↔ Of state n IsWaiting) → f ≡ is_none (first_holder (names_in tree) 1 state.transactions) → (IsTrue (w && f)) ↔ Of state n (IsReady state)
 ready-law state n tree h e w f waiting free =
     ready-in state (numbered state.transactions n) tree (numbered-all state.transactions n h) e w f waiting free
-
-pub start-law : (limits : Limits) (state : State) (statement n : ℕ) (r b : Bool) → (IsTrue r ↔ Of state n (IsReady state))
-    → (IsTrue b ↔ ((statement ≡ 0) × HasRoom limits state 1)) → (IsTrue (r && b)) ↔ Of state n (StartFits limits state statement)
-start-law limits state statement n r b ready more =
-    of-both (numbered state.transactions n) (IsReady state) (StartFits limits state statement) ((statement ≡ 0) × HasRoom limits state 1)
-    (λ t is x. record { waiting = is.waiting; first = x.0; unlocked = is.unlocked; room = x.1 })
-    (λ t fits. record { waiting = fits.waiting; unlocked = fits.unlocked })
-    (λ t fits. (fits.first, fits.room)) r b ready more
 
 blocked-in : (state : State) (holder : ℕ) (o : Option Transaction) (tree : Stmt) → IfThere o → Some tree ≡ tree_in o → (w b : Bool)
     → (IsTrue w ↔ IsSomeAnd o IsWaiting) → (IsTrue b ↔ (first_holder (names_in tree) 1 state.transactions ≡ Some holder))

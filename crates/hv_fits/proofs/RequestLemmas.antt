@@ -4,11 +4,12 @@ use Rattle.std.specs.Prelude.{Bool, true, false, ◌&&◌, ◌↔◌, IsTrue, Is
 use Rattle.hv_ast.specs.declared.statement.Stmt.{Stmt}
 use Rattle.hv_history.specs.declared.state.Transaction.{Transaction}
 use Rattle.hv_history.specs.State.{State, numbered, opening_tree}
-use Rattle.hv_history.specs.Legal.{Of, IsRunning, RequestFits, is_open, asks_to_abort}
+use Rattle.hv_history.specs.Legal.{Of, IsRunning, asks_to_abort}
 use Rattle.hv_book.specs.Briefs.{tree_in}
-use Rattle.hv_meta.proofs.FactLemmas.{of-both}
-use Rattle.hv_fits.specs.Texts.{Asks, AsksOther}
-use Rattle.hv_fits.proofs.LockLemmas.{and-left, and-right, and-both}
+use Rattle.hv_fits.specs.Texts.{Asks}
+use Rattle.hv_meta.proofs.FactLemmas.{and-both}
+use Rattle.hv_meta.proofs.FactLemmas.{and-right}
+use Rattle.hv_meta.proofs.FactLemmas.{and-left}
 
 asker-in : (txn : ℕ) (o : Option Transaction) (tree : Option Stmt) → tree ≡ tree_in o → (r a : Bool)
     → (IsTrue r ↔ IsSomeAnd o IsRunning) → a ≡ asks_to_abort txn tree → (IsTrue (r && a)) ↔ IsSomeAnd o (Asks txn)
@@ -30,11 +31,3 @@ idle-in txn (Some t) r running idle = (λ e. absurd (let both : false ≡ true =
 -- one that doesn't run asks for nothing
 pub idle-law : (state : State) (txn by : ℕ) (r : Bool) → (IsTrue r ↔ Of state by IsRunning) → r ≡ false → IsTrue r ↔ Of state by (Asks txn)
 idle-law state txn by r running idle = idle-in txn (numbered state.transactions by) r running idle
-
-pub request-law : (state : State) (txn by : ℕ) (u a : Bool) → (IsTrue u ↔ Of state txn (λ t. IsTrue (is_open t)))
-    → (IsTrue a ↔ AsksOther state txn by) → (IsTrue (u && a)) ↔ Of state txn (RequestFits state txn by)
-request-law state txn by u a unended asked =
-    of-both (numbered state.transactions txn) (λ (t : Transaction). IsTrue (is_open t)) (RequestFits state txn by) (AsksOther state txn by)
-    (λ t yes asks. record { unended = yes; other = asks.other; asks = asks.asks })
-    (λ t fits. fits.unended)
-    (λ t fits. record { other = fits.other; asks = fits.asks }) u a unended asked

@@ -266,7 +266,7 @@ same-changed f xs zero n other = refl
 same-changed f xs (suc k) zero other = refl
 same-changed f xs (suc k) (suc n) other = same-changed_at f xs k n (λ e. other (ap suc e))
 
-more-slice : {A : Type 0} (xs ys : List A) (n : ℕ) (x : A) → slice_get xs n ≡ Some x → slice_get (xs ++ ys) n ≡ Some x
+pub more-slice : {A : Type 0} (xs ys : List A) (n : ℕ) (x : A) → slice_get xs n ≡ Some x → slice_get (xs ++ ys) n ≡ Some x
 more-slice [] ys n x e = cc
 more-slice (y ∷ xs) ys zero x e = e
 more-slice (y ∷ xs) ys (suc n) x e = more-slice xs ys n x e

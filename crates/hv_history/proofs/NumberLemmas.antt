@@ -1,8 +1,8 @@
 -- Lemmas on what stands at a number.
 use Rattle.std.proofs.Common.{◌≡◌, ℕ, zero, suc, ◌+◌, ◌<◌, ◌≤◌, Option, Some, None, List, [], ◌∷◌, length, get_or, set, refl, sym, ap, ◌∙◌, arith}
-use Rattle.std.specs.Prelude.{slice_get, slice_set, slice_index_or, true, false, is_none}
+use Rattle.std.specs.Prelude.{slice_set, slice_index_or, true, false, is_none}
 use Rattle.std.proofs.lemmas.List.{set-get_or, get_or_default}
-use Rattle.hv_history.specs.State.{Transaction, Ending, numbered, changed, changed_at, while_open, unless_ended}
+use Rattle.hv_history.specs.State.{Transaction, Ending, changed, changed_at, while_open, unless_ended}
 use Rattle.hv_history.specs.Places.{IsPlaceOf, IsOpenPlaceOf}
 
 -- ---- what stands at a number
@@ -18,10 +18,6 @@ module _ {A : Type 0} where
   changed_at-set f (x ∷ xs) zero d = refl
   changed_at-set f (x ∷ xs) (suc n) d = ap (λ ys. x ∷ ys) (changed_at-set f xs n d)
 
-  pub place-zero : (xs : List A) (number : ℕ) → number ≡ 0 → IsPlaceOf xs number None
-  place-zero xs zero p = λ f. refl
-  place-zero xs (suc n) p = cc
-
   pub place-none : (xs : List A) (number place : ℕ) → number ≡ place + 1 → length xs ≤ place → IsPlaceOf xs number None
   place-none xs zero place e p = absurd (omega arith)
   place-none xs (suc n) place e p = λ f. changed_at-none f xs n (omega arith)
@@ -31,30 +27,6 @@ module _ {A : Type 0} where
   place-some xs (suc n) place e p =
       let at : n ≡ place = omega arith in
       (p, λ f d. changed_at-set f xs n d ∙ ap (λ k. set xs k (f (get_or xs k d))) at)
-
-  slice_get-none : (xs : List A) (n : ℕ) → length xs ≤ n → slice_get xs n ≡ None
-  slice_get-none [] n p = refl
-  slice_get-none (x ∷ xs) zero p = absurd (omega arith)
-  slice_get-none (x ∷ xs) (suc n) p = slice_get-none xs n (omega arith)
-
-  slice_get-some : (xs : List A) (n : ℕ) (d : A) → n < length xs → slice_get xs n ≡ Some (get_or xs n d)
-  slice_get-some [] n d p = absurd (omega arith)
-  slice_get-some (x ∷ xs) zero d p = refl
-  slice_get-some (x ∷ xs) (suc n) d p = slice_get-some xs n d (omega arith)
-
-  pub numbered-zero : (xs : List A) (number : ℕ) → number ≡ 0 → numbered xs number ≡ None
-  numbered-zero xs zero p = refl
-  numbered-zero xs (suc n) p = cc
-
-  pub numbered-none : (xs : List A) (number place : ℕ) → number ≡ place + 1 → length xs ≤ place → numbered xs number ≡ None
-  numbered-none xs zero place e p = refl
-  numbered-none xs (suc n) place e p = slice_get-none xs n (omega arith)
-
-  pub numbered-some : (xs : List A) (number place : ℕ) (x : A) → number ≡ place + 1 → place < length xs → x ≡ get_or xs place x → numbered xs number ≡ Some x
-  numbered-some xs zero place x e p is = absurd (omega arith)
-  numbered-some xs (suc n) place x e p is =
-      let at : n ≡ place = omega arith in
-      slice_get-some xs n x (omega arith) ∙ ap Some (ap (λ k. get_or xs k x) at ∙ sym is)
 
 -- ---- a write at the place of a number is the change of what has that number
 

@@ -20,7 +20,7 @@ use Rattle.hv_history.specs.State.{State, Transaction, Table, Ending, numbered, 
 
 -- ---- the fold goes on by one entry
 
-fold-snoc : {A B : Type 0} (f : B → A → B) (b : B) (xs : List A) (x : A) → fold f b (xs ++ x ∷ []) ≡ f (fold f b xs) x
+pub fold-snoc : {A B : Type 0} (f : B → A → B) (b : B) (xs : List A) (x : A) → fold f b (xs ++ x ∷ []) ≡ f (fold f b xs) x
 fold-snoc f b [] x = refl
 fold-snoc f b (y ∷ xs) x = fold-snoc f (f b y) xs x
 
@@ -86,7 +86,7 @@ pub ended-stays-all : (more : List Entry) (state : State) (n : ℕ) (transaction
 ended-stays-all [] state n t d e h = e
 ended-stays-all (event ∷ more) state n t d e h = ended-stays-all more (after state event) n t d (ended-stays state event n t d e h) h
 
-fold-append : {A B : Type 0} (f : B → A → B) (b : B) (xs ys : List A) → fold f b (xs ++ ys) ≡ fold f (fold f b xs) ys
+pub fold-append : {A B : Type 0} (f : B → A → B) (b : B) (xs ys : List A) → fold f b (xs ++ ys) ≡ fold f (fold f b xs) ys
 fold-append f b [] ys = refl
 fold-append f b (x ∷ xs) ys = fold-append f (f b x) xs ys
 

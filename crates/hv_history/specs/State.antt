@@ -1,7 +1,7 @@
 -- What a book means: one fold over its entries, from the left. An entry changes the state by what it says and
 -- by the state before it, and by nothing else.
 -- Source: the Hive manual, Hive Transactions, and Hive Transactions: Basic Design.
-use Rattle.std.specs.Prelude.{◌≡◌, ℕ, zero, suc, ◌+◌, ◌==◌, Bool, true, false, if◌then◌else◌, not, IsFalse, Option, Some, None, List, [], ◌∷◌, ◌++◌, map, filter, fold, slice_get}
+use Rattle.std.specs.Prelude.{if◌then◌else◌, ◌≡◌, ℕ, zero, suc, ◌+◌, ◌==◌, Bool, true, false, not, IsFalse, Option, Some, None, List, [], ◌∷◌, ◌++◌, map, filter, fold, slice_get}
 use Rattle.std.specs.Ordering.{is_eq}
 use Rattle.std.specs.List.{flat_map, list_any, AllByRecursion}
 use Rattle.std.specs.Option.{option_map, option_to_list}

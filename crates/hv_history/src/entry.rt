@@ -5,7 +5,7 @@ use std::alloc::Global;
 
 /// What the journal keeps of the warehouse's history, one entry an event. The list of all entries, the
 /// book, is the warehouse's memory: everything else is worked out from it.
-#[derive(Debug, Drop, PartialEq, Eq)]
+#[derive(Debug, Drop)]
 pub enum Entry {
     /// An opening of the store, counted from 0.
     Boot {
@@ -88,14 +88,14 @@ pub enum Entry {
 }
 
 /// The two compactions of Hive: a minor one merges deltas, a major one makes a base.
-#[derive(Clone, Copy, Debug, PartialEq, Eq)]
+#[derive(Clone, Copy, Debug)]
 pub enum JobKind {
     Minor,
     Major,
 }
 
 /// A place within a file, for damage that was found there.
-#[derive(Debug, Drop, PartialEq, Eq)]
+#[derive(Debug, Drop)]
 pub struct FilePlace {
     pub table: TableId,
     pub partition: Text,
@@ -106,7 +106,7 @@ pub struct FilePlace {
 }
 
 /// Why a transaction ended without its writes.
-#[derive(Debug, Drop, PartialEq, Eq)]
+#[derive(Debug, Drop)]
 pub enum Cause {
     /// The statement was refused; `number` is that of the refusal.
     Refused {
@@ -155,7 +155,7 @@ pub enum Cause {
 }
 
 /// Why a compaction job ended without its directories.
-#[derive(Debug, Drop, PartialEq, Eq)]
+#[derive(Debug, Drop)]
 pub enum JobCause {
     ReadFault { count: u64 },
     WriteFault { count: u64 },

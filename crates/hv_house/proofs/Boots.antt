@@ -16,9 +16,8 @@ use Rattle.hv_history.specs.Journal.{record_of, place_of, Reads, IsJournal}
 use Rattle.hv_history.specs.declared.state.Ending.{Ending}
 use Rattle.hv_history.specs.State.{State, Openings, nothing_yet, after, state_of}
 use Rattle.hv_history.specs.Legal.{is_open, one_if, open_one, working_one, load, HasRoom, AllFit}
-use Rattle.hv_journal.specs.Appending.{Holds, KeepsTree, StaysShort}
+use Rattle.hv_journal.specs.Appending.{Holds, KeepsTree}
 use Rattle.hv_journal.proofs.Lengths.{length-record}
-use Rattle.hv_recovery.specs.Recovery.{IsJournalOf}
 use Rattle.hv_book.specs.declared.openings.OpeningNotes.{OpeningNotes}
 use Rattle.hv_book.specs.Briefs.{brief, end_of, open_next, open_from}
 use Rattle.hv_book.specs.Index.{openings_in}
@@ -32,7 +31,7 @@ use Rattle.hv_house.specs.declared.fault.HouseFault.TheVariants as house
 use Rattle.hv_house.specs.declared.boot.BootFault.TheVariants as fault
 use Rattle.hv_house.specs.House.{entries_of, IsKept, IsReadyWithin, IsHalted, Leaves}
 use Rattle.hv_house.specs.Steps.{KeepsMarks, IsOpenedOver}
-use Rattle.hv_house.specs.Booting.{number_next, marked_from, open_numbers, lost_entry, opening_entries, opening_of, boot_fault, LeavesFront, IsCutOpening, CutsOpening, LosesSome, NotesWithRoom, StopsWithRoom, IsLearned}
+use Rattle.hv_house.specs.Booting.{number_next, marked_from, open_numbers, lost_entry, opening_entries, opening_of, boot_fault, LeavesFront, IsCutOpening, CutsOpening, LosesSome, NotesWithRoom, IsLearned}
 
 -- ---- what is learned of a book
 
@@ -60,21 +59,6 @@ learned book notes left same runs open_are = record {
 
 -- ---- journals that are empty, and those that aren't
 
-short-journal : (book : List Entry) (bytes : List ℕ) → IsJournal book bytes → length bytes ≤ 1 → book ≡ []
-short-journal book [] is short = is
-short-journal book (gate ∷ []) is short = is
-short-journal book (gate ∷ next ∷ after) is short = absurd (omega (arith, short))
-
-empty-journal : (bytes : List ℕ) → length bytes ≤ 1 → IsJournal [] bytes
-empty-journal [] short = refl
-empty-journal (gate ∷ []) short = refl
-empty-journal (gate ∷ next ∷ after) short = absurd (omega (arith, short))
-
-long-journal : (book : List Entry) (bytes : List ℕ) → IsJournal book bytes → 1 < length bytes → Reads book bytes
-long-journal book [] is long = absurd (omega (arith, long))
-long-journal book (gate ∷ []) is long = absurd (omega (arith, long))
-long-journal book (gate ∷ next ∷ after) is long = is
-
 no-record : (e : Entry) (after : List ℕ) → [] ≡ record_of e ++ after → ⊥
 no-record e after is =
     let lengths : 0 ≡ length (record_of e ++ after) = ap length is in
@@ -89,33 +73,6 @@ reads-journal (e ∷ book) (gate ∷ []) reads =
     let none : [] ≡ record_of e ++ reads.1.1 = cc in
     absurd (no-record e reads.1.1 none)
 reads-journal book (gate ∷ next ∷ after) reads = reads
-
--- a closed gate was written into an empty journal
-pub made-holds : (o p : Option Store) (book : List Entry) (len : ℕ) → Tells o (λ s. len ≡ length s.journal) → len ≤ 1 → Tells o (λ s. IsJournal book s.journal)
-    → Moves KeepsTree o p → Holds p [] → Holds p book
-made-holds None None book len is short journal moves holds = tt
-made-holds None (Some t) book len is short journal moves holds = absurd moves
-made-holds (Some s) None book len is short journal moves holds = absurd moves
-made-holds (Some s) (Some t) book len is short journal moves holds =
-    subst (λ b. Reads b t.journal) (sym (short-journal book s.journal journal (omega (arith, is, short)))) holds
-
--- one that isn't empty is the book's
-pub left-holds : (o : Option Store) (book : List Entry) (len : ℕ) → Tells o (λ s. len ≡ length s.journal) → 1 < len → Tells o (λ s. IsJournal book s.journal) → Holds o book
-left-holds None book len is long journal = tt
-left-holds (Some s) book len is long journal = long-journal book s.journal journal (omega (arith, is, long))
-
--- where it wasn't written the journal is still empty
-pub still-short : (o p : Option Store) (book : List Entry) (len : ℕ) → Tells o (λ s. len ≡ length s.journal) → len ≤ 1 → Tells o (λ s. IsJournal book s.journal)
-    → Moves StaysShort o p → Tells p (λ s. IsJournal book s.journal)
-still-short None None book len is short journal moves = tt
-still-short None (Some t) book len is short journal moves = absurd moves
-still-short (Some s) None book len is short journal moves = absurd moves
-still-short (Some s) (Some t) book len is short journal moves =
-    subst (λ b. IsJournal b t.journal) (sym (short-journal book s.journal journal (omega (arith, is, short))))
-    (empty-journal t.journal (moves (omega (arith, is, short))))
-
-pub same-journal : (o p : Option Store) (book : List Entry) → p ≡ o → Tells o (λ s. IsJournal book s.journal) → Tells p (λ s. IsJournal book s.journal)
-same-journal o p book same journal = subst (λ x. Tells x (λ s. IsJournal book s.journal)) (sym same) journal
 
 -- ---- some were aborted as lost
 
@@ -192,25 +149,6 @@ pub noted-with-room : (limits : Limits) (told : Option Store) (book : List Entry
     → Tells told (λ s. NotesWithRoom limits book s.journal)
 noted-with-room limits None book room = tt
 noted-with-room limits (Some s) book room = inr room
-
--- the store is as it was
-pub roomy-unread : (limits : Limits) (before now : Option Store) → now ≡ before → StopsWithRoom limits before now
-roomy-unread limits None None same = tt
-roomy-unread limits None (Some t) same = cc
-roomy-unread limits (Some s) None same = cc
-roomy-unread limits (Some s) (Some t) same =
-    let is : t ≡ s = cc in
-    λ book reads. inl (subst (λ (x : Store). IsJournal book x.journal) (sym is) reads.journal)
-
--- the book that was read is the only one
-pub roomy-read : (limits : Limits) (found : List Entry) (before now : Option Store) → Moves KeepsTree before now
-    → Tells before (λ s. (book : List Entry) → IsJournalOf limits book s.journal → found ≡ book)
-    → Tells now (λ s. NotesWithRoom limits found s.journal) → StopsWithRoom limits before now
-roomy-read limits found None None moves only roomy = tt
-roomy-read limits found None (Some t) moves only roomy = absurd moves
-roomy-read limits found (Some s) None moves only roomy = absurd moves
-roomy-read limits found (Some s) (Some t) moves only roomy =
-    λ book reads. subst (λ b. NotesWithRoom limits b t.journal) (only book reads) roomy
 
 -- ---- where it stopped
 

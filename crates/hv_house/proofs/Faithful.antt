@@ -1,11 +1,9 @@
 -- The book behind an opening is legal, and its files stand.
-use Rattle.std.proofs.Common.{◌≡◌, ℕ, List, [], ◌∷◌, ◌++◌, fold, sym, ◌∙◌}
+use Rattle.std.proofs.Common.{◌≡◌, ℕ, List, [], ◌∷◌, ◌++◌, fold, ◌∙◌}
 use Rattle.hv_shelf.specs.Disk.{Store}
 use Rattle.hv_history.specs.declared.entry.Entry.{Entry}
 use Rattle.hv_history.specs.State.{State, nothing_yet, after, state_of}
-use Rattle.hv_history.specs.Journal.{IsJournal}
 use Rattle.hv_history.specs.Legal.{HasRoom, AllTruthful, profile}
-use Rattle.hv_journal.proofs.Books.{reads_once}
 use Rattle.hv_house.specs.House.{IsFaithful}
 use Rattle.hv_house.specs.Booting.{opening_of, opening_entries}
 use Rattle.hv_house.proofs.Openings.{opened-book, opened-fits, stands-opened}
@@ -15,7 +13,7 @@ pub record Opening (book now : List Entry) : Type 0 where
   pub room : HasRoom profile (state_of book) 1
   pub now_is : now ≡ opening_of book
 
-truthful-from : (s : State) (book more : List Entry) → AllTruthful s book → AllTruthful (fold after s book) more → AllTruthful s (book ++ more)
+pub truthful-from : (s : State) (book more : List Entry) → AllTruthful s book → AllTruthful (fold after s book) more → AllTruthful s (book ++ more)
 truthful-from s [] more truthful next = next
 truthful-from s (e ∷ book) more truthful next = (truthful.0, truthful-from (after s e) book more truthful.1 next)
 
@@ -28,10 +26,3 @@ opened-faithful book store room faithful =
         truthful = truthful-from nothing_yet book (opening_entries (state_of book)) faithful.legal.truthful (opened-book profile book room).truthful;
       };
     }
-
--- ---- one journal
-
-pub one-journal : (a b : List Entry) (bytes : List ℕ) → IsJournal a bytes → IsJournal b bytes → a ≡ b
-one-journal a b [] one other = one ∙ sym other
-one-journal a b (gate ∷ []) one other = one ∙ sym other
-one-journal a b (gate ∷ next ∷ after) one other = reads_once a b (gate ∷ next ∷ after) one other

@@ -8,7 +8,6 @@ pub mod Steps
 pub mod Reading
 pub mod Ready
 pub mod Putting
-pub mod Rooms
 pub mod Past
 pub mod Seen
 pub mod Listings

@@ -1,6 +1,6 @@
 -- What a call that notes one entry by its name leaves, and when it is refused.
-use Rattle.std.proofs.Common.{◌≡◌, ℕ, ◌+◌, ◌<◌, ◌≤◌, Bool, true, false, is_none, Option, Some, None, Result, Ok, Err, List, [], ◌∷◌, length, map, refl, sym, ap, ◌∙◌, subst, arith, IsErrOf}
-use Rattle.std.specs.Prelude.{◌↔◌, IsTrue, IsSome, IsSomeAnd, IfErr}
+use Rattle.std.proofs.Common.{◌≡◌, ℕ, ◌+◌, ◌<◌, ◌≤◌, Bool, true, false, is_none, Option, Some, None, Ok, Err, List, [], ◌∷◌, length, map, refl, sym, ap, ◌∙◌, subst, arith, IsErrOf}
+use Rattle.std.specs.Prelude.{◌↔◌, IsTrue, IsSome, IsSomeAnd}
 use Rattle.std.specs.Prelude.{nat_lt}
 use Rattle.std.specs.Option.{option_map}
 use Rattle.std.proofs.lemmas.Bool.Decides.{nat_tests}
@@ -17,7 +17,7 @@ use Rattle.hv_history.specs.declared.state.Ending.{Ending}
 use Rattle.hv_history.specs.declared.state.Table.{Table}
 use Rattle.hv_history.specs.declared.state.Transaction.{Transaction}
 use Rattle.hv_history.specs.State.{State, numbered, state_of}
-use Rattle.hv_history.specs.Legal.{is_open, is_started, load, HasRoom, OpenedFits, StartFits, GivenFits, CreateFits, Fits, Of}
+use Rattle.hv_history.specs.Legal.{is_open, is_started, load, HasRoom, OpenedFits, CreateFits, Fits, Of}
 use Rattle.std.proofs.lemmas.List.{length-map}
 use Rattle.hv_book.specs.declared.notes.TableNote.{TableNote}
 use Rattle.hv_book.specs.Briefs.{brief_table}
@@ -33,7 +33,7 @@ use Rattle.hv_house.specs.declared.calls.EntryFault.TheVariants as fault
 use Rattle.hv_house.specs.Faults.{HasRisen, EndsRun}
 use Rattle.hv_house.specs.House.{IsReadyWithin, StaysReadyWithin, IsNoted, IsHalted}
 use Rattle.hv_house.specs.Steps.{seen_of, fault_outcome}
-use Rattle.hv_house.specs.Calls.{entry_outcome, place_ended, HasEndedAt, HasNotEnded, HasNoRoom, LacksRoom, IfOpen, CanBeGiven, CanStart, next_given, next_table, IsHouseFault, EntryStepWithin}
+use Rattle.hv_house.specs.Calls.{place_ended, HasNotEnded, IfOpen, CanBeGiven, next_given, next_table, EntryStepWithin}
 use Rattle.hv_house.proofs.Stays.{stays_of}
 use Rattle.hv_house.proofs.Steps.{noting-one, step-halted}
 
@@ -77,51 +77,12 @@ module _ {D : Type 0} (limits : Limits) (told : D → Option Store) (faults : D 
     failed = risen;
   }
 
-  -- with another answer
-  pub entry-other : {T U : Type 0} (x : T) (y : U) → EntryStepWithin limits told faults event before now (Ok x) → EntryStepWithin limits told faults event before now (Ok y)
-  entry-other x y step = entry-done y step.ready step.noted step.tree_kept step.tells step.step step.later
-
-  pub entry-err : {T U : Type 0} (why : EntryFault) → EntryStepWithin {T = T} limits told faults event before now (Err why)
-      → EntryStepWithin {T = U} limits told faults event before now (Err why)
-  entry-err {T = T} {U = U} why step = record {
-    ready = tt;
-    noted = tt;
-    stays = step.stays;
-    halted = step.halted;
-    ends = step.ends;
-    tree_kept = step.tree_kept;
-    tells = step.tells;
-    step = by why step.step;
-    later = step.later;
-    failed = step.failed;
-  }
-    where
-      by : (why : EntryFault) → Step told faults (Note event) (entry_outcome {T = T} (Err why)) (seen_of before) (seen_of now)
-          → Step told faults (Note event) (entry_outcome {T = U} (Err why)) (seen_of before) (seen_of now)
-      by (fault.NotOpen at) step = step
-      by (fault.Full entries) step = step
-      by (fault.House why) step = step
-
 -- the house was asked alone
 module _ {D : Type 0} (limits : Limits) (told : D → Option Store) (faults : D → ℕ) (event : Entry) (house : House D) (ready : IsReadyWithin limits told house) where
   refused-step : Step told faults (Note event) (fault_outcome house_fault.NoMemory) (seen_of house) (seen_of house)
   refused-step =
       step-halted told faults (Note event) (event ∷ []) (noting-one event) house house ready.kept.running refl refl refl (keeps_tree (told house.shelf)) (omega arith)
       house_fault.NoMemory refl refl ready.kept.reads
-
-  pub entry-not-open : {T : Type 0} (at : ℕ) → EntryStepWithin {T = T} limits told faults event house house (Err (fault.NotOpen at))
-  entry-not-open at = record {
-    ready = tt;
-    noted = tt;
-    stays = ready;
-    halted = refl;
-    ends = tt;
-    tree_kept = keeps_tree (told house.shelf);
-    tells = stays_of (told house.shelf) (told house.shelf) (keeps_tree (told house.shelf));
-    step = refused-step;
-    later = omega arith;
-    failed = tt;
-  }
 
   pub entry-full : {T : Type 0} (entries : ℕ) → EntryStepWithin {T = T} limits told faults event house house (Err (fault.Full entries))
   entry-full entries = record {
@@ -153,37 +114,7 @@ pub opening-fits : (limits : Limits) (book : List Entry) (txn : ℕ) (text : Lis
     → HasRoom limits (state_of book) 2 → OpenedFits limits (state_of book) txn text
 opening-fits limits book txn text tree next runs room = record { next = next; statement = (tree, runs); room = room }
 
-starting-fits : (limits : Limits) (s : State) (o : Option Transaction) → IsSomeAnd o (CanStart s) → HasRoom limits s 1 → IsSomeAnd o (StartFits limits s 0)
-starting-fits limits s None can room = absurd can
-starting-fits limits s (Some t) can room = record { waiting = can.waiting; first = refl; unlocked = can.unlocked; room = room }
-
-pub start-fits : (limits : Limits) (book : List Entry) (txn : TxnId) → IfOpen (state_of book) txn.0 (CanStart (state_of book))
-    → HasNotEnded book txn.0 → HasRoom limits (state_of book) 1 → Fits limits (state_of book) (entry.Start txn 0)
-start-fits limits book txn can none room =
-    let o : Option Transaction = numbered (state_of book).transactions txn.0 in
-    starting-fits limits (state_of book) o (when-open o (CanStart (state_of book)) can none) room
-
 -- ---- the next write id
-
-live-next : (o : Option Table) → IsSomeAnd o (λ t. IsTrue t.is_live) → IsSomeAnd o (λ t. IsTrue t.is_live × (length (owners_in o) + 1 ≡ length t.owners + 1))
-live-next None live = absurd live
-live-next (Some t) live = (live, refl)
-
-given-fits : (limits : Limits) (s : State) (table : ℕ) (o : Option Transaction) → IsSomeAnd o (CanBeGiven s table) → HasRoom limits s 1
-    → IsSomeAnd o (GivenFits limits s table (length (owners_in (numbered s.tables table)) + 1))
-given-fits limits s table None can room = absurd can
-given-fits limits s table (Some t) can room = record {
-  running = can.running;
-  live = live-next (numbered s.tables table) can.live;
-  first = can.first;
-  room = room;
-}
-
-pub give-fits : (limits : Limits) (book : List Entry) (txn : TxnId) (table : TableId) → IfOpen (state_of book) txn.0 (CanBeGiven (state_of book) table.0)
-    → HasNotEnded book txn.0 → HasRoom limits (state_of book) 1 → Fits limits (state_of book) (next_given book txn table)
-give-fits limits book txn table can none room =
-    let o : Option Transaction = numbered (state_of book).transactions txn.0 in
-    given-fits limits (state_of book) table.0 o (when-open o (CanBeGiven (state_of book) table.0) can none) room
 
 pub next-of : (o : Option Table) (write : ℕ) → Some write ≡ option_map (λ (t : Table). length t.owners + 1) o → write ≡ length (owners_in o) + 1
 next-of None write e = cc
@@ -203,12 +134,6 @@ live-here (Some t) live = refl
 given-here : (s : State) (table : ℕ) (o : Option Transaction) → IsSomeAnd o (CanBeGiven s table) → IsSome (numbered s.tables table)
 given-here s table None can = absurd can
 given-here s table (Some t) can = live-here (numbered s.tables table) can.live
-
-pub give-here : (book : List Entry) (txn : TxnId) (table : TableId) → IfOpen (state_of book) txn.0 (CanBeGiven (state_of book) table.0)
-    → HasNotEnded book txn.0 → IsSome (numbered (state_of book).tables table.0)
-give-here book txn table can none =
-    let o : Option Transaction = numbered (state_of book).transactions txn.0 in
-    given-here (state_of book) table.0 o (when-open o (CanBeGiven (state_of book) table.0) can none)
 
 pub none-of : (o : Option Table) → IsSome o → None ≡ option_map (λ (t : Table). length t.owners + 1) o → ⊥
 none-of None some e = cc
@@ -240,80 +165,9 @@ err-as {T = T} {U = U} found why P iff = (
   λ p. let e : IsErrOf {T = U} (Err found) why = iff.1 p in let same : found ≡ why = cc in ap (λ w. Err w) same,
 )
 
-pub not-open-there : {T : Type 0} (o : Option ℕ) (at : ℕ) → o ≡ Some at → (k : ℕ) → IsErrOf {T = T} (Err (fault.NotOpen at)) (fault.NotOpen k) ↔ (o ≡ Some k)
-not-open-there {T = T} o at is k = (
-  λ (e : IsErrOf {T = T} (Err (fault.NotOpen at)) (fault.NotOpen k)). let same : at ≡ k = cc in is ∙ ap Some same,
-  λ (e : o ≡ Some k). let same : at ≡ k = cc in ap (λ n. Err (fault.NotOpen n)) same,
-)
-
-pub ok-not-open : {T : Type 0} (x : T) (o : Option ℕ) → o ≡ None → (k : ℕ) → IsErrOf (Ok x) (fault.NotOpen k) ↔ (o ≡ Some k)
-ok-not-open x o none k = (λ e. cc, λ e. cc)
-
-pub err-not-open : {T : Type 0} (why : EntryFault) → IsHouseFault why → (o : Option ℕ) → o ≡ None → (k : ℕ) → IsErrOf {T = T} (Err why) (fault.NotOpen k) ↔ (o ≡ Some k)
-err-not-open (fault.House why) is o none k = (λ e. cc, λ e. cc)
-err-not-open (fault.NotOpen at) is o none k = absurd is
-err-not-open (fault.Full entries) is o none k = absurd is
-
-pub err-not-full : {T : Type 0} (why : EntryFault) → IsHouseFault why → (k : ℕ) → IsErrOf {T = T} (Err why) (fault.Full k) → ⊥
-err-not-full (fault.House why) is k e = cc
-err-not-full (fault.NotOpen at) is k e = absurd is
-err-not-full (fault.Full entries) is k e = absurd is
-
 lacks-room : (limits : Limits) (s : State) (more : ℕ) → (HasRoom limits s more → ⊥) → limits.entries < load s + more
 lacks-room limits s more none = by (nat_lt limits.entries (load s + more)) refl
   where
     by : (b : Bool) → nat_lt limits.entries (load s + more) ≡ b → limits.entries < load s + more
     by true is = grind (arith, nat_tests, is)
     by false is = absurd (none (grind (arith, nat_tests, is)))
-
-pub full-there : {T : Type 0} (limits : Limits) (book : List Entry) (txn n : ℕ) → HasNotEnded book txn → n ≡ length book → (HasRoom limits (state_of book) 1 → ⊥)
-    → (k : ℕ) → IsErrOf {T = T} (Err (fault.Full n)) (fault.Full k) ↔ HasNoRoom limits book txn k
-full-there {T = T} limits book txn n unended_ count none k = (
-  λ (e : IsErrOf {T = T} (Err (fault.Full n)) (fault.Full k)). let same : n ≡ k = cc in
-      record { unended = unended_; count = sym same ∙ count; full = lacks-room limits (state_of book) 1 none },
-  λ (lacks : HasNoRoom limits book txn k). ap (λ m. Err (fault.Full m)) (count ∙ sym lacks.count),
-)
-
--- an open transaction has its room, or none is open
-has-room-not : (limits : Limits) (book : List Entry) (txn k : ℕ) → HasRoom limits (state_of book) 1 → HasNoRoom limits book txn k → ⊥
-has-room-not limits book txn k room lacks = omega (arith, room, lacks.full)
-
-pub ok-not-full : {T : Type 0} (x : T) (limits : Limits) (book : List Entry) (txn : ℕ) → HasRoom limits (state_of book) 1
-    → (k : ℕ) → IsErrOf (Ok x) (fault.Full k) ↔ HasNoRoom limits book txn k
-ok-not-full x limits book txn room k = (λ e. cc, λ lacks. absurd (has-room-not limits book txn k room lacks))
-
-pub failed-not-full : {T : Type 0} (why : EntryFault) → IsHouseFault why → (limits : Limits) (book : List Entry) (txn : ℕ) → HasRoom limits (state_of book) 1
-    → (k : ℕ) → IsErrOf {T = T} (Err why) (fault.Full k) ↔ HasNoRoom limits book txn k
-failed-not-full {T = T} why is limits book txn room k = (λ e. absurd (err-not-full {T = T} why is k e), λ lacks. absurd (has-room-not limits book txn k room lacks))
-
-pub ended-not-full : {T : Type 0} (limits : Limits) (book : List Entry) (txn at : ℕ) → HasEndedAt book txn at
-    → (k : ℕ) → IsErrOf {T = T} (Err (fault.NotOpen at)) (fault.Full k) ↔ HasNoRoom limits book txn k
-ended-not-full limits book txn at ended k = (λ e. cc, λ lacks. let both : None ≡ Some at = sym lacks.unended ∙ ended in cc)
-
--- ---- of a call that asks for more room
-
-pub lacking-there : {T : Type 0} (limits : Limits) (book : List Entry) (more n : ℕ) → n ≡ length book → (HasRoom limits (state_of book) more → ⊥)
-    → (k : ℕ) → IsErrOf {T = T} (Err (fault.Full n)) (fault.Full k) ↔ LacksRoom limits book more k
-lacking-there {T = T} limits book more n count none k = (
-  λ (e : IsErrOf {T = T} (Err (fault.Full n)) (fault.Full k)). let same : n ≡ k = cc in
-      record { count = sym same ∙ count; full = lacks-room limits (state_of book) more none },
-  λ (lacks : LacksRoom limits book more k). ap (λ m. Err (fault.Full m)) (count ∙ sym lacks.count),
-)
-
-has-room-for : (limits : Limits) (book : List Entry) (more k : ℕ) → HasRoom limits (state_of book) more → LacksRoom limits book more k → ⊥
-has-room-for limits book more k room lacks = omega (arith, room, lacks.full)
-
-pub passed-lacks-not : {T : Type 0} (result : Result T EntryFault) → IfErr result IsHouseFault → (limits : Limits) (book : List Entry) (more : ℕ)
-    → HasRoom limits (state_of book) more → (k : ℕ) → IsErrOf result (fault.Full k) ↔ LacksRoom limits book more k
-passed-lacks-not (Ok x) is limits book more room k = (λ e. cc, λ lacks. absurd (has-room-for limits book more k room lacks))
-passed-lacks-not {T = T} (Err why) is limits book more room k =
-    (λ e. absurd (err-not-full {T = T} why is k e), λ lacks. absurd (has-room-for limits book more k room lacks))
-
-pub passed-not-ended : {T : Type 0} (result : Result T EntryFault) → IfErr result IsHouseFault → (k : ℕ) → IsErrOf result (fault.NotOpen k) → ⊥
-passed-not-ended (Ok x) is k e = cc
-passed-not-ended (Err (fault.House why)) is k e = cc
-passed-not-ended (Err (fault.NotOpen at)) is k e = absurd is
-passed-not-ended (Err (fault.Full entries)) is k e = absurd is
-
-pub full-not-ended : {T : Type 0} (n k : ℕ) → IsErrOf {T = T} (Err (fault.Full n)) (fault.NotOpen k) → ⊥
-full-not-ended n k e = cc

@@ -44,7 +44,7 @@ changed-there f pre rest x =
 abbrev lost-numbers : ℕ → List Transaction → List Entry
 lost-numbers number rest = map lost_entry (marked_from number (map is_open rest))
 
-none-of : (o : Option Ending) → is_none o ≡ true → o ≡ None
+pub none-of : (o : Option Ending) → is_none o ≡ true → o ≡ None
 none-of None h = refl
 none-of (Some x) h = cc
 
@@ -97,7 +97,7 @@ lost-all limits pre (x ∷ rest) s are only =
 
 -- ---- the opening
 
-booted : (s : State) (run : ℕ) → (after s (Boot run)).transactions ≡ s.transactions
+pub booted : (s : State) (run : ℕ) → (after s (Boot run)).transactions ≡ s.transactions
 unfolding acted
 booted s run = refl
 

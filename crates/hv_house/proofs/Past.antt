@@ -20,13 +20,13 @@ use Rattle.hv_recovery.specs.hv_fits.specs.hv_meta.specs.Catalogs.{info_if, live
 use Rattle.hv_earlier.specs.declared.fates.Fate.{Fate}
 use Rattle.hv_earlier.specs.declared.fates.Fate.TheVariants as fate
 use Rattle.hv_earlier.specs.Fates.{fate_by, fate_of}
-use Rattle.hv_earlier.specs.Lists.{exception_by, exceptions_from}
+use Rattle.hv_earlier.specs.Lists.{exception_by, exceptions_from, info_of_name}
 use Rattle.hv_stands.specs.Files.{ending_of, IsUndone}
 use Rattle.hv_stands.specs.Sound.{IsLive, IsDone, KeepsAll}
 use Rattle.hv_stands.specs.Reading.{table_of_name}
 use Rattle.hv_stands.proofs.Numbers.{numbered-map, numbered-within}
 use Rattle.hv_table_rows.specs.Laws.{SaysCommitted}
-use Rattle.hv_house.specs.Seeing.{ids_in, info_of_name}
+use Rattle.hv_house.specs.Seeing.{ids_in}
 
 -- ---- by its name
 

@@ -1,6 +1,6 @@
 -- What a call that puts a file is as a step.
 use Rattle.std.proofs.Common.{◌≡◌, ◌<◌, ◌≤◌, inl, inr, ℕ, ◌-◌, ◌^◌, nat_lt, Bool, true, false, true≢false, Option, Some, None, Result, Ok, Err, List, [], ◌∷◌, ◌++◌, refl, sym, ap, ◌∙◌, subst, arith, IsErrOf}
-use Rattle.std.specs.Prelude.{◌||◌, if◌then◌else◌, Contains, OnOk}
+use Rattle.std.specs.Prelude.{if◌then◌else◌, ◌||◌, Contains, OnOk}
 use Rattle.std.proofs.lemmas.Bool.{ltb-true}
 use Rattle.hv_base.specs.declared.ids.TxnId.{TxnId}
 use Rattle.hv_base.specs.declared.ids.Limits.{Limits}
@@ -13,7 +13,7 @@ use Rattle.hv_shelf.specs.declared.place.Place.{Place}
 use Rattle.hv_shelf.specs.Disk.{Store, HasFile, TornFile}
 use Rattle.hv_table_rows.specs.Faults.{StoreCause}
 use Rattle.hv_trail.specs.declared.trail.Reader.TheVariants.{Txn}
-use Rattle.hv_trail.specs.declared.trail.Mark.TheVariants.{Wrote, Broke}
+use Rattle.hv_trail.specs.declared.trail.Mark.TheVariants.{Broke}
 use Rattle.hv_trail.specs.declared.trail.TrailItem.{TrailItem}
 use Rattle.hv_trail.specs.declared.trail.TrailItem.TheVariants.{Marked}
 use Rattle.hv_trail.specs.Trail.{book_of}
@@ -24,55 +24,9 @@ use Rattle.hv_house.specs.declared.fault.HouseFault.TheVariants as fault
 use Rattle.hv_house.specs.declared.house.House.{House}
 use Rattle.hv_house.specs.Faults.{put_result, HasRisen}
 use Rattle.hv_house.specs.House.{entries_of, IsReadyWithin, KeepsJournal}
-use Rattle.hv_house.specs.Steps.{seen_of, fault_outcome, outcome_of, KeepsFault, GainsBy, IsPutMarkedFor, PutStepWithin}
+use Rattle.hv_house.specs.Steps.{seen_of, fault_outcome, outcome_of, GainsBy, IsPutMarkedFor, PutStepWithin}
 use Rattle.hv_house.proofs.Reading.{contains-last, gains-nothing}
 use Rattle.hv_house.proofs.Ready.{put-ready, put-stays}
-
--- ---- what the trail gains
-
-pub gains-put : {D : Type 0} (by : TxnId) (place : Place) (bytes : List ℕ) (before now : House D) → before.trail.closed ≡ false
-    → now.place ≡ before.place → now.start ≡ before.start → entries_of now ≡ entries_of before → now.trail.opened ≡ before.trail.opened → now.limits ≡ before.limits
-    → trail_of now.trail ≡ trail_of before.trail ++ Marked (Wrote (Txn by) place) ∷ [] → now.trail.closed ≡ before.trail.closed
-    → GainsBy (Put (Txn by) place bytes) Done before now
-gains-put by place bytes before now running at start entries left limits trail closed = record {
-  place = at;
-  entries = entries;
-  start = start;
-  left = left;
-  limits = limits;
-  trail = trail;
-  closed = closed ∙ running ∙ sym (ap (λ c. c || false) running);
-}
-
-pub gains-put-fault : {D : Type 0} (by : TxnId) (place : Place) (bytes : List ℕ) (why : HouseFault) (before now : House D) → before.trail.closed ≡ false
-    → KeepsFault (Some (Txn by)) true why before now → GainsBy (Put (Txn by) place bytes) (fault_outcome why) before now
-gains-put-fault by place bytes (fault.Failed count) before now running keeps = record {
-  place = keeps.place;
-  entries = keeps.entries;
-  start = keeps.start;
-  left = keeps.left;
-  limits = keeps.limits;
-  trail = keeps.trail;
-  closed = keeps.closed ∙ running ∙ sym (ap (λ c. c || false) running);
-}
-gains-put-fault by place bytes fault.Store before now running keeps = record {
-  place = keeps.place;
-  entries = keeps.entries;
-  start = keeps.start;
-  left = keeps.left;
-  limits = keeps.limits;
-  trail = keeps.trail;
-  closed = keeps.closed ∙ sym (ap (λ c. c || true) running);
-}
-gains-put-fault by place bytes fault.NoMemory before now running keeps = record {
-  place = keeps.place;
-  entries = keeps.entries;
-  start = keeps.start;
-  left = keeps.left;
-  limits = keeps.limits;
-  trail = keeps.trail;
-  closed = keeps.closed ∙ running ∙ sym (ap (λ c. c || false) running);
-}
 
 -- ---- the journal stays
 

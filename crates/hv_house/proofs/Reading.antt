@@ -1,27 +1,22 @@
 -- What a call that reads is as a step.
-use Rattle.std.proofs.Common.{◌≡◌, ◌≤◌, ℕ, true, false, true≢false, Option, Some, None, List, [], ◌++◌, refl, sym, ap, ◌∙◌, subst, arith, append-nil}
+use Rattle.std.proofs.Common.{◌≡◌, ◌≤◌, ℕ, false, true≢false, Option, Some, None, List, [], ◌++◌, refl, sym, ap, ◌∙◌, subst, arith, append-nil}
 use Rattle.std.specs.Prelude.{◌||◌, ◌∷◌, Contains}
 use Rattle.std.proofs.lemmas.List.Elements.{Contains-append_right}
-use Rattle.hv_base.specs.declared.ids.TxnId.{TxnId}
 use Rattle.hv_base.specs.Told.{Moves}
 use Rattle.hv_shelf.specs.Disk.{Store}
 use Rattle.hv_history.specs.declared.entry.Entry.{Entry}
 use Rattle.hv_trail.specs.declared.trail.Reader.{Reader}
-use Rattle.hv_trail.specs.declared.trail.Reader.TheVariants.{Txn}
-use Rattle.hv_trail.specs.declared.trail.Mark.TheVariants.{Broke}
 use Rattle.hv_trail.specs.declared.trail.TrailItem.{TrailItem}
-use Rattle.hv_trail.specs.declared.trail.TrailItem.TheVariants.{Marked}
 use Rattle.hv_trail.specs.Trail.{book_of}
 use Rattle.hv_trail.specs.Kept.{trail_of}
 use Rattle.hv_trail.specs.Steps.{Call, Read, Outcome, Done, Closed, Refused, Failed, gains, shuts, MayEnd, Changes, Counts, Step}
-use Rattle.hv_house.specs.declared.fault.HouseFault.{HouseFault}
 use Rattle.hv_house.specs.declared.fault.HouseFault.TheVariants as fault
 use Rattle.hv_house.specs.declared.fault.RowFault.{RowFault}
 use Rattle.hv_house.specs.declared.fault.RowFault.TheVariants as row_fault
 use Rattle.hv_house.specs.declared.house.House.{House}
 use Rattle.hv_house.specs.Faults.{HasRisenReading}
 use Rattle.hv_house.specs.House.{entries_of}
-use Rattle.hv_house.specs.Steps.{seen_of, reading_outcome, KeepsFault, GainsBy, IsMarkedFor}
+use Rattle.hv_house.specs.Steps.{seen_of, reading_outcome, GainsBy}
 use Rattle.hv_house.proofs.Steps.{same-trail}
 
 -- ---- what the trail gains
@@ -38,37 +33,6 @@ gains-nothing call outcome before now none open_ running place start entries mar
   limits = limits;
   trail = same-trail before now entries marks ∙ sym (append-nil (trail_of before.trail)) ∙ ap (λ items. trail_of before.trail ++ items) (sym none);
   closed = closed ∙ running ∙ sym (ap (λ c. before.trail.closed || c) open_ ∙ ap (λ c. c || false) running);
-}
-
--- a read that failed is kept in mind
-pub gains-fault : {D : Type 0} (by : Option Reader) (why : HouseFault) (before now : House D) → before.trail.closed ≡ false → KeepsFault by false why before now
-    → GainsBy (Read by) (reading_outcome (row_fault.House why)) before now
-gains-fault by (fault.Failed count) before now running keeps = record {
-  place = keeps.place;
-  entries = keeps.entries;
-  start = keeps.start;
-  left = keeps.left;
-  limits = keeps.limits;
-  trail = keeps.trail;
-  closed = keeps.closed ∙ running ∙ sym (ap (λ c. c || false) running);
-}
-gains-fault by fault.Store before now running keeps = record {
-  place = keeps.place;
-  entries = keeps.entries;
-  start = keeps.start;
-  left = keeps.left;
-  limits = keeps.limits;
-  trail = keeps.trail;
-  closed = keeps.closed ∙ sym (ap (λ c. c || true) running);
-}
-gains-fault by fault.NoMemory before now running keeps = record {
-  place = keeps.place;
-  entries = keeps.entries;
-  start = keeps.start;
-  left = keeps.left;
-  limits = keeps.limits;
-  trail = keeps.trail;
-  closed = keeps.closed ∙ running ∙ sym (ap (λ c. c || false) running);
 }
 
 -- behind a call that left the trail as it was
@@ -123,11 +87,3 @@ module _ {D : Type 0} (told : D → Option Store) (faults : D → ℕ) (by : Opt
 
 pub contains-last : (items : List TrailItem) (item : TrailItem) → Contains (items ++ item ∷ []) item
 contains-last items item = Contains-append_right items (item ∷ []) item (0, omega arith, refl)
-
-pub read-marked : {D : Type 0} (by : TxnId) (why : RowFault) (before now : House D) → GainsBy (Read (Some (Txn by))) (reading_outcome why) before now → IsMarkedFor now by why
-read-marked by (row_fault.House (fault.Failed count)) before now gained =
-    subst (λ (items : List TrailItem). Contains items (Marked (Broke (Some (Txn by)) false count))) (sym gained.trail)
-    (contains-last (trail_of before.trail) (Marked (Broke (Some (Txn by)) false count)))
-read-marked by (row_fault.House fault.Store) before now gained = tt
-read-marked by (row_fault.House fault.NoMemory) before now gained = tt
-read-marked by (row_fault.Damaged place) before now gained = tt

@@ -11,14 +11,14 @@ use Rattle.hv_history.specs.Legal.{Fits, AllFit}
 use Rattle.hv_journal.specs.Appending.{Holds}
 use Rattle.hv_trail.specs.Steps.{Call, Outcome, Done, shuts}
 use Rattle.hv_stands.specs.Running.{Asking, opening, starting, next_number}
-use Rattle.hv_house.proofs.Rooms.{more-fits, room-within}
+use Rattle.hv_stands.proofs.Fitting.{more-fits, room-within}
 use Rattle.hv_house.specs.declared.fault.HouseFault.{HouseFault}
 use Rattle.hv_house.specs.declared.fault.HouseFault.TheVariants as fault
 use Rattle.hv_house.specs.declared.fault.RowFault.{RowFault}
 use Rattle.hv_house.specs.declared.fault.RowFault.TheVariants as row_fault
 use Rattle.hv_house.specs.declared.house.House.{House}
-use Rattle.hv_house.specs.Steps.{ClosesBy, fault_outcome, reading_outcome, GainsBy}
-use Rattle.hv_house.specs.House.{entries_of, IsKept, IsReadyWithin, AreNoted, AreHalted, StaysReadyWithin, StaysPutWithin, StaysReadWithin, IsAsked, KeepsJournal, BeginFitsWithin, beginning_of}
+use Rattle.hv_house.specs.Steps.{fault_outcome, reading_outcome, GainsBy}
+use Rattle.hv_house.specs.House.{entries_of, IsKept, IsReadyWithin, AreNoted, StaysPutWithin, StaysReadWithin, IsAsked, KeepsJournal, BeginFitsWithin, beginning_of}
 
 -- ---- it was only asked, or files were put
 
@@ -48,9 +48,6 @@ module _ {D : Type 0} (limits : Limits) (told : D → Option Store) (before now 
   -- it was read, or that failed
   still-closed : {b : Bool} → IsReadyWithin limits told before → b ≡ before.trail.closed || false → b ≡ before.trail.closed
   still-closed ready same = same ∙ ap (λ c. c || false) ready.kept.running ∙ sym ready.kept.running
-
-  pub read-ready : (call : Call) → IsAsked told before now → GainsBy call Done before now → IsReadyWithin limits told before → IsReadyWithin limits told now
-  read-ready call asked gains ready = asked-ready asked gains.limits (still-closed ready gains.closed) ready
 
   pub read-stays : (call : Call) (why : RowFault) → IsAsked told before now → GainsBy call (reading_outcome why) before now → IsReadyWithin limits told before → StaysReadWithin limits told why now
   read-stays call (row_fault.Damaged place) asked gains ready = asked-ready asked gains.limits (still-closed ready gains.closed) ready
@@ -85,26 +82,6 @@ module _ {D : Type 0} (limits : Limits) (told : D → Option Store) (before now 
   put-stays call fault.Store gains keeps ready = subst (Holds (told now.shelf)) (sym gains.entries) (holds-behind keeps ready)
   put-stays call fault.NoMemory gains keeps ready = put-kept call refl gains keeps ready
   put-stays call (fault.Failed count) gains keeps ready = put-kept call refl gains keeps ready
-
-  -- nothing was noted for want of memory
-  pub halted-ready : (why : HouseFault) (events : List Entry) → AreHalted told events why before now → now.limits ≡ before.limits → now.place ≡ before.place
-      → ClosesBy why before.trail.closed now.trail.closed → IsReadyWithin limits told before → StaysReadyWithin limits told why now
-  halted-ready fault.Store events halted same place closed ready = record { ready = λ none. cc }
-  halted-ready (fault.Failed count) events halted same place closed ready = record { ready = λ none. cc }
-  halted-ready fault.NoMemory events halted same place closed ready = record {
-    ready = λ _. record {
-      kept = record {
-        place = place ∙ ready.kept.place ∙ ap place_of (sym halted.entries);
-        near = omega (arith, place, ready.kept.near, ap length halted.entries);
-        few = omega (arith, ready.kept.few, ap length halted.entries);
-        reads = subst (Holds (told now.shelf)) (sym halted.entries) halted.leaves;
-        running = closed ∙ ready.kept.running;
-      };
-      limits_are = same ∙ ready.limits_are;
-      within = ready.within;
-      fit = subst (AllFit limits nothing_yet) (sym halted.entries) ready.fit;
-    };
-  }
 
   -- an entry was noted that fits
   pub noted-ready : (event : Entry) → AreNoted told (event ∷ []) before now → now.limits ≡ before.limits → Fits limits (state_of (entries_of before)) event → IsReadyWithin limits told before

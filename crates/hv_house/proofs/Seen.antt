@@ -19,7 +19,7 @@ use Rattle.hv_table_rows.specs.Reading.{AreRows, IsSpoiled as IsSpoiledOf}
 use Rattle.hv_table_rows.specs.Laws.{StoodAt}
 use Rattle.hv_table_rows.proofs.StoredRows.{rows-stood, none-was-spoiled}
 use Rattle.hv_house.specs.Seeing.{ids_in}
-use Rattle.hv_house.proofs.Rooms.{front-fits}
+use Rattle.hv_stands.proofs.Fitting.{front-fits}
 use Rattle.hv_house.proofs.Past.{all-named, says-committed}
 
 module _ (limits : Limits) (book : List Entry) (place : ℕ) (fit : AllFit limits nothing_yet book) where

@@ -1,5 +1,5 @@
 -- What a call that notes entries is as a step.
-use Rattle.std.proofs.Common.{arith, ◌≡◌, ◌⊎◌, inl, inr, ℕ, ◌≤◌, Bool, true, false, true≢false, Option, Some, None, Result, Err, List, [], ◌∷◌, ◌++◌, map, refl, sym, ap, ◌∙◌, subst, append-nil}
+use Rattle.std.proofs.Common.{◌≡◌, ◌⊎◌, inl, inr, ℕ, ◌≤◌, Bool, true, false, true≢false, Option, Some, None, Result, Err, List, [], ◌∷◌, ◌++◌, map, refl, sym, ap, ◌∙◌, subst, append-nil}
 use Rattle.std.specs.Prelude.{◌||◌}
 use Rattle.hv_base.specs.Told.{Moves}
 use Rattle.hv_base.specs.declared.ids.TxnId.{TxnId}
@@ -15,8 +15,8 @@ use Rattle.hv_trail.proofs.KeptLaws.{trail-book}
 use Rattle.hv_house.specs.declared.fault.HouseFault.{HouseFault}
 use Rattle.hv_house.specs.declared.fault.HouseFault.TheVariants as fault
 use Rattle.hv_house.specs.declared.house.House.{House}
-use Rattle.hv_house.specs.House.{entries_of, IsKept, Leaves, AreNoted}
-use Rattle.hv_house.specs.Steps.{seen_of, fault_outcome, outcome_of, ClosesBy, KeepsMarks}
+use Rattle.hv_house.specs.House.{entries_of, Leaves, AreNoted}
+use Rattle.hv_house.specs.Steps.{seen_of, fault_outcome, outcome_of, ClosesBy}
 use Rattle.hv_house.proofs.Boots.{reads-journal}
 
 -- ---- a call that notes these entries, or none
@@ -60,10 +60,6 @@ noting-begun txn session number text = record {
 
 -- ---- what becomes of the store
 
-keeps_same : (o : Option Store) → Moves KeepsTree o o
-keeps_same None = tt
-keeps_same (Some s) = refl
-
 moves-noted : (a b : Option Store) (events book entries : List Entry) → book ≡ entries → Moves KeepsTree a b → Holds b (entries ++ events) → Moves (Notes events book) a b
 moves-noted None None events book entries same tree holds = tt
 moves-noted None (Some t) events book entries same tree holds = absurd tree
@@ -85,7 +81,7 @@ moves-stopped (Some s) None events book entries same tree leaves = absurd tree
 moves-stopped (Some s) (Some t) events book entries same tree leaves =
     record { tree_is = tree; reads = λ _. read-or-not events book t.journal (subst (λ b. ReadsMore b events t.journal) (sym same) leaves) }
 
-moves-by : (a b : Option Store) (P Q : Store → Store → Type 0) → ((x y : Store) → P x y → Q x y) → Moves P a b → Moves Q a b
+pub moves-by : (a b : Option Store) (P Q : Store → Store → Type 0) → ((x y : Store) → P x y → Q x y) → Moves P a b → Moves Q a b
 moves-by None None P Q f moved = tt
 moves-by None (Some y) P Q f moved = absurd moved
 moves-by (Some x) None P Q f moved = absurd moved
@@ -164,20 +160,3 @@ step-passed {T = T} told faults call result why same before now is e step =
 pub same-trail : {D : Type 0} (before now : House D) → entries_of now ≡ entries_of before → now.trail.marks ≡ before.trail.marks
     → trail_of now.trail ≡ trail_of before.trail
 same-trail before now entries marks = ap (λ ms. woven_from 0 (entries_of now) ms) marks ∙ ap (λ es. woven_from 0 es before.trail.marks) entries
-
--- ---- what several calls keep
-
-pub keeps-both : {D : Type 0} (a b c : House D) → KeepsMarks a b → KeepsMarks b c → KeepsMarks a c
-keeps-both a b c first second = record {
-  start = second.start ∙ first.start;
-  marks = second.marks ∙ first.marks;
-  left = second.left ∙ first.left;
-  limits = second.limits ∙ first.limits;
-}
-
--- nothing was noted for want of memory
-pub step-refused : {D T : Type 0} (told : D → Option Store) (faults : D → ℕ) (call : Call) (events : List Entry) (noting : IsNoting call events) (result : Result T HouseFault)
-    (before : House D) → result ≡ Err fault.NoMemory → IsKept told before → Step told faults call (outcome_of result) (seen_of before) (seen_of before)
-step-refused {T = T} told faults call events noting result before is kept =
-    subst (λ (r : Result T HouseFault). Step told faults call (outcome_of r) (seen_of before) (seen_of before)) (sym is)
-    (step-halted told faults call events noting before before kept.running refl refl refl (keeps_same (told before.shelf)) (omega arith) fault.NoMemory refl refl kept.reads)

@@ -1,5 +1,5 @@
 -- How a store's fault is passed on.
-use Rattle.std.specs.Prelude.{◌≡◌, ℕ, ◌-◌, ◌^◌, ◌<◌, ◌≤◌, nat_lt, if◌then◌else◌, Result, Ok, Err, IfErr}
+use Rattle.std.specs.Prelude.{if◌then◌else◌, ◌≡◌, ℕ, ◌-◌, ◌^◌, ◌<◌, ◌≤◌, nat_lt, Result, Ok, Err, IfErr}
 use Rattle.hv_base.specs.Faults.{Rose}
 use Rattle.hv_shelf.specs.declared.fault.ShelfFault.{ShelfFault}
 use Rattle.hv_shelf.specs.declared.fault.ShelfFault.TheVariants as shelf

@@ -1,6 +1,5 @@
 -- What a statement sees of a table: as it stood at a place of the book, with the rows that its files show then.
-use Rattle.std.specs.Prelude.{◌≡◌, ℕ, nat_eq, Bool, false, true, if◌then◌else◌, Option, Some, None, List, [], ◌∷◌}
-use Rattle.std.specs.Cmp.Lexicographic.{pointwise}
+use Rattle.std.specs.Prelude.{◌≡◌, ℕ, Bool, false, true, Option, Some, None, List, []}
 use Rattle.hv_base.specs.Told.{Tells}
 use Rattle.hv_shelf.specs.Disk.{Store}
 use Rattle.hv_wids.specs.WriteIds.{WriteIds}
@@ -10,17 +9,13 @@ use Rattle.hv_logic.specs.declared.catalog.TableInfo.{TableInfo}
 use Rattle.hv_history.specs.declared.state.Table.{Table}
 use Rattle.hv_history.specs.State.{State}
 use Rattle.hv_earlier.specs.Lists.{list_in}
+pub use Rattle.hv_earlier.specs.Lists.{info_of_name}
 use Rattle.hv_stands.specs.Reading.{table_of_name}
 use Rattle.hv_table_rows.specs.Reading.{AreRows, IsSpoiled as IsSpoiledOf}
 
 -- the list of its write ids that a reader at this state reads a table by
 abbrev pub ids_in : State → ℕ → WriteIds
 ids_in state table = list_in state table
-
--- the first of these tables that has that name
-abbrev pub info_of_name : List ℕ → List TableInfo → Option TableInfo
-info_of_name name [] = None
-info_of_name name (info ∷ infos) = if pointwise nat_eq info.shape.name name then Some info else info_of_name name infos
 
 -- where its rows are read they are those of its files
 abbrev pub AreRead : Bool → TableInfo → WriteIds → List Found → Store → Type 0

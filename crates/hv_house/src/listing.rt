@@ -2,7 +2,6 @@
 
 ghost use Rattle.std.specs.Prelude.{◌≡◌, ℕ, ◌<◌, List, Some, None, false, take, option_map, IfOk, IfErr};
 ghost use Rattle.std.specs.FinMap as tree;
-ghost use Rattle.std.specs.Option.{option_copied};
 ghost use Rattle.hv_base.specs.Told.{Tells};
 ghost use Rattle.hv_base.specs.declared.ids.Limits.{Limits};
 ghost use Rattle.hv_shelf.specs.Disk.{places_of};
@@ -14,15 +13,15 @@ ghost use Rattle.hv_trail.specs.Steps as calls;
 ghost use Rattle.hv_house.specs.declared.fault.RowFault.TheVariants as row_fault;
 ghost use Rattle.hv_house.specs.Faults.{FileCause, house_fault};
 ghost use Rattle.hv_house.specs.House.{entries_of, IsAsked, IsReadyWithin, StaysPutWithin};
-ghost use Rattle.hv_house.specs.Seeing.{ids_in, info_of_name};
+ghost use Rattle.hv_house.specs.Seeing.{ids_in};
 ghost use Rattle.hv_house.specs.Steps.{seen_of, fault_outcome, outcome_of, GainsBy, IsMarkedFor};
 ghost use Rattle.hv_house.specs.Listing.{AreTaken, AreTakenOf, IsMade, IsNotFound, ReadStep, GetCause, info_in, get_outcome, IsMarkedGetting, StaysGotWithin};
 
 use crate::fault::HouseFault;
 use crate::house::House;
-use hv_base::{Duplicate, NoMemory, TableId, Text, TxnId};
+use hv_base::{NoMemory, TableId, Text, TxnId};
 use hv_choosing::{DirFile, list_files, take_files};
-use hv_earlier::{catalog_at, list_at};
+use hv_earlier::{find_at, list_at};
 use hv_logic::TableInfo;
 use hv_shelf::{Place, Shelf, ShelfFault};
 use hv_trail::Reader;
@@ -49,32 +48,6 @@ pub enum GetFault {
     /// A call of the house failed.
     #[error("the house failed")]
     House(HouseFault),
-}
-
-/// The first table of that name.
-fn first_named<'a>(name: &Text, infos: &'a [TableInfo]) -> Option<&'a TableInfo>
-    ensures { option_copied result ≡ info_of_name name.now infos.now }
-{
-    for info in infos {
-        if info.shape.name == *name {
-            return Some(info);
-        }
-    }
-    None
-}
-
-/// The description of the table of that name.
-fn info_named(
-    alloc: Global,
-    name: &Text,
-    infos: &[TableInfo],
-) -> Result<Option<TableInfo>, NoMemory>
-    ensures { IfOk result (λ info. info ≡ info_of_name name.now infos.now) }
-{
-    match first_named(name, infos) {
-        Some(info) => Ok(Some(info.duplicate(alloc)?)),
-        None => Ok(None),
-    }
 }
 
 /// Of the files at these places, those that a reader takes under its list.
@@ -179,8 +152,7 @@ impl<D: Shelf> House<D> {
         ensures found { IfOk result (λ found. found ≡ option_map info_in
             (table_of_name name.now (state_of (take place (entries_of self.now))).tables)) }
     {
-        let catalog = catalog_at(alloc, self.trail.book(), place as usize)?;
-        info_named(alloc, name, catalog.tables.as_slice())
+        find_at(alloc, self.trail.book(), place as usize, name)
     }
 
     /// The files of a table that a reader takes under the list that the table's write ids had at a place of the book, and this list. A call

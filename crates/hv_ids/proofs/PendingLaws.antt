@@ -1,13 +1,12 @@
 -- Ids by table: where one is put, and which are those of one table.
-use Rattle.std.proofs.Common.{◌≡◌, ℕ, zero, suc, ◌-◌, ◌≤◌, true, false, List, [], ◌∷◌, length, filter, take, drop, get_or, refl, sym, ap, ◌∙◌, arith}
-use Rattle.std.specs.Prelude.{nat_le, nat_lt, if◌then◌else◌}
+use Rattle.std.proofs.Common.{◌≡◌, ℕ, zero, suc, ◌-◌, ◌≤◌, true, false, List, [], ◌∷◌, length, filter, take, drop, refl, sym, ap, ◌∙◌, arith}
+use Rattle.std.specs.Prelude.{if◌then◌else◌, nat_le, nat_lt}
 use Rattle.std.specs.List.{insert, AllWithin}
-use Rattle.std.specs.List.Sorted.{IsPartitionPoint, IsNonDecreasingBy}
+use Rattle.std.specs.List.Sorted.{IsPartitionPoint}
 use Rattle.std.proofs.lemmas.Bool.{leb-true, leb-false, ltb-true, ltb-false, eq-eqb, ne_eqb}
 use Rattle.std.proofs.lemmas.List.{take_all, length-drop}
-use Rattle.std.proofs.lemmas.List.Sorted.{IsNonDecreasingBy-insert}
 use Rattle.hv_ids.specs.declared.notes.IdNote.{IdNote}
-use Rattle.hv_ids.specs.Ids.{note_table, is_in, put_next, put_id}
+use Rattle.hv_ids.specs.Ids.{is_in, put_next, put_id}
 
 abbrev pub IsUpTo : ℕ → List IdNote → ℕ → Type 0
 IsUpTo table = IsPartitionPoint (λ (id : IdNote). nat_le id.table table ≡ true) (λ (id : IdNote). nat_le id.table table ≡ false)
@@ -26,13 +25,6 @@ put-insert id (x ∷ xs) (suc i) le point =
     (λ k d low high. point.0 (suc k) d (omega arith) (omega (arith, high)), λ k d low high. point.1 (suc k) d (omega (arith, low)) (omega (arith, high)))
     in
     ap (λ ys. x ∷ ys) rest ∙ ap (λ b. put_next b id x xs (put_id id xs)) (sym (point.0 0 x (omega arith) (omega arith)))
-
-pub put-sorted : (id : IdNote) (xs : List IdNote) (i : ℕ) → i ≤ length xs → IsUpTo id.table xs i → IsNonDecreasingBy note_table xs
-    → IsNonDecreasingBy note_table (insert xs i id)
-put-sorted id xs i le point sorted =
-    IsNonDecreasingBy-insert note_table xs i id sorted le
-    (λ k d below. leb-true (get_or xs k d).table id.table (point.0 k d (omega arith) below))
-    (λ k d from within. let above = leb-false (get_or xs k d).table id.table (point.1 k d from within) in omega (arith, above))
 
 -- ---- those of one table
 

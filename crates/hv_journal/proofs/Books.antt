@@ -13,11 +13,6 @@ use Rattle.hv_journal.specs.Gates.{Opens, IsFaultIn}
 use Rattle.hv_journal.specs.Writing.{gated_record, records_of}
 use Rattle.hv_journal.proofs.Forms.{one_record}
 
--- a gate that isn't closed, and no record behind it
-pub bad_gate : (gate : ℕ) (after : List ℕ) → gate ≢ 0 → ((e : Entry) (rest : List ℕ) → HasRecord e → after ≡ record_of e ++ rest → ⊥) → IsBadGate (gate ∷ after)
-bad_gate zero after ne none = ne refl
-bad_gate (suc gate) after ne none = none
-
 pub leads_more : (book : List Entry) (bytes rest : List ℕ) (e : Entry) (after : List ℕ) → Leads book bytes rest → Opens rest e after → Leads (book ++ e ∷ []) bytes after
 leads_more [] bytes rest e after led opens = (opens.gate, after, opens.open_gate, opens.has, led ∙ opens.parts, refl)
 leads_more (d ∷ book) bytes rest e after led opens = (led.0, led.1, led.2, led.3, led.4, leads_more book led.1 rest e after led.5 opens)
@@ -86,11 +81,6 @@ bad_once bytes at other a b =
 
 -- ---- journals
 
-pub short_book : (bytes : List ℕ) → length bytes < 2 → IsJournal [] bytes
-short_book [] short = refl
-short_book (gate ∷ []) short = refl
-short_book (gate ∷ next ∷ after) short = absurd (omega arith)
-
 pub long_book : (book : List Entry) (bytes : List ℕ) → 2 ≤ length bytes → Reads book bytes → IsJournal book bytes
 long_book book [] long reads = absurd (omega arith)
 long_book book (gate ∷ []) long reads = absurd (omega arith)
@@ -100,11 +90,6 @@ pub journal_reads : (book : List Entry) (bytes : List ℕ) → 2 ≤ length byte
 journal_reads book [] long is = absurd (omega arith)
 journal_reads book (gate ∷ []) long is = absurd (omega arith)
 journal_reads book (gate ∷ next ∷ after) long is = is
-
-pub short_only : (book : List Entry) (bytes : List ℕ) → length bytes < 2 → IsJournal book bytes → [] ≡ book
-short_only book [] short is = sym is
-short_only book (gate ∷ []) short is = sym is
-short_only book (gate ∷ next ∷ after) short is = absurd (omega arith)
 
 -- what a scan answers is all that it may answer
 pub scan_only : (bytes : List ℕ) (r : Result (Vec Entry × ℕ) JournalFault) → 2 ≤ length bytes → IfOk r (λ x. Reads x.0.items bytes × (x.1 ≡ place_of x.0.items)) → IfErr r (IsFaultIn bytes)

@@ -31,7 +31,8 @@ use Rattle.hv_law_visible.proofs.ReachedLemmas.{base-is}
 use Rattle.hv_law_visible.proofs.SortingLemmas.{from-sorted}
 use Rattle.hv_law_visible.proofs.TakenLemmas.{all-in, is-taken}
 use Rattle.hv_table_rows.specs.Reading.{HoldsAt, Sheet, sheet_file, partition_in, IsSheet}
-use Rattle.hv_table_rows.proofs.Names.{one, text-same}
+use Rattle.hv_table_rows.proofs.Names.{text-same}
+use Rattle.hv_choosing.proofs.Texts.{one}
 use Rattle.hv_table_rows.proofs.Names as names
 use Rattle.hv_table_rows.proofs.TakenFiles.{place-there, there-place}
 use Rattle.hv_law_directories.specs.Reading.{Reading, IsReading}

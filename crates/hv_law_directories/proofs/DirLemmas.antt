@@ -21,7 +21,8 @@ use Rattle.hv_choosing.specs.Taken.{delta_name}
 use Rattle.hv_stands.specs.Files.{own_dir}
 use Rattle.hv_law_visible.specs.Members.{IsIn}
 use Rattle.hv_law_visible.proofs.MemberLemmas.{in-flat, from-flat, in-filter, from-filter}
-use Rattle.hv_table_rows.proofs.Names.{one, same-text, text-same}
+use Rattle.hv_table_rows.proofs.Names.{same-text, text-same}
+use Rattle.hv_choosing.proofs.Texts.{one}
 use Rattle.hv_table_rows.proofs.OwnDirs.{own-named}
 use Rattle.hv_table_rows.proofs.TakenFiles.{place-there, there-place}
 use Rattle.hv_law_directories.specs.Reading.{Reading}

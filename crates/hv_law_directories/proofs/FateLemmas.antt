@@ -14,6 +14,7 @@ use Rattle.hv_stands.proofs.Numbers.{one_value, numbered-map}
 use Rattle.hv_stands.specs.Sound.{IsDone}
 use Rattle.hv_law_visible.specs.Snapshots.{Committed, fate_of, IsUndone}
 use Rattle.hv_law_partitions.specs.Partitions.{fate_by, fates_from}
+use Rattle.hv_law_partitions.proofs.CommitLemmas.{done-among as done-of}
 
 -- ---- of a transaction
 
@@ -59,17 +60,6 @@ undone-id ts owners write txn owner undone =
     lost-id (map earlier_fates.fate_of ts) owners write txn owner (lost-fate ts txn undone)
 
 -- ---- one whose transaction has committed
-
-done-by : (e : Option Ending) → IsDone (Some e) → earlier_fates.fate_by e ≡ fate.Committed
-done-by None done = absurd done
-done-by (Some (ending.Committed place wrote)) done = refl
-done-by (Some (ending.Aborted place cause)) done = absurd done
-done-by (Some (ending.Made place table)) done = absurd done
-done-by (Some (ending.Dropped place table)) done = absurd done
-
-done-of : (o : Option Transaction) → IsDone (option_map ending_of o) → option_map earlier_fates.fate_of o ≡ Some fate.Committed
-done-of None done = absurd done
-done-of (Some t) done = ap Some (done-by t.ending done)
 
 pub done-id : (ts : List Transaction) (owners : List ℕ) (write txn : ℕ) → numbered owners write ≡ Some txn → IsDone (numbered (map ending_of ts) txn)
     → fate_of (fates_from (map earlier_fates.fate_of ts) [] 1 owners) write ≡ Some Committed

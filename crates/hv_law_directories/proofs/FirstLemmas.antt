@@ -1,5 +1,5 @@
 -- Each write of a book is of the statement that opened its transaction.
-use Rattle.std.proofs.Common.{refl, ◌≡◌, inl, inr, ℕ, zero, suc, Some, List, [], ◌∷◌, fold, map, sym, ap, ◌∙◌}
+use Rattle.std.proofs.Common.{refl, ◌≡◌, inl, inr, ℕ, Some, List, [], ◌∷◌, fold, map, sym, ap, ◌∙◌}
 use Rattle.hv_base.specs.declared.ids.Limits.{Limits}
 use Rattle.hv_history.specs.declared.entry.Entry.{Entry}
 use Rattle.hv_history.specs.declared.entry.Entry.TheVariants as entry
@@ -13,7 +13,7 @@ use Rattle.hv_stands.proofs.Numbers.{found}
 use Rattle.hv_stands.proofs.Soundness.{all-numbered}
 use Rattle.hv_stands.proofs.Keeping.{sound-after, nothing-sound}
 use Rattle.hv_law_visible.specs.Members.{IsIn}
-use Rattle.hv_law_partitions.proofs.StoodLemmas.{WasWritten, given-was, made-was, wrote-was, OneWrite, single-writes}
+use Rattle.hv_law_partitions.proofs.StoodLemmas.{WasWritten, given-was, made-was, wrote-was, OneWrite, single-writes, nothing-numbered}
 
 abbrev AllFirst : State → Type 0
 AllFirst s = (number : ℕ) (table : Table) (written : Written) → numbered s.tables number ≡ Some table → IsIn written table.writes → written.statement ≡ 0
@@ -58,10 +58,6 @@ first-all : (limits : Limits) (s : State) (more : List Entry) → AllFit limits 
 first-all limits s [] fit sound h = h
 first-all limits s (event ∷ more) fit sound h =
     first-all limits (after s event) more fit.1 (sound-after limits s event fit.0 sound) (first-after limits s event fit.0 sound h)
-
-nothing-numbered : (number : ℕ) (table : Table) → numbered {A = Table} [] number ≡ Some table → ⊥
-nothing-numbered zero table e = cc
-nothing-numbered (suc n) table e = cc
 
 pub writes-are-first : (limits : Limits) (entries : List Entry) (number : ℕ) (table : Table) (written : Written) → AllFit limits nothing_yet entries
     → numbered (state_of entries).tables number ≡ Some table → IsIn written table.writes → written.statement ≡ 0

@@ -29,6 +29,7 @@ use Rattle.hv_law_visible.proofs.MemberLemmas.{from-filter}
 use Rattle.hv_law_visible.proofs.SortingLemmas.{all-from}
 use Rattle.hv_law_visible.proofs.TakenLemmas.{all-in}
 use Rattle.hv_table_rows.proofs.Names.{same-text, text-same}
+use Rattle.hv_stands.proofs.FileRecords.{tied}
 use Rattle.hv_law_directories.specs.Directories.{is_of}
 
 -- ---- orders
@@ -59,10 +60,6 @@ over x y z less up = by (pointwise nat_eq z x) refl
         absurd (up (ap (slice_cmp nat_cmp y) same ∙ back))
 
 -- ---- the places of a table rise
-
-T-true : (b : Bool) → T b → b ≡ true
-T-true true h = refl
-T-true false h = absurd h
 
 both : (a b : Bool) → T (a && b) → T a × T b
 both true b h = (tt, h)
@@ -107,11 +104,6 @@ then-part Greater part rest e less = cc
 then-part Equal Less rest e less = λ g. cc
 then-part Equal Equal rest e less = λ g. cc
 then-part Equal Greater rest e less = cc
-
-tied : (o : Ordering) → o ≡ ordering_reverse o → o ≡ Equal
-tied Less e = cc
-tied Equal e = refl
-tied Greater e = cc
 
 part-up : (p q : Place) → p.table.0 ≡ q.table.0 → place_cmp p q ≡ Less → text_cmp p.partition q.partition ≢ Greater
 unfolding place_cmp text_cmp

@@ -1,6 +1,6 @@
 -- A listing of a table's files says which directories each partition has.
-use Rattle.std.proofs.Common.{refl, ◌≡◌, inl, inr, ℕ, Bool, true, false, Option, Some, None, List, [], ◌∷◌, filter, sym, ap, ◌∙◌, subst}
-use Rattle.std.specs.List.{filter_map, cons_option}
+use Rattle.std.proofs.Common.{refl, ◌≡◌, ℕ, Bool, true, false, Some, List, [], ◌∷◌, filter, sym, ap, ◌∙◌, subst}
+use Rattle.std.specs.List.{filter_map}
 use Rattle.hv_shelf.specs.Disk as disk
 use Rattle.hv_shelf.specs.Disk.{places_of}
 use Rattle.hv_logic.specs.declared.catalog.TableInfo.{TableInfo}
@@ -19,30 +19,13 @@ use Rattle.hv_choosing.proofs.Texts.{delta-named}
 use Rattle.hv_law_visible.specs.Members.{IsIn}
 use Rattle.hv_law_visible.proofs.MemberLemmas.{in-map, from-map, in-filter, from-filter}
 use Rattle.hv_law_visible.proofs.TakenLemmas.{all-in}
-use Rattle.hv_table_rows.proofs.Names.{one, same-text, text-same}
+use Rattle.hv_table_rows.proofs.Names.{same-text, text-same}
+use Rattle.hv_choosing.proofs.Texts.{one}
 use Rattle.hv_table_rows.proofs.TakenFiles.{place-there, there-place}
+use Rattle.hv_choosing.proofs.OwnChoice.{from-option, in-option}
 use Rattle.hv_law_directories.specs.Directories.{dir_of, IsThere, base_name, is_of, names_in}
 use Rattle.hv_law_directories.specs.Laws.{ListedAreDirectories}
 use Rattle.hv_law_directories.proofs.DirLemmas.{delta_dir, delta-dir-name, in-dir, dir-in, delta-back}
-
-in-option : {A B : Type 0} (f : A → Option B) (x : A) (y : B) (xs : List A) → IsIn x xs → f x ≡ Some y → IsIn y (filter_map f xs)
-in-option f x y [] h e = absurd h
-in-option f x y (z ∷ xs) (inl same) e = subst (λ o. IsIn y (cons_option o (filter_map f xs))) (sym (ap f same ∙ e)) (inl refl)
-in-option f x y (z ∷ xs) (inr h) e = by (f z) (in-option f x y xs h e)
-  where
-    by : (o : Option _) → IsIn y (filter_map f xs) → IsIn y (cons_option o (filter_map f xs))
-    by None rest = rest
-    by (Some w) rest = inr rest
-
-from-option : {A B : Type 0} (f : A → Option B) (y : B) (xs : List A) → IsIn y (filter_map f xs) → (x : A) × IsIn x xs × (f x ≡ Some y)
-from-option {A = A} {B = B} f y [] h = absurd h
-from-option {A = A} {B = B} f y (z ∷ xs) h = by (f z) refl h (from-option f y xs)
-  where
-    by : (o : Option B) → f z ≡ o → IsIn y (cons_option o (filter_map f xs)) → (IsIn y (filter_map f xs) → (x : A) × IsIn x xs × (f x ≡ Some y))
-        → (x : A) × IsIn x (z ∷ xs) × (f x ≡ Some y)
-    by None e h rest = let at = rest h in (at.0, inr at.1, at.2)
-    by (Some w) e (inl same) rest = (z, inl refl, e ∙ ap Some same)
-    by (Some w) e (inr k) rest = let at = rest k in (at.0, inr at.1, at.2)
 
 base-named : (n : DirName) (base : ℕ) → base_named n ≡ Some base → n ≡ base_name base
 base-named (name.Base high) base e = ap base_name (one e)

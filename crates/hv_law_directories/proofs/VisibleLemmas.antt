@@ -33,11 +33,12 @@ use Rattle.hv_law_visible.proofs.TakenLemmas.{all-in}
 use Rattle.hv_table_rows.specs.declared.row_at.RowAt.{RowAt}
 use Rattle.hv_table_rows.specs.Orders.{row_at_cmp}
 use Rattle.hv_table_rows.specs.Reading as tables
-use Rattle.hv_table_rows.specs.Reading.{Sheet, partition_in, row_with, found_with, founds_in, deleted_with, deleted_in, at_of, left_of, AreOnce, AreRows}
+use Rattle.hv_table_rows.specs.Reading.{Sheet, partition_in, row_with, found_with, founds_in, deleted_with, deleted_in, at_of, AreOnce, AreRows}
 use Rattle.hv_table_rows.proofs.Names.{text-same}
 use Rattle.hv_table_rows.proofs.Names as names
 use Rattle.hv_law_partitions.specs.Partitions.{id_of, is_of, rows_of}
-use Rattle.hv_law_partitions.proofs.ContentLemmas.{by-id}
+use Rattle.hv_stands.proofs.FileRecords.{by-id}
+use Rattle.hv_table_rows.proofs.ReadContent.{both-ways}
 use Rattle.hv_law_directories.specs.Reading.{Reading, IsReading}
 use Rattle.hv_law_directories.specs.Directories.{dir_of, base_name, recs_in, inserted_by, deleted_by, rows_held, deletes_held, directories_in}
 use Rattle.hv_law_directories.specs.Laws.{RowsAreVisible}
@@ -141,12 +142,6 @@ found-tie : (x y : Found) → is_eq (found_cmp x y) ≡ true → (x.partition �
 found-tie x y e =
     let parts = then-eq (slice_cmp nat_cmp x.partition y.partition) (row_id_cmp x.id y.id) e in
     (same-text x.partition y.partition parts.0, parts.1)
-
-both-ways : (a b : Bool) → (a ≡ true → b ≡ true) → (b ≡ true → a ≡ true) → a ≡ b
-both-ways true true f g = refl
-both-ways true false f g = sym (f refl)
-both-ways false true f g = g refl
-both-ways false false f g = refl
 
 -- rows of one partition rise by their identifiers
 rise-by-id : (partition : List ℕ) (rows : List Found) → ((x : Found) → IsIn x rows → x.partition ≡ partition) → IsStrictlySortedBy found_cmp rows → IsStrictlySortedBy (by_id id_of) rows

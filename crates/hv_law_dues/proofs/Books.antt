@@ -33,15 +33,14 @@ use Rattle.hv_stands.specs.Sound.{info_in, IsSingle, given_of, owners_of, given_
 use Rattle.hv_stands.proofs.Numbers.{same_one, none_is, found, either, numbered-map, numbered-or-last}
 use Rattle.hv_stands.proofs.Soundness.{all-numbered}
 use Rattle.hv_stands.proofs.Keeping.{still-open, sound-after}
+use Rattle.hv_book.proofs.TableLaws.{here_at as get-at}
+use Rattle.hv_book.proofs.PastLaws.{nothing-numbered as none-numbered}
 use Rattle.hv_law_dues.specs.Counting.{rows_in, changed_rows, touched_by, rows_of, written_at, written_sum}
-use Rattle.hv_law_dues.proofs.Totals.{total-append, total-map, total-same, total-none}
+use Rattle.hv_law_dues.proofs.Totals.{total-append, total-map, total-none}
+use Rattle.hv_earlier.proofs.WalkLaws.{total-same}
 use Rattle.hv_law_dues.proofs.Runs.{touches-count}
 
 -- ---- the one of a number
-
-pub none-numbered : {A : Type 0} (n : ℕ) → numbered {A = A} [] n ≡ None
-none-numbered zero = refl
-none-numbered (suc n) = refl
 
 get-other : {A : Type 0} (f : A → A) (xs : List A) (n k : ℕ) → (k == n) ≡ false → slice_get (changed_at f xs n) k ≡ slice_get xs k
 get-other f [] n k e = refl
@@ -54,11 +53,6 @@ numbered-other : {A : Type 0} (f : A → A) (xs : List A) (n k : ℕ) → (k == 
 numbered-other f xs zero k e = refl
 numbered-other f xs (suc n) zero e = refl
 numbered-other f xs (suc n) (suc k) e = get-other f xs n k (sym (eqb-suc-suc k n) ∙ e)
-
-get-at : {A : Type 0} (f : A → A) (xs : List A) (n : ℕ) → slice_get (changed_at f xs n) n ≡ option_map f (slice_get xs n)
-get-at f [] n = refl
-get-at f (x ∷ xs) zero = refl
-get-at f (x ∷ xs) (suc n) = get-at f xs n
 
 numbered-at : {A : Type 0} (f : A → A) (xs : List A) (n : ℕ) → numbered (changed f xs n) n ≡ option_map f (numbered xs n)
 numbered-at f xs zero = refl

@@ -18,7 +18,8 @@ use Rattle.hv_stands.proofs.Keeping.{nothing-sound}
 use Rattle.hv_counts.specs.Counts.{due_by, due_if, due_of, dues_of, dues_from, dues_in, due_rows, due_at, due_sum}
 use Rattle.hv_law_dues.specs.Counting.{count_of, written_sum}
 use Rattle.hv_law_dues.specs.Laws.{DuesCountWrites}
-use Rattle.hv_law_dues.proofs.Totals.{total-append, total-flat, total-same, total-none}
+use Rattle.hv_law_dues.proofs.Totals.{total-append, total-flat, total-none}
+use Rattle.hv_earlier.proofs.WalkLaws.{total-same}
 use Rattle.hv_law_dues.proofs.Books.{writes_in, touch_at, said_of, Said, unowned-none, said-all, nothing-said}
 
 below-apart : (a b : ℕ) → a < b → (a == b) ≡ false

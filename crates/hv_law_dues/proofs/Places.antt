@@ -15,9 +15,6 @@ use Rattle.hv_book.specs.Past.{total}
 use Rattle.hv_law_dues.proofs.Totals.{total-append}
 use Rattle.hv_law_dues.proofs.Counts.{total-kept, total-parts, at_place, one-key}
 
-abbrev pub file_place : DirFile → Place
-file_place file = file.place
-
 module _ (f : Place → ℕ) where
   abbrev of_file : DirFile → ℕ
   of_file file = f file.place

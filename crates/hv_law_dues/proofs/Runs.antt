@@ -23,7 +23,9 @@ use Rattle.hv_route.specs.Routes.{partition_of, place_of_row, place_of_deleted, 
 use Rattle.hv_route.specs.Touching.{place_of_insert, place_of_delete, rows_touched, touch_of}
 use Rattle.hv_route.proofs.PlacedLemmas.{inserts_count}
 use Rattle.hv_book.specs.Past.{total, only_if}
-use Rattle.hv_law_dues.proofs.Totals.{sum-total, total-append, total-map, total-flat, total-same, total-none, total-permuted, total-ones, no-count}
+use Rattle.hv_law_dues.proofs.Totals.{sum-total, total-append, total-map, total-flat, total-none, total-permuted, total-ones}
+use Rattle.hv_earlier.proofs.WalkLaws.{total-same}
+use Rattle.hv_book.proofs.OpenedLaws.{only-none as no-count}
 use Rattle.hv_law_dues.specs.Counting.{row_in, count_of, touched_by, recorded_by}
 use Rattle.hv_law_dues.specs.Laws.{TouchesCountRows, FilesCountRows}
 

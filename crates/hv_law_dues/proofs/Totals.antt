@@ -1,10 +1,10 @@
 -- Sums by recursion.
-use Rattle.std.proofs.Common.{◌≡◌, ℕ, ◌+◌, Bool, true, false, List, [], ◌∷◌, ◌++◌, map, length, refl, sym, ap, ◌∙◌, arith, IsPermutation}
+use Rattle.std.proofs.Common.{◌≡◌, ℕ, ◌+◌, List, [], ◌∷◌, ◌++◌, map, length, refl, sym, ap, ◌∙◌, arith, IsPermutation}
 use Rattle.std.specs.Prelude.{sum_by}
 use Rattle.std.specs.List.{flat_map}
 use Rattle.std.proofs.lemmas.List.Sums.{sum_by-cons}
 use Rattle.std.proofs.lemmas.List.Sorted.{sum_by-IsPermutation}
-use Rattle.hv_book.specs.Past.{total, only_if}
+use Rattle.hv_book.specs.Past.{total}
 
 pub sum-total : {A : Type 0} (f : A → ℕ) (xs : List A) → sum_by f xs ≡ total f xs
 sum-total f [] = refl
@@ -22,10 +22,6 @@ pub total-flat : {A B : Type 0} (f : B → ℕ) (h : A → List B) (xs : List A)
 total-flat f h [] = refl
 total-flat f h (x ∷ xs) = total-append f (h x) (flat_map h xs) ∙ ap (λ n. total f (h x) + n) (total-flat f h xs)
 
-pub total-same : {A : Type 0} (f g : A → ℕ) → ((x : A) → f x ≡ g x) → (xs : List A) → total f xs ≡ total g xs
-total-same f g same [] = refl
-total-same f g same (x ∷ xs) = λ i. same x i + total-same f g same xs i
-
 pub total-none : {A : Type 0} (f : A → ℕ) → ((x : A) → f x ≡ 0) → (xs : List A) → total f xs ≡ 0
 total-none f none [] = refl
 total-none f none (x ∷ xs) = (λ i. none x i + total-none f none xs i) ∙ omega arith
@@ -36,7 +32,3 @@ total-permuted f xs ys moves = sym (sum-total f ys) ∙ sum_by-IsPermutation f x
 pub total-ones : {A : Type 0} (xs : List A) → total (λ x. 1) xs ≡ length xs
 total-ones [] = refl
 total-ones (x ∷ xs) = ap (λ n. 1 + n) (total-ones xs) ∙ omega arith
-
-pub no-count : (b : Bool) → only_if b 0 ≡ 0
-no-count true = refl
-no-count false = refl

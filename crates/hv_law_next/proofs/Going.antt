@@ -1,6 +1,6 @@
 -- A transaction that goes on by legal entries in order goes on as one thread carries it on.
 use Rattle.std.proofs.Common.{◌≡◌, ℕ, zero, suc, ◌≤◌, Option, Some, None, List, [], ◌∷◌, ◌++◌, refl, sym, ap, ◌∙◌, subst, append-nil, append_assoc, fold, arith}
-use Rattle.std.specs.Prelude.{true, if◌then◌else◌}
+use Rattle.std.specs.Prelude.{if◌then◌else◌, true}
 use Rattle.hv_base.specs.declared.ids.Limits.{Limits}
 use Rattle.hv_base.specs.declared.gate.Stage.{Stage}
 use Rattle.hv_history.specs.declared.entry.Entry.{Entry}
@@ -65,10 +65,6 @@ runs-on s (entry.Abort id cause.Lost) txn whose running = running
 runs-on s (entry.Abort id why) txn whose running = refl
 runs-on s event txn whose running = refl
 
-pub runs-on-all : (s : State) (events : List Entry) (txn : ℕ) → AreOf txn events → IsRunningStore s → IsRunningStore (fold after s events)
-runs-on-all s [] txn whose running = running
-runs-on-all s (event ∷ events) txn whose running = runs-on-all (after s event) events txn whose.1 (runs-on s event txn whose.0 running)
-
 -- ---- it goes on
 
 is-due : (hold : Option Stage) (txn : ℕ) (book : List Entry) (t : Transaction) (event : Entry) → numbered (state_of book).transactions txn ≡ Some t
@@ -117,11 +113,6 @@ truthful-parts : (s : State) (book more : List Entry) → AllTruthful s (book ++
 truthful-parts s [] more truthful = (tt, truthful)
 truthful-parts s (event ∷ book) more truthful =
     let rest = truthful-parts (after s event) book more truthful.1 in ((truthful.0, rest.0), rest.1)
-
-pub order-parts : (s : State) (book more : List Entry) → AllInOrder s (book ++ more) → AllInOrder s book × AllInOrder (fold after s book) more
-order-parts s [] more in_order = (tt, in_order)
-order-parts s (event ∷ book) more in_order =
-    let rest = order-parts (after s event) book more in_order.1 in ((in_order.0, rest.0), rest.1)
 
 pub record AreLegal (book more : List Entry) : Type 0 where
   pub front : IsLegal profile book

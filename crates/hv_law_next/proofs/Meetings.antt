@@ -1,6 +1,6 @@
 -- The conflict that a legal abort names is the one that is met first, and a legal commit meets none.
 use Rattle.std.proofs.Common.{◌≡◌, ℕ, zero, suc, ◌+◌, ◌<◌, ◌≤◌, Option, Some, None, List, [], ◌∷◌, refl, sym, ap, ◌∙◌, subst, arith}
-use Rattle.std.specs.Prelude.{Bool, true, false, ◌&&◌, ◌||◌, if◌then◌else◌, nat_lt}
+use Rattle.std.specs.Prelude.{if◌then◌else◌, Bool, true, false, ◌&&◌, ◌||◌, nat_lt}
 use Rattle.std.specs.Option.{option_map}
 use Rattle.std.specs.List.{slice_get, list_any}
 use Rattle.std.proofs.lemmas.Bool.{ltb-false, le-ltb, lt-ltb}
@@ -13,6 +13,7 @@ use Rattle.hv_history.specs.declared.state.Ending.TheVariants.{Committed, Aborte
 use Rattle.hv_history.specs.State.{numbered, state_of}
 use Rattle.hv_history.specs.Legal.{IsFirstConflict, first_shared, commits_against, commits_before, touch_conflicts, touches_conflict}
 use Rattle.hv_conflicts.proofs.CommitterLaws.{committer_at, committed-by}
+use Rattle.hv_conflicts.proofs.ClashLemmas.{or-right}
 use Rattle.hv_law_next.specs.Next.{Meeting, meeting, met, earlier_one, first_met}
 
 -- ---- tests
@@ -20,10 +21,6 @@ use Rattle.hv_law_next.specs.Next.{Meeting, meeting, met, earlier_one, first_met
 or-left : (a b : Bool) → (a || b) ≡ false → a ≡ false
 or-left true b e = cc
 or-left false b e = refl
-
-or-right : (a b : Bool) → (a || b) ≡ false → b ≡ false
-or-right true b e = cc
-or-right false b e = e
 
 -- ---- the first touch that both share
 

@@ -1,10 +1,9 @@
 -- Each entry of a transaction that is legal, and in order, is the one that one thread adds next for it; behind it fewer are left.
 use Rattle.std.proofs.Common.{◌≡◌, ℕ, ◌+◌, ◌<◌, ◌≤◌, ◌⊎◌, inl, inr, Option, Some, None, List, [], ◌∷◌, ◌++◌, length, map, refl, sym, ap, ◌∙◌, subst, arith}
-use Rattle.std.specs.Prelude.{Bool, true, false, ◌||◌, if◌then◌else◌, IsTrue, IsFalse, IsSome, IsSomeAnd, is_some}
+use Rattle.std.specs.Prelude.{if◌then◌else◌, Bool, true, false, ◌||◌, IsTrue, IsFalse, IsSome, IsSomeAnd, is_some}
 use Rattle.std.specs.List.{list_any, AllByRecursion}
 use Rattle.std.proofs.lemmas.Bool.{le-ltb, lt-ltb}
 use Rattle.hv_base.specs.Refusals as refusals
-use Rattle.hv_base.specs.declared.ids.Limits.{Limits}
 use Rattle.hv_base.specs.declared.ids.TxnId.{TxnId}
 use Rattle.hv_base.specs.declared.ids.TableId.{TableId}
 use Rattle.hv_base.specs.declared.ids.WriteId.{WriteId}
@@ -30,12 +29,13 @@ use Rattle.hv_history.specs.declared.state.Table.{Table}
 use Rattle.hv_history.specs.declared.state.Snapshot.{Snapshot}
 use Rattle.hv_history.specs.declared.state.Transaction.{Transaction}
 use Rattle.hv_history.specs.State.{State, numbered, meaning, opening_tree, statement_tree, statement_of, given_in, first_of, started, given_id, committed, ended, changed, while_open, acted, after, state_of}
-use Rattle.hv_history.specs.Legal.{Of, Fits, IsTruthful, is_open, is_started, locks_of, holds_against, first_holder, IsRunning, IsOwnTouch, StartFits, GivenFits, CommitFits, CreateFits, CauseFits, FullFits, CauseIsTrue, TouchesAreMeant, IsMake, NeedsId, IsRefusedAs, ConflictIsTrue, IsFirstConflict, asks_to_abort, place_of_snapshot, HasRoom, load, profile}
+use Rattle.hv_history.specs.Legal.{Of, Fits, IsTruthful, is_started, locks_of, holds_against, first_holder, IsRunning, IsOwnTouch, StartFits, GivenFits, CommitFits, CreateFits, CauseFits, FullFits, CauseIsTrue, TouchesAreMeant, IsMake, NeedsId, IsRefusedAs, ConflictIsTrue, IsFirstConflict, asks_to_abort, place_of_snapshot, HasRoom, load, profile}
 use Rattle.hv_stands.specs.Sound.{IsSound, IsSingle, info_in}
 use Rattle.hv_stands.specs.Running.{IsOf}
 use Rattle.hv_stands.proofs.Numbers.{found, one_value, numbered-within}
 use Rattle.hv_stands.proofs.Soundness.{all-mapped, all-numbered}
 use Rattle.hv_stands.proofs.Keeping.{still-open, open-here}
+use Rattle.hv_stands.proofs.Fitting.{cause-open}
 use Rattle.hv_law_next.specs.Next.{start, abort, commit, lacks_room, starting, first_met, needs_id, next_write, giving, ending_change, changing, by_meaning, by_start, by_ending, next_of}
 use Rattle.hv_law_next.specs.Order.{IsOfTable, AsksForId, HasItsId, IsUnheld, IsFaultless, IsSteady, CauseInOrder, IsInOrder}
 use Rattle.hv_law_next.specs.Carrying.{IsRunningStore}
@@ -107,23 +107,6 @@ single-asks-nothing infos asker txn single asks =
     let tree : opening_tree asker ≡ Some single.text.0 =
     ap (λ (xs : List Statement). statement_tree (statement_of (record asker { statements = xs }) 0)) single.one ∙ single.text.1.read in
     asks-nothing single.text.0 txn single.text.1.built (sym (ap (asks_to_abort txn) tree) ∙ asks)
-
--- ---- every abort is one of an open transaction
-
-cause-open : (limits : Limits) (s : State) (txn : ℕ) (why : Cause) (t : Transaction) → CauseFits limits s txn why t → IsTrue (is_open t)
-cause-open limits s txn (cause.Refused number) t fits = fits.unended
-cause-open limits s txn (cause.Conflict by_ table partition) t fits = fits.running.unended
-cause-open limits s txn (cause.Request by_) t fits = fits.unended
-cause-open limits s txn cause.Full t fits = fits.unended
-cause-open limits s txn (cause.Twice partition row) t fits = fits.unended
-cause-open limits s txn (cause.Blocked holder) t fits = fits.waiting.unended
-cause-open limits s txn (cause.ReadFault count) t fits = fits.running.unended
-cause-open limits s txn (cause.WriteFault count) t fits = fits.running.unended
-cause-open limits s txn (cause.Damaged place) t fits = fits.unended
-cause-open limits s txn cause.RowLimit t fits = fits.unended
-cause-open limits s txn cause.PartitionLimit t fits = fits.unended
-cause-open limits s txn cause.Memory t fits = fits
-cause-open limits s txn cause.Lost t fits = fits.unended
 
 -- ---- how many entries are left at most
 

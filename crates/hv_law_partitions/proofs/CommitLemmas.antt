@@ -40,14 +40,14 @@ book-sound limits entries fit = sound-all limits nothing_yet entries fit nothing
 
 -- ---- of one id
 
-done-by : (e : Option Ending) → IsDone (Some e) → earlier_fates.fate_by e ≡ fate.Committed
+pub done-by : (e : Option Ending) → IsDone (Some e) → earlier_fates.fate_by e ≡ fate.Committed
 done-by None done = absurd done
 done-by (Some (ending.Committed place wrote)) done = refl
 done-by (Some (ending.Aborted place cause)) done = absurd done
 done-by (Some (ending.Made place table)) done = absurd done
 done-by (Some (ending.Dropped place table)) done = absurd done
 
-done-among : (o : Option Transaction) → IsDone (option_map ending_of o) → option_map earlier_fates.fate_of o ≡ Some fate.Committed
+pub done-among : (o : Option Transaction) → IsDone (option_map ending_of o) → option_map earlier_fates.fate_of o ≡ Some fate.Committed
 done-among None done = absurd done
 done-among (Some t) done = ap Some (done-by t.ending done)
 

@@ -5,7 +5,7 @@ use Rattle.std.proofs.lemmas.List.Elements.{filter-append}
 use mathlib.Core.List.{map-append}
 use Rattle.std.specs.declared.cmp.Ordering.{Ordering}
 use Rattle.std.specs.declared.cmp.Ordering.TheVariants.{Less, Equal, Greater}
-use Rattle.std.specs.Ordering.{nat_cmp, is_eq, ordering_then, ordering_reverse}
+use Rattle.std.specs.Ordering.{nat_cmp, is_eq, ordering_then}
 use Rattle.std.specs.Cmp.Lexicographic.{slice_cmp, pointwise, texts_ties, nat_list_cmp_total}
 use Rattle.std.specs.List.{flat_map, list_any}
 use Rattle.hv_base.specs.declared.ids.RowId.{RowId}
@@ -19,6 +19,7 @@ use Rattle.hv_law_visible.specs.History as visible
 use Rattle.hv_law_visible.specs.History.{Write, is_row, deletes_of, inserts_of}
 use Rattle.hv_law_visible.proofs.MemberLemmas.{in-flat, from-flat, in-map, from-map, in-filter, from-filter}
 use Rattle.hv_law_visible.proofs.SortingLemmas.{from-sorted, to-sorted}
+use Rattle.hv_stands.proofs.FileRecords.{by-id, tied}
 use Rattle.hv_law_partitions.specs.Partitions.{id_of, is_of, rows_of, write_in, writes_of}
 use Rattle.hv_law_partitions.specs.Laws.{ContentIsOfPartition}
 
@@ -32,21 +33,11 @@ text-of (x ∷ xs) (y ∷ ys) e =
     let p = and_parts (nat_eq x y) (pointwise nat_eq xs ys) e in
     λ i. eqb-true x y p.0 i ∷ text-of xs ys p.1 i
 
-tied : (o : Ordering) → o ≡ ordering_reverse o → o ≡ Equal
-tied Less e = cc
-tied Equal e = refl
-tied Greater e = cc
-
 same-text : (text : List ℕ) → slice_cmp nat_cmp text text ≡ Equal
 same-text text = tied (slice_cmp nat_cmp text text) (nat_list_cmp_total.antisymm text text)
 
 pub of-text : (a b : List ℕ) → a ≡ b → pointwise nat_eq a b ≡ true
 of-text a b e = ap (λ c. pointwise nat_eq c b) e ∙ texts_ties b b ∙ ap is_eq (same-text b)
-
--- in one partition rows stand by their identifiers
-pub by-id : (x y : Found) → x.partition ≡ y.partition → found_cmp x y ≡ row_id_cmp x.id y.id
-by-id x y same =
-    ap (λ o. ordering_then o (row_id_cmp x.id y.id)) (ap (λ p. slice_cmp nat_cmp p y.partition) same ∙ same-text y.partition)
 
 -- rows of other partitions don't tie
 then-apart : (o rest : Ordering) → is_eq o ≡ false → is_eq (ordering_then o rest) ≡ false

@@ -1,8 +1,8 @@
 -- Inserted rows carry their write id and statement, and no two of a partition have one identifier.
 use Rattle.std.proofs.Common.{refl, ◌≡◌, ◌≢◌, inl, inr, ℕ, ◌≤◌, Option, Some, None, List, [], ◌∷◌, sym, ◌∙◌, subst}
 use Rattle.std.specs.declared.cmp.Ordering.{Ordering}
-use Rattle.std.specs.declared.cmp.Ordering.TheVariants.{Less, Equal, Greater}
-use Rattle.std.specs.Ordering.{nat_cmp, ordering_then}
+use Rattle.std.specs.declared.cmp.Ordering.TheVariants.{Less, Equal}
+use Rattle.std.specs.Ordering.{nat_cmp}
 use Rattle.std.specs.FinMap.{nat_cmp-IsAntisymmetric}
 use Rattle.std.specs.List.{AllByRecursion}
 use Rattle.std.specs.List.Sorted.{IsStrictlySortedBy}
@@ -28,20 +28,17 @@ use Rattle.hv_law_visible.specs.Stands.{HasDistinctRows}
 use Rattle.hv_law_visible.proofs.MemberLemmas.{from-map}
 use Rattle.hv_law_visible.proofs.SortingLemmas.{all-from, distinct-joined}
 use Rattle.hv_law_visible.proofs.TakenLemmas.{all-in}
+use Rattle.hv_value.specs.OrderLaws.{then_first as then-first}
 use Rattle.hv_law_partitions.specs.Partitions.{id_of, is_of, rows_of, write_in, writes_of, written_in, writes_in}
 use Rattle.hv_law_partitions.specs.Laws.{IsRowOf, HasOther, AreApart, HasSoundIds, IdsAreSound}
-use Rattle.hv_law_partitions.proofs.ContentLemmas.{by-id, from-rows, inserted-from}
+use Rattle.hv_law_partitions.proofs.ContentLemmas.{from-rows, inserted-from}
+use Rattle.hv_stands.proofs.FileRecords.{by-id}
 use Rattle.hv_law_partitions.proofs.CommitLemmas.{book-sound, committed-in}
 
 -- ---- identifiers that differ
 
 less-not : (o : Ordering) → o ≡ Less → o ≢ Equal
 less-not o e f = let never : Less ≡ Equal = sym e ∙ f in cc
-
-then-first : (a b : Ordering) → ordering_then a b ≡ Equal → a ≡ Equal
-then-first Less b e = cc
-then-first Equal b e = refl
-then-first Greater b e = cc
 
 same-write : (x y : RowId) → row_id_cmp x y ≡ Equal → write_of x ≡ write_of y
 unfolding row_id_cmp

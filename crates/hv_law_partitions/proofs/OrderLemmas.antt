@@ -16,7 +16,8 @@ use Rattle.hv_law_visible.specs.Visible.{by_id}
 use Rattle.hv_law_visible.proofs.OrderLemmas.{NotOver, Pairs, less-not, equal-not, over-all, pairs-sorted}
 use Rattle.hv_law_partitions.specs.Partitions.{id_of, is_of, rows_of, writes_of}
 use Rattle.hv_law_partitions.specs.Laws.{ContentIsInOrder}
-use Rattle.hv_law_partitions.proofs.ContentLemmas.{by-id, text-of, deleted-same}
+use Rattle.hv_law_partitions.proofs.ContentLemmas.{text-of, deleted-same}
+use Rattle.hv_stands.proofs.FileRecords.{by-id}
 
 -- ---- the rows of a partition, in a sorted list
 

@@ -1,5 +1,5 @@
 -- What is so of a transaction from its snapshot on, from entry to entry.
-use Rattle.std.proofs.Common.{refl, ◌≡◌, ◌⊎◌, inl, inr, ℕ, ◌+◌, ◌==◌, ◌<◌, ◌≤◌, Bool, true, false, cond, not, is_some, Option, Some, None, List, [], ◌∷◌, ◌++◌, length, map, filter, sym, ap, ◌∙◌, subst, arith, append_assoc, length-append, eqb-true}
+use Rattle.std.proofs.Common.{refl, ◌≡◌, ◌⊎◌, inl, inr, ℕ, ◌+◌, ◌==◌, ◌<◌, ◌≤◌, not, is_some, Option, Some, None, List, [], ◌∷◌, ◌++◌, length, map, filter, sym, ap, ◌∙◌, subst, arith, append_assoc, length-append}
 use Rattle.std.specs.Prelude.{IsTrue, IsFalse}
 use Rattle.std.specs.List.{slice_get, flat_map, AllByRecursion}
 use Rattle.std.proofs.lemmas.List.{append-nil}
@@ -26,7 +26,7 @@ use Rattle.hv_history.specs.State.{State, numbered, changed_at, content_of, is_d
 use Rattle.hv_history.proofs.LastingLaws.{goes-on}
 use Rattle.hv_stands.specs.Files.{ending_of}
 use Rattle.hv_stands.specs.Sound.{IsRoutedWrite, HasSoundWrites, IsOfCommitted, AreOfCommitted, IsSingle, info_in, IsSound}
-use Rattle.hv_stands.proofs.Numbers.{one_value, same_one, none_is, found, either, numbered-within}
+use Rattle.hv_stands.proofs.Numbers.{same_one, none_is, found, numbered-within}
 use Rattle.hv_stands.proofs.Soundness.{all-mapped, all-more, all-numbered, all-changed}
 use Rattle.hv_stands.proofs.Keeping.{open-by, all-open}
 use Rattle.hv_stands.proofs.Written.{of-tables}
@@ -35,6 +35,7 @@ use Rattle.hv_law_visible.specs.Members.{IsIn}
 use Rattle.hv_law_visible.specs.History.{write_of}
 use Rattle.hv_law_visible.proofs.MemberLemmas.{from-flat, from-filter}
 use Rattle.hv_law_visible.proofs.TakenLemmas.{all-in}
+use Rattle.hv_stands.proofs.Owning.{given-or-new}
 use Rattle.hv_law_partitions.proofs.IdLemmas.{numbered-in}
 
 -- ---- tables go on
@@ -154,22 +155,6 @@ start-knows s t sound single none h =
     (start-since s t sound single (subst (λ o. KnowsBy s.tables o t.given (meaning t)) none h))
 
 -- ---- a write id more
-
-given-or-new : (g : List (ℕ × ℕ)) (key id table write : ℕ) → given_in table (g ++ (key, id) ∷ []) ≡ Some write
-    → (given_in table g ≡ Some write) ⊎ ((table ≡ key) × (write ≡ id))
-given-or-new [] key id table write e = by (either (key == table)) e
-  where
-    by : (key == table ≡ true) ⊎ (key == table ≡ false) → cond (key == table) (Some id) None ≡ Some write
-        → (given_in table [] ≡ Some write) ⊎ ((table ≡ key) × (write ≡ id))
-    by (inl is) e = inr (sym (eqb-true key table is), sym (one_value id write (sym (ap (λ b. cond b (Some id) None) is) ∙ e)))
-    by (inr is) e = absurd (none_is (cond (key == table) (Some id) None) write (ap (λ b. cond b (Some id) None) is) e)
-given-or-new (first ∷ g) key id table write e = by (first.0 == table) (given-or-new g key id table write) e
-  where
-    by : (b : Bool) → (given_in table (g ++ (key, id) ∷ []) ≡ Some write → (given_in table g ≡ Some write) ⊎ ((table ≡ key) × (write ≡ id)))
-        → cond b (Some first.1) (given_in table (g ++ (key, id) ∷ [])) ≡ Some write
-        → (cond b (Some first.1) (given_in table g) ≡ Some write) ⊎ ((table ≡ key) × (write ≡ id))
-    by true rest e = inl e
-    by false rest e = rest e
 
 given-later : (tables next : List Table) (key : ℕ) (table : Table) (given : List (ℕ × ℕ)) (m : Option Meaning) → numbered tables key ≡ Some table
     → TablesGoOn tables next → (o : Option Snapshot) → IsTrue (is_some o) → KnowsBy tables o given m → KnowsBy next o (given ++ (key, length table.owners + 1) ∷ []) m

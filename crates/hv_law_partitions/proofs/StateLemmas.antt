@@ -25,6 +25,7 @@ use Rattle.hv_law_visible.specs.Readers.{Reader}
 use Rattle.hv_law_visible.proofs.MemberLemmas.{in-right, in-either}
 use Rattle.hv_law_published.specs.State.{IsOpenList}
 use Rattle.hv_law_published.proofs.StateLemmas.{list-shows}
+use Rattle.hv_law_published.proofs.WorkedLemmas.{of-one as one-of}
 use Rattle.hv_law_partitions.specs.Partitions.{id_of, rows_of, written_in, writes_in, fates_in}
 use Rattle.hv_law_partitions.specs.States.{open_from, reader_by, readers_from, PartitionsAreKept, ReadersSeeTheirContent, ReadersSeeItInOrder, WritesAreOfTheirIds}
 use Rattle.hv_law_partitions.proofs.ListLemmas.{list-in}
@@ -113,10 +114,6 @@ module _ (entries : List Entry) (table : ℕ) where
   reads (suc k) ts t snapshot e open_one taken = reads-slice 1 k ts t snapshot e open_one taken
 
 -- ---- one write
-
-one-of : {A : Type 0} (P : A → Type 0) (x : A) → P x → (y : A) → IsIn y (x ∷ []) → P y
-one-of P x is y (inl e) = subst P e is
-one-of P x is y (inr at) = absurd at
 
 -- no two of its rows tie, as no two of all do
 distinct-here : (writes : List (Write Found)) (w : Write Found) → HasDistinctRows id_of writes → IsIn w writes → HasDistinctRows id_of (w ∷ [])

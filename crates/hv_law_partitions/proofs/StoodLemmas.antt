@@ -244,7 +244,7 @@ stood-all limits s (event ∷ more) fit sound knows h =
     stood-all limits (after s event) more fit.1 (sound-after limits s event fit.0 sound) (knows-after limits s event fit.0 sound knows)
     (stood-after limits s event fit.0 sound knows h)
 
-nothing-numbered : (number : ℕ) (table : Table) → numbered {A = Table} [] number ≡ Some table → ⊥
+pub nothing-numbered : (number : ℕ) (table : Table) → numbered {A = Table} [] number ≡ Some table → ⊥
 nothing-numbered zero table e = cc
 nothing-numbered (suc n) table e = cc
 

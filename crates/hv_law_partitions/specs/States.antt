@@ -1,5 +1,5 @@
 -- A partition of a book as the laws on compaction speak of one, and what a reader sees of it.
-use Rattle.std.specs.Prelude.{◌≡◌, ◌↔◌, ℕ, ◌+◌, if◌then◌else◌, IsTrue, Option, Some, None, List, [], ◌∷◌, ◌++◌, length, take}
+use Rattle.std.specs.Prelude.{if◌then◌else◌, ◌≡◌, ◌↔◌, ℕ, ◌+◌, IsTrue, Option, Some, None, List, [], ◌∷◌, ◌++◌, length, take}
 use Rattle.hv_base.specs.declared.ids.Limits.{Limits}
 use Rattle.hv_dirs.specs.Choice.{sight_of}
 use Rattle.hv_base.specs.Sorting.{rising_by}

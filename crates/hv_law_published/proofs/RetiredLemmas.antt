@@ -1,25 +1,25 @@
 -- What is loose is retired: nobody chooses it, and another one that is chosen covers it.
-use Rattle.std.proofs.Common.{refl, ◌≡◌, ◌⊎◌, inl, inr, ℕ, zero, suc, ◌-◌, ◌<◌, ◌≤◌, true, false, List, filter, sym, ap, ◌∙◌, subst, arith}
+use Rattle.std.proofs.Common.{refl, ◌≡◌, ◌⊎◌, inl, inr, ℕ, ◌-◌, ◌<◌, ◌≤◌, true, false, List, filter, sym, ap, ◌∙◌, subst, arith}
 use Rattle.std.proofs.lemmas.Bool.{cases_lt}
 use Rattle.std.specs.List.{flat_map}
 use Rattle.hv_base.specs.declared.ids.RowId.{RowId}
 use Rattle.hv_wids.specs.WriteIds.{WriteIds}
-use Rattle.hv_dirs.specs.Choice.{Sight, sight_of, Delta, Wide, low_of, high_of, is_own, taken_from, chosen_above, delta_cmp}
+use Rattle.hv_dirs.specs.Choice.{Sight, sight_of, Delta, low_of, high_of, is_own, taken_from, chosen_above, delta_cmp}
 use Rattle.hv_base.specs.Sorting.{sorted_by}
 use Rattle.hv_law_visible.specs.Members.{IsIn}
-use Rattle.hv_law_visible.specs.History.{Write, Compaction, Minor, Major, CoversDelta, CoversBase, has_write, by_deleter, IsMade, IsMadeBase}
+use Rattle.hv_law_visible.specs.History.{Write, Compaction, Minor, Major, CoversBase, has_write, by_deleter, IsMade, IsMadeBase}
 use Rattle.hv_law_visible.specs.Visible.{Tree, base_chosen}
 use Rattle.hv_law_visible.specs.Stands.{IsSound, Fits, IsLoose, IsLooseBase, Stand, Stands}
 use Rattle.hv_law_visible.specs.Snapshots.{is_seen, list_at, IsUndone}
 use Rattle.hv_law_visible.specs.Readers.{IsPast}
 use Rattle.hv_law_visible.proofs.ListLemmas.{valid-same}
-use Rattle.hv_law_visible.proofs.LooseLemmas.{not-loose}
-use Rattle.hv_law_visible.proofs.MemberLemmas.{in-flat, from-flat, in-filter, from-filter}
+use Rattle.hv_law_visible.proofs.LooseLemmas.{Above, above-loose, not-loose}
+use Rattle.hv_law_visible.proofs.MemberLemmas.{from-flat, from-filter}
 use Rattle.hv_law_visible.proofs.OrderLemmas.{ordered-sorted}
-use Rattle.hv_law_visible.proofs.ReachedLemmas.{rest, rest-less, names, within-from, has-wide, base-most}
+use Rattle.hv_law_visible.proofs.ReachedLemmas.{within-from}
 use Rattle.hv_law_visible.proofs.SortingLemmas.{from-sorted, to-sorted}
 use Rattle.hv_law_visible.proofs.TakenLemmas.{Ordered, Covers, covers}
-use Rattle.hv_law_visible.proofs.VisibleLemmas.{takes-no-loose}
+use Rattle.hv_law_visible.proofs.VisibleLemmas.{greatest-chosen, takes-no-loose}
 use Rattle.hv_law_published.specs.State.{State, IsKept, IsOpenList}
 use Rattle.hv_law_published.specs.Directories.{Directory, BaseDir, DeltaDir, DeleteDir, IsChosenIn, IsMadeDir, IsLooseDir, IsWithin, IsUnderBase, IsCoveredIn, IsRetired}
 use Rattle.hv_law_published.proofs.StateLemmas.{list-fits}
@@ -37,49 +37,11 @@ module _ {Found Record : Type 0} (events : Write Found → List Record) (id_of :
     (d : Delta) (w : Write Found) (r : Record) (at : IsIn w writes) (has : IsIn r (events w)) (is : has_write d w ≡ true) (is_made : IsMade jobs d)
     (above : base < high_of d)
   where
-    -- a standing directory that covers d and isn't d
-    Above : Type 0
-    Above = (c : Delta) × IsIn c dirs × (is_own c ≡ false) × (low_of c ≤ low_of d) × (high_of d ≤ high_of c) × (rest most c < rest most d)
-
-    Later : ℕ → Type 0
-    Later n = (first last : ℕ) → IsMade jobs (Wide first last) → first ≤ low_of d → high_of d ≤ last → rest most (Wide first last) < n
-        → rest most (Wide first last) < rest most d → Above
-
-    up-from : (n : ℕ) → Later n → (c : Delta) → IsMade jobs c → low_of c ≤ low_of d → high_of d ≤ high_of c → rest most c < suc n → rest most c ≤ rest most d
-        → (job : Compaction) → IsIn job jobs → past job → CoversDelta job c → Above
-    unfolding Later
-    up-from n later c made_c l h fuel within (Minor first last mark) listed gone covered =
-        let m = sound.minors first last mark listed in
-        let less : rest most (Wide first last) < rest most c = rest-less most first last mark c (names sound c made_c) m.1 m.2 covered in
-        let a : first ≤ low_of c = covered.0 in
-        let b : high_of c ≤ last = covered.1 in
-        later first last (mark, listed) (omega arith) (omega arith) (omega arith) (omega arith)
-    up-from n later c made_c l h fuel within (Major last mark) listed gone covered =
-        let under : last ≤ base = greatest last (mark, listed) (fits.past_may (Major last mark) listed gone) in
-        let b : high_of c ≤ last = covered in
-        absurd (omega arith)
-
-    in-wide : (first last : ℕ) → first ≤ low_of d → high_of d ≤ last → IsIn r (flat_map events (filter (has_write (Wide first last)) writes))
-    in-wide first last l h =
-        let p = within-from d w is in
-        let a : low_of d ≤ w.write = p.0 in
-        let b : w.write ≤ high_of d = p.1 in
-        in-flat events w r (filter (has_write (Wide first last)) writes)
-        (in-filter (has_write (Wide first last)) w writes at (has-wide first last w (omega arith) (omega arith))) has
-
-    stands-or : (n : ℕ) → Later n
-    unfolding Later Above
-    stands-or zero first last made_c l h fuel less = absurd (omega arith)
-    stands-or (suc n) first last made_c l h fuel less = elim (stand.each (Wide first last) r made_c (in-wide first last l h)) [
-      | inr whole ↦ (Wide first last, whole.0, refl, l, h, less)
-      | inl loose ↦ up-from n (stands-or n) (Wide first last) made_c l h (omega arith) (omega arith) loose.0 loose.1 loose.2 loose.3
-    ]
-
     -- another one that is chosen covers it, where its event is valid
     pub within-chosen : sight.valid w.write ≡ true → IsLoose past jobs d → IsWithin (taken_from sight base false dirs) d
-    unfolding Later Above
+    unfolding Above
     within-chosen valid loose =
-        let u = up-from (rest most d) (stands-or (rest most d)) d is_made (omega arith) (omega arith) (omega arith) (omega arith) loose.0 loose.1 loose.2 loose.3 in
+        let u = above-loose events id_of most sight past foreign writes jobs dirs files base ordered sound fits stand greatest d w r at has is is_made above loose in
         let p = within-from d w is in
         let a : low_of d ≤ w.write = p.0 in
         let b : w.write ≤ high_of d = p.1 in
@@ -113,36 +75,8 @@ module _ {Found : Type 0} (id_of : Found → RowId) (most : ℕ) (sight : Sight)
     (fits : Fits sight past foreign writes jobs)
     (stands : Stands id_of past foreign writes jobs tree)
   where
-    Higher : ℕ → Type 0
-    Higher h = (k : ℕ) × (h ≤ k) × IsIn k tree.bases × (sight.may_base k ≡ true)
-
-    base-loose : (n h : ℕ) → ((k : ℕ) → most - k < n → IsMadeBase jobs k → sight.may_base k ≡ true → Higher k) → most - h < suc n
-        → (job : Compaction) → IsIn job jobs → past job → CoversBase job h → Higher h
-    unfolding Higher
-    base-loose n h later fuel (Minor first last mark) listed gone covered = absurd covered
-    base-loose n h later fuel (Major last mark) listed gone covered =
-        let m = sound.majors last mark listed in
-        let l : last ≤ most = m.1 in
-        let c : h < last = covered in
-        let up = later last (omega arith) (mark, listed) (fits.past_may (Major last mark) listed gone) in
-        let more : last ≤ up.0 = up.1 in
-        (up.0, omega arith, up.2, up.3)
-
-    base-reached : (n h : ℕ) → most - h < n → IsMadeBase jobs h → sight.may_base h ≡ true → Higher h
-    unfolding Higher
-    base-reached zero h fuel made may = absurd (omega arith)
-    base-reached (suc n) h fuel made may = elim (stands.bases h made) [
-      | inl loose ↦ base-loose n h (base-reached n) fuel loose.0 loose.1 loose.2 loose.3
-      | inr whole ↦ (h, omega arith, whole.0, may)
-    ]
-
     pub greatest : (h : ℕ) → IsMadeBase jobs h → sight.may_base h ≡ true → h ≤ base_chosen sight tree
-    unfolding Higher
-    greatest h made may =
-        let up = base-reached (suc (most - h)) h (omega arith) made may in
-        let more : h ≤ up.0 = up.1 in
-        let under : up.0 ≤ base_chosen sight tree = base-most sight up.0 tree.bases up.2 up.3 in
-        omega arith
+    greatest = greatest-chosen id_of most sight past foreign writes jobs tree sound fits stands
 
     under-greatest : (base : ℕ) (job : Compaction) → IsIn job jobs → past job → CoversBase job base → base < base_chosen sight tree
     under-greatest base (Minor first last mark) listed gone covered = absurd covered

@@ -8,7 +8,7 @@ use Rattle.hv_dirs.specs.Choice.{Delta, Own, Wide, chosen_above}
 use Rattle.hv_law_visible.specs.Members.{IsIn}
 use Rattle.hv_law_visible.specs.History.{Write, Compaction, Major, has_write, by_deleter, write_of, IsMade}
 use Rattle.hv_law_visible.specs.Stands.{Stand, HasDistinctRows}
-use Rattle.hv_law_visible.specs.Snapshots.{Fate, Open, Committed, fate_of, IsUndone, HaveEnded}
+use Rattle.hv_law_visible.specs.Snapshots.{Committed, fate_of, IsUndone, HaveEnded}
 use Rattle.hv_law_visible.specs.Readers.{Reader, IsPast}
 use Rattle.hv_law_visible.proofs.MemberLemmas.{from-flat, from-filter}
 use Rattle.hv_law_published.specs.State.{HasSeen, IsKept}
@@ -51,7 +51,7 @@ of-three P one two three w (inr (inl e)) = subst P e two
 of-three P one two three w (inr (inr (inl e))) = subst P e three
 of-three P one two three w (inr (inr (inr at))) = absurd at
 
-of-one : {A : Type 0} (P : A → Type 0) (x : A) → P x → (y : A) → IsIn y (x ∷ []) → P y
+pub of-one : {A : Type 0} (P : A → Type 0) (x : A) → P x → (y : A) → IsIn y (x ∷ []) → P y
 of-one P x is y (inl e) = subst P e is
 of-one P x is y (inr at) = absurd at
 

@@ -146,10 +146,6 @@ exceptions-rise (Forgotten ∷ fates) n = exceptions-rise fates (n + 1)
 IsUpTo : ℕ → Exception → Type 0
 IsUpTo most exception = exception.write.0 ≤ most
 
-up-to-more : (most more : ℕ) (exceptions : List Exception) → most ≤ more → AllOf (IsUpTo most) exceptions → AllOf (IsUpTo more) exceptions
-unfolding IsUpTo
-up-to-more most more exceptions under = all-more (IsUpTo most) (IsUpTo more) exceptions (λ exception h. omega arith)
-
 exceptions-within : (fates : List Fate) (n most : ℕ) → n + length fates ≤ most + 1 → AllOf (IsUpTo most) (exceptions_from n fates)
 unfolding IsUpTo
 exceptions-within [] n most room = All-nil (IsUpTo most)

@@ -8,7 +8,7 @@ use Rattle.hv_dirs.specs.Choice.{Sight, Delta, Own, Wide, low_of, high_of, is_ow
 use Rattle.hv_law_visible.specs.History.{Write, Compaction, Minor, Major, CoversDelta, has_write, IsMade, IsMadeBase}
 use Rattle.hv_law_visible.specs.Stands.{IsSound, Fits, IsLoose, IsForeign, Stand}
 use Rattle.hv_law_visible.proofs.MemberLemmas.{in-flat, from-flat, in-filter, from-filter}
-use Rattle.hv_law_visible.proofs.TakenLemmas.{Precedes, Ordered, all-in, own-single, Covers, covers, is-taken}
+use Rattle.hv_law_visible.proofs.TakenLemmas.{Precedes, Ordered, all-in, own-single, is-taken}
 use Rattle.hv_law_visible.proofs.ReachedLemmas.{rest, rest-less, names, name-fits, within-from, has-wide}
 
 wrong-order : (c d : Delta) → Precedes d c → is_own c ≡ false → c ≢ d → low_of c ≤ low_of d → high_of d ≤ high_of c → ⊥
@@ -126,7 +126,7 @@ module _ {Found Record : Type 0} (events : Write Found → List Record) (id_of :
     (above : base < high_of d)
   where
     -- a standing directory that covers d and isn't d
-    Above : Type 0
+    unfoldable pub Above : Type 0
     Above = (c : Delta) × IsIn c dirs × (is_own c ≡ false) × (low_of c ≤ low_of d) × (high_of d ≤ high_of c) × (rest most c < rest most d)
 
     Later : ℕ → Type 0
@@ -163,11 +163,16 @@ module _ {Found Record : Type 0} (events : Write Found → List Record) (id_of :
       | inl loose ↦ up-from n (stands-or n) (Wide first last) made_c l h (omega arith) (omega arith) loose.0 loose.1 loose.2 loose.3
     ]
 
+    -- what is loose has one above it
+    pub above-loose : IsLoose past jobs d → Above
+    above-loose loose =
+        up-from (rest most d) (stands-or (rest most d)) d is_made (omega arith) (omega arith) (omega arith) (omega arith) loose.0 loose.1 loose.2 loose.3
+
     pub not-chosen : IsLoose past jobs d → IsIn d (taken_from sight base false dirs) → ⊥
-    unfolding Later Above
+    unfolding Above
     not-chosen loose chosen =
         let t = is-taken sight base base false d dirs (omega arith) (λ e. absurd (true≢false (sym e))) chosen in
-        let u = up-from (rest most d) (stands-or (rest most d)) d is_made (omega arith) (omega arith) (omega arith) (omega arith) loose.0 loose.1 loose.2 loose.3 in
+        let u = above-loose loose in
         let v = fits.some_valid (low_of d) (high_of d) t.some in
         let a : low_of d ≤ v.0 = v.1 in
         let b : v.0 ≤ high_of d = v.2 in

@@ -3,8 +3,8 @@ use Rattle.std.proofs.Common.{refl, ◌≡◌, inl, inr, ℕ, ◌<◌, ◌≤◌
 use Rattle.std.specs.declared.cmp.Ordering.{Ordering}
 use Rattle.std.specs.declared.cmp.Ordering.TheVariants.{Less, Equal, Greater}
 use Rattle.std.specs.Ordering.{MatchOrdering, nat_cmp, ordering_then, ordering_reverse}
-use Rattle.std.specs.Cmp.{IsTotalOrder, nat_cmp_total, on_total, then_total}
-use Rattle.std.proofs.lemmas.Cmp.{ranked, back_total}
+use Rattle.std.specs.Cmp.{IsTotalOrder}
+use Rattle.std.proofs.lemmas.Cmp.{ranked}
 use Rattle.std.specs.List.{AllByRecursion}
 use Rattle.hv_base.specs.Sorting.{placed_by, put_by, sorted_by}
 use Rattle.hv_dirs.specs.Choice.{Delta, Own, Wide, low_of, high_of, is_own, rank_of, statement_of, delta_cmp}

@@ -14,14 +14,8 @@ pub all-from : {A : Type 0} (P : A → Type 0) (xs : List A) → ((x : A) → Is
 all-from P [] h = tt
 all-from P (x ∷ xs) h = (h x (inl refl), all-from P xs (λ y at. h y (inr at)))
 
-less-equal : Less ≡ Equal → ⊥
-less-equal e = cc
-
 less-greater : Less ≡ Greater → ⊥
 less-greater e = cc
-
-equal-greater : Equal ≡ Greater → ⊥
-equal-greater e = cc
 
 module _ {X : Type 0} (cmp : X → X → Ordering) where
   abbrev pub Below : X → List X → Type 0

@@ -59,6 +59,10 @@ module _ {Found : Type 0} (id_of : Found → RowId) (most : ℕ) (sight : Sight)
         let under : up.0 ≤ base = base-most sight up.0 tree.bases up.2 up.3 in
         omega arith
 
+    pub greatest-chosen : (h : ℕ) → IsMadeBase jobs h → sight.may_base h ≡ true → h ≤ base_chosen sight tree
+    unfolding base
+    greatest-chosen h made may = greatest h made may
+
     base-not-loose : (job : Compaction) → IsIn job jobs → past job → CoversBase job base → ⊥
     base-not-loose (Minor first last mark) listed gone covered = covered
     base-not-loose (Major last mark) listed gone covered =

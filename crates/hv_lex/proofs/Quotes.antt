@@ -23,17 +23,6 @@ pub closing_more : (quote : ℕ) (taken : Bool) (text : Text) (at : ℕ) → at 
 closing_more quote taken text at within goes_on =
     rw (drop_more text at 0 within, goes_on) (count_on at _)
 
--- the byte that closes
-pub closing_here : (quote : ℕ) (taken : Bool) (text : Text) (at : ℕ) → at < length text
-    → (not taken && get_or text at 0 == quote) ≡ true
-    → option_map (λ n. at + n) (closing quote taken (drop at text)) ≡ Some at
-closing_here quote taken text at within shut =
-    rw (drop_more text at 0 within, shut) (ap Some (omega arith))
-
-pub behind-append : (first second : Text) (rest : Result Text Fault) → behind (first ++ second) rest ≡ behind first (behind second rest)
-behind-append first second (Ok text) = ap {B = Result Text Fault} Ok (append_assoc first second text)
-behind-append first second (Err e) = refl
-
 -- ---- what is left of a text without its escapes is UTF-8
 
 -- a text is cut before and after a character of ASCII

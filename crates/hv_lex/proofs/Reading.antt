@@ -2,8 +2,8 @@
 use Rattle.std.proofs.Common.{◌≡◌, ℕ, ◌+◌, ◌-◌, ◌<◌, ◌≤◌, get_or, Option, Some, None, Ok, Err, List, [], ◌∷◌, ◌++◌, take, drop, length, arith, refl, sym, ◌∙◌, subst, ap, append_assoc}
 use Rattle.hv_ast.specs.declared.token.Lexeme.{Lexeme}
 use Rattle.hv_ast.specs.declared.token.Token.{Token}
-use Rattle.hv_ast.specs.Tokens.{Text, Fault, Tokens, fault, front, after_token, tokens_from, tokens_of}
-use Rattle.hv_ast.proofs.Fronts.{tokens_gap, tokens_token, tokens_fault, LiesWithin, front_within}
+use Rattle.hv_ast.specs.Tokens.{Text, Tokens, front, after_token, tokens_from, tokens_of}
+use Rattle.hv_ast.proofs.Fronts.{tokens_gap, tokens_token, LiesWithin, front_within}
 use Rattle.hv_lex.specs.Lexed.{front_of, kept}
 use Rattle.std.specs.Prelude.{slice_index}
 use Rattle.std.specs.Str.{IsUtf8}
@@ -80,12 +80,3 @@ read_more text at n what tokens more within so_far read kept_is =
           ∙ ap (λ (rest : Text). tokens_after (tokens ++ kept at what) (tokens_from 0 (at + n) rest)) cut
           ∙ ap (λ (all : List Token). tokens_after all (tokens_from 0 (at + n) (drop (at + n) text))) (sym kept_is);
     }
-
--- a fault in front of what is left is the text's
-pub read_fault : (text : Text) (at : ℕ) (tokens : List Token) (e : Fault) → at < length text
-    → IsReadUpTo text at tokens → front at (left_of text at) ≡ fault e → tokens_of text ≡ Err e
-read_fault text at tokens e within so_far read =
-    let begins : front at (drop at text) ≡ fault e =
-    subst (λ (rest : Text). front at rest ≡ fault e) (take_rest text at) read in
-    let long : length (drop at text) ≡ length text - at = length-drop at text in
-    so_far.same ∙ ap (tokens_after tokens) (tokens_fault at e (drop at text) (omega arith) begins)

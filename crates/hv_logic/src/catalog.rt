@@ -3,7 +3,7 @@ use hv_value::SqlType;
 use std::alloc::Global;
 
 /// A column of a table: its name, folded to lower case, and the type of its values.
-#[derive(Debug, Drop)]
+#[derive(Drop)]
 pub struct Column {
     pub name: Text,
     pub kind: SqlType,
@@ -11,7 +11,7 @@ pub struct Column {
 
 /// A table as its creating statement describes it. A row's values are those of `columns` and then
 /// those of the partition columns `parts`.
-#[derive(Debug, Drop)]
+#[derive(Drop)]
 pub struct Shape {
     pub name: Text,
     pub columns: List<Column>,
@@ -23,14 +23,14 @@ pub struct Shape {
 }
 
 /// A table: its id, and its shape.
-#[derive(Debug, Drop)]
+#[derive(Drop)]
 pub struct TableInfo {
     pub table: TableId,
     pub shape: Shape,
 }
 
 /// The live tables at a place of the book, by id.
-#[derive(Debug, Drop)]
+#[derive(Drop)]
 pub struct Catalog {
     pub tables: List<TableInfo>,
 }

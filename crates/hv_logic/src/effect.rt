@@ -11,14 +11,14 @@ pub struct Found {
 }
 
 /// The rows of one table, rising by partition and identifier.
-#[derive(Debug, Drop)]
+#[derive(Drop)]
 pub struct TableRows {
     pub table: TableId,
     pub rows: List<Found>,
 }
 
 /// What a statement does to its table. The inserted rows get their identifiers later.
-#[derive(Debug, Drop)]
+#[derive(Drop)]
 pub struct Effect {
     pub inserts: List<Row>,
     pub deletes: List<Found>,

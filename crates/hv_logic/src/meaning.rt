@@ -4,7 +4,7 @@ use hv_base::{List, Refusal, Text};
 use hv_value::Row;
 
 /// What a statement comes to over the tables that it sees.
-#[derive(Debug, Drop)]
+#[derive(Drop)]
 pub enum Meaning {
     /// It is refused for its first fault.
     Refused(Refusal),

@@ -326,7 +326,7 @@ within-seen : (tables : List Seen) (info : TableInfo) (effect : Effect)
     → ((touches : List Touch) → touched info effect ≡ Ok touches → ChangesSeen tables info effect) → SeenOf tables (Some (within_limits info effect))
 within-seen tables info effect h = limits-come (SeenOf tables) tt tt info effect h
 
-get-mapped : {A B : Type 0} (f : A → B) (xs : List A) (n : ℕ) → slice_get (map f xs) n ≡ option_map f (slice_get xs n)
+pub get-mapped : {A B : Type 0} (f : A → B) (xs : List A) (n : ℕ) → slice_get (map f xs) n ≡ option_map f (slice_get xs n)
 get-mapped f [] n = refl
 get-mapped f (x ∷ xs) zero = refl
 get-mapped f (x ∷ xs) (suc n) = get-mapped f xs n

@@ -1,8 +1,8 @@
 -- The least of the first rows comes first of all, and the last of those that have it stands. Here a file is its rows.
-use Rattle.std.proofs.Common.{refl, ◌≡◌, Bool, true, false, cond, true≢false, if◌then◌else◌, Option, Some, None, List, [], ◌∷◌, ◌++◌, ◌==◌, map, sym, ap, ◌∙◌, subst}
+use Rattle.std.proofs.Common.{if◌then◌else◌, refl, ◌≡◌, Bool, true, false, cond, Option, Some, None, List, [], ◌∷◌, ◌++◌, ◌==◌, map, sym, ap, ◌∙◌, subst}
 use Rattle.std.specs.declared.cmp.Ordering.{Ordering}
 use Rattle.std.specs.declared.cmp.Ordering.TheVariants.{Less, Equal, Greater}
-use Rattle.std.specs.Ordering.{is_lt, is_eq, ordering_reverse}
+use Rattle.std.specs.Ordering.{is_eq, ordering_reverse}
 use Rattle.std.specs.Option.{option_to_list}
 use Rattle.std.specs.Cmp.{tied_itself}
 use Rattle.std.specs.List.{flat_map, AllByRecursion}
@@ -28,11 +28,6 @@ abbrev pub all_rows : List (List Shown) → List Shown
 all_rows files = flat_map (λ (file : List Shown). file) files
 
 -- ---- identifiers
-
-pub lt-is : (o : Ordering) → is_lt o ≡ true → o ≡ Less
-lt-is Less e = refl
-lt-is Equal e = absurd (true≢false (sym e))
-lt-is Greater e = absurd (true≢false (sym e))
 
 pub turned : (a b : RowId) (o : Ordering) → row_id_cmp a b ≡ o → row_id_cmp b a ≡ ordering_reverse o
 turned a b o e = row_id_total.antisymm b a ∙ ap ordering_reverse e

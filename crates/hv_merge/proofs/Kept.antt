@@ -2,10 +2,9 @@
 use Rattle.std.proofs.Common.{refl, ◌≡◌, Bool, true, false, cond, not, ◌||◌, ◌&&◌, Option, Some, None, List, [], ◌∷◌, ◌++◌, ◌+◌, ℕ, suc, arith, map, filter, drop, sym, ap, ◌∙◌, subst, true≢false, IsPermutation, append_assoc}
 use Rattle.std.specs.declared.cmp.Ordering.{Ordering}
 use Rattle.std.specs.declared.cmp.Ordering.TheVariants.{Less, Equal, Greater}
-use Rattle.std.specs.Ordering.{on, is_lt, is_eq}
+use Rattle.std.specs.Ordering.{is_lt, is_eq}
 use Rattle.std.specs.Option.{option_to_list}
-use Rattle.std.specs.Cmp.{tied_itself}
-use Rattle.std.specs.List.{flat_map, filter_map, list_any, prefix_len, cons_option, AllByRecursion}
+use Rattle.std.specs.List.{flat_map, list_any, prefix_len, cons_option, AllByRecursion}
 use Rattle.std.proofs.lemmas.List.{append-nil}
 use Rattle.std.proofs.lemmas.List.Elements.{filter-append}
 use Rattle.std.proofs.lemmas.List.Folds.{list_any-append}
@@ -26,7 +25,8 @@ use Rattle.hv_rowfile.specs.Layout as layout
 use Rattle.hv_merge.specs.declared.shown.Shown.{Shown}
 use Rattle.hv_merge.specs.Merging.{id_of, rows_in, deletes_in, merged}
 use Rattle.hv_merge.specs.Steps.{valid_rows, valid_deletes, gone_from, begins_with, is_below, kept_front}
-use Rattle.hv_merge.proofs.Fronts.{cmp, AllRise, all_rows, Over, NotBelow, lt-is, turned, tied_id, not_tied, left_of, last_of, Step, step, put-below, last-id}
+use Rattle.hv_merge.proofs.Fronts.{cmp, AllRise, all_rows, Over, NotBelow, turned, tied_id, not_tied, left_of, last_of, Step, step, put-below, last-id}
+use Rattle.hv_merge.proofs.RisingLemmas.{lt-is}
 
 abbrev pub is_in : RowId → List RowId → Bool
 is_in id gone = list_any (λ (other : RowId). is_row other id) gone

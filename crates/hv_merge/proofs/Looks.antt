@@ -15,7 +15,8 @@ use Rattle.hv_rowfile.specs.declared.record.Rec.{Rec}
 use Rattle.hv_rowfile.specs.Layout.{id_of}
 use Rattle.hv_merge.specs.declared.turns.Turn.{Turn}
 use Rattle.hv_merge.specs.Steps.{is_below, is_before, seen_at, turn_from, turn_of, is_least, is_tied, rest_of, behind_at}
-use Rattle.hv_merge.proofs.Fronts.{lt-is, turned, tied_id}
+use Rattle.hv_merge.proofs.Fronts.{turned, tied_id}
+use Rattle.hv_merge.proofs.RisingLemmas.{lt-is}
 
 pub all-append : {A : Type 0} (P : A → Type 0) (xs ys : List A) → AllByRecursion P xs → AllByRecursion P ys → AllByRecursion P (xs ++ ys)
 all-append P [] ys h more = more

@@ -9,7 +9,7 @@ use Rattle.hv_rowfile.specs.declared.record.Rec.{Rec}
 use Rattle.hv_rowfile.specs.Layout.{Follows, RisesFrom, id_of}
 use Rattle.hv_merge.specs.Steps.{is_behind, rises_from}
 
-lt-is : (o : Ordering) → is_lt o ≡ true → o ≡ Less
+pub lt-is : (o : Ordering) → is_lt o ≡ true → o ≡ Less
 lt-is Less e = refl
 lt-is Equal e = absurd (true≢false (sym e))
 lt-is Greater e = absurd (true≢false (sym e))

@@ -3,7 +3,7 @@ use Rattle.std.proofs.Common.{refl, ◌≡◌, Bool, true, false, cond, not, tru
 use Rattle.std.specs.declared.cmp.Ordering.{Ordering}
 use Rattle.std.specs.declared.cmp.Ordering.TheVariants.{Less, Equal, Greater}
 use Rattle.std.specs.Ordering.{is_lt, is_eq}
-use Rattle.std.specs.List.{flat_map, cons_option, AllByRecursion}
+use Rattle.std.specs.List.{cons_option, AllByRecursion}
 use Rattle.std.proofs.lemmas.Bool.{cond-true, cond-false}
 use Rattle.std.proofs.lemmas.Option.{same_Some, none-some}
 use Rattle.std.proofs.lemmas.Grind.{flat_map-append}
@@ -21,7 +21,7 @@ use Rattle.hv_rowfile.specs.Layout.{id_of as record_id}
 use Rattle.hv_merge.specs.declared.shown.Shown.{Shown}
 use Rattle.hv_merge.specs.declared.turns.Turn.{Turn}
 use Rattle.hv_merge.specs.Steps.{valid_row, valid_rows, is_before, taken_before, left_before, run_of, rest_of, front_at, behind_at, later, later_at, last_at, gone_from, kept_front, kept_run, gone_after}
-use Rattle.hv_merge.proofs.Fronts.{cmp, AllRise, all_rows, Over, NotBelow, turned, tied_id, not_tied, put_all, rising-append, put-below, put-front, below-over, over-below, over-merge, front_of, behind_of, last_of, left_of, later-none, later-later}
+use Rattle.hv_merge.proofs.Fronts.{cmp, all_rows, Over, NotBelow, turned, tied_id, not_tied, put_all, rising-append, put-below, put-front, below-over, over-below, over-merge, front_of, behind_of, last_of, left_of, later-none, later-later}
 use Rattle.hv_merge.proofs.Kept.{is_in, kept, coming, IdsRise, AllAbove, above, rises-file, rises-files, starts, rises-gone, kept-later, one-step}
 use Rattle.hv_merge.proofs.Looks.{all-append, all-front, all-behind, never, isnt, lt-step, lt-trans, Starts, IsTurn, starts-all}
 

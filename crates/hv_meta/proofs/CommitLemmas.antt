@@ -1,5 +1,5 @@
 -- What a Commit and an abort by a conflict must meet, and the tests for it.
-use Rattle.std.proofs.Common.{◌≡◌, ℕ, zero, suc, ◌+◌, ◌<◌, ◌≤◌, Option, Some, None, List, [], ◌∷◌, length, take, get_or, refl, sym, ap, ◌∙◌, subst, arith}
+use Rattle.std.proofs.Common.{◌≡◌, ℕ, zero, suc, ◌+◌, ◌<◌, ◌≤◌, Option, Some, None, List, [], ◌∷◌, length, take, get_or, refl, sym, ap, ◌∙◌, arith}
 use Rattle.std.specs.Prelude.{Bool, true, false, not, ◌&&◌, ◌||◌, ◌↔◌, IsTrue, IsSomeAnd, is_some, nat_lt}
 use Rattle.std.specs.Option.{option_map}
 use Rattle.std.specs.List.{list_any, AllByRecursion}
@@ -13,12 +13,12 @@ use Rattle.hv_history.specs.declared.state.Transaction.{Transaction}
 use Rattle.hv_history.specs.declared.state.Snapshot.{Snapshot}
 use Rattle.hv_history.specs.declared.state.Ending.{Ending}
 use Rattle.hv_history.specs.declared.state.Ending.TheVariants.{Committed, Aborted, Made, Dropped}
-use Rattle.hv_history.specs.State.{State, numbered, given_in}
-use Rattle.hv_history.specs.Legal.{IsRunning, CommitFits, ConflictFits, IsOwnTouch, Rise, Of, touch_cmp, is_touched, touches_conflict, commits_against, deleted_behind, place_of_snapshot}
-use Rattle.hv_book.specs.Briefs.{brief, end_of, snapshot_place, given_at}
-use Rattle.hv_book.specs.Commits.{commits_so, is_committed, passes_at, pass, touches_at, wrote_in, wrote_by, IsRising}
-use Rattle.hv_meta.specs.Committing.{MayWrite, are_rising, is_own, are_own, are_used, are_whole, against, place_or, started_place, end_behind, note_behind, wrote_deletes}
-use Rattle.hv_meta.proofs.FactLemmas.{and-left, and-right, and-both, false-is, given-open}
+use Rattle.hv_history.specs.State.{State, given_in}
+use Rattle.hv_history.specs.Legal.{CommitFits, IsOwnTouch, Rise, touch_cmp, is_touched, touches_conflict, commits_against, place_of_snapshot}
+use Rattle.hv_book.specs.Briefs.{brief, snapshot_place}
+use Rattle.hv_book.specs.Commits.{commits_so, is_committed, passes_at, pass, touches_at, IsRising}
+use Rattle.hv_meta.specs.Committing.{MayWrite, are_rising, is_own, are_own, are_used, against, place_or, started_place}
+use Rattle.hv_meta.proofs.FactLemmas.{and-left, and-right, and-both, false-is}
 
 -- ---- touches rise
 
@@ -131,16 +131,6 @@ same-place t = by t.snapshot
     by None = refl
     by (Some s) = refl
 
-pub may-law : (wrote : List Touch) (o : Option Transaction) (given : List (ℕ × ℕ)) → given ≡ given_at o → (r w : Bool) → (IsTrue r ↔ IsSomeAnd o IsRunning)
-    → w ≡ are_whole wrote given → (IsTrue (r && w)) ↔ IsSomeAnd o (MayWrite wrote)
-may-law wrote None given is r w running whole = (λ e. absurd (running.0 (and-left r w e)), λ e. absurd e)
-may-law wrote (Some t) given is r w running whole = (
-  λ e.
-      let run = running.0 (and-left r w e) in
-      (run, ap (are_whole wrote) (sym (is ∙ given-open t run)) ∙ sym whole ∙ and-right r w e),
-  λ may. and-both r w (running.1 may.0) (whole ∙ ap (are_whole wrote) (is ∙ given-open t may.0) ∙ may.1),
-)
-
 module _ (state : State) (wrote : List Touch) where
   abbrev pub meets : ℕ → Bool
   meets place = list_any (λ (other : Transaction). commits_against place wrote other.ending) state.transactions
@@ -172,37 +162,3 @@ module _ (state : State) (wrote : List Touch) where
         let free : c ≡ false = conflict ∙ ap meets (at ∙ same-place t) ∙ fits.clear in
         and-both m (not c) (may.1 (fit-may t fits)) ((false-is c).1 free),
   )
-
--- ---- an abort by a conflict
-
-module _ (place table : ℕ) (partition : List ℕ) where
-  pub behind-law : (o : Option Transaction) → (note_behind place (option_map brief o) && wrote_deletes table partition (wrote_in o)) ≡ true
-      ↔ IsSomeAnd o (λ (other : Transaction). IsTrue (deleted_behind place table partition other.ending))
-  behind-law None = (λ e. cc, λ e. absurd e)
-  behind-law (Some t) = by t.ending
-    where
-      by : (o : Option Ending) → ((end_behind place (option_map end_of o) && wrote_deletes table partition (wrote_by o)) ≡ true) ↔ (deleted_behind place table partition o ≡ true)
-      by None = (λ e. e, λ e. e)
-      by (Some (Committed at wrote)) = (λ e. e, λ e. e)
-      by (Some (Aborted at cause)) = (λ e. let no = and-right (nat_lt place at) false e in cc, λ e. cc)
-      by (Some (Made at made)) = (λ e. let no = and-right (nat_lt place at) false e in cc, λ e. cc)
-      by (Some (Dropped at made)) = (λ e. let no = and-right (nat_lt place at) false e in cc, λ e. cc)
-
-module _ (state : State) (by table : ℕ) (partition : List ℕ) where
-  pub conflict-law : (o : Option Transaction) (place : ℕ) → place ≡ started_place (option_map brief o) → (r b d : Bool) → (IsTrue r ↔ IsSomeAnd o IsRunning)
-      → b ≡ note_behind place (option_map brief (numbered state.transactions by)) → d ≡ wrote_deletes table partition (wrote_in (numbered state.transactions by))
-      → (IsTrue (r && (b && d))) ↔ IsSomeAnd o (ConflictFits state by table partition)
-  conflict-law None place at r b d running behind deletes = (λ e. absurd (running.0 (and-left r (b && d) e)), λ e. absurd e)
-  conflict-law (Some t) place at r b d running behind deletes =
-      let here : place ≡ place_of_snapshot t.snapshot = at ∙ same-place t in
-      let both : (b && d) ≡ (note_behind place (option_map brief (numbered state.transactions by)) && wrote_deletes table partition (wrote_in (numbered state.transactions by)))
-      = ap (λ x. x && d) behind ∙ ap (λ x. note_behind place (option_map brief (numbered state.transactions by)) && x) deletes in (
-        λ e. record {
-          running = running.0 (and-left r (b && d) e);
-          committed = subst (λ k. Of state by (λ (other : Transaction). IsTrue (deleted_behind k table partition other.ending))) here
-              ((behind-law place table partition (numbered state.transactions by)).0 (sym both ∙ and-right r (b && d) e));
-        },
-        λ fits. and-both r (b && d) (running.1 fits.running)
-            (both ∙ (behind-law place table partition (numbered state.transactions by)).1
-            (subst (λ k. Of state by (λ (other : Transaction). IsTrue (deleted_behind k table partition other.ending))) (sym here) fits.committed)),
-      )

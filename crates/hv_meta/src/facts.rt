@@ -10,7 +10,7 @@ use hv_book::{Book, TransactionNote};
 use hv_history::numbered;
 
 /// How far a transaction has come.
-#[derive(Clone, Copy, Debug, PartialEq, Eq)]
+#[derive(Clone, Copy)]
 pub enum TxnState {
     /// No transaction has this number.
     Unknown,

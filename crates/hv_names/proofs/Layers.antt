@@ -15,11 +15,12 @@ use Rattle.hv_ast.specs.declared.query.Query.{Query}
 use Rattle.hv_ast.specs.declared.query.Source.{Source}
 use Rattle.hv_ast.specs.declared.query.Source.TheOpen.{Source-F}
 use Rattle.hv_ast.specs.declared.query.Source.TheShapes
-use Rattle.hv_ast.specs.declared.query.Source.TheFolds.{fold_out-Source, map-Source}
+use Rattle.hv_ast.specs.declared.query.Source.TheFolds.{map-Source}
 use Rattle.hv_ast.specs.declared.query.Source.TheVariants as source
 use Rattle.hv_ast.specs.declared.query.Source.TheVariants.{rolls-Table, rolls-Query}
 use Rattle.hv_ast.specs.declared.query.Source.TheViews.{out-Source, roll-Source, out-roll-Source}
 use Rattle.hv_logic.specs.Names.{shared, layer_names, source_names, query_names, names_in_maybe, names_of_union, names_of_join}
+use Rattle.hv_logic.proofs.NameLemmas.{source_names-out}
 
 flat-mapped : {A B C : Type 0} (f : A → B) (g : B → List C) (h : A → List C) → ((x : A) → g (f x) ≡ h x)
     → (xs : List A) → flat_map g (map f xs) ≡ flat_map h xs
@@ -70,10 +71,6 @@ mapped : (query : Query Source) (alias : List ℕ)
 mapped query alias =
     let select = query.select in
     mapped-with select.distinct select.items select.filter select.group select.having select.from query.unions query.order query.limit alias
-
-source_names-out : (s : Source) → source_names s ≡ layer_names (map-Source Source (List Lock) source_names (out-Source s))
-unfolding source_names
-source_names-out s = fold_out-Source (List Lock) layer_names s
 
 at : {s : Source} {layer : Source-F Source} → s ≡ roll-Source layer → out-Source (roll-Source layer) ≡ layer
     → source_names s ≡ layer_names (map-Source Source (List Lock) source_names layer)

@@ -466,10 +466,6 @@ module _ (p : Rule Expr) (q : Reader Expr) (E : Whole (Stop 1) p q) (B : Begins 
 
   -- ---- what rules begin with
 
-  held_begins : {A : Type 0} (value : Token → Option A) → ((token : Token) (a : A) → value token ≡ Some a → nat_le 3 (starts (kind_of token.what)) ≡ true) → Begins 3 (rule.held value)
-  unfolding kind_at
-  held_begins value F = record { begins = λ a from to s. ap (λ t. nat_le 3 (starts (kind_at t))) s.2 ∙ F s.0 a s.1 }
-
   primary_begins : Begins 3 (g.primary p)
   unfolding g.primary g.column g.count_rows g.call
   primary_begins =

@@ -1,6 +1,6 @@
 -- What is spelled is read, for the ways in which queries and statements put rules together beside
 -- those of expressions.
-use Rattle.std.proofs.Common.{◌≡◌, ◌⊎◌, inl, inr, ℕ, zero, suc, ◌≤◌, Bool, true, false, cond, Some, None, List, [], ◌∷◌, ◌++◌, length, nat_le, sym, ap, subst, arith, ◌∙◌, append_assoc, length-append}
+use Rattle.std.proofs.Common.{◌≡◌, ◌⊎◌, inl, inr, ℕ, zero, suc, ◌≤◌, Bool, true, false, cond, Some, None, List, [], ◌∷◌, ◌++◌, length, sym, ap, subst, arith, ◌∙◌, append_assoc, length-append}
 use Rattle.std.proofs.lemmas.List.{append-nil}
 use Rattle.hv_ast.specs.declared.token.Token.{Token}
 use Rattle.hv_grammar.specs.declared.kind.Kind.{Kind}
@@ -10,7 +10,7 @@ use Rattle.hv_grammar.specs.Rules.{Rule, word, many}
 use Rattle.hv_grammar.specs.Readers.{Reader, and_then, kind_at, more_while}
 use Rattle.hv_grammar.specs.Readers as reader
 use Rattle.hv_parse_expr.proofs.Joins.{Sound, Suffix}
-use Rattle.hv_parse_expr.proofs.Begins.{Avoids, Begins, starts, word_kind}
+use Rattle.hv_parse_expr.proofs.Begins.{Avoids, word_kind}
 use Rattle.hv_parse_expr.proofs.Wholes.{Whole, whole_give, whole_bind, whole_then, whole_word, whole_eat, whole_flag}
 use Rattle.hv_parse_expr.proofs.Rows.{behind_whole}
 use Rattle.hv_parse_expr.proofs.Below.{Any, Without, without_at}
@@ -25,10 +25,6 @@ leads_give {S = S} weak = record { leads = λ b from to s stop. weak from (subst
 
 pub leads_word : {T S : List Token → Type 0} (kind : Kind) → ((t : List Token) → kind_at t ≡ kind → T t) → Leads T S (word kind)
 leads_word kind at = record { leads = λ u from to s stop. at from (word_kind s) }
-
-pub leads_begins : {A : Type 0} {T S : List Token → Type 0} {p : Rule A} {level : ℕ} → Begins level p
-    → ((t : List Token) → nat_le level (starts (kind_at t)) ≡ true → T t) → Leads T S p
-leads_begins B at = record { leads = λ a from to s stop. at from (B.begins a from to s) }
 
 pub leads_bind : {A B : Type 0} {T U S : List Token → Type 0} {p : Rule A} {f : A → Rule B} → Leads T U p → ((a : A) → Leads U S (f a))
     → Leads T S (λ b from to. (a : A) × (between : List Token) × p a from between × f a b between to)

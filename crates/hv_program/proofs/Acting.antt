@@ -36,7 +36,7 @@ use Rattle.hv_session.specs.declared.paused.Taken.TheVariants as taken
 use Rattle.hv_session.specs.Taking.{IsHeld, IsHeldBySome, IsTrulyHeld, HoldsAt, IsReplied, WentThrough, IsKept, IsKeptIn, IsTakenAs, IsFinished}
 use Rattle.hv_session.specs.Ways.{StopsTaken}
 use Rattle.hv_program.specs.declared.held.Held.{Held}
-use Rattle.hv_program.specs.Doing.{Waiting, Standing, is_session, waiting_in, asking_of, ReleasesOne, session_line}
+use Rattle.hv_program.specs.Doing.{Waiting, Standing, is_session, waiting_in, asking_of, ReleasesOne}
 use Rattle.hv_program.specs.Own.{Grows, IsOfRun}
 use Rattle.hv_program.specs.Keeping.{waiting_of, paused_in, held_without, IsHeldIn, standing_of, AreHeld, IsTrulyHeldIn, AreTrulyHeld}
 use Rattle.hv_program.specs.Running.{IsLater, Acts, txn_of_waiting, number_of, AreOfSome, Stops}
@@ -351,13 +351,6 @@ acts-nothing low high book helds session none = record {
       (record { book = book; waiting = map waiting_of (held_without session.name helds) }) session.name o [] false) (sym (none-waits session.name helds none))
       (ap (λ (hs : List Held). record { book = book; waiting = map waiting_of hs }) (none-left session.name helds none), refl, refl);
 }
-
--- ---- a session's line
-
-pub acts-announced : (low high : ℕ) (standing : Standing) (session : Session) (reply : List ℕ) (refused : Bool) → reply ≡ session_line session.name → refused ≡ false
-    → Acts low high standing standing (action.Announce session) reply refused
-acts-announced low high standing session reply refused line accepted =
-    record { grows = grows-none low high standing.book; done = λ start behind. (refl, line, accepted) }
 
 -- ---- where the run stops
 

@@ -8,14 +8,12 @@ use Rattle.hv_script.specs.Actions.{refused_at}
 use Rattle.hv_script.specs.declared.words.Command.{Command}
 use Rattle.hv_history.specs.Legal.{profile}
 use Rattle.hv_house.specs.Booting.{IsBootStore, CanOpen}
-use Rattle.hv_house.specs.Faults.{EndsRun, HasRisen}
 use Rattle.hv_house.specs.declared.boot.BootFault.{BootFault}
 use Rattle.hv_house.specs.declared.boot.BootFault.TheVariants as boot
 use Rattle.hv_program.specs.declared.stop.Stop.{Stop}
 use Rattle.hv_program.specs.declared.stop.Stop.TheVariants as stop
-use Rattle.hv_house.specs.declared.fault.HouseFault.{HouseFault}
 use Rattle.hv_house.specs.declared.fault.HouseFault.TheVariants as fault
-use Rattle.hv_program.specs.Stops.{stop_of, status_of_stop, Blames}
+use Rattle.hv_program.specs.Stops.{status_of_stop, Blames}
 use Rattle.hv_program.specs.Headline.{Outside}
 use Rattle.hv_program.specs.Refused.{is_one_of, Refuses}
 use Rattle.hv_program.specs.Serving.{ran_status, BlamesOf, IsSaid, IsSaidOrNot}
@@ -27,35 +25,11 @@ use Rattle.hv_program.proofs.Refusing.{keep, split}
 pub Rose-later : (a b c : ℕ) → a ≤ b → Rose b c → Rose a c
 Rose-later a b c le rose = omega (arith, le, rose)
 
-pub Rose-stays : (a b c : ℕ) → Rose a b → b ≤ c → Rose a c
-Rose-stays a b c rose le = omega (arith, le, rose)
-
 -- ---- the actions of a script
 
-passed_up : {T E : Type 0} (r : Result T E) (e : E) (P : E → Type 0) → IsErrAnd r (λ y. y ≡ e) → P e → IfErr r P
+pub passed_up : {T E : Type 0} (r : Result T E) (e : E) (P : E → Type 0) → IsErrAnd r (λ y. y ≡ e) → P e → IfErr r P
 passed_up (Ok x) e P is p = tt
 passed_up (Err d) e P is p = subst P (sym is) p
-
-blamed : (why : HouseFault) (sink sink' store store' : ℕ) → EndsRun why → HasRisen store store' why → Blames (stop_of why) sink sink' store store'
-blamed fault.Store sink sink' store store' ends rose = rose
-blamed (fault.Failed count) sink sink' store store' ends rose = absurd ends
-blamed fault.NoMemory sink sink' store store' ends rose = tt
-
-later-blame : (why : HouseFault) (sink sink' first store store' : ℕ) → first ≤ store → Blames (stop_of why) sink sink' store store' → Blames (stop_of why) sink sink' first store'
-later-blame fault.Store sink sink' first store store' le rose = Rose-later first store store' le rose
-later-blame (fault.Failed count) sink sink' first store store' le rose = Rose-later first store store' le rose
-later-blame fault.NoMemory sink sink' first store store' le rose = tt
-
-pub Blames-stopped : (result : Result Bool Stop) (why : HouseFault) (sink sink' first store store' : ℕ) → IsErrAnd result (λ e. e ≡ stop_of why)
-    → first ≤ store → EndsRun why → HasRisen store store' why → IfErr result (λ e. Blames e sink sink' first store')
-Blames-stopped result why sink sink' first store store' err le ends rose =
-    passed_up result (stop_of why) (λ e. Blames e sink sink' first store') err
-    (later-blame why sink sink' first store store' le (blamed why sink sink' store store' ends rose))
-
-pub Blames-cut : (result : Result Bool Stop) (first sink sink' store store' : ℕ) → IsErrAnd result (λ e. e ≡ stop.Sink)
-    → first ≤ sink → Rose sink sink' → IfErr result (λ e. Blames e first sink' store store')
-Blames-cut result first sink sink' store store' err le rose =
-    passed_up result stop.Sink (λ e. Blames e first sink' store store') err (Rose-later first sink sink' le rose)
 
 -- ---- serving
 
@@ -82,19 +56,6 @@ blames-store status sink store store' why is same rose = record { sink_failed = 
 
 pub blames-memory : (status sink store store' : ℕ) → status ≡ 7 → BlamesOf status sink sink store store'
 blames-memory status sink store store' is = blames-none status sink sink store store' (λ e. omega (arith, is, e)) (λ e. omega (arith, is, e))
-
-pub blames-full : (status : ℕ) (line : List ℕ) (a b : Option (List ℕ)) (sink sink' store store' : ℕ) → IsSaid 9 line a b sink sink' status
-    → BlamesOf status sink sink' store store'
-blames-full status line a b sink sink' store store' (inl said) = blames-none status sink sink' store store' (λ e. omega (arith, said.0, e)) (λ e. omega (arith, said.0, e))
-blames-full status line a b sink sink' store store' (inr cut) = record { sink_failed = λ e. cut.1.cause; store_failed = λ e. absurd (omega (arith, cut.0, e)) }
-
-pub blames-said : (status wanted : ℕ) (line : List ℕ) (a b : Option (List ℕ)) (sink sink' store store' : ℕ) → wanted ≡ 6 → IsSaidOrNot wanted line a b sink sink' status
-    → BlamesOf status sink sink' store store'
-blames-said status wanted line a b sink sink' store store' is (inl (inl said)) =
-    blames-none status sink sink' store store' (λ e. omega (arith, said.0, is, e)) (λ e. omega (arith, said.0, is, e))
-blames-said status wanted line a b sink sink' store store' is (inl (inr cut)) = record { sink_failed = λ e. cut.1.cause; store_failed = λ e. absurd (omega (arith, cut.0, e)) }
-blames-said status wanted line a b sink sink' store store' is (inr unsaid) =
-    blames-none status sink sink' store store' (λ e. omega (arith, unsaid.0, e)) (λ e. omega (arith, unsaid.0, e))
 
 -- ---- the whole
 

@@ -114,16 +114,16 @@ are-done-then start book a b c (first ∷ actions) output refused act reply this
 
 -- ---- those that wait came behind the book that the run began with
 
-all-last : (P : Waiting → Type 0) (ws : List Waiting) (w : Waiting) → AllByRecursion P ws → P w → AllByRecursion P (ws ++ w ∷ [])
+pub all-last : (P : Waiting → Type 0) (ws : List Waiting) (w : Waiting) → AllByRecursion P ws → P w → AllByRecursion P (ws ++ w ∷ [])
 all-last P [] w all p = (p, tt)
 all-last P (first ∷ ws) w all p = (all.0, all-last P ws w all.1 p)
 
-kept-by : (P : Waiting → Type 0) (b : Bool) (first : Waiting) (ws rest : List Waiting) → AllByRecursion P ws → P first → AllByRecursion P rest
+pub kept-by : (P : Waiting → Type 0) (b : Bool) (first : Waiting) (ws rest : List Waiting) → AllByRecursion P ws → P first → AllByRecursion P rest
     → AllByRecursion P (cond b ws (first ∷ rest))
 kept-by P true first ws rest all here more = all
 kept-by P false first ws rest all here more = (here, more)
 
-all-without : (P : Waiting → Type 0) (name : List ℕ) (ws : List Waiting) → AllByRecursion P ws → AllByRecursion P (without name ws)
+pub all-without : (P : Waiting → Type 0) (name : List ℕ) (ws : List Waiting) → AllByRecursion P ws → AllByRecursion P (without name ws)
 all-without P name [] all = tt
 all-without P name (first ∷ ws) all = kept-by P (is_session name first) first ws (without name ws) all.1 all.0 (all-without P name ws all.1)
 

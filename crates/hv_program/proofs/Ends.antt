@@ -16,8 +16,8 @@ use Rattle.hv_house.specs.declared.fault.HouseFault.{HouseFault}
 use Rattle.hv_house.specs.declared.fault.HouseFault.TheVariants as fault
 use Rattle.hv_house.specs.declared.boot.BootFault.{BootFault}
 use Rattle.hv_house.specs.declared.boot.BootFault.TheVariants as boot
-use Rattle.hv_house.specs.Booting.{opening_of, opening_entries, OpensTo, Opens, StopsOpening, IsCutOpening, NotesWithRoom, StopsWithRoom, HasNoBook, HasFullBook}
-use Rattle.hv_house.proofs.Faithful.{one-journal}
+use Rattle.hv_house.specs.Booting.{opening_of, opening_entries, OpensTo, Opens, StopsOpening, IsCutOpening, NotesWithRoom, StopsWithRoom, HasFullBook}
+use Rattle.hv_recovery.proofs.Books.{is_once as one-journal}
 use Rattle.hv_house.proofs.Boots.{reads-journal}
 use Rattle.hv_recovery.specs.Recovery.{IsJournalOf}
 use Rattle.hv_session.specs.hv_acts.specs.hv_telling.specs.Telling.{IsWhole, IsToldHouse, OpensLater}
@@ -399,15 +399,6 @@ Serves-memory status low high actions sink told told' why e is tree stops room =
     (Serves-seven low high actions sink told told' tree (subst (StopsOpening profile told told') is stops) room)
 
 -- ---- a journal that isn't opened
-
-never-opens : (told : Option Store) (store : Store) (opened : List Entry) → told ≡ Some store → OpensTo opened store → Tells told (HasNoBook profile) → ⊥
-never-opens told store opened at opens shut =
-    let here : HasNoBook profile store = subst (λ (o : Option Store). Tells o (HasNoBook profile)) at shut in
-    here opened (record { journal = opens.journal; fit = opens.faithful.legal.fit })
-
-pub Serves-bad : (status low high : ℕ) (actions : List Action) (sink sink' : Option (List ℕ)) (told told' : Option Store) → Tells told (HasNoBook profile)
-    → Serves status low high actions sink sink' told told'
-Serves-bad status low high actions sink sink' told told' shut = λ written store opened at_sink at_told opens. absurd (never-opens told store opened at_told opens shut)
 
 served-nine : (low high : ℕ) (opened : List Entry) (actions : List Action) (written now : List ℕ) (before after : Store) → ServedOf 9 low high opened actions written now before after
 served-nine low high opened actions written now before after = record {

@@ -19,14 +19,14 @@ use Rattle.hv_program.specs.declared.stop.Stop.TheVariants as stop
 use Rattle.hv_program.specs.Stops.{status_of_stop}
 use Rattle.hv_program.specs.Reading.{TakesUpTo}
 use Rattle.hv_program.specs.Headline.{Outside}
-use Rattle.hv_program.specs.Serving.{ran_status, IsSaid, IsSaidOrNot, IsClosed, IsFilled, Opens}
-use Rattle.hv_program.specs.Lines.{words_line, script_line, journal_line, full_line}
+use Rattle.hv_program.specs.Serving.{ran_status, IsSaid, IsSaidOrNot, Opens}
+use Rattle.hv_program.specs.Lines.{words_line, script_line}
 use Rattle.hv_history.specs.declared.entry.Entry.{Entry}
 use Rattle.hv_history.specs.Legal.{profile}
-use Rattle.hv_recovery.specs.Recovery.{IsJournalOf, IsBadJournalAt}
+use Rattle.hv_recovery.specs.Recovery.{IsJournalOf}
 use Rattle.hv_house.specs.declared.boot.BootFault.{BootFault}
 use Rattle.hv_house.specs.declared.boot.BootFault.TheVariants as boot
-use Rattle.hv_house.specs.Booting.{CanOpen, IsFullAt, HasNoBook, HasFullBook, IsBootFault}
+use Rattle.hv_house.specs.Booting.{CanOpen, IsFullAt, HasFullBook, IsBootFault}
 use Rattle.hv_house.specs.Booting as boots
 use Rattle.hv_program.specs.Refused.{is_one_of, IsBadWords, IsRefusedScript, Refuses}
 
@@ -45,10 +45,6 @@ split true rest h = inl refl
 split false rest h = inr h
 
 -- ---- serving
-
-tells-all : (P : Store → Type 0) (told : Option Store) → ((s : Store) → P s) → Tells told P
-tells-all P None all = tt
-tells-all P (Some s) all = all s
 
 tells-then : {A : Type 0} (P Q : A → Type 0) (o : Option A) → ((x : A) → P x → Q x) → Tells o P → Tells o Q
 tells-then P Q None f p = tt
@@ -95,10 +91,6 @@ opens-none : (n : ℕ) (sink sink' : Option (List ℕ)) (told told' : Option Sto
 opens-none n sink sink' told told' six nine not_zero not_one only =
     record { bad = λ e. absurd (six e); full = λ e. absurd (nine e); opened = none-of-two n not_zero not_one _; only = only }
 
-opens-four : (sink sink' : Option (List ℕ)) (told told' : Option Store) → Opens sink sink' told told' 4
-opens-four sink sink' told told' =
-    opens-none 4 sink sink' told told' (λ e. omega (arith, e)) (λ e. omega (arith, e)) (λ e. omega (arith, e)) (λ e. omega (arith, e)) refl
-
 pub opens-store : (status : ℕ) (sink sink' : Option (List ℕ)) (told told' : Option Store) → status ≡ 5 → Opens sink sink' told told' status
 opens-store status sink sink' told told' is =
     subst (Opens sink sink' told told') (sym is)
@@ -110,44 +102,6 @@ opens-memory status sink sink' told told' is =
     (opens-none 7 sink sink' told told' (λ e. omega (arith, e)) (λ e. omega (arith, e)) (λ e. omega (arith, e)) (λ e. omega (arith, e)) refl)
 
 -- ---- a journal that is bad, and one that is full
-
-opens-six : (sink sink' : Option (List ℕ)) (told told' : Option Store) → IsClosed sink sink' told told' → Opens sink sink' told told' 6
-opens-six sink sink' told told' closed = record {
-  bad = λ e. closed;
-  full = λ e. absurd (omega (arith, e));
-  opened = none-of-two 6 (λ e. omega (arith, e)) (λ e. omega (arith, e)) _;
-  only = refl;
-}
-
-opens-nine : (sink sink' : Option (List ℕ)) (told told' : Option Store) → IsFilled sink sink' told told' → Opens sink sink' told told' 9
-opens-nine sink sink' told told' filled = record {
-  bad = λ e. absurd (omega (arith, e));
-  full = λ e. filled;
-  opened = none-of-two 9 (λ e. omega (arith, e)) (λ e. omega (arith, e)) _;
-  only = refl;
-}
-
-pub opens-bad : (status at : ℕ) (sink sink' : Option (List ℕ)) (faults faults' : ℕ) (told told' : Option Store)
-    → (told' ≡ told) × Tells told (λ s. IsBadJournalAt profile s.journal at) × Tells told (HasNoBook profile)
-    → IsSaidOrNot 6 (journal_line at) sink sink' faults faults' status → Opens sink sink' told told' status
-opens-bad status at sink sink' faults faults' told told' bad (inl (inl said)) =
-    subst (Opens sink sink' told told') (sym said.0)
-    (opens-six sink sink' told told' (record { at = at; journal = bad.1; shut = bad.2; same = bad.0; wrote = said.1.wrote }))
-opens-bad status at sink sink' faults faults' told told' bad (inl (inr cut)) = subst (Opens sink sink' told told') (sym cut.0) (opens-four sink sink' told told')
-opens-bad status at sink sink' faults faults' told told' bad (inr unsaid) = opens-memory status sink sink' told told' unsaid.0
-
-pub opens-full : (status entries : ℕ) (sink sink' : Option (List ℕ)) (faults faults' : ℕ) (told told' : Option Store)
-    → (told' ≡ told) × Tells told (λ s. IsFullAt profile entries s.journal) × Tells told (HasFullBook profile)
-    → IsSaid 9 full_line sink sink' faults faults' status → Opens sink sink' told told' status
-opens-full status entries sink sink' faults faults' told told' full (inl said) =
-    subst (Opens sink sink' told told') (sym said.0)
-    (opens-nine sink sink' told told' (record { entries = entries; journal = full.1; shut = full.2; same = full.0; wrote = said.1.wrote }))
-opens-full status entries sink sink' faults faults' told told' full (inr cut) = subst (Opens sink sink' told told') (sym cut.0) (opens-four sink sink' told told')
-
--- what boot says of a journal that it doesn't open
-pub bad-found : (told told' : Option Store) (why : BootFault) (at : ℕ) → why ≡ boot.BadJournal at → IsBootFault profile told told' why
-    → (told' ≡ told) × Tells told (λ s. IsBadJournalAt profile s.journal at) × Tells told (HasNoBook profile)
-bad-found told told' why at is h = subst (IsBootFault profile told told') is h
 
 pub full-found : (told told' : Option Store) (why : BootFault) (entries : ℕ) → why ≡ boot.Full entries → IsBootFault profile told told' why
     → (told' ≡ told) × Tells told (λ s. IsFullAt profile entries s.journal) × Tells told (HasFullBook profile)

@@ -18,6 +18,7 @@ use Rattle.hv_script.specs.Kinds.{kind_of}
 use Rattle.hv_script.specs.Standing.{Standing as Place, first_standing, holds, is_held, is_other, is_faulty, after, with_held, fault_lines, line_of_pending, line_of_held}
 use Rattle.hv_script.specs.Actions.{action_for, actions_from, actions_of, least, refused_at, stage_of_pending, statement_in}
 use Rattle.hv_session.specs.Taking.{HoldsAt}
+use Rattle.hv_program.proofs.Doings.{all-last, all-without}
 use Rattle.hv_program.specs.Doing.{Waiting, Standing, is_session, waiting_in, without, ReleasesOne, AreDone, AreInTurn, IsPutOff, Replies, asking_of}
 use Rattle.hv_program.specs.Running.{beginning}
 
@@ -99,19 +100,6 @@ record Settles (held : List Keeps) (ws : List Waiting) : Type 0 where
 all-map : (P Q : Waiting → Type 0) (ws : List Waiting) → ((w : Waiting) → P w → Q w) → AllByRecursion P ws → AllByRecursion Q ws
 all-map P Q [] f all = tt
 all-map P Q (w ∷ ws) f all = (f w all.0, all-map P Q ws f all.1)
-
-all-last : (P : Waiting → Type 0) (ws : List Waiting) (w : Waiting) → AllByRecursion P ws → P w → AllByRecursion P (ws ++ w ∷ [])
-all-last P [] w all p = (p, tt)
-all-last P (first ∷ ws) w all p = (all.0, all-last P ws w all.1 p)
-
-kept-by : (P : Waiting → Type 0) (b : Bool) (first : Waiting) (ws rest : List Waiting) → AllByRecursion P ws → P first → AllByRecursion P rest
-    → AllByRecursion P (cond b ws (first ∷ rest))
-kept-by P true first ws rest all here more = all
-kept-by P false first ws rest all here more = (here, more)
-
-all-without : (P : Waiting → Type 0) (name : List ℕ) (ws : List Waiting) → AllByRecursion P ws → AllByRecursion P (without name ws)
-all-without P name [] all = tt
-all-without P name (first ∷ ws) all = kept-by P (is_session name first) first ws (without name ws) all.1 all.0 (all-without P name ws all.1)
 
 apart-last : (ws : List Waiting) (w : Waiting) → AreApart ws → AllByRecursion (λ (other : Waiting). IsElse other.session w) ws → AreApart (ws ++ w ∷ [])
 apart-last [] w apart else_ = (tt, tt)
@@ -296,7 +284,7 @@ settled-from start book before now place (item ∷ items) output refused ok done
     let on = item-settles start book before now place item kind (actions_from (after place item kind) items) output refused parts.0 here h in
     settled-from start book on.between now (after place item kind) items on.output on.refused parts.1 on.are_done on.settles
 
-earlier-none : (a b : Option ℕ) → earlier a b ≡ None → (a ≡ None) × (b ≡ None)
+pub earlier-none : (a b : Option ℕ) → earlier a b ≡ None → (a ≡ None) × (b ≡ None)
 earlier-none None b e = (refl, e)
 earlier-none (Some x) None e = cc
 earlier-none (Some x) (Some y) e = cc

@@ -1,9 +1,9 @@
 -- One action more.
-use Rattle.std.proofs.Common.{◌≡◌, ℕ, zero, suc, ◌+◌, ◌<◌, ◌≤◌, Bool, false, ◌||◌, Option, Result, Ok, Err, IfErr, IsErrAnd, IsSomeAnd, List, [], ◌∷◌, ◌++◌, length, get_or, take, drop, refl, sym, ap, ◌∙◌, subst, arith, append_assoc}
-use Rattle.std.proofs.lemmas.List.{append-nil, take_more}
+use Rattle.std.proofs.Common.{◌≡◌, ℕ, zero, suc, ◌+◌, ◌<◌, ◌≤◌, Bool, ◌||◌, Option, Result, IfErr, IsErrAnd, IsSomeAnd, List, [], ◌∷◌, ◌++◌, length, get_or, take, drop, sym, ap, ◌∙◌, subst, arith, append_assoc}
+use Rattle.std.proofs.lemmas.List.{take_more}
 use Rattle.hv_base.specs.Told.{Moves}
 use Rattle.hv_base.specs.Sink.{Gains, GainsPart}
-use Rattle.hv_base.proofs.ToldLemmas.{Moves-then, Moves-same}
+use Rattle.hv_base.proofs.ToldLemmas.{Moves-then}
 use Rattle.hv_shelf.specs.Disk.{Store}
 use Rattle.hv_history.specs.declared.entry.Entry.{Entry}
 use Rattle.hv_history.specs.Journal.{Reads}
@@ -16,6 +16,7 @@ use Rattle.hv_house.specs.House.{entries_of, IsFaithful}
 use Rattle.hv_house.specs.Faults.{EndsRun}
 use Rattle.hv_session.specs.hv_acts.specs.hv_telling.specs.Telling.{IsWhole, IsToldHouse, OpensLater, StillOpens}
 use Rattle.hv_session.specs.hv_acts.specs.hv_telling.proofs.Told.{both-some, true-shown, whole-shown, opens-told}
+use Rattle.hv_program.proofs.Blaming.{passed_up}
 use Rattle.hv_program.specs.declared.held.Held.{Held}
 use Rattle.hv_program.specs.declared.stop.Stop.{Stop}
 use Rattle.hv_program.specs.declared.stop.Stop.TheVariants as stop
@@ -25,7 +26,7 @@ use Rattle.hv_program.specs.Own.{Grows}
 use Rattle.hv_program.specs.Keeping.{standing_of}
 use Rattle.hv_program.specs.Running.{beginning, IsBehind, Acts, Stops, Prints, PrintsAll, EndsWithin, CutsOff, StopsIn, Halts, HasAll}
 use Rattle.hv_program.proofs.Doings.{are-done-more, are-done-then, later-done}
-use Rattle.hv_program.proofs.OwnEntries.{grows-none, grows-then, grows-wider}
+use Rattle.hv_program.proofs.OwnEntries.{grows-then, grows-wider}
 
 -- ---- a house
 
@@ -36,16 +37,6 @@ has-all told house whole is =
     (λ s reads faithful. (reads, faithful)) whole.ready.kept.reads (true-shown told house (whole.truly is))
 
 -- ---- what is printed
-
-pub Prints-none : (low : ℕ) (book : List Entry) (actions : List Action) (sink : Option (List ℕ)) → actions ≡ []
-    → Prints low low book (record { book = book; waiting = [] }) actions sink sink false
-Prints-none low book actions sink e = record {
-  grows = grows-none low low book;
-  later = tt;
-  output = [];
-  written = Moves-same (Gains []) (λ x. sym (append-nil x)) sink;
-  are_done = subst (λ (acts : List Action). AreDone book book (beginning book) (beginning book) acts [] false) (sym e) (refl, refl, refl);
-}
 
 more_written : (x y z some more : List ℕ) → Gains some x y → Gains more y z → Gains (some ++ more) x z
 more_written x y z some more p q = q ∙ ap (λ w. w ++ more) p ∙ append_assoc x some more
@@ -116,10 +107,6 @@ split_at : (actions : List Action) (i : ℕ) (act : Action) → i < length actio
 split_at [] i act below is = absurd (omega (arith, below))
 split_at (first ∷ actions) zero act below is = ap (λ (x : Action). x ∷ actions) (sym is)
 split_at (first ∷ actions) (suc i) act below is = ap (λ (xs : List Action). first ∷ xs) (split_at actions i act (omega (arith, below)) is)
-
-passed_up : {T E : Type 0} (r : Result T E) (e : E) (P : E → Type 0) → IsErrAnd r (λ y. y ≡ e) → P e → IfErr r P
-passed_up (Ok x) e P is p = tt
-passed_up (Err d) e P is p = subst P (sym is) p
 
 pub Halts-cut : {D : Type 0} (told : D → Option Store) (result : Result Bool Stop) (low middle high : ℕ) (start : List Entry) (before : Standing) (house : House D) (helds : List Held) (actions : List Action)
     (i : ℕ) (act : Action) (reply bytes : List ℕ) (refused this : Bool) (a b c : Option (List ℕ)) → IsErrAnd result (λ e. e ≡ stop.Sink) → low ≤ middle → middle ≤ high

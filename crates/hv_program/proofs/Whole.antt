@@ -6,7 +6,7 @@ use Rattle.hv_base.proofs.ToldLemmas.{stays_same}
 use Rattle.hv_base.specs.Told.{Moves, StaysTold}
 use Rattle.hv_shelf.specs.Disk.{Store}
 use Rattle.hv_script.specs.Items.{items_of}
-use Rattle.hv_script.specs.Script.{broken_line, bytes_line, earlier, front, limit_line}
+use Rattle.hv_script.specs.Script.{broken_line, bytes_line, front, limit_line}
 use Rattle.hv_script.specs.declared.actions.Action.{Action}
 use Rattle.hv_script.specs.Actions.{actions_of, least, refused_at}
 use Rattle.hv_script.specs.Standing.{fault_lines, first_standing}
@@ -25,14 +25,9 @@ use Rattle.hv_program.specs.Results.{IsServed, IsCutOff}
 use Rattle.hv_program.specs.Headline.{IsWhole, IsAllDone, IsLineOf, IsCutLine, IsUnread, IsAfter, Headline}
 use Rattle.hv_program.specs.Serving.{ServedOf, Serves, IsCutFull, IsSaid, IsSaidOrNot}
 use Rattle.hv_program.proofs.Ends.{tells-still}
-use Rattle.hv_program.proofs.Settled.{settled, in-turn}
+use Rattle.hv_program.proofs.Settled.{settled, in-turn, earlier-none}
 
 -- ---- a script that isn't refused
-
-earlier-none : (a b : Option ℕ) → earlier a b ≡ None → (a ≡ None) × (b ≡ None)
-earlier-none None b e = (refl, e)
-earlier-none (Some x) None e = cc
-earlier-none (Some x) (Some y) e = cc
 
 unless : (b : Bool) (x : ℕ) → cond b (Some x) None ≡ None → b ≡ false
 unless true x e = cc

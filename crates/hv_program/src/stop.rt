@@ -7,7 +7,7 @@ use hv_house::HouseFault;
 use std::alloc::AllocError;
 
 /// Why a run ended before its end.
-#[derive(Clone, Copy, Debug, PartialEq, Eq)]
+#[derive(Clone, Copy)]
 pub enum Stop {
     /// The source failed.
     Source,

@@ -10,7 +10,7 @@ use Rattle.hv_history.specs.State.{State, nothing_yet, state_of, after}
 use Rattle.hv_history.specs.Legal.{Fits, AllFit}
 use Rattle.hv_journal.specs.Gates.{Opens}
 use Rattle.hv_journal.proofs.Forms.{one_record}
-use Rattle.hv_journal.proofs.Books.{leads_more, place_more, opens_len, reads_once, long_book, journal_reads, short_book}
+use Rattle.hv_journal.proofs.Books.{leads_more, opens_len, reads_once, long_book, journal_reads}
 use Rattle.hv_recovery.specs.declared.fault.OpenFault.{OpenFault}
 use Rattle.hv_recovery.specs.declared.fault.OpenFault.TheVariants as fault
 use Rattle.hv_recovery.specs.Recovery.{IsJournalOf, IsBadGateFor, IsBadJournalAt, IsFaultFor, IsNoAnswer}
@@ -18,12 +18,6 @@ use Rattle.hv_recovery.specs.Recovery.{IsJournalOf, IsBadGateFor, IsBadJournalAt
 pub fit_more : (limits : Limits) (state : State) (book : List Entry) (e : Entry) → AllFit limits state book → Fits limits (fold after state book) e → AllFit limits state (book ++ e ∷ [])
 fit_more limits state [] e all fits = (fits, tt)
 fit_more limits state (d ∷ book) e all fits = (all.0, fit_more limits (after state d) book e all.1 fits)
-
--- a gate that isn't closed, and no record behind it whose entry fits
-pub bad_gate_for : (limits : Limits) (state : State) (gate : ℕ) (after : List ℕ) → gate ≢ 0 → ((e : Entry) (rest : List ℕ) → HasRecord e → after ≡ record_of e ++ rest → Fits limits state e → ⊥)
-    → IsBadGateFor limits state (gate ∷ after)
-bad_gate_for limits state zero after ne none = ne refl
-bad_gate_for limits state (suc gate) after ne none = none
 
 -- where a reader stops
 IsStopFor : Limits → State → List ℕ → Type 0
@@ -61,7 +55,7 @@ once limits state (e ∷ a) (d ∷ b) bytes r s led fit stop other other_fit oth
     (subst (λ (x : Entry). IsStopFor limits (fold after (after state x) b) s) (sym one.0) other_stop) in
     (let heads = one.0 in let tails = more.0 in cc, more.1)
 
-is_once : (a b : List Entry) (bytes : List ℕ) → IsJournal a bytes → IsJournal b bytes → a ≡ b
+pub is_once : (a b : List Entry) (bytes : List ℕ) → IsJournal a bytes → IsJournal b bytes → a ≡ b
 is_once a b [] one other = one ∙ sym other
 is_once a b (gate ∷ []) one other = one ∙ sym other
 is_once a b (gate ∷ next ∷ after) one other = reads_once a b (gate ∷ next ∷ after) one other

@@ -1,8 +1,8 @@
 -- How the text of a partition grows piece by piece, and how its values are read one by one.
-use Rattle.std.proofs.Common.{◌≡◌, ℕ, zero, suc, ◌+◌, ◌<◌, ◌==◌, false, List, [], ◌∷◌, ◌++◌, drop, length, get_or, refl, ap, sym, ◌∙◌, append_assoc, arith, Option}
+use Rattle.std.proofs.Common.{◌≡◌, ℕ, ◌+◌, ◌<◌, ◌==◌, false, List, [], ◌∷◌, ◌++◌, drop, length, get_or, refl, ap, sym, ◌∙◌, append_assoc, arith}
 use Rattle.std.specs.Prelude.{slice_get}
 use Rattle.std.specs.List.{flat_map, join_with_byte}
-use Rattle.std.proofs.lemmas.List.{append-nil, drop_more, drop-drop}
+use Rattle.std.proofs.lemmas.List.{append-nil, drop_more}
 use Rattle.std.specs.Str.{bytes_eq, IsUtf8}
 use Rattle.std.proofs.lemmas.Str.{IsUtf8-from_is_utf8, is_utf8-from_IsUtf8}
 use Rattle.std.proofs.lemmas.Bool.{cond-true, cond-false, false_from_ne_true}
@@ -94,28 +94,6 @@ pub all_pieces : (columns : List Column) (values : List Value) → pieces_from 0
 all_pieces [] values = refl
 all_pieces (column ∷ more) values =
     ap (λ (x : List ℕ). piece_text column (slice_get values 0) ++ x) (later 0 more (drop 1 values)) ∙ sym (joined (piece_text column (slice_get values 0)) (pieces more (drop 1 values)))
-
-pub first_of_rest : (values : List Value) (i : ℕ) → slice_get (drop i values) 0 ≡ slice_get values i
-first_of_rest [] zero = refl
-first_of_rest [] (suc i) = refl
-first_of_rest (v ∷ more) zero = refl
-first_of_rest (v ∷ more) (suc i) = first_of_rest more i
-
--- one piece more
-pub piece_more : (columns : List Column) (values : List Value) (i : ℕ) (d : Column) → i < length columns
-    → pieces_from i (drop i columns) (drop i values) ≡ (separator i ++ piece_text (get_or columns i d) (slice_get values i)) ++ pieces_from (i + 1) (drop (i + 1) columns) (drop (i + 1) values)
-piece_more columns values i d within =
-    ap (λ (x : List Column). pieces_from i x (drop i values)) (drop_more columns i d within)
-    ∙ ap (λ (x : Option Value). (separator i ++ piece_text (get_or columns i d) x) ++ pieces_from (i + 1) (drop (i + 1) columns) (drop 1 (drop i values))) (first_of_rest values i)
-    ∙ ap (λ (x : List Value). (separator i ++ piece_text (get_or columns i d) (slice_get values i)) ++ pieces_from (i + 1) (drop (i + 1) columns) x) (drop-drop 1 i values)
-
-pub text_more : (columns : List Column) (values : List Value) (i : ℕ) (d : Column) (out whole now : List ℕ) → i < length columns
-    → out ++ pieces_from i (drop i columns) (drop i values) ≡ whole → now ≡ out ++ separator i ++ piece_text (get_or columns i d) (slice_get values i)
-    → now ++ pieces_from (i + 1) (drop (i + 1) columns) (drop (i + 1) values) ≡ whole
-text_more columns values i d out whole now within before grown =
-    let rest = pieces_from (i + 1) (drop (i + 1) columns) (drop (i + 1) values) in
-    let piece = separator i ++ piece_text (get_or columns i d) (slice_get values i) in
-    ap (λ (x : List ℕ). x ++ rest) (grown ∙ append_assoc out (separator i) (piece_text (get_or columns i d) (slice_get values i))) ∙ append_assoc out piece rest ∙ ap (λ (x : List ℕ). out ++ x) (sym (piece_more columns values i d within)) ∙ before
 
 -- ---- the values
 

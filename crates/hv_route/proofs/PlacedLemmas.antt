@@ -1,8 +1,7 @@
 -- The order of places tells all items apart, where their own order does.
 use Rattle.std.proofs.Common.{◌≡◌, ℕ, suc, ◌+◌, true, false, List, [], ◌∷◌, ◌++◌, length, refl, ap, sym, ◌∙◌, arith}
 use Rattle.std.specs.declared.cmp.Ordering.{Ordering}
-use Rattle.std.specs.declared.cmp.Ordering.TheVariants.{Less, Equal, Greater}
-use Rattle.std.specs.Ordering.{bool_cmp, ordering_then}
+use Rattle.std.specs.Ordering.{bool_cmp}
 use Rattle.std.specs.FinMap.{IsAntisymmetric, nat_cmp-IsAntisymmetric, slice_cmp-IsAntisymmetric}
 use Rattle.hv_base.specs.Identifiers.{row_id_cmp}
 use Rattle.hv_value.specs.declared.row.Row.{Row}
@@ -14,6 +13,7 @@ use Rattle.std.specs.List.{list_all}
 use Rattle.std.proofs.lemmas.Bool.{cond-true, cond-false}
 use Rattle.hv_logic.specs.declared.catalog.TableInfo.{TableInfo}
 use Rattle.hv_logic.specs.declared.effect.Effect.{Effect}
+use Rattle.hv_value.specs.OrderLaws.{then_first, then_second}
 use Rattle.hv_route.specs.declared.fault.RouteFault.TheVariants as fault
 use Rattle.hv_route.specs.Touching.{stored_fits, within_limits, touches_of, touched}
 use Rattle.hv_route.specs.Placing.{placed_cmp}
@@ -59,16 +59,6 @@ founds_count partition write statement bucket n [] = refl
 founds_count partition write statement bucket n (row ∷ rows) = ap suc (founds_count partition write statement bucket (suc n) rows)
 
 -- ---- items that tie are one
-
-then_first : (a b : Ordering) → ordering_then a b ≡ Equal → a ≡ Equal
-then_first Less b e = cc
-then_first Equal b e = refl
-then_first Greater b e = cc
-
-then_second : (a b : Ordering) → ordering_then a b ≡ Equal → b ≡ Equal
-then_second Less b e = cc
-then_second Equal b e = e
-then_second Greater b e = cc
 
 pub placed-same : {T : Type 0} {cmp : T → T → Ordering} → IsAntisymmetric cmp → IsAntisymmetric (placed_cmp cmp)
 unfolding placed_cmp

@@ -1,6 +1,6 @@
 -- How many rows a change inserts and deletes in each partition, and the limits of a change. The limits are this project's
 -- profile.
-use Rattle.std.specs.Prelude.{ℕ, Bool, true, false, ◌||◌, if◌then◌else◌, nat_lt, List, ◌++◌, map, length, take, sum_by, Result, Ok, Err}
+use Rattle.std.specs.Prelude.{if◌then◌else◌, ℕ, Bool, true, false, ◌||◌, nat_lt, List, ◌++◌, map, length, take, sum_by, Result, Ok, Err}
 use Rattle.std.specs.Ordering.{bool_cmp}
 use Rattle.std.specs.List.{list_all, list_any}
 use Rattle.hv_base.specs.declared.ids.Touch.{Touch}

@@ -47,9 +47,6 @@ pub ruleset lengths = (length-append, length-two, length-four, length-eight, len
 pub row_can : (row : Row) → RowIsTaken row → AllByRecursion CanPutValue row.values
 row_can row t = both ValueIsTaken (λ v. length (value_spelling v) < 2 ^ 32) row.values t.values (all_short value_spelling (2 ^ 32) row.values (let s = t.short in omega arith))
 
-pub row_short : (row : Row) → RowIsTaken row → length (flat_map value_spelling row.values) < 2 ^ 32
-row_short row t = let s = t.short in omega arith
-
 -- ---- and of an array
 
 some_byte : (y : Value-F Value) → FlatIsTaken y → 1 ≤ length (flat_spelling y)

@@ -1,5 +1,5 @@
 -- What a reader does with an item is what the definitions say of it.
-use Rattle.std.proofs.Common.{◌≡◌, Bool, true, false, cond, Option, Some, List, ◌∷◌, ◌++◌, ap, sym, append_assoc, ◌∙◌}
+use Rattle.std.proofs.Common.{◌≡◌, Bool, false, cond, Option, List, ◌∷◌, ◌++◌, ap, sym, append_assoc, ◌∙◌}
 use Rattle.std.specs.Option.{option_to_list}
 use Rattle.std.specs.Str.{IsUtf8}
 use Rattle.hv_script.specs.Script.{earlier}
@@ -11,7 +11,6 @@ use Rattle.hv_script.specs.Actions.{action_for, actions_from, least}
 use Rattle.hv_script.specs.Kinds.{kind_of}
 use Rattle.hv_script.specs.ActionReading.{Took}
 use Rattle.hv_script.specs.Standing.{Standing, after, fault_lines, is_faulty}
-use Rattle.hv_script.proofs.Lines.{earlier_assoc}
 
 abbrev here : Standing → Item → Bool
 here standing item = is_faulty standing item (kind_of item.bytes)
@@ -29,17 +28,6 @@ lines_are s item items test e = ap (λ (t : Bool). cond t (item.line ∷ fault_l
 actions_are : (s : Standing) (item : Item) (items : List Item) (test : Bool) → here s item ≡ test
     → actions_from s (item ∷ items) ≡ cond test (actions_from s items) (option_to_list (asked s item) ++ actions_from (next s item) items)
 actions_are s item items test e = ap (λ (t : Bool). cond t (actions_from s items) (option_to_list (asked s item) ++ actions_from (next s item) items)) e
-
-pub took_faulty : (old new : Reader) (item : Item) → here old.sessions item ≡ true → new.sessions ≡ old.sessions
-    → new.actions.items ≡ old.actions.items → new.fault ≡ earlier old.fault (Some item.line) → Took old new item
-took_faulty old new item test s a f = record {
-  fault = λ items.
-      (λ i. earlier (f i) (least (fault_lines (s i) items)))
-      ∙ earlier_assoc old.fault (Some item.line) (least (fault_lines old.sessions items))
-      ∙ sym (ap (λ lines. earlier old.fault (least lines)) (lines_are old.sessions item items true test));
-  actions = λ items utf8.
-      (λ i. a i ++ actions_from (s i) items) ∙ sym (ap (λ more. old.actions.items ++ more) (actions_are old.sessions item items true test));
-}
 
 kept : (old new : Reader) (item : Item) (made : Option Action) → here old.sessions item ≡ false
     → new.sessions ≡ next old.sessions item → new.actions.items ≡ old.actions.items ++ option_to_list made → new.fault ≡ old.fault

@@ -5,14 +5,14 @@ use hv_base::List;
 
 /// An item of a script: the line on which it begins, from 1, and its bytes. A directive begins with
 /// an exclamation mark; any other item is a statement's text.
-#[derive(Debug, Drop)]
+#[derive(Drop)]
 pub struct Item {
     pub line: u64,
     pub bytes: List<u8>,
 }
 
 /// Where a byte of a script stands.
-#[derive(Clone, Copy, Debug, PartialEq, Eq)]
+#[derive(Clone, Copy)]
 pub enum Stand {
     /// Between two items.
     Between,
@@ -31,7 +31,7 @@ pub enum Stand {
 }
 
 /// What a byte is to the items: with where the next byte stands.
-#[derive(Clone, Copy, Debug, PartialEq, Eq)]
+#[derive(Clone, Copy)]
 pub enum Move {
     /// It belongs to no item.
     Skip(Stand),

@@ -104,7 +104,7 @@ fn readable(script: &[u8]) -> &[u8]
 }
 
 /// The items of what of a script is read, and where its bytes are refused.
-#[derive(Debug, Drop)]
+#[derive(Drop)]
 pub struct Cut {
     /// The items before the limit, in order.
     pub items: List<Item>,

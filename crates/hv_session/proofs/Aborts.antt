@@ -9,6 +9,7 @@ use Rattle.hv_history.specs.declared.entry.Cause.{Cause}
 use Rattle.hv_history.specs.declared.entry.Cause.TheVariants as cause
 use Rattle.hv_history.specs.Answers.{cause_text}
 use Rattle.hv_history.specs.Legal.{CauseFits, profile}
+use Rattle.hv_stands.proofs.Fitting.{cause-open}
 use Rattle.hv_trail.specs.declared.trail.TrailItem.{TrailItem}
 use Rattle.hv_trail.specs.Trail.{book_of, state_at}
 use Rattle.hv_trail.specs.Steps.{Note}
@@ -28,7 +29,7 @@ use Rattle.hv_session.specs.Going.{faults_in, IsOpenHouse, AddsOwn, Goes, CauseK
 use Rattle.hv_session.specs.Leaving.{IsLeftFor, EndsAct, IsNeverUnfit, added_by, unaborted}
 use Rattle.hv_session.specs.Phases.{AbortsFor, NoCause}
 use Rattle.hv_session.proofs.Joining.{HeldBy, adds-none, halts-none, halts-for, goes-on}
-use Rattle.hv_session.proofs.Ends.{open-here, cause-opens, abort-replies, replied-now}
+use Rattle.hv_session.proofs.Ends.{open-here, abort-replies, replied-now}
 
 -- the entry that an act adds
 pub book-added : {T : Type 0} (event : T → Entry) (result : Result T ActFault) → book_of (adds_entry event result) ≡ added_by event result
@@ -57,7 +58,7 @@ module _ {D : Type 0} (told : D → Option Store) (faults : D → ℕ) (meanwhil
       let trail = trail_in held.house in
       replied-now trail (trail_in now) (aborting txn.0 why) txn.0 (cause_text None why) true at held.step.trail held.does_it.0.1
       (abort-replies (book_of trail) txn.0 why uncommitted
-      (open-here (book_of trail) txn.0 (CauseFits profile (state_at trail) txn.0 why) (cause-opens (state_at trail) txn.0 why) held.does_it.0.0))
+      (open-here (book_of trail) txn.0 (CauseFits profile (state_at trail) txn.0 why) (cause-open profile (state_at trail) txn.0 why) held.does_it.0.0))
 
 -- ---- what comes of it
 

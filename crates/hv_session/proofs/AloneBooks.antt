@@ -16,7 +16,8 @@ use Rattle.hv_acts.specs.Meant as acts
 use Rattle.hv_acts.specs.declared.told.ToldHouse.{ToldHouse}
 use Rattle.hv_session.specs.Going.{faults_in, Gains}
 use Rattle.hv_acts.proofs.Steps.{book-is}
-use Rattle.hv_session.specs.Ending.{IsNoEnd, AddsOf}
+use Rattle.hv_session.specs.Ending.{AddsOf}
+use Rattle.hv_acts.specs.Meant.{IsNoEnd}
 use Rattle.hv_session.specs.Alone.{AddsNothing, AddsAlone, OpenIsWhole}
 use Rattle.hv_session.proofs.Books.{fit-behind}
 

@@ -1,5 +1,5 @@
 -- Where nobody else acts, a statement that was opened is carried to its end or to its hold as over a house alone.
-use Rattle.std.proofs.Common.{◌≡◌, ℕ, ◌+◌, Option, Some, None, List, [], ◌∷◌, ◌++◌, length, take, refl, sym, ap, ◌∙◌, subst, append_assoc, Ok, Err, Result, inl, inr}
+use Rattle.std.proofs.Common.{◌≡◌, ℕ, ◌+◌, Option, Some, None, List, [], ◌∷◌, ◌++◌, take, refl, sym, ap, ◌∙◌, subst, append_assoc, Ok, Err, Result, inl, inr}
 use Rattle.std.specs.Prelude.{IsSomeAnd, IfOk}
 use Rattle.std.specs.List.{AllByRecursion}
 use Rattle.std.proofs.lemmas.List.{append_cancel_left}
@@ -25,6 +25,7 @@ use Rattle.hv_house.specs.Asking.{CanBegin}
 use Rattle.hv_telling.proofs.Told.{told-stays}
 use Rattle.hv_acts.specs.declared.told.ToldHouse.{ToldHouse}
 use Rattle.hv_acts.specs.Told.{IsWholeOrClosed}
+use Rattle.hv_session.proofs.Openings.{begun-under, one-tree}
 use Rattle.hv_session.specs.declared.ready.Way.{Way}
 use Rattle.hv_session.specs.declared.reply.Done.{Done}
 use Rattle.hv_session.specs.declared.reply.Done.TheVariants as done
@@ -43,19 +44,7 @@ use Rattle.hv_session.proofs.Orders.{at-its-hold, begun-in-order}
 use Rattle.hv_session.proofs.Passing.{HasPassed, part-behind, part-taking, passed-part, nothing-passed}
 use Rattle.hv_session.proofs.AloneBooks.{adds-alone}
 
--- a text has one tree
-one-tree : (text : List ℕ) (a b : Stmt) → Runs text a → Runs text b → a ≡ b
-one-tree text a b one other =
-    let e : Some a ≡ Some b = sym one.read ∙ other.read in cc
-
 -- ---- it began: what it goes on to is what it was taken up to
-
-begun-under : (book now : List Entry) (asking : Asking) (tree : Stmt) (txn place : ℕ) → Runs asking.text tree
-    → now ≡ book ++ opening book asking ∷ starting (next_number book) ∷ [] → txn ≡ next_number book → place ≡ length book + 1 → IsUnderWay now asking txn place tree []
-begun-under book now asking tree txn place runs noted number at =
-    subst (λ (b : List Entry). IsUnderWay b asking txn place tree []) (sym noted)
-    (subst (λ (n : ℕ). IsUnderWay (book ++ opening book asking ∷ starting (next_number book) ∷ []) asking n place tree []) (sym number)
-    (subst (λ (p : ℕ). IsUnderWay (book ++ opening book asking ∷ starting (next_number book) ∷ []) asking (next_number book) p tree []) (sym at) (begins book asking tree runs)))
 
 module _ (first before now : List Entry) (asking : Asking) (book : before ≡ first ++ opening first asking ∷ starting (next_number first) ∷ []) where
   begun-book : (added : List Entry) → now ≡ before ++ added → now ≡ first ++ (opening first asking ∷ starting (next_number first) ∷ added)

@@ -10,7 +10,8 @@ use Rattle.hv_trail.specs.declared.trail.TrailItem.{TrailItem}
 use Rattle.hv_house.specs.House.{entries_of}
 use Rattle.hv_acts.specs.declared.told.ToldHouse.{ToldHouse}
 use Rattle.hv_acts.proofs.Steps.{book-is}
-use Rattle.hv_session.specs.Ending.{IsNoEnd, IsUndamaged, HasEndedAt, HasReplied, aborting}
+use Rattle.hv_session.specs.Ending.{IsUndamaged, HasEndedAt, HasReplied, aborting}
+use Rattle.hv_acts.specs.Meant.{IsNoEnd}
 use Rattle.hv_session.specs.declared.ready.Ready.{Ready}
 use Rattle.hv_session.specs.declared.ready.Reply.{Reply}
 use Rattle.hv_session.specs.declared.ready.End.{End}

@@ -18,6 +18,7 @@ use Rattle.hv_history.specs.Lasting as lasting
 use Rattle.hv_history.proofs.LastingLaws.{goes-on-all}
 use Rattle.hv_stands.specs.Running.{Asking, meant, snapshot_at, running, IsWaiting, IsUnderWay}
 use Rattle.hv_stands.proofs.Behind.{committed-there, created-there, aborted-there, numbered-behind}
+use Rattle.hv_stands.proofs.Fitting.{cause-open}
 use Rattle.hv_trail.specs.declared.trail.TrailItem.{TrailItem}
 use Rattle.hv_trail.specs.Trail.{book_of, state_at}
 use Rattle.hv_meta.specs.States.{state_in}
@@ -29,7 +30,8 @@ use Rattle.hv_acts.specs.Answers.{HasNotEnded}
 use Rattle.hv_acts.specs.Meant as acts
 use Rattle.hv_acts.proofs.Steps.{book-is}
 use Rattle.hv_acts.proofs.RunsOn.{runs-on, runs-unended, waits-unended}
-use Rattle.hv_session.specs.Ending.{IsNoEnd, IsEndOf, HasEndedAt, HasReplied, CanEnd}
+use Rattle.hv_session.specs.Ending.{IsEndOf, HasEndedAt, HasReplied, CanEnd}
+use Rattle.hv_acts.specs.Meant.{IsNoEnd}
 use Rattle.hv_session.specs.declared.reply.Done.{Done}
 use Rattle.hv_session.specs.declared.reply.Done.TheVariants as done
 use Rattle.hv_session.specs.declared.reply.Outcome.TheVariants as outcome
@@ -38,7 +40,7 @@ use Rattle.hv_session.specs.Phases.{AbortsFor, IsAbortFor, IsUntoldDamage}
 use Rattle.hv_session.specs.Alone.{AddsNothing, HasGained, IsAbortedAlone, IsRefusedAlone, RefusesAlone, RefusesWaiting, SeesAlone}
 use Rattle.hv_session.proofs.AloneBooks.{went-alone, adds-alone, no-end}
 use Rattle.hv_session.proofs.Books.{fit-behind}
-use Rattle.hv_session.proofs.Ends.{open-here, cause-opens}
+use Rattle.hv_session.proofs.Ends.{open-here}
 
 -- ---- it runs
 
@@ -96,7 +98,7 @@ end-ends book (entry.Commit other wrote) txn ends fits =
     (ended-of (book ++ entry.Commit other wrote ∷ []) other.0 _ _
     (numbered-behind book (entry.Commit other wrote) other.0 _ (committed-there (state_of book) other.0 open_.t open_.here open_.unended wrote)) refl)
 end-ends book (entry.Abort other why) txn ends fits =
-    let open_ = open-here book other.0 (CauseFits profile (state_of book) other.0 why) (cause-opens (state_of book) other.0 why) fits in
+    let open_ = open-here book other.0 (CauseFits profile (state_of book) other.0 why) (cause-open profile (state_of book) other.0 why) fits in
     subst (IsEndedHere (book ++ entry.Abort other why ∷ [])) ends
     (ended-of (book ++ entry.Abort other why ∷ []) other.0 _ _
     (numbered-behind book (entry.Abort other why) other.0 _ (aborted-there (state_of book) other.0 open_.t open_.here open_.unended why)) refl)

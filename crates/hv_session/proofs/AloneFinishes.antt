@@ -35,7 +35,8 @@ use Rattle.hv_session.specs.declared.reply.Done.TheVariants as done
 use Rattle.hv_session.specs.declared.paused.Point.{Point}
 use Rattle.hv_session.specs.declared.paused.Point.TheVariants as point
 use Rattle.hv_session.specs.declared.paused.Paused.{Paused}
-use Rattle.hv_session.specs.Ending.{aborting, giving, IsNoEnd, IsUndamaged, AddsNoneOrId, IsAskedBy, EndIsTrue, HasReplied}
+use Rattle.hv_session.specs.Ending.{aborting, giving, IsUndamaged, AddsNoneOrId, IsAskedBy, EndIsTrue, HasReplied}
+use Rattle.hv_acts.specs.Meant.{IsNoEnd}
 use Rattle.hv_session.specs.Going.{faults_in, IsOpenHouse, AddsOwn, Gains, Goes}
 use Rattle.hv_session.specs.Phases.{EndsBehind, IsAbortFor, AbortsFor, IsUntoldDamage, PreparesTo, EndsEarlyFor, IsWriteFault, GivesId, ConcludesSo, Concludes, AnswersTruly}
 use Rattle.hv_session.specs.Doing.{EndsFrom, EndsAs, EndsFromPoint, Finishes}

@@ -23,7 +23,8 @@ use Rattle.hv_house.specs.House.{entries_of}
 use Rattle.hv_acts.specs.declared.told.ToldHouse.{ToldHouse}
 use Rattle.hv_acts.specs.Told.{IsWholeOrClosed}
 use Rattle.hv_acts.proofs.Steps.{book-is}
-use Rattle.hv_session.specs.Ending.{IsNoEnd, IsUndamaged, HasEndedAt, HasReplied, EndsUncommitted, AddsNoneOrId, IsAskedBy, CanEnd, aborting, giving, idle_end}
+use Rattle.hv_session.specs.Ending.{IsUndamaged, HasEndedAt, HasReplied, EndsUncommitted, AddsNoneOrId, IsAskedBy, CanEnd, aborting, giving, idle_end}
+use Rattle.hv_acts.specs.Meant.{IsNoEnd}
 use Rattle.hv_session.specs.declared.ready.Way.{Way}
 use Rattle.hv_session.specs.declared.ready.Ready.{Ready}
 use Rattle.hv_session.specs.declared.ready.End.TheVariants as end

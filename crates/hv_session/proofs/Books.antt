@@ -8,7 +8,9 @@ use Rattle.hv_history.specs.declared.entry.Cause.TheVariants as cause
 use Rattle.hv_history.specs.State.{State, after, state_of, nothing_yet}
 use Rattle.hv_history.specs.Legal.{AllFit, AllTruthful, IsTruthful, IsLegalFrom, profile}
 use Rattle.hv_stands.specs.Statements.{AllFitting}
-use Rattle.hv_session.specs.Ending.{KeepsCount, IsNoEnd}
+use Rattle.hv_house.proofs.Faithful.{truthful-from}
+use Rattle.hv_session.specs.Ending.{KeepsCount}
+use Rattle.hv_acts.specs.Meant.{IsNoEnd}
 
 -- ---- facts of each entry
 
@@ -65,10 +67,6 @@ fit-behind s (event ∷ book) more fit = fit-behind (after s event) book more fi
 fit-from : (s : State) (book more : List Entry) → AllFit profile s book → AllFit profile (fold after s book) more → AllFit profile s (book ++ more)
 fit-from s [] more fit next = next
 fit-from s (e ∷ book) more fit next = (fit.0, fit-from (after s e) book more fit.1 next)
-
-truthful-from : (s : State) (book more : List Entry) → AllTruthful s book → AllTruthful (fold after s book) more → AllTruthful s (book ++ more)
-truthful-from s [] more truthful next = next
-truthful-from s (e ∷ book) more truthful next = (truthful.0, truthful-from (after s e) book more truthful.1 next)
 
 pub legal-from : (s : State) (book more : List Entry) → IsLegalFrom profile s book → IsLegalFrom profile (fold after s book) more → IsLegalFrom profile s (book ++ more)
 legal-from s book more legal next = record {

@@ -9,8 +9,8 @@ use Rattle.hv_history.specs.declared.state.Ending.{Ending}
 use Rattle.hv_history.specs.declared.state.Ending.TheVariants.{Aborted, Made}
 use Rattle.hv_history.specs.declared.state.Snapshot.{Snapshot}
 use Rattle.hv_history.specs.declared.state.Transaction.{Transaction}
-use Rattle.hv_history.specs.State.{State, state_of, numbered, ended}
-use Rattle.hv_history.specs.Legal.{Of, CauseFits, is_open, is_started, profile}
+use Rattle.hv_history.specs.State.{state_of, numbered, ended}
+use Rattle.hv_history.specs.Legal.{Of, is_open, is_started}
 use Rattle.hv_history.specs.Lasting.{IsFront, Later}
 use Rattle.hv_history.specs.Answers.{cause_text, ok_line, answer_in}
 use Rattle.hv_stands.specs.Running.{IsUnderWay, is_refused_transaction}
@@ -44,22 +44,6 @@ open-here book txn P opens = by (numbered (state_of book).transactions txn) refl
     by : (o : Option Transaction) → numbered (state_of book).transactions txn ≡ o → IsSomeAnd o P → IsOpenHere book txn
     by None e is = absurd is
     by (Some t) e is = record { t = t; here = e; unended = none-of t.ending (opens t is) }
-
--- an abort fits an open transaction alone
-pub cause-opens : (state : State) (txn : ℕ) (why : Cause) (t : Transaction) → CauseFits profile state txn why t → IsTrue (is_open t)
-cause-opens state txn (cause.Refused number) t fits = fits.unended
-cause-opens state txn (cause.Conflict by table partition) t fits = fits.running.unended
-cause-opens state txn (cause.Request by) t fits = fits.unended
-cause-opens state txn cause.Full t fits = fits.unended
-cause-opens state txn (cause.Twice partition row) t fits = fits.unended
-cause-opens state txn (cause.Blocked holder) t fits = fits.waiting.unended
-cause-opens state txn (cause.ReadFault count) t fits = fits.running.unended
-cause-opens state txn (cause.WriteFault count) t fits = fits.running.unended
-cause-opens state txn (cause.Damaged place) t fits = fits.unended
-cause-opens state txn cause.RowLimit t fits = fits.unended
-cause-opens state txn cause.PartitionLimit t fits = fits.unended
-cause-opens state txn cause.Memory t fits = fits
-cause-opens state txn cause.Lost t fits = fits.unended
 
 -- ---- what its last entry answers
 

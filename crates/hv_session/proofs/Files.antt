@@ -75,5 +75,3 @@ pub reads-done : {X : Type 0} (o : Option Store) (deletes : Bool) (taken : List 
 reads-done o deletes taken i pick items counts high low sofar =
     let end : i ≡ length taken = omega (arith, high, low) in
     subst (λ (files : List DirFile). ReadsUpTo o deletes files pick items counts) (ap (λ n. take n taken) end ∙ take-length taken) sofar
-
--- ---- one file that was got

@@ -28,7 +28,9 @@ use Rattle.hv_acts.specs.declared.fault.ActFault.TheVariants as act
 use Rattle.hv_acts.specs.Told.{IsWholeOrClosed, seen_in, trail_in}
 use Rattle.hv_acts.specs.Answers.{Test, IsWhy, Answers, IsCutShort, FaultLeaves, AnswerLeaves, answer_call, answer_outcome}
 use Rattle.hv_acts.proofs.Leaves.{answer-rises}
-use Rattle.hv_session.specs.Ending.{KeepsCount, IsNoEnd}
+use Rattle.hv_session.proofs.Books.{all-map as all-as}
+use Rattle.hv_session.specs.Ending.{KeepsCount}
+use Rattle.hv_acts.specs.Meant.{IsNoEnd}
 use Rattle.hv_session.specs.declared.ready.Way.{Way}
 use Rattle.hv_session.specs.Going.{faults_in, IsOpenHouse, IsShutHouse, AddsOwn, Gains, IsShutBetween, IsShutNow, HaltsFor, Halts, Goes, WasSo, WasOnWay, HasWaited, WasOpened, IsGone}
 use Rattle.hv_session.specs.Leaving.{IsLeftBy, IsLeft, EndsAct}
@@ -314,10 +316,6 @@ module _ {D : Type 0} (told : D → Option Store) (faults : D → ℕ) (meanwhil
 pub all-more : {A : Type 0} (P : A → Type 0) (xs ys : List A) → AllByRecursion P xs → AllByRecursion P ys → AllByRecursion P (xs ++ ys)
 all-more P [] ys all more = more
 all-more P (x ∷ xs) ys all more = (all.0, all-more P xs ys all.1 more)
-
-pub all-as : {A : Type 0} (P Q : A → Type 0) → ((x : A) → P x → Q x) → (xs : List A) → AllByRecursion P xs → AllByRecursion Q xs
-all-as P Q f [] all = tt
-all-as P Q f (x ∷ xs) all = (f x all.0, all-as P Q f xs all.1)
 
 -- a count that was risen to within this is so within more
 pub counts-within : (low high low' high' : ℕ) → low' ≤ low → high ≤ high' → (event : Entry) → KeepsCount low high event → KeepsCount low' high' event

@@ -43,7 +43,8 @@ use Rattle.hv_acts.specs.Beginning.{begin_call, begin_outcome, adds_beginning, B
 use Rattle.hv_acts.specs.Starting.{to_start, call_to_start, adds_started, IsShort, IsInItsWay, StartOrAbortAnswers}
 use Rattle.hv_acts.specs.Waiting.{next_opened, OpenAnswers}
 use Rattle.hv_acts.proofs.Leaves.{answer-rises, begin-rises}
-use Rattle.hv_session.specs.Ending.{aborting, KeepsCount, IsNoEnd, HasReplied}
+use Rattle.hv_session.specs.Ending.{aborting, KeepsCount, HasReplied}
+use Rattle.hv_acts.specs.Meant.{IsNoEnd}
 use Rattle.hv_session.proofs.Replied.{waiting-abort-replies}
 use Rattle.hv_session.specs.declared.reply.Done.{Done}
 use Rattle.hv_session.specs.declared.reply.Done.TheVariants as done
@@ -177,7 +178,7 @@ pub one-tree : (text : List ℕ) (a b : Stmt) → Runs text a → Runs text b �
 one-tree text a b one other =
     let e : Some a ≡ Some b = sym one.read ∙ other.read in cc
 
-begun-under : (book now : List Entry) (asking : Asking) (tree : Stmt) (txn place : ℕ) → Runs asking.text tree
+pub begun-under : (book now : List Entry) (asking : Asking) (tree : Stmt) (txn place : ℕ) → Runs asking.text tree
     → now ≡ book ++ opening book asking ∷ starting (next_number book) ∷ [] → txn ≡ next_number book → place ≡ length book + 1 → IsUnderWay now asking txn place tree []
 begun-under book now asking tree txn place runs noted number at =
     subst (λ (b : List Entry). IsUnderWay b asking txn place tree []) (sym noted)

@@ -32,7 +32,8 @@ use Rattle.hv_law_next.specs.Order.{IsOfTable, AsksForId, CauseInOrder, IsInOrde
 use Rattle.hv_law_next.specs.Carrying.{IsUnrefused as IsUnrefusedMeaning, IsToCommit, IsAtHold}
 use Rattle.hv_session.specs.declared.ready.End.{End}
 use Rattle.hv_session.specs.declared.ready.End.TheVariants as end
-use Rattle.hv_session.specs.Ending.{aborting, giving, IsNoEnd, IsOneEnd, EndsUncommitted, AddsNoneOrId, AddsAbort, IsOfRows, IsAskedBy, AddsAsked, IsChangeReady, EndIsTrue}
+use Rattle.hv_session.specs.Ending.{aborting, giving, IsOneEnd, EndsUncommitted, AddsNoneOrId, AddsAbort, IsOfRows, IsAskedBy, AddsAsked, IsChangeReady, EndIsTrue}
+use Rattle.hv_acts.specs.Meant.{IsNoEnd}
 use Rattle.hv_session.proofs.Touched.{some-touched}
 use Rattle.hv_session.specs.declared.paused.Point.{Point}
 use Rattle.hv_session.specs.declared.paused.Point.TheVariants as point

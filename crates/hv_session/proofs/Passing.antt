@@ -15,7 +15,8 @@ use Rattle.hv_house.specs.Faults.{FileCause, HasRisen}
 use Rattle.hv_house.specs.House.{entries_of}
 use Rattle.hv_telling.specs.Telling.{IsWhole}
 use Rattle.hv_telling.proofs.Told.{told-stays}
-use Rattle.hv_session.specs.Ending.{KeepsCount, IsNoEnd, HasStopped}
+use Rattle.hv_session.specs.Ending.{KeepsCount, HasStopped}
+use Rattle.hv_acts.specs.Meant.{IsNoEnd}
 use Rattle.hv_session.specs.Ways.{IsDone, IsPart, IsTaking}
 use Rattle.hv_session.proofs.Books.{all-append, all-map, IsBegun, begun-counts, begun-unended, begun-legal, counts-from, legal-from, state-behind}
 

@@ -19,7 +19,7 @@ use Rattle.hv_house.specs.declared.fault.HouseFault.{HouseFault}
 use Rattle.hv_telling.specs.Telling.{IsToldHouse}
 use Rattle.hv_acts.specs.declared.told.ToldHouse.{ToldHouse}
 use Rattle.hv_acts.specs.Told.{trail_in}
-use Rattle.hv_session.specs.Ending.{IsNoEnd}
+use Rattle.hv_acts.specs.Meant.{IsNoEnd}
 use Rattle.hv_session.specs.declared.ready.Way.{Way}
 use Rattle.hv_session.specs.declared.ready.Ready.{Ready}
 use Rattle.hv_session.specs.declared.reply.Done.{Done}

@@ -26,7 +26,7 @@ use Rattle.hv_history.specs.Legal.{TouchesAreMeant, IsMake, IsLegalFrom, AllFit,
 use Rattle.hv_history.specs.Answers.{committed_text, ok_line}
 use Rattle.hv_stands.specs.Laws.{HasFile, changes_in}
 use Rattle.hv_stands.specs.Running.{Asking, AreOf, meant, IsUnderWay, HasAnswered}
-use Rattle.hv_acts.specs.Meant.{places_of_files}
+use Rattle.hv_acts.specs.Meant.{places_of_files, IsNoEnd}
 use Rattle.hv_house.specs.declared.fault.HouseFault.{HouseFault}
 use Rattle.hv_house.specs.declared.house.House.{House}
 use Rattle.hv_house.specs.House.{entries_of, IsSmall, Leaves}
@@ -73,14 +73,6 @@ KeepsCount low high event = Unit {0}
 abbrev pub IsUndamaged : Entry → Type 0
 IsUndamaged (entry.Abort txn (cause.Damaged place)) = ⊥
 IsUndamaged event = Unit {0}
-
--- the entry doesn't end its transaction
-abbrev pub IsNoEnd : Entry → Type 0
-IsNoEnd (entry.Commit txn wrote) = ⊥
-IsNoEnd (entry.Create txn table) = ⊥
-IsNoEnd (entry.Drop txn table) = ⊥
-IsNoEnd (entry.Abort txn why) = ⊥
-IsNoEnd event = Unit {0}
 
 -- the book went on by entries of this transaction alone
 pub record AddsOf (txn low high : ℕ) (before now : List Entry) : Type 0 where

@@ -18,7 +18,8 @@ use Rattle.hv_house.specs.declared.fault.HouseFault.{HouseFault}
 use Rattle.hv_house.specs.declared.fault.HouseFault.TheVariants as fault
 use Rattle.hv_acts.specs.declared.told.ToldHouse.{ToldHouse}
 pub use Rattle.hv_acts.specs.Going.{faults_in, IsOpenHouse, IsShutHouse, AddsOwn, IsShutBetween, IsShutNow, HaltsFor}
-use Rattle.hv_session.specs.Ending.{KeepsCount, IsNoEnd}
+use Rattle.hv_session.specs.Ending.{KeepsCount}
+use Rattle.hv_acts.specs.Meant.{IsNoEnd}
 use Rattle.hv_session.specs.declared.ready.Way.{Way}
 
 -- ---- what one's own acts added

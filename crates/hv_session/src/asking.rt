@@ -14,7 +14,7 @@ pub struct Asking {
 }
 
 /// How statements are taken up: whether one that has to wait for a lock waits, and how many workers there are.
-#[derive(Clone, Copy, Debug)]
+#[derive(Clone, Copy)]
 pub struct How {
     pub waits: bool,
     pub workers: usize,

@@ -3,7 +3,7 @@ use hv_shelf::Place;
 
 /// What is printed for a statement, whether it was refused, and the place in the book of the entry that ended its
 /// transaction; None for a statement that was never opened.
-#[derive(Debug, Drop)]
+#[derive(Drop)]
 pub struct Reply {
     pub text: List<u8>,
     pub refused: bool,
@@ -11,7 +11,7 @@ pub struct Reply {
 }
 
 /// A started statement: its transaction, and the place of its Start in the book.
-#[derive(Clone, Copy, Debug)]
+#[derive(Clone, Copy)]
 pub struct Way {
     pub txn: TxnId,
     pub place: u64,

@@ -117,8 +117,8 @@ impl MemoryDisk {
         ensures err { OnErr result (self.new ≡ self.old) }
     {
         let alloc = *self.journal.allocator();
-        let key = place.duplicate(alloc)?;
         let file = List::from_vec(Vec::from_slice(alloc, bytes)?);
+        let key = place.duplicate(alloc)?;
         self.files.insert(key, file)?;
         Ok(())
     }
@@ -152,8 +152,8 @@ impl MemoryDisk {
         let alloc = *self.journal.allocator();
         let mut files = BTreeMap::new(alloc);
         for (place, bytes) in self.files.iter() {
-            let place = place_after(alloc, from, to, place)?;
             let bytes = List::from_vec(Vec::from_slice(alloc, bytes.as_slice())?);
+            let place = place_after(alloc, from, to, place)?;
             files.insert(place, bytes)?;
         }
         self.files = files;

@@ -5,7 +5,7 @@ use std::alloc::AllocError;
 use thiserror::Error;
 
 /// Why a call of a store was refused. After `NoMemory` nothing has changed.
-#[derive(Clone, Copy, Debug, PartialEq, Eq, Error)]
+#[derive(Clone, Copy, Debug, Error)]
 pub enum ShelfFault {
     /// The store failed; its count of faults rose.
     #[error("the store failed")]

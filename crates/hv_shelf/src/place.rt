@@ -7,7 +7,7 @@ use std::cmp::Ordering;
 
 /// Where a file stands: its table, its partition's text (empty where the table has none), its
 /// directory's name and its bucket.
-#[derive(Debug, Drop, PartialEq, Eq)]
+#[derive(Drop, PartialEq, Eq)]
 pub struct Place {
     pub table: TableId,
     pub partition: Text,
@@ -16,7 +16,7 @@ pub struct Place {
 }
 
 /// A directory of files.
-#[derive(Debug, Drop, PartialEq, Eq)]
+#[derive(Drop)]
 pub struct DirAt {
     pub table: TableId,
     pub partition: Text,

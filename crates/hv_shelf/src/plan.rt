@@ -6,7 +6,7 @@ use hv_base::{Failed, raise};
 use std::marker::Model;
 
 /// A call of a store that can fail.
-#[derive(Clone, Copy, Debug, PartialEq, Eq)]
+#[derive(Clone, Copy, Debug, PartialEq)]
 pub enum Op {
     JournalLen,
     JournalRead,
@@ -20,7 +20,7 @@ pub enum Op {
 }
 
 /// A call that is to fail: the one with number `nth`, from 0, among the calls of `op`.
-#[derive(Clone, Copy, Debug, PartialEq, Eq)]
+#[derive(Clone, Copy, PartialEq)]
 pub struct Fail {
     pub op: Op,
     pub nth: u64,

@@ -58,7 +58,7 @@ all-there partition bucket (found ∷ rows) = by (stands_in partition bucket fou
     by true is rest = (is-there partition bucket found is, rest)
     by false is rest = rest
 
-tied : (o : Ordering) → o ≡ ordering_reverse o → o ≡ Equal
+pub tied : (o : Ordering) → o ≡ ordering_reverse o → o ≡ Equal
 tied Less e = cc
 tied Equal e = refl
 tied Greater e = cc
@@ -70,7 +70,7 @@ same-text : (text : List ℕ) → slice_cmp nat_cmp text text ≡ Equal
 same-text text = tied (slice_cmp nat_cmp text text) (nat_list_cmp_total.antisymm text text)
 
 -- in one partition rows stand by their identifiers
-by-id : (x y : Found) → x.partition ≡ y.partition → found_cmp x y ≡ row_id_cmp x.id y.id
+pub by-id : (x y : Found) → x.partition ≡ y.partition → found_cmp x y ≡ row_id_cmp x.id y.id
 by-id x y same =
     ap (λ o. ordering_then o (row_id_cmp x.id y.id)) (ap (λ p. slice_cmp nat_cmp p y.partition) same ∙ same-text y.partition)
 

@@ -1,5 +1,5 @@
 -- A book whose entries fit: it is sound, its fronts fit, and its load is never past the limit.
-use Rattle.std.proofs.Common.{◌≡◌, ℕ, zero, suc, ◌+◌, ◌<◌, ◌≤◌, false, is_none, Option, Some, None, List, [], ◌∷◌, ◌++◌, take, fold, refl, ap, ◌∙◌, arith}
+use Rattle.std.proofs.Common.{◌≡◌, ℕ, zero, suc, ◌+◌, ◌<◌, ◌≤◌, false, is_none, Option, Some, None, List, [], ◌∷◌, ◌++◌, length, take, fold, refl, ap, ◌∙◌, arith}
 use Rattle.std.specs.Prelude.{IsTrue, sum_by}
 use Rattle.std.specs.List.{slice_get}
 use Rattle.std.proofs.lemmas.List.Sums.{sum_by-append, sum_by-cons}
@@ -23,7 +23,7 @@ fitting-sound book fit = sound-all profile nothing_yet book fit nothing-sound
 
 -- ---- its fronts, and one entry more
 
-front-fits : (limits : Limits) (book : List Entry) (s : State) (place : ℕ) → AllFit limits s book → AllFit limits s (take place book)
+pub front-fits : (limits : Limits) (book : List Entry) (s : State) (place : ℕ) → AllFit limits s book → AllFit limits s (take place book)
 front-fits limits book s zero fit = tt
 front-fits limits [] s (suc place) fit = tt
 front-fits limits (event ∷ book) s (suc place) fit = (fit.0, front-fits limits book (after s event) place fit.1)
@@ -31,7 +31,7 @@ front-fits limits (event ∷ book) s (suc place) fit = (fit.0, front-fits limits
 pub fronts-fit : FrontsFit
 fronts-fit book place fit = front-fits profile book nothing_yet place fit
 
-more-fits : (limits : Limits) (book : List Entry) (s : State) (event : Entry) → AllFit limits s book → Fits limits (fold after s book) event
+pub more-fits : (limits : Limits) (book : List Entry) (s : State) (event : Entry) → AllFit limits s book → Fits limits (fold after s book) event
     → AllFit limits s (book ++ event ∷ [])
 more-fits limits [] s event fit fits = (fits, tt)
 more-fits limits (first ∷ book) s event fit fits = (fit.0, more-fits limits book (after s first) event fit.1 fits)
@@ -93,7 +93,7 @@ roomy limits s now more entries jobs counts room =
     record { room = omega (arith, counts, room); within = omega (arith, entries, same, counts, room) }
 
 -- every cause of an abort is one of an open transaction
-cause-open : (limits : Limits) (s : State) (txn : ℕ) (why : Cause) (t : Transaction) → CauseFits limits s txn why t → IsTrue (is_open t)
+pub cause-open : (limits : Limits) (s : State) (txn : ℕ) (why : Cause) (t : Transaction) → CauseFits limits s txn why t → IsTrue (is_open t)
 cause-open limits s txn (cause.Refused number) t fits = fits.unended
 cause-open limits s txn (cause.Conflict by_ table partition) t fits = fits.running.unended
 cause-open limits s txn (cause.Request by_) t fits = fits.unended
@@ -149,8 +149,12 @@ load-within : (limits : Limits) (book : List Entry) (s : State) → AllFit limit
 load-within limits [] s fit within = within
 load-within limits (event ∷ book) s fit within = load-within limits book (after s event) fit.1 (fits-roomy limits s event fit.0 within).within
 
-pub fitting-room : FittingHasRoom
-fitting-room book event fit fits =
-    let none : load nothing_yet ≤ profile.entries = omega arith in
-    let here = fits-roomy profile (state_of book) event fits (load-within profile book nothing_yet fit none) in
+pub room-within : (limits : Limits) (book : List Entry) (event : Entry) → AllFit limits nothing_yet book → Fits limits (state_of book) event
+    → length book < limits.entries
+room-within limits book event fit fits =
+    let none : load nothing_yet ≤ limits.entries = omega arith in
+    let here = fits-roomy limits (state_of book) event fits (load-within limits book nothing_yet fit none) in
     omega (arith, here.room, entries-are book)
+
+pub fitting-room : FittingHasRoom
+fitting-room book event fit fits = room-within profile book event fit fits

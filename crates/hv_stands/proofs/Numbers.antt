@@ -5,6 +5,7 @@ use Rattle.std.proofs.Math.Dec.{eqb-suc-zero, eqb-zero-suc, eqb-suc-suc}
 use Rattle.std.specs.List.{slice_get}
 use Rattle.std.specs.Option.{option_map}
 use Rattle.hv_history.specs.State.{numbered, changed, changed_at}
+use Rattle.hv_meaning.proofs.Meanings.{get-mapped as get-map}
 
 pub one_value : {A : Type 0} (x y : A) → Some x ≡ Some y → x ≡ y
 one_value x y e = cc
@@ -46,11 +47,6 @@ pub changed-here : {A : Type 0} (f : A → A) (xs : List A) (n : ℕ) (x : A) �
 changed-here f xs n x e = numbered-changed f xs n n x e ∙ ap (λ b. cond b (Some (f x)) (numbered xs n)) (eq-eqb n n refl)
 
 -- ---- through a map
-
-get-map : {A B : Type 0} (f : A → B) (xs : List A) (n : ℕ) → slice_get (map f xs) n ≡ option_map f (slice_get xs n)
-get-map f [] n = refl
-get-map f (x ∷ xs) zero = refl
-get-map f (x ∷ xs) (suc n) = get-map f xs n
 
 pub numbered-map : {A B : Type 0} (f : A → B) (xs : List A) (n : ℕ) → numbered (map f xs) n ≡ option_map f (numbered xs n)
 numbered-map f xs zero = refl

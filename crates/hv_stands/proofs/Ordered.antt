@@ -35,11 +35,6 @@ module _ {X : Type 0} (R : X → X → Ordering) where
       by true rest = (all-kept (λ y. R x y ≡ Less) keep xs up.0, rest)
       by false rest = rest
 
-  pub rises-joined : (xs ys : List X) → IsStrictlySortedBy R xs → IsStrictlySortedBy R ys → AllByRecursion (λ x. IsBefore x ys) xs → IsStrictlySortedBy R (xs ++ ys)
-  unfolding IsStrictlySortedBy
-  rises-joined [] ys up down h = down
-  rises-joined (x ∷ xs) ys up down h = (all-joined (λ y. R x y ≡ Less) xs ys up.0 h.0, rises-joined xs ys up.1 down h.1)
-
   -- ---- no two of these tie
 
   abbrev pub NoTie : X → X → Type 0

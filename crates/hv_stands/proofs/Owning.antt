@@ -85,7 +85,7 @@ given-new (first ∷ g) table write none = by (first.0 == table) (given-new g ta
     by true rest e = cc
     by false rest e = rest e
 
-given-or-new : (g : List (ℕ × ℕ)) (key id table write : ℕ) → given_in table (g ++ (key, id) ∷ []) ≡ Some write
+pub given-or-new : (g : List (ℕ × ℕ)) (key id table write : ℕ) → given_in table (g ++ (key, id) ∷ []) ≡ Some write
     → (given_in table g ≡ Some write) ⊎ ((table ≡ key) × (write ≡ id))
 given-or-new [] key id table write e = by (either (key == table)) e
   where

@@ -393,11 +393,6 @@ done-undone (Some (Some (Aborted place why))) done undone = done
 done-undone (Some (Some (Made place table))) done undone = done
 done-undone (Some (Some (Dropped place table))) done undone = done
 
-made-slice : (tables : List Table) (n : ℕ) (place : Place) (bytes : List ℕ) → made_in (slice_get tables n) place ≡ Some bytes → (table : Table) × (slice_get tables n ≡ Some table)
-made-slice [] n place bytes e = cc
-made-slice (t ∷ tables) zero place bytes e = (t, refl)
-made-slice (t ∷ tables) (suc n) place bytes e = made-slice tables n place bytes e
-
 pub made-of-table : (tables : List Table) (place : Place) (bytes : List ℕ) → made_at tables place ≡ Some bytes
     → (table : Table) × (numbered tables place.table.0 ≡ Some table) × (made_in (Some table) place ≡ Some bytes)
 unfolding made_at

@@ -12,7 +12,7 @@ use Rattle.hv_rowfile.specs.Layout.{CanWrite, IsFile}
 use Rattle.hv_history.specs.declared.entry.Entry.{Entry}
 use Rattle.hv_history.specs.declared.state.Written.{Written}
 use Rattle.hv_history.specs.declared.state.Table.{Table}
-use Rattle.hv_history.specs.State.{State, after, numbered, new_table}
+use Rattle.hv_history.specs.State.{State, after, numbered}
 use Rattle.hv_history.specs.Legal.{Fits}
 use Rattle.hv_dirs.specs.Names.{write_end}
 use Rattle.hv_stands.specs.Files.{records_of, HasRecords, own_dir, own_place, ending_of, IsOwn, IsSaid, IsFiled, Stands}

@@ -13,7 +13,7 @@ use Rattle.hv_history.specs.declared.state.Transaction.{Transaction}
 use Rattle.hv_history.specs.State.{State, nothing_yet, state_of, numbered, changed, changed_at, after, acted, owned, written_to, commits, tables_behind}
 use Rattle.hv_history.specs.Legal.{Fits, AllFit, CommitFits}
 use Rattle.hv_history.specs.Lasting.{Later, TableLater, GoesOn}
-use Rattle.hv_history.proofs.LastingLaws.{goes-on, goes-on-all}
+use Rattle.hv_history.proofs.LastingLaws.{goes-on, goes-on-all, more-slice as get-front}
 use Rattle.hv_stands.specs.Files.{ending_of, IsUndone}
 use Rattle.hv_stands.specs.Sound.{info_in, given_of, owners_of, given_among, IsDone, IsSound}
 use Rattle.hv_stands.proofs.Numbers.{one_value, same_one, found, either, numbered-changed, numbered-map, numbered-more}
@@ -22,11 +22,6 @@ use Rattle.hv_stands.proofs.Keeping.{still-open, IsOneWrite, one-write, owner-ta
 use Rattle.hv_table_rows.proofs.Members.{In, in-parts}
 
 -- ---- numbers
-
-get-front : {A : Type 0} (xs ys : List A) (n : ℕ) (x : A) → slice_get xs n ≡ Some x → slice_get (xs ++ ys) n ≡ Some x
-get-front [] ys n x e = cc
-get-front (y ∷ xs) ys zero x e = e
-get-front (y ∷ xs) ys (suc n) x e = get-front xs ys n x e
 
 pub numbered-front : {A : Type 0} (xs ys : List A) (n : ℕ) (x : A) → numbered xs n ≡ Some x → numbered (xs ++ ys) n ≡ Some x
 numbered-front xs ys zero x e = cc

@@ -1,5 +1,5 @@
 -- Equal texts, and what holds of all items of a list.
-use Rattle.std.proofs.Common.{◌≡◌, ℕ, Bool, true, false, Option, Some, None, List, [], ◌∷◌, ◌++◌, refl, ap}
+use Rattle.std.proofs.Common.{◌≡◌, ℕ, Bool, true, false, List, [], ◌∷◌, ◌++◌, refl}
 use Rattle.std.specs.Prelude.{nat_eq}
 use Rattle.std.specs.Cmp.Lexicographic.{pointwise}
 use Rattle.std.specs.List.{AllByRecursion}
@@ -16,14 +16,6 @@ same-text x y e = (bytes_eq-Decides x y).0 e
 
 pub text-same : (x y : List ℕ) → x ≡ y → pointwise nat_eq x y ≡ true
 text-same x y e = (bytes_eq-Decides x y).1 e
-
-value_of : {A : Type 0} → A → Option A → A
-value_of d None = d
-value_of d (Some x) = x
-
-pub one : {A : Type 0} {x y : A} → Some x ≡ Some y → x ≡ y
-unfolding value_of
-one {x = x} e = ap (value_of x) e
 
 module _ {X : Type 0} (P : X → Type 0) where
   pub all-append : (xs ys : List X) → AllByRecursion P xs → AllByRecursion P ys → AllByRecursion P (xs ++ ys)

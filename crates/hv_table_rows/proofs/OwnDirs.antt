@@ -1,22 +1,12 @@
 -- A directory whose name is that of an own one is it.
-use Rattle.std.proofs.Common.{◌≡◌, ℕ, ◌<◌, Bool, List, ◌++◌, drop, codes, sym, ap, ◌∙◌, arith}
-use Rattle.hv_table.specs.Decimal.{fixed_digits}
+use Rattle.std.proofs.Common.{◌≡◌, ℕ, ◌<◌, Bool, List, ◌++◌, sym, ◌∙◌}
 use Rattle.hv_dirs.specs.Names.{write_end}
-use Rattle.hv_dirs.proofs.OwnNames.{behind}
-use Rattle.hv_dirs.proofs.NameLemmas.{letter, fixed-parts, fixed-end, own_rest, wide_rest, own-text, wide-text, kind-same, low-fits, base-first, own-first, base-delta, apart}
+use Rattle.hv_dirs.proofs.NameLemmas.{own_rest, wide_rest, own-text, wide-text, kind-same, low-fits, base-first, own-first, base-delta, apart, own-not-wide}
 use Rattle.hv_stands.specs.Files.{own_dir}
 use Rattle.hv_stands.proofs.MadeFiles.{own_dir-same}
 use Rattle.hv_choosing.specs.declared.dir.Dir.{Dir}
 use Rattle.hv_choosing.specs.declared.dir.Dir.TheVariants.{Base, Own, Wide}
 use Rattle.hv_choosing.specs.Dirs.{IsAt}
-
-own-not-wide : (write statement low high : ℕ) → write < write_end → low < write_end → high < write_end → own_rest write statement ≡ wide_rest low high → ⊥
-unfolding letter
-own-not-wide write statement low high p q r e =
-    let one = fixed-parts 7 write low (behind write statement) (codes "_" ++ fixed_digits 7 high) p q e in
-    let two = fixed-end 7 write high (codes "_" ++ fixed_digits 4 statement) p r (ap (drop 1) one.1) in
-    let h : ◌≡◌ {A = ℕ} 95 0 = ap (letter 0) two.1 in
-    omega arith
 
 pub own-named : (text : List ℕ) (d : Dir) (deletes : Bool) (write statement : ℕ) → IsAt text d → text ≡ own_dir deletes write statement → write < write_end
     → (last : ℕ) × (d ≡ Own deletes (record { 0 = write }) last)

@@ -23,7 +23,8 @@ use Rattle.hv_choosing.specs.Taken.{files_taken}
 use Rattle.hv_stands.specs.Files.{records_of, HasRecords}
 use Rattle.hv_stands.specs.Laws.{HasItsFiles}
 use Rattle.hv_table_rows.specs.declared.row_at.RowAt.{RowAt}
-use Rattle.hv_table_rows.specs.Orders.{row_at_cmp, found_total}
+use Rattle.hv_table_rows.specs.Orders.{row_at_cmp}
+use Rattle.hv_stands.proofs.StandingRows.{found-total as found_total}
 use Rattle.hv_table_rows.specs.Amiss.{IsWithin}
 use Rattle.hv_table_rows.specs.Reading.{Sheet, sheet_file, IsSheet, founds_in, deleted_in, at_of, is_gone, left_of, AreRows, IsSpoiled}
 use Rattle.hv_table_rows.proofs.Members.{In, all-in, contained, in-kept, kept-in, any-in, in-any, in-sorted, sorted-in, in-map, map-in, in-flat, flat-in, same-rising, one-of-rising}
@@ -33,7 +34,7 @@ same-cmp : (x y : Found) → row_at_cmp (at_of x) (at_of y) ≡ found_cmp x y
 unfolding row_at_cmp
 same-cmp x y = refl
 
-both-ways : (a b : Bool) → (a ≡ true → b ≡ true) → (b ≡ true → a ≡ true) → a ≡ b
+pub both-ways : (a b : Bool) → (a ≡ true → b ≡ true) → (b ≡ true → a ≡ true) → a ≡ b
 both-ways true true f g = refl
 both-ways true false f g = sym (f refl)
 both-ways false true f g = g refl

@@ -38,7 +38,8 @@ use Rattle.hv_choosing.proofs.Listed.{listed-named, listed-place, place-listed}
 use Rattle.hv_choosing.proofs.OwnChoice.{own-taken}
 use Rattle.hv_table_rows.specs.Amiss.{writer_of, IsWithin}
 use Rattle.hv_table_rows.specs.Reading.{Sheet, sheet_file, IsSheet, found_with, founds_in, deleted_with, deleted_in, at_of}
-use Rattle.hv_table_rows.proofs.Names.{one, same-text, text-same}
+use Rattle.hv_table_rows.proofs.Names.{same-text, text-same}
+use Rattle.hv_choosing.proofs.Texts.{one}
 use Rattle.hv_table_rows.proofs.Members.{In, all-in, in-all, in-kept, kept-in, in-map, map-in}
 use Rattle.hv_table_rows.proofs.OwnDirs.{own-named}
 use Rattle.hv_table_rows.proofs.TakenFiles.{place-there, there-place}

@@ -6,6 +6,7 @@ use Rattle.std.specs.Cmp.Lexicographic.{slice_cmp, nat_list_cmp_total}
 use Rattle.hv_base.specs.Identifiers.{row_id_cmp, row_id_total}
 use Rattle.hv_logic.specs.declared.effect.Found.{Found}
 use Rattle.hv_logic.specs.Rows.{found_cmp}
+use Rattle.hv_stands.proofs.StandingRows.{found-total as found_total}
 use Rattle.hv_table_rows.specs.declared.placed.Placed.{Placed}
 use Rattle.hv_table_rows.specs.declared.row_at.RowAt.{RowAt}
 
@@ -16,10 +17,6 @@ row_at_cmp = then_cmp (on (λ (row : RowAt). row.partition) (slice_cmp nat_cmp))
 pub row_at_total : IsTotalOrder row_at_cmp
 unfolding row_at_cmp
 row_at_total = then_total (on_total (λ (row : RowAt). row.partition) nat_list_cmp_total) (on_total (λ (row : RowAt). row.id) row_id_total)
-
-pub found_total : IsTotalOrder found_cmp
-found_total =
-    then_total (on_total (λ (found : Found). found.partition) nat_list_cmp_total) (on_total (λ (found : Found). found.id) row_id_total)
 
 -- rows that stand in a table, in the same order
 abbrev pub found_in : Placed → Found

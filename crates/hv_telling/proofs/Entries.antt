@@ -1,17 +1,16 @@
 -- An entry that fits and is true leaves the book legal, its files standing, and what its trail's marks say.
 use Rattle.std.proofs.Common.{◌≡◌, ◌⊎◌, inl, inr, ◌+◌, ◌<◌, None, List, [], ◌∷◌, ◌++◌, length, fold, refl, sym, subst, arith}
-use Rattle.hv_base.specs.declared.ids.Limits.{Limits}
 use Rattle.hv_base.specs.declared.ids.TxnId.{TxnId}
 use Rattle.hv_shelf.specs.Disk.{Store}
 use Rattle.hv_dirs.specs.Names.{write_end}
 use Rattle.hv_history.specs.declared.entry.Entry.{Entry}
 use Rattle.hv_history.specs.declared.entry.Entry.TheVariants as entry
 use Rattle.hv_history.specs.State.{State, nothing_yet, after, state_of}
-use Rattle.hv_history.specs.Legal.{Fits, IsTruthful, AllFit, AllTruthful, IsLegal, profile}
+use Rattle.hv_history.specs.Legal.{Fits, IsTruthful, AllTruthful, IsLegal, profile}
 use Rattle.hv_stands.specs.Files.{Stands}
 use Rattle.hv_stands.specs.Running.{HasPut}
 use Rattle.hv_stands.specs.Statements.{AllFitting}
-use Rattle.hv_stands.proofs.Fitting.{fitting-room}
+use Rattle.hv_stands.proofs.Fitting.{fitting-room, more-fits as fit-next}
 use Rattle.hv_stands.proofs.StatementFiles.{quiet-entries-stand, other-entries-stand, commits-stand}
 use Rattle.hv_trail.specs.declared.trail.Reader.TheVariants.{Txn}
 use Rattle.hv_trail.specs.declared.trail.TrailItem.{TrailItem}
@@ -26,11 +25,6 @@ use Rattle.hv_house.specs.Steps.{IsMarked}
 use Rattle.hv_telling.specs.Telling.{StandsByMarks, HasNoId, IsPutAsMeant, IsTrueNow}
 
 -- ---- a legal book and one entry more
-
-fit-next : (limits : Limits) (book : List Entry) (s : State) (event : Entry) → AllFit limits s book → Fits limits (fold after s book) event
-    → AllFit limits s (book ++ event ∷ [])
-fit-next limits [] s event fit fits = (fits, tt)
-fit-next limits (first ∷ book) s event fit fits = (fit.0, fit-next limits book (after s first) event fit.1 fits)
 
 truthful-next : (book : List Entry) (s : State) (event : Entry) → AllTruthful s book → IsTruthful (fold after s book) event
     → AllTruthful s (book ++ event ∷ [])

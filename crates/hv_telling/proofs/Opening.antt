@@ -24,7 +24,9 @@ use Rattle.hv_house.specs.declared.house.House.{House}
 use Rattle.hv_house.specs.House.{entries_of, IsFaithful}
 use Rattle.hv_house.specs.Booting.{number_next, marked_from, lost_entry, opening_entries, opening_of, OpensTo, Opens}
 use Rattle.hv_house.specs.Steps.{IsOpenedOver}
-use Rattle.hv_house.proofs.Faithful.{opened-faithful, one-journal}
+use Rattle.hv_house.proofs.Faithful.{opened-faithful}
+use Rattle.hv_recovery.proofs.Books.{is_once as one-journal}
+use Rattle.hv_house.proofs.Openings.{none-of, booted}
 use Rattle.hv_telling.specs.Telling.{IsToldHouse, StandsByMarks, HoldsTrue}
 use Rattle.hv_telling.specs.Laws.{OpenedIsWhole, OpenedIsTold}
 use Rattle.hv_telling.proofs.Told.{also-some, moved-some, house-book, told-holds, same-faithful}
@@ -36,10 +38,6 @@ HasEnded t = t.ending ≡ None → ⊥
 
 abbrev lost-numbers : ℕ → List Transaction → List Entry
 lost-numbers number rest = map lost_entry (marked_from number (map is_open rest))
-
-none-of : (o : Option Ending) → is_none o ≡ true → o ≡ None
-none-of None h = refl
-none-of (Some x) h = cc
 
 not-none : (o : Option Ending) → is_none o ≡ false → o ≡ None → ⊥
 not-none None h none = cc
@@ -88,10 +86,6 @@ lost-all front (x ∷ rest) s are all =
     (λ unended. lost-all (front ++ ended (Aborted s.entries Lost) x ∷ []) rest (after s (lost_entry (length front + 1)))
     (aborted-there front rest x s are unended ∙ sym (append_assoc front (ended (Aborted s.entries Lost) x ∷ []) rest))
     (all-more HasEnded front (ended (Aborted s.entries Lost) x) all (λ none. cc)))
-
-booted : (s : State) (run : ℕ) → (after s (Boot run)).transactions ≡ s.transactions
-unfolding acted
-booted s run = refl
 
 all-ended : (book : List Entry) → AllByRecursion HasEnded (state_of (opening_of book)).transactions
 unfolding EndAll

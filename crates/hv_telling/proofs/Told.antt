@@ -12,7 +12,7 @@ use Rattle.hv_trail.specs.Trail.{book_of}
 use Rattle.hv_trail.proofs.KeptLaws.{trail-book}
 use Rattle.hv_law_marks.specs.Marked.{MarksStand}
 use Rattle.hv_house.specs.declared.house.House.{House}
-use Rattle.hv_house.specs.House.{entries_of, IsFaithful, Shows}
+use Rattle.hv_house.specs.House.{entries_of, IsFaithful}
 use Rattle.hv_telling.specs.Telling.{IsTold, IsToldHouse, StandsByMarks, HoldsTrue, IsWhole, StillOpens}
 use Rattle.hv_telling.specs.Laws.{TrueShown, OpensTold, ToldStays}
 
@@ -83,12 +83,6 @@ module _ {D : Type 0} where
   unfolding HoldsTrue
   true-shown told house holds =
       also-some (StandsByMarks (trail_of house.trail) (entries_of house)) (IsFaithful (entries_of house)) (told house.shelf) (λ s stands. stands.faithful) holds
-
-  pub true-shows : (told : D → Option Store) (house : House D) → HoldsTrue told house → Shows told house (entries_of house)
-  true-shows told house holds = some-told (IsFaithful (entries_of house)) (told house.shelf) (true-shown told house holds)
-
-  pub whole-shows : (told : D → Option Store) (house : House D) → IsWhole told house → IsToldHouse told house → Shows told house (entries_of house)
-  whole-shows told house whole is = true-shows told house (whole.truly is)
 
   pub whole-shown : (told : D → Option Store) (house : House D) → IsWhole told house → IsToldHouse told house
       → (store : Store) × (told house.shelf ≡ Some store) × IsFaithful (entries_of house) store

@@ -7,7 +7,7 @@ ghost use Rattle.hv_text.specs.declared.pattern.Part.TheVariants as part;
 use crate::characters::split_first;
 
 /// A part of a LIKE pattern.
-#[derive(Clone, Copy, Debug, PartialEq, Eq)]
+#[derive(Clone, Copy)]
 pub enum Part {
     /// `%`: any characters, or none.
     Any,

@@ -1,6 +1,6 @@
 -- What one item keeps of a trail, and any number of items; the facts that last.
 use Rattle.std.proofs.Common.{◌≡◌, ℕ, ◌+◌, Bool, true, false, Option, Some, None, List, [], ◌∷◌, ◌++◌, fold, refl, sym, ap, ◌∙◌, subst}
-use Rattle.std.specs.Prelude.{IsSomeAnd, slice_get, if◌then◌else◌, ◌==◌}
+use Rattle.std.specs.Prelude.{if◌then◌else◌, IsSomeAnd, slice_get, ◌==◌}
 use Rattle.hv_logic.specs.declared.meaning.Meaning.{Meaning}
 use Rattle.hv_history.specs.declared.state.Transaction.{Transaction}
 use Rattle.hv_history.specs.declared.state.Statement.{Statement}
@@ -10,6 +10,7 @@ use Rattle.hv_history.specs.State.{numbered, given_in, statement_meaning, state_
 use Rattle.hv_history.specs.Lasting as kept
 use Rattle.hv_history.specs.Lasting.{IsFront}
 use Rattle.hv_history.proofs.LastingLaws.{goes-on-all}
+use Rattle.hv_history.proofs.StateLaws.{fold-append}
 use Rattle.hv_trail.specs.declared.trail.Reader.{Reader}
 use Rattle.hv_trail.specs.declared.trail.Mark.TheVariants.{Wrote, Went, Broke}
 use Rattle.hv_trail.specs.declared.trail.TrailItem.{TrailItem}
@@ -34,10 +35,6 @@ pub marks-append : (before : ℕ) (xs ys : List TrailItem) → marks_from before
 marks-append before [] ys = refl
 marks-append before (Noted entry ∷ xs) ys = marks-append (before + 1) xs ys
 marks-append before (Marked mark ∷ xs) ys = ap (λ marks. (before, mark) ∷ marks) (marks-append before xs ys)
-
-fold-append : {A B : Type 0} (f : B → A → B) (b : B) (xs ys : List A) → fold f b (xs ++ ys) ≡ fold f (fold f b xs) ys
-fold-append f b [] ys = refl
-fold-append f b (x ∷ xs) ys = fold-append f (f b x) xs ys
 
 pub state-append : (xs ys : List TrailItem) → state_at (xs ++ ys) ≡ fold after (state_at xs) (book_of ys)
 state-append xs ys = ap state_of (book-append xs ys) ∙ fold-append after nothing_yet (book_of xs) (book_of ys)

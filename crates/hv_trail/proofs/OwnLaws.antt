@@ -1,6 +1,6 @@
 -- A transaction's places rise, and its own entries make its record.
 use Rattle.std.proofs.Common.{◌≡◌, ℕ, zero, suc, ◌+◌, ◌≤◌, Bool, true, false, true≢false, Option, Some, None, List, [], ◌∷◌, ◌++◌, length, fold, refl, sym, ap, ◌∙◌, subst, arith}
-use Rattle.std.specs.Prelude.{◌==◌, if◌then◌else◌, slice_get}
+use Rattle.std.specs.Prelude.{if◌then◌else◌, ◌==◌, slice_get}
 use Rattle.std.specs.Option.{option_map, option_to_list}
 use Rattle.std.proofs.lemmas.Bool.{eqb-true, eq-eqb}
 use Rattle.hv_ast.specs.declared.statement.Stmt.{Stmt}
@@ -12,6 +12,7 @@ use Rattle.hv_history.proofs.LastingLaws.{others-stay}
 use Rattle.hv_history.specs.declared.state.Transaction.{Transaction}
 use Rattle.hv_history.specs.declared.state.Ending.TheVariants.{Aborted, Made, Dropped}
 use Rattle.hv_history.specs.State.{State, nothing_yet, numbered, changed, changed_at, means, meaning_in, meant_in, first_of, first_known, started, given_id, committed, ended, opened, while_open, acted, after}
+use Rattle.hv_book.proofs.TableLaws.{here_at as changed_at-here}
 use Rattle.hv_trail.specs.declared.trail.TrailItem.{TrailItem}
 use Rattle.hv_trail.specs.declared.trail.TrailItem.TheVariants.{Noted, Marked}
 use Rattle.hv_trail.specs.Trail.{book_of, state_at}
@@ -96,11 +97,6 @@ by-number {A = A} n m is not x same apart = decide (n == m) refl
     decide : (b : Bool) → (n == m) ≡ b → x ≡ (if n == m then is else not)
     decide true e = same (eqb-true n m e) ∙ ap (λ (b : Bool). if b then is else not) (sym e)
     decide false e = apart (other e) ∙ ap (λ (b : Bool). if b then is else not) (sym e)
-
-changed_at-here : {A : Type 0} (f : A → A) (xs : List A) (n : ℕ) → slice_get (changed_at f xs n) n ≡ option_map f (slice_get xs n)
-changed_at-here f [] n = refl
-changed_at-here f (x ∷ xs) zero = refl
-changed_at-here f (x ∷ xs) (suc n) = changed_at-here f xs n
 
 changed-here : {A : Type 0} (f : A → A) (xs : List A) (n : ℕ) → numbered (changed f xs n) n ≡ option_map f (numbered xs n)
 changed-here f xs zero = refl

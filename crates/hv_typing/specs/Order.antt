@@ -1,6 +1,6 @@
 -- ORDER BY and LIMIT: by the keys, which are places of the row, and then by the whole row.
 -- Source: Hive Language Manual, Sort By and Select. That the whole row decides behind the keys is this project's profile.
-use Rattle.std.specs.Prelude.{ℕ, Bool, if◌then◌else◌, List, [], ◌∷◌, Option, Some, None, take, slice_index_or}
+use Rattle.std.specs.Prelude.{if◌then◌else◌, ℕ, Bool, List, [], ◌∷◌, Option, Some, None, take, slice_index_or}
 use Rattle.std.specs.declared.cmp.Ordering.{Ordering}
 use Rattle.std.specs.Ordering.{ordering_then, flip_args, on}
 use Rattle.hv_base.specs.Sorting.{sorted_by}

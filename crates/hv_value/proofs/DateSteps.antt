@@ -145,10 +145,6 @@ to_library date h =
       day_in = (h.day_low, h.day_high);
     }
 
-same_number : (date : CivilDate) (h : IsDate date) → epoch_day (to_library date h) ≡ day_number date
-unfolding to_library
-same_number date h = refl
-
 passes : (date : CivilDate) (day : ℤ) → day_number date ≡ day → int_eq (day_number date) day ≡ true
 passes date day e = (signed_Decides (day_number date) day).1 e
 

@@ -7,11 +7,6 @@ use Rattle.std.specs.Cmp.{nat_cmp_is}
 use Rattle.std.specs.Cmp.Lexicographic.{slice_cmp}
 use Rattle.std.proofs.lemmas.List.{drop_more}
 
-pub ordering_then-assoc : (a b c : Ordering) → ordering_then (ordering_then a b) c ≡ ordering_then a (ordering_then b c)
-ordering_then-assoc Less b c = refl
-ordering_then-assoc Equal b c = refl
-ordering_then-assoc Greater b c = refl
-
 pub decides : (a b : Ordering) → is_ne a ≡ true → a ≡ ordering_then a b
 decides Less b e = refl
 decides Equal b e = cc

@@ -1,7 +1,7 @@
 -- Steps of printing: one text behind another, and one item of a loop more.
-use Rattle.std.proofs.Common.{◌≡◌, ℕ, ◌+◌, ◌<◌, ◌==◌, map, List, [], ◌∷◌, ◌++◌, length, take, drop, get_or, refl, sym, ap, ◌∙◌, subst, arith, append_assoc}
+use Rattle.std.proofs.Common.{◌≡◌, ℕ, ◌+◌, ◌<◌, ◌==◌, map, List, [], ◌∷◌, ◌++◌, length, take, drop, get_or, sym, ap, ◌∙◌, subst, arith, append_assoc}
 use Rattle.std.specs.List.{flat_map}
-use Rattle.std.proofs.lemmas.List.{take_more, drop_more, take-append-drop, flat_map_more, append-nil, map-append, length-map, length-take-le}
+use Rattle.std.proofs.lemmas.List.{take_more, drop_more, take-append-drop, append-nil, map-append, length-map, length-take-le}
 use Rattle.std.proofs.lemmas.List.Concat.{flat_map-cons}
 use Rattle.std.proofs.lemmas.Grind.{flat_map-append}
 use lib.Dec.{eqb-suc-zero}
@@ -9,14 +9,6 @@ use Rattle.std.specs.Prelude.{Result, Ok, Err, IsErr}
 use Rattle.hv_value.specs.declared.value.Value.{Value}
 use Rattle.hv_value.specs.Bytes.{comma}
 use Rattle.hv_value.specs.Printing.{AppendsPrefix, Prints, items_text, item_text, separator, placed_item}
-
--- nothing was appended
-pub cut_nothing : (text old new : List ℕ) → new ≡ old → AppendsPrefix text old new
-cut_nothing text old new e = record { added = []; rest = text; begins = refl; appended = e ∙ sym (append-nil old) }
-
--- all was appended
-pub cut_all : (text old new : List ℕ) → new ≡ old ++ text → AppendsPrefix text old new
-cut_all text old new e = record { added = text; rest = []; begins = sym (append-nil text); appended = e }
 
 -- a prefix of the first text is one of both
 pub cut_first : (a b old new : List ℕ) → AppendsPrefix a old new → AppendsPrefix (a ++ b) old new
@@ -51,13 +43,6 @@ module _ {E : Type 0} where
   prints_then a b old mid new (Err d) e h = cut_second a b old mid new e h
 
 module _ {X : Type 0} (f : X → List ℕ) where
-  -- one item more of a loop
-  pub loop_step : (xs : List X) (i : ℕ) (x d : X) (old mid new : List ℕ) → i < length xs → x ≡ get_or xs i d
-      → mid ≡ old ++ flat_map f (take i xs) → new ≡ mid ++ f x → new ≡ old ++ flat_map f (take (i + 1) xs)
-  loop_step xs i x d old mid new p at e n =
-      n ∙ ap (λ bs. bs ++ f x) e ∙ flat_map_more f old (take i xs) x
-      ∙ ap (λ ys. old ++ flat_map f ys) (ap (λ y. take i xs ++ y ∷ []) at ∙ sym (take_more xs i d p))
-
   -- what a loop will have printed, cut at one item
   parted : (xs : List X) (i : ℕ) (x d : X) → i < length xs → x ≡ get_or xs i d
       → flat_map f xs ≡ flat_map f (take i xs) ++ (f x ++ flat_map f (drop (i + 1) xs))

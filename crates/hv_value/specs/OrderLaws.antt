@@ -118,12 +118,12 @@ value_cmp_total = limit_total depth cmp_to value_cmp converges cmp_to_total
 
 -- ---- what it doesn't tell apart is one value
 
-then_first : (a b : Ordering) → ordering_then a b ≡ Equal → a ≡ Equal
+pub then_first : (a b : Ordering) → ordering_then a b ≡ Equal → a ≡ Equal
 then_first Less b e = cc
 then_first Equal b e = refl
 then_first Greater b e = cc
 
-then_second : (a b : Ordering) → ordering_then a b ≡ Equal → b ≡ Equal
+pub then_second : (a b : Ordering) → ordering_then a b ≡ Equal → b ≡ Equal
 then_second Less b e = cc
 then_second Equal b e = e
 then_second Greater b e = cc

@@ -1,5 +1,5 @@
 /// A type of SQL: of a column or of an expression.
-#[derive(Clone, Copy, Debug, PartialEq, Eq)]
+#[derive(Clone, Copy)]
 pub enum SqlType {
     /// The type of a bare NULL.
     Null,
@@ -12,7 +12,7 @@ pub enum SqlType {
 }
 
 /// The type of an array's elements.
-#[derive(Clone, Copy, Debug, PartialEq, Eq)]
+#[derive(Clone, Copy)]
 pub enum Elem {
     Null,
     Boolean,

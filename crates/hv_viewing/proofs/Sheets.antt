@@ -1,5 +1,5 @@
 -- Files that were read, one after another.
-use Rattle.std.proofs.Common.{◌≡◌, ℕ, ◌+◌, ◌<◌, inr, Bool, true, false, cond, not, Option, Some, None, List, [], ◌∷◌, ◌++◌, filter, map, length, get_or, take, refl, sym, ap, ◌∙◌, subst, append-nil, IsPermutation, IfErr, Result, Err}
+use Rattle.std.proofs.Common.{◌≡◌, ℕ, ◌+◌, ◌<◌, inr, Bool, true, false, not, Option, Some, None, List, [], ◌∷◌, ◌++◌, map, length, get_or, take, refl, sym, ap, ◌∙◌, subst, append-nil, IsPermutation, IfErr, Result, Err}
 use Rattle.std.specs.FinMap as tree
 use Rattle.std.specs.Ordering.{is_eq}
 use Rattle.std.specs.List.{flat_map, Contains}
@@ -29,7 +29,8 @@ use Rattle.hv_table_rows.specs.Orders.{row_at_cmp}
 use Rattle.hv_table_rows.specs.Reading.{HoldsAt, LacksAt, Sheet, sheet_file, IsSheet, Reads, founds_in, deleted_in, at_of, is_gone, left_of, left_in, AreOnce, AreRows, IsSpoiled}
 use Rattle.hv_table_rows.specs.Amiss.{first_amiss}
 use Rattle.hv_table_rows.specs.Damage.{IsWrongAt, told_place, IsOneDamaged, IsOneSpoiled}
-use Rattle.hv_table_rows.proofs.Names.{one, all-append}
+use Rattle.hv_table_rows.proofs.Names.{all-append}
+use Rattle.hv_choosing.proofs.Texts.{one, filter-agree}
 use Rattle.hv_table_rows.proofs.Fronts.{none-amiss, own-none}
 use Rattle.hv_house.specs.declared.fault.RowFault.{RowFault}
 use Rattle.hv_house.specs.declared.fault.RowFault.TheVariants as fault
@@ -140,10 +141,6 @@ reads-next first before deletes taken i file pick items more all recs low at sam
     (subst (λ (o : Option Store). Tells o (λ s. HoldsAt s.tree file.place deletes (span_of file.dir) recs)) same held) picked))
 
 -- ---- rows
-
-filter-agree : {X : Type 0} (p q : X → Bool) → ((x : X) → p x ≡ q x) → (xs : List X) → filter p xs ≡ filter q xs
-filter-agree p q same [] = refl
-filter-agree p q same (x ∷ xs) = λ i. cond (same x i) (x ∷ filter-agree p q same xs i) (filter-agree p q same xs i)
 
 left-same : (gone others : List RowAt) → IsPermutation gone others → (rows : List Found) → left_of others rows ≡ left_of gone rows
 left-same gone others permuted rows =

@@ -9,7 +9,7 @@ use std::alloc::Global;
 use std::marker::Model;
 
 /// A write that isn't seen, since its transaction was open or had been aborted.
-#[derive(Clone, Copy, Debug, PartialEq, Eq)]
+#[derive(Clone, Copy, Debug)]
 pub struct Exception {
     pub write: WriteId,
     /// Whether the transaction had been aborted. Otherwise it was open.
@@ -23,7 +23,7 @@ impl Duplicate for Exception {
 }
 
 /// How much of a range of writes is seen.
-#[derive(Clone, Copy, Debug, PartialEq, Eq)]
+#[derive(Clone, Copy, Debug)]
 pub enum Range {
     All,
     Zero,
@@ -31,7 +31,7 @@ pub enum Range {
 }
 
 /// The writes to one table that a reader sees: those up to a high watermark, without exceptions.
-#[derive(Debug, Drop, PartialEq, Eq)]
+#[derive(Debug, Drop)]
 pub struct WriteIdList {
     high: WriteId,
     exceptions: List<Exception>,
