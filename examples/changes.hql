@@ -1,6 +1,8 @@
--- A table of accounts that is loaded, corrected and emptied. Behind each statement stands what it prints.
+-- A table of accounts that is loaded, corrected and emptied. Below each statement stands what it prints.
 CREATE TABLE accounts (id INT, owner STRING, balance BIGINT, opened DATE) STORED AS ORC TBLPROPERTIES ('transactional'='true');
+--   OK
 CREATE TABLE arrivals (id INT, owner STRING, paid STRING);
+--   OK
 INSERT INTO accounts VALUES (1, 'Ada', 100, '2024-01-05'), (2, 'Bo', 250, '2024-02-10'), (3, 'Cy', NULL, '2024-02-29');
 --   OK inserted 3 deleted 0
 INSERT INTO accounts (owner, id) VALUES ('Di', 4);
@@ -25,8 +27,9 @@ UPDATE accounts SET balance = 1 WHERE id = 77;
 --   OK inserted 0 deleted 0
 DELETE FROM accounts WHERE opened > '2024-02-01' AND balance = 0;
 --   OK inserted 0 deleted 1
+-- A comparison with NULL is never true.
 DELETE FROM accounts WHERE opened = NULL;
---   OK inserted 0 deleted 0: a comparison with NULL is never true
+--   OK inserted 0 deleted 0
 SELECT id, opened FROM accounts;
 --   id  opened
 --   1   2024-01-05
@@ -34,8 +37,9 @@ SELECT id, opened FROM accounts;
 --   4   NULL
 INSERT INTO arrivals VALUES (5, 'Eve', '12'), (6, 'Fay', 'nothing'), (2, 'Bo', '40');
 --   OK inserted 3 deleted 0
+-- A text that is no number becomes NULL.
 INSERT INTO accounts (id, owner, balance) SELECT a.id, a.owner, a.paid FROM arrivals a LEFT JOIN accounts c ON a.id = c.id WHERE c.id IS NULL;
---   OK inserted 2 deleted 0: a text that is no number becomes NULL
+--   OK inserted 2 deleted 0
 SELECT id, owner, balance FROM accounts WHERE id > 4;
 --   id  owner  balance
 --   5   Eve    12

@@ -1,10 +1,16 @@
--- Joins, lateral views, groups, unions, order. Behind each query stands what it prints.
+-- Joins, lateral views, groups, unions, order. Below each statement stands what it prints. It ends with status 1.
 CREATE TABLE people (id INT, name STRING, city STRING);
+--   OK
 CREATE TABLE orders (person INT, item STRING, qty INT);
+--   OK
 CREATE TABLE lists (id INT, xs ARRAY<INT>);
+--   OK
 INSERT INTO people VALUES (1, 'Ada', 'London'), (2, 'Bo', 'Oslo'), (3, 'Cy', NULL);
+--   OK inserted 3 deleted 0
 INSERT INTO orders VALUES (1, 'pen', 3), (1, 'ink', 1), (2, 'pen', 5), (NULL, 'cap', 2);
+--   OK inserted 4 deleted 0
 INSERT INTO lists VALUES (1, array(10, 20)), (2, array()), (3, NULL);
+--   OK inserted 3 deleted 0
 SELECT name, item, qty FROM people p JOIN orders o ON p.id = o.person;
 --   name  item  qty
 --   Ada   ink   1
@@ -36,5 +42,6 @@ UNION ALL SELECT 'all', COUNT(*) FROM people ORDER BY n DESC, city LIMIT 2;
 --   city    n
 --   all     3
 --   London  1
+-- name is no part of what is grouped.
 SELECT name, COUNT(*) FROM people GROUP BY city;
---   FAILED 15 NotGrouped : name is no part of what is grouped
+--   FAILED 15 NotGrouped

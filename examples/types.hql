@@ -1,10 +1,12 @@
--- Every type, expressions, conditions. Behind each query stands what it prints.
+-- Every type, expressions, conditions. Below each statement stands what it prints. It ends with status 1.
 CREATE TABLE IF NOT EXISTS orders (id BIGINT, item STRING COMMENT 'as on the label', qty INT, paid BOOLEAN, day DATE, tags ARRAY<STRING>)
   STORED AS ORC TBLPROPERTIES ('transactional'='true');
+--   OK
 INSERT INTO orders VALUES
   (1, 'pen', 3, true, '2024-02-29', array('blue', 'fine')),
   (2, 'ink', NULL, false, DATE '2024-03-01', array()),
   (3, concat('note', 'book'), 2 * 5, 1 < 2, date_add('2024-02-28', 3), NULL);
+--   OK inserted 3 deleted 0
 SELECT * FROM orders;
 --   id  item      qty   paid   day         tags
 --   1   pen       3     true   2024-02-29  ["blue","fine"]
@@ -26,5 +28,6 @@ SELECT id, tags[0] AS first_tag, size(tags) FROM orders WHERE item LIKE '%n%';
 SELECT 2147483647 + 1, 7 DIV 2, -7 % 3, 1 DIV 0, substr('warehouse', 5), datediff('2024-03-01', '2024-02-01');
 --   _c0          _c1  _c2  _c3   _c4    _c5
 --   -2147483648  3    -1   NULL  house  29
+-- A STRING isn't compared with a number.
 SELECT item FROM orders WHERE qty > 'x';
---   FAILED 13 BadType : a STRING isn't compared with a number
+--   FAILED 13 BadType
