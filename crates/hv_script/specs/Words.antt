@@ -1,41 +1,45 @@
 -- The words of the command line that are a command. This project's profile: `run`, `serve` and `bench N`, and
 -- options, `--workers` and `--compactors`, each at most once, as `--name V` or `--name=V`. A number is one to four
 -- digits, leading zeros among them.
-use Rattle.std.specs.Prelude.{ℕ, ◌&&◌, Bool, true, false, if◌then◌else◌, Option, Some, None, List, [], ◌∷◌, length, codes, nat_le, option_map, option_and_then, unwrap_or}
-use Rattle.std.specs.Option.{is_some}
-use Rattle.std.specs.Str.{all_ascii_digits}
-use Rattle.std.specs.Str.Parse.{digits_value}
+use Rattle.std.specs.Prelude.{ℕ, ◌+◌, ◌-◌, ◌*◌, ◌&&◌, Bool, true, false, if◌then◌else◌, Option, Some, None, List, [], ◌∷◌, codes, nat_le, option_map, option_and_then, unwrap_or}
 use Rattle.hv_script.specs.Kinds.{behind, same_text}
 use Rattle.hv_script.specs.declared.words.Command.{Command}
 use Rattle.hv_script.specs.declared.words.Command.TheVariants.{Run, Serve, Bench}
 use Rattle.hv_script.specs.declared.words.Form.{Form}
-use Rattle.hv_script.specs.declared.words.Form.TheVariants as form
+use Rattle.hv_script.specs.declared.words.Form.TheVariants as forms
 use Rattle.hv_script.specs.declared.words.Setting.{Setting}
 use Rattle.hv_script.specs.declared.words.Setting.TheVariants.{Workers, Compactors}
 use Rattle.hv_script.specs.declared.words.Said.{Said}
-use Rattle.hv_script.specs.declared.words.TheConstants.{DEFAULT_WORKERS, MAX_WORKERS, DEFAULT_COMPACTORS, MAX_COMPACTORS, MAX_BENCH, MAX_DIGITS}
+use Rattle.hv_script.specs.declared.words.TheConstants.{DEFAULT_WORKERS, MAX_WORKERS, DEFAULT_COMPACTORS, MAX_COMPACTORS, MAX_BENCH}
 
-abbrev pub form_of : List ℕ → Option Form
+unfoldable pub form_of : List ℕ → Option Form
 form_of word =
-    if same_text word (codes "run") then Some form.Run
-    else (if same_text word (codes "serve") then Some form.Serve
-    else (if same_text word (codes "bench") then Some form.Bench else None))
+    if same_text word (codes "run") then Some forms.Run
+    else (if same_text word (codes "serve") then Some forms.Serve
+    else (if same_text word (codes "bench") then Some forms.Bench else None))
 
 -- ---- numbers
 
-abbrev pub number_of : List ℕ → Option ℕ
-number_of word =
-    if nat_le 1 (length word) && nat_le (length word) MAX_DIGITS && all_ascii_digits word then Some (digits_value 10 word) else None
+abbrev pub digit_of : ℕ → Option ℕ
+digit_of b = if nat_le 48 b && nat_le b 57 then Some (b - 48) else None
+
+unfoldable pub four_digits : ℕ → ℕ → ℕ → ℕ → Option ℕ
+four_digits a b c d =
+    option_and_then (λ (thousands : ℕ). option_and_then (λ (hundreds : ℕ). option_and_then (λ (tens : ℕ). option_and_then (λ (ones : ℕ).
+    Some (thousands * 1000 + hundreds * 100 + tens * 10 + ones)) (digit_of d)) (digit_of c)) (digit_of b)) (digit_of a)
+
+-- one to four digits: 48 is the digit 0
+unfoldable pub number_of : List ℕ → Option ℕ
+number_of (d ∷ []) = four_digits 48 48 48 d
+number_of (c ∷ d ∷ []) = four_digits 48 48 c d
+number_of (b ∷ c ∷ d ∷ []) = four_digits 48 b c d
+number_of (a ∷ b ∷ c ∷ d ∷ []) = four_digits a b c d
+number_of _ = None
 
 -- a number from 1 to this many
 abbrev pub within : ℕ → Option ℕ → Option ℕ
 within most None = None
 within most (Some n) = if nat_le 1 n && nat_le n most then Some n else None
-
--- what is said at most once
-abbrev pub once : Option ℕ → Option ℕ → Option ℕ
-once None now = now
-once (Some before) now = None
 
 -- ---- word by word
 
@@ -43,29 +47,47 @@ once (Some before) now = None
 abbrev pub first_said : Form → Said
 first_said form = record { form = form; number = None; workers = None; compactors = None; awaited = None }
 
--- how many compactors are asked for: `run` takes none
-abbrev pub compactors_by : Form → Option ℕ → Option ℕ
-compactors_by form.Run now = None
-compactors_by form.Serve now = now
-compactors_by form.Bench now = now
+-- each option is said at most once, and so is the number
+abbrev pub workers_beside : Option ℕ → Said → Option ℕ → Option Said
+workers_beside (Some before) said now = None
+workers_beside None said now = option_map (λ (n : ℕ). record said { workers = Some n; awaited = None }) now
 
--- `bench` alone has a number
-abbrev pub number_by : Form → Option ℕ → Option ℕ
-number_by form.Run now = None
-number_by form.Serve now = None
-number_by form.Bench now = now
+unfoldable pub with_workers : Said → List ℕ → Option Said
+with_workers said value = workers_beside said.workers said (within MAX_WORKERS (number_of value))
+
+abbrev pub compactors_beside : Option ℕ → Said → Option ℕ → Option Said
+compactors_beside (Some before) said now = None
+compactors_beside None said now = option_map (λ (n : ℕ). record said { compactors = Some n; awaited = None }) now
+
+unfoldable pub with_compactors : Said → List ℕ → Option Said
+with_compactors said value = compactors_beside said.compactors said (within MAX_COMPACTORS (number_of value))
+
+-- `run` has no compactors
+abbrev pub compactors_by : Form → Said → List ℕ → Option Said
+compactors_by forms.Run said value = None
+compactors_by forms.Serve said value = with_compactors said value
+compactors_by forms.Bench said value = with_compactors said value
 
 -- behind an option with this value
-abbrev pub with_setting : Said → Setting → List ℕ → Option Said
-with_setting said Workers value =
-    option_map (λ (n : ℕ). record said { workers = Some n; awaited = None }) (once said.workers (within MAX_WORKERS (number_of value)))
-with_setting said Compactors value =
-    option_map (λ (n : ℕ). record said { compactors = Some n; awaited = None })
-    (compactors_by said.form (once said.compactors (within MAX_COMPACTORS (number_of value))))
+unfoldable pub with_setting : Said → Setting → List ℕ → Option Said
+with_setting said Workers value = with_workers said value
+with_setting said Compactors value = compactors_by said.form said value
 
-abbrev pub with_number : Said → List ℕ → Option Said
-with_number said word =
-    option_map (λ (n : ℕ). record said { number = Some n }) (number_by said.form (once said.number (within MAX_BENCH (number_of word))))
+abbrev pub counted_beside : Option ℕ → Said → Option ℕ → Option Said
+counted_beside (Some before) said now = None
+counted_beside None said now = option_map (λ (n : ℕ). record said { number = Some n }) now
+
+unfoldable pub counted : Said → List ℕ → Option Said
+counted said word = counted_beside said.number said (within MAX_BENCH (number_of word))
+
+-- `bench` alone has a number
+abbrev pub number_by : Form → Said → List ℕ → Option Said
+number_by forms.Run said word = None
+number_by forms.Serve said word = None
+number_by forms.Bench said word = counted said word
+
+unfoldable pub with_number : Said → List ℕ → Option Said
+with_number said word = number_by said.form said word
 
 -- an option whose value stands in its word, or else another way
 abbrev pub by_value : Said → Setting → Option (List ℕ) → Option Said → Option Said
@@ -73,7 +95,7 @@ by_value said setting None other = other
 by_value said setting (Some value) other = with_setting said setting value
 
 -- a word that is no value: an option, or a number
-abbrev pub with_word : Said → List ℕ → Option Said
+unfoldable pub with_word : Said → List ℕ → Option Said
 with_word said word =
     if same_text word (codes "--workers") then Some (record said { awaited = Some Workers })
     else (if same_text word (codes "--compactors") then Some (record said { awaited = Some Compactors })
@@ -96,20 +118,26 @@ said_of_all said (word ∷ words) = option_and_then (λ (next : Said). said_of_a
 -- ---- the command
 
 abbrev pub command_by : Form → Option ℕ → ℕ → ℕ → Option Command
-command_by form.Run number workers compactors = Some (Run workers)
-command_by form.Serve number workers compactors = Some (Serve workers compactors)
-command_by form.Bench number workers compactors = option_map (λ (n : ℕ). Bench n workers compactors) number
+command_by forms.Run number workers compactors = Some (Run workers)
+command_by forms.Serve number workers compactors = Some (Serve workers compactors)
+command_by forms.Bench number workers compactors = option_map (λ (n : ℕ). Bench n workers compactors) number
+
+abbrev pub unless_awaited : Option Setting → Option Command → Option Command
+unless_awaited (Some setting) command = None
+unless_awaited None command = command
 
 -- what was said is a command, where no value is missing and `bench` has its number
-abbrev pub settled : Said → Option Command
+unfoldable pub settled : Said → Option Command
 settled said =
-    if is_some said.awaited then None
-    else command_by said.form said.number (unwrap_or said.workers DEFAULT_WORKERS) (unwrap_or said.compactors DEFAULT_COMPACTORS)
+    unless_awaited said.awaited (command_by said.form said.number (unwrap_or said.workers DEFAULT_WORKERS) (unwrap_or said.compactors DEFAULT_COMPACTORS))
+
+-- all the words that stand behind the first one
+unfoldable pub said_by : List ℕ → List (List ℕ) → Option Said
+said_by word words = option_and_then (λ (form : Form). said_of_all (first_said form) words) (form_of word)
 
 unfoldable pub command_of : List (List ℕ) → Option Command
 command_of [] = None
-command_of (word ∷ words) =
-    option_and_then settled (option_and_then (λ (form : Form). said_of_all (first_said form) words) (form_of word))
+command_of (word ∷ words) = option_and_then settled (said_by word words)
 
 -- ---- what is built
 

@@ -1,10 +1,6 @@
-ghost use Rattle.std.specs.Prelude.{◌≡◌, ◌<◌, ◌≤◌, true, Some, length, map, option_map};
-ghost use Rattle.std.specs.Str.{all_ascii_digits};
-ghost use Rattle.std.specs.Str.Parse.{digits_value};
+ghost use Rattle.std.specs.Prelude.{◌≡◌, ◌≤◌, map, IfSome};
 ghost use Rattle.std.specs.String.{string_bytes};
-ghost use Rattle.hv_script.specs.Words.{command_of, first_said, form_of, number_of, run_of, said_behind, said_of_all, settled, with_number, with_setting, within};
-
-use std::str;
+ghost use Rattle.hv_script.specs.Words.{command_of, digit_of, first_said, form_of, four_digits, number_of, run_of, said_behind, said_of_all, settled, with_compactors, counted, said_by, with_number, with_setting, with_word, with_workers, within};
 
 /// The workers of a command that names none.
 pub const DEFAULT_WORKERS: usize = 4;
@@ -20,9 +16,6 @@ pub const MAX_COMPACTORS: usize = 4;
 
 /// The largest number of a script that is made for measuring.
 pub const MAX_BENCH: usize = 1_000;
-
-/// The most digits of a number.
-pub const MAX_DIGITS: usize = 4;
 
 /// What the program is asked to do.
 #[derive(Clone, Copy, Debug, PartialEq, Eq)]
@@ -76,54 +69,62 @@ pub struct Said {
     pub awaited: Option<Setting>,
 }
 
-fn form(word: &str) -> Option<Form>
+#[tactic(auto, unfolding(crate::specs::Words::form_of))]
+fn form_of(word: &[u8]) -> Option<Form>
     ensures value { result ≡ form_of word.now }
 {
-    if word == "run" {
+    if word == b"run".as_slice() {
         Some(Form::Run)
-    } else if word == "serve" {
+    } else if word == b"serve".as_slice() {
         Some(Form::Serve)
-    } else if word == "bench" {
+    } else if word == b"bench".as_slice() {
         Some(Form::Bench)
     } else {
         None
     }
 }
 
-fn are_digits(word: &[u8]) -> bool
-    ensures value { result ≡ all_ascii_digits word.now }
+fn digit_of(byte: u8) -> Option<usize>
+    ensures value { result ≡ digit_of byte }
+    ensures small { IfSome result (λ digit. digit ≤ 9) }
 {
-    for byte in word {
-        if !byte.is_ascii_digit() {
-            return false;
-        }
+    if b'0' <= byte && byte <= b'9' {
+        Some((byte - b'0') as usize)
+    } else {
+        None
     }
-    true
 }
 
-fn number_of_digits(digits: &str) -> Option<usize>
-    requires digits { all_ascii_digits digits.now ≡ true }
-    requires some { 0 < length digits.now }
-    requires few { length digits.now ≤ 4 }
-    ensures value { result ≡ Some (digits_value 10 digits.now) }
+#[tactic(auto, unfolding(crate::specs::Words::four_digits))]
+fn four_digits(a: u8, b: u8, c: u8, d: u8) -> Option<usize>
+    ensures value { result ≡ four_digits a b c d }
 {
-    digits.parse::<usize>().ok()
+    let thousands = digit_of(a)?;
+    let hundreds = digit_of(b)?;
+    let tens = digit_of(c)?;
+    let ones = digit_of(d)?;
+    Some(thousands * 1000 + hundreds * 100 + tens * 10 + ones)
 }
 
-fn number(word: &str) -> Option<usize>
+/// The number of one to four digits, None of another word.
+#[tactic(auto, unfolding(crate::specs::Words::number_of))]
+fn number_of(word: &[u8]) -> Option<usize>
     ensures value { result ≡ number_of word.now }
 {
-    if word.is_empty() || word.len() > MAX_DIGITS || !are_digits(word.as_bytes()) {
-        return None;
+    match word {
+        [d] => four_digits(b'0', b'0', b'0', *d),
+        [c, d] => four_digits(b'0', b'0', *c, *d),
+        [b, c, d] => four_digits(b'0', *b, *c, *d),
+        [a, b, c, d] => four_digits(*a, *b, *c, *d),
+        _ => None,
     }
-    number_of_digits(word)
 }
 
 /// The number of a word, from 1 to this many.
-fn number_up_to(word: &str, most: usize) -> Option<usize>
+fn number_up_to(most: usize, word: &[u8]) -> Option<usize>
     ensures value { result ≡ within most (number_of word.now) }
 {
-    let number = number(word)?;
+    let number = number_of(word)?;
     if 1 <= number && number <= most {
         Some(number)
     } else {
@@ -144,63 +145,104 @@ impl Said {
         }
     }
 
-    /// Behind an option with this value.
-    fn setting(self, setting: Setting, value: &str) -> Option<Said>
-        ensures value { result ≡ with_setting self setting value.now }
+    #[tactic(auto, unfolding(crate::specs::Words::with_workers))]
+    fn with_workers(self, value: &[u8]) -> Option<Said>
+        ensures value { result ≡ with_workers self value.now }
     {
-        match (setting, self.form) {
-            (Setting::Workers, _) if self.workers.is_none() => Some(Said {
-                workers: Some(number_up_to(value, MAX_WORKERS)?),
+        match self.workers {
+            Some(_) => None,
+            None => Some(Said {
+                workers: Some(number_up_to(MAX_WORKERS, value)?),
                 awaited: None,
                 ..self
             }),
-            (Setting::Compactors, Form::Serve | Form::Bench) if self.compactors.is_none() => {
-                Some(Said {
-                    compactors: Some(number_up_to(value, MAX_COMPACTORS)?),
-                    awaited: None,
-                    ..self
-                })
-            }
-            _ => None,
         }
     }
 
-    fn number(self, word: &str) -> Option<Said>
-        ensures value { result ≡ with_number self word.now }
+    #[tactic(auto, unfolding(crate::specs::Words::with_compactors))]
+    fn with_compactors(self, value: &[u8]) -> Option<Said>
+        ensures value { result ≡ with_compactors self value.now }
     {
-        match (self.form, self.number) {
-            (Form::Bench, None) => Some(Said {
-                number: Some(number_up_to(word, MAX_BENCH)?),
+        match self.compactors {
+            Some(_) => None,
+            None => Some(Said {
+                compactors: Some(number_up_to(MAX_COMPACTORS, value)?),
+                awaited: None,
                 ..self
             }),
-            _ => None,
         }
     }
 
-    fn awaiting(self, setting: Setting) -> Said {
-        Said {
-            awaited: Some(setting),
-            ..self
+    /// Behind an option with this value.
+    #[tactic(auto, unfolding(crate::specs::Words::with_setting))]
+    fn with_setting(self, setting: Setting, value: &[u8]) -> Option<Said>
+        ensures value { result ≡ with_setting self setting value.now }
+    {
+        match setting {
+            Setting::Workers => self.with_workers(value),
+            Setting::Compactors => match self.form {
+                Form::Run => None,
+                Form::Serve => self.with_compactors(value),
+                Form::Bench => self.with_compactors(value),
+            },
+        }
+    }
+
+    #[tactic(auto, unfolding(crate::specs::Words::counted))]
+    fn counted(self, word: &[u8]) -> Option<Said>
+        ensures value { result ≡ counted self word.now }
+    {
+        match self.number {
+            Some(_) => None,
+            None => Some(Said {
+                number: Some(number_up_to(MAX_BENCH, word)?),
+                ..self
+            }),
+        }
+    }
+
+    #[tactic(auto, unfolding(crate::specs::Words::with_number))]
+    fn with_number(self, word: &[u8]) -> Option<Said>
+        ensures value { result ≡ with_number self word.now }
+    {
+        match self.form {
+            Form::Run => None,
+            Form::Serve => None,
+            Form::Bench => self.counted(word),
+        }
+    }
+
+    /// Behind a word that is no option's value.
+    #[tactic(auto, unfolding(crate::specs::Words::with_word))]
+    fn with_word(self, word: &[u8]) -> Option<Said>
+        ensures value { result ≡ with_word self word.now }
+    {
+        if word == b"--workers".as_slice() {
+            Some(Said {
+                awaited: Some(Setting::Workers),
+                ..self
+            })
+        } else if word == b"--compactors".as_slice() {
+            Some(Said {
+                awaited: Some(Setting::Compactors),
+                ..self
+            })
+        } else if let Some(value) = word.strip_prefix(b"--workers=") {
+            self.with_setting(Setting::Workers, value)
+        } else if let Some(value) = word.strip_prefix(b"--compactors=") {
+            self.with_setting(Setting::Compactors, value)
+        } else {
+            self.with_number(word)
         }
     }
 
     /// Behind one word more.
-    fn behind(self, word: &str) -> Option<Said>
+    fn behind(self, word: &[u8]) -> Option<Said>
         ensures value { result ≡ said_behind self word.now }
     {
-        if let Some(setting) = self.awaited {
-            return self.setting(setting, word);
-        }
-        if word == "--workers" {
-            Some(self.awaiting(Setting::Workers))
-        } else if word == "--compactors" {
-            Some(self.awaiting(Setting::Compactors))
-        } else if let Some(value) = word.strip_prefix("--workers=") {
-            self.setting(Setting::Workers, value)
-        } else if let Some(value) = word.strip_prefix("--compactors=") {
-            self.setting(Setting::Compactors, value)
-        } else {
-            self.number(word)
+        match self.awaited {
+            Some(setting) => self.with_setting(setting, word),
+            None => self.with_word(word),
         }
     }
 
@@ -209,43 +251,56 @@ impl Said {
     {
         let mut said = self;
         for word in words {
-            said = said.behind(word.as_str())?;
+            said = said.behind(word.as_bytes())?;
         }
         Some(said)
     }
 
     /// The command, where nothing is missing.
+    #[tactic(auto, unfolding(crate::specs::Words::settled))]
     fn settle(self) -> Option<Command>
         ensures value { result ≡ settled self }
     {
         let workers = self.workers.unwrap_or(DEFAULT_WORKERS);
         let compactors = self.compactors.unwrap_or(DEFAULT_COMPACTORS);
-        match (self.awaited, self.form) {
-            (Some(_), _) => None,
-            (None, Form::Run) => Some(Command::Run { workers }),
-            (None, Form::Serve) => Some(Command::Serve {
-                workers,
-                compactors,
-            }),
-            (None, Form::Bench) => Some(Command::Bench {
-                number: self.number?,
-                workers,
-                compactors,
-            }),
+        match self.awaited {
+            Some(_) => None,
+            None => match self.form {
+                Form::Run => Some(Command::Run { workers }),
+                Form::Serve => Some(Command::Serve {
+                    workers,
+                    compactors,
+                }),
+                Form::Bench => Some(Command::Bench {
+                    number: self.number?,
+                    workers,
+                    compactors,
+                }),
+            },
         }
     }
 }
 
+#[tactic(auto, unfolding(crate::specs::Words::said_by))]
+fn said_by(word: &[u8], words: &[String]) -> Option<Said>
+    ensures value { result ≡ said_by word.now (map string_bytes words.now) }
+{
+    Said::first(form_of(word)?).behind_all(words)
+}
+
 /// The command that these words are. None where they are none.
+#[tactic(auto, unfolding(crate::specs::Words::command_of))]
 pub fn read_words(words: &[String]) -> Option<Command>
     ensures value { result ≡ command_of (map string_bytes words.now) }
 {
-    let (word, words) = words.split_first()?;
-    let said = Said::first(form(word.as_str())?).behind_all(words)?;
-    said.settle()
+    match words {
+        [] => None,
+        [word, rest @ ..] => said_by(word.as_bytes(), rest)?.settle(),
+    }
 }
 
 /// The command that these words are, where it is built: `run`, so far.
+#[tactic(auto, unfolding(crate::specs::Words::run_of))]
 pub fn read_run(words: &[String]) -> Option<Command>
     ensures value { result ≡ run_of (map string_bytes words.now) }
 {
