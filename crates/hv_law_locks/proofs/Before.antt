@@ -2,7 +2,11 @@
 use Rattle.std.proofs.Common.{◌≡◌, ℕ, zero, suc, ◌⊎◌, inl, inr, Bool, true, false, is_none, is_some, Option, Some, None, List, [], ◌∷◌, refl, sym, ap, ◌∙◌, subst, arith}
 use Rattle.std.specs.Prelude.{IsTrue, IsFalse, slice_get}
 use Rattle.std.specs.List.{list_any}
-use Rattle.hv_history.specs.State.{State, Statement, Snapshot, Transaction, Ending, numbered, changed, changed_at, while_open, unless_ended, started, meant_in, first_of}
+use Rattle.hv_history.specs.declared.state.Statement.{Statement}
+use Rattle.hv_history.specs.declared.state.Snapshot.{Snapshot}
+use Rattle.hv_history.specs.declared.state.Transaction.{Transaction}
+use Rattle.hv_history.specs.declared.state.Ending.{Ending}
+use Rattle.hv_history.specs.State.{State, numbered, changed, changed_at, while_open, unless_ended, started, meant_in, first_of}
 use Rattle.hv_history.specs.Legal.{is_open, is_started, IsRunning, IsWaiting, locks_of}
 use Rattle.hv_stands.proofs.Numbers.{one_value, same_one}
 use Rattle.hv_stands.proofs.Keeping.{still-open}
@@ -14,21 +18,21 @@ abbrev pub IsBack : {A : Type 0} → (A → A) → ℕ → ℕ → A → A → T
 IsBack f k n before now = ((k ≡ n → ⊥) × (now ≡ before)) ⊎ ((k ≡ n) × (now ≡ f before))
 
 further : {A : Type 0} (f : A → A) (k n : ℕ) (before now : A) → IsBack f k n before now → IsBack f (suc k) (suc n) before now
-further f k n before now (inl h) = inl (λ e. h.0 (omega (arith, e)), h.1)
+further f k n before now (inl h) = inl ((λ e. h.0 (omega (arith, e))), h.1)
 further f k n before now (inr h) = inr (ap suc h.0, h.1)
 
 back-slice : {A : Type 0} (f : A → A) (xs : List A) (k n : ℕ) (y : A) → slice_get (changed_at f xs k) n ≡ Some y
     → (x : A) × (slice_get xs n ≡ Some x) × IsBack f k n x y
 back-slice f [] k n y e = cc
 back-slice f (x ∷ xs) zero zero y e = (x, refl, inr (refl, sym (one_value (f x) y e)))
-back-slice f (x ∷ xs) zero (suc n) y e = (y, e, inl (λ i. omega (arith, i), refl))
-back-slice f (x ∷ xs) (suc k) zero y e = (x, refl, inl (λ i. omega (arith, i), sym (one_value x y e)))
+back-slice f (x ∷ xs) zero (suc n) y e = (y, e, inl ((λ i. omega (arith, i)), refl))
+back-slice f (x ∷ xs) (suc k) zero y e = (x, refl, inl ((λ i. omega (arith, i)), sym (one_value x y e)))
 back-slice f (x ∷ xs) (suc k) (suc n) y e = let h = back-slice f xs k n y e in (h.0, h.1, further f k n h.0 y h.2)
 
 pub back : {A : Type 0} (f : A → A) (xs : List A) (k n : ℕ) (y : A) → numbered (changed f xs k) n ≡ Some y
     → (x : A) × (numbered xs n ≡ Some x) × IsBack f k n x y
 back f xs zero zero y e = cc
-back f xs zero (suc n) y e = (y, e, inl (λ i. omega (arith, i), refl))
+back f xs zero (suc n) y e = (y, e, inl ((λ i. omega (arith, i)), refl))
 back f xs (suc k) zero y e = cc
 back f xs (suc k) (suc n) y e = let h = back-slice f xs k n y e in (h.0, h.1, further f k n h.0 y h.2)
 
@@ -66,7 +70,7 @@ KeepsLocks f = (x : Transaction) → (locks_of (f x) ≡ locks_of x) × ((f x).s
 
 pub came-open : (f : Transaction → Transaction) → KeepsLocks f → (xs : List Transaction) (k n : ℕ) (now : Transaction)
     → numbered (changed (while_open f) xs k) n ≡ Some now → is_open now ≡ true → WasOpen xs n now
-came-open f keeps xs k n now at unended = by (back (while_open f) xs k n now at)
+came-open f keeps xs k n now at unended = let h = back (while_open f) xs k n now at in by h.0 h.1 h.2
   where
     changing : (x : Transaction) (o : Option Ending) → x.ending ≡ o → numbered xs n ≡ Some x → now ≡ unless_ended o x (f x) → WasOpen xs n now
     changing x None none here is = record {
@@ -78,9 +82,9 @@ came-open f keeps xs k n now at unended = by (back (while_open f) xs k n now at)
     }
     changing x (Some ending) some here is = was-as xs n x now here is unended
 
-    by : (x : Transaction) × (numbered xs n ≡ Some x) × IsBack (while_open f) k n x now → WasOpen xs n now
-    by (x, here, inl same) = was-as xs n x now here same.1 unended
-    by (x, here, inr change) = changing x x.ending refl here change.1
+    by : (x : Transaction) → numbered xs n ≡ Some x → IsBack (while_open f) k n x now → WasOpen xs n now
+    by x here (inl same) = was-as xs n x now here same.1 unended
+    by x here (inr change) = changing x x.ending refl here change.1
 
 -- ---- one that is open isn't the one that ends
 
@@ -91,15 +95,15 @@ ends-none x now ending is some unended =
 
 pub came-ended : (f : Transaction → Transaction) → ((x : Transaction) → is_open (f x) ≡ true → ⊥) → (xs : List Transaction) (k n : ℕ) (now : Transaction)
     → numbered (changed (while_open f) xs k) n ≡ Some now → is_open now ≡ true → (k ≡ n → ⊥) × (numbered xs n ≡ Some now)
-came-ended f ends xs k n now at unended = by (back (while_open f) xs k n now at)
+came-ended f ends xs k n now at unended = let h = back (while_open f) xs k n now at in by h.0 h.1 h.2
   where
     never : (x : Transaction) (o : Option Ending) → x.ending ≡ o → now ≡ unless_ended o x (f x) → ⊥
     never x None none is = ends x (subst (λ (t : Transaction). is_open t ≡ true) is unended)
     never x (Some ending) some is = ends-none x now ending is some unended
 
-    by : (x : Transaction) × (numbered xs n ≡ Some x) × IsBack (while_open f) k n x now → (k ≡ n → ⊥) × (numbered xs n ≡ Some now)
-    by (x, here, inl same) = (same.0, here ∙ ap Some (sym same.1))
-    by (x, here, inr change) = absurd (never x x.ending refl change.1)
+    by : (x : Transaction) → numbered xs n ≡ Some x → IsBack (while_open f) k n x now → (k ≡ n → ⊥) × (numbered xs n ≡ Some now)
+    by x here (inl same) = (same.0, here ∙ ap Some (sym same.1))
+    by x here (inr change) = absurd (never x x.ending refl change.1)
 
 -- ---- one is started
 
@@ -119,15 +123,16 @@ first-snapshot (Some other) s e = cc
 pub came-started : (state : State) (number k n : ℕ) (t now : Transaction) → numbered state.transactions k ≡ Some t → IsWaiting t
     → numbered (changed (while_open (started state number)) state.transactions k) n ≡ Some now
     → ((k ≡ n → ⊥) × (numbered state.transactions n ≡ Some now)) ⊎ IsStartedHere state k n t now
-came-started state number k n t now here waiting at = by (back (while_open (started state number)) state.transactions k n now at)
+came-started state number k n t now here waiting at =
+    let h = back (while_open (started state number)) state.transactions k n now at in by h.0 h.1 h.2
   where
     opened : unless_ended t.ending t (started state number t) ≡ started state number t
     opened = ap (λ o. unless_ended o t (started state number t)) (still-open t waiting.unended)
 
-    by : (x : Transaction) × (numbered state.transactions n ≡ Some x) × IsBack (while_open (started state number)) k n x now
+    by : (x : Transaction) → numbered state.transactions n ≡ Some x → IsBack (while_open (started state number)) k n x now
         → ((k ≡ n → ⊥) × (numbered state.transactions n ≡ Some now)) ⊎ IsStartedHere state k n t now
-    by (x, there, inl same) = inl (same.0, there ∙ ap Some (sym same.1))
-    by (x, there, inr change) =
+    by x there (inl same) = inl (same.0, there ∙ ap Some (sym same.1))
+    by x there (inr change) =
         let own : numbered state.transactions k ≡ Some x = ap (numbered state.transactions) change.0 ∙ there in
         let is : now ≡ started state number t = change.1 ∙ ap (while_open (started state number)) (same_one (numbered state.transactions k) x t own here) ∙ opened in
         inr (record {

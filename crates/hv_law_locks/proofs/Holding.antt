@@ -4,11 +4,17 @@ use Rattle.std.specs.Prelude.{IsTrue, IsFalse, IsSomeAnd, slice_get}
 use Rattle.std.specs.List.{list_any, AllByRecursion}
 use Rattle.std.specs.Str.{bytes_eq}
 use Rattle.hv_base.specs.declared.ids.Limits.{Limits}
+use Rattle.hv_base.specs.declared.ids.TxnId.{TxnId}
 use Rattle.hv_locks.specs.declared.table.Lock.{Lock}
 use Rattle.hv_logic.specs.Names.{exclusive}
 use Rattle.hv_history.specs.declared.entry.Entry.{Entry}
 use Rattle.hv_history.specs.declared.entry.Entry.TheVariants as entry
-use Rattle.hv_history.specs.State.{State, Table, Snapshot, Transaction, numbered, changed, owned, dropped, commits, made_by, ended, committed, given_id, Committed, Aborted, Made, Dropped, opened, opening_tree, acted, after, nothing_yet, state_of}
+use Rattle.hv_history.specs.declared.state.Table.{Table}
+use Rattle.hv_history.specs.declared.state.Snapshot.{Snapshot}
+use Rattle.hv_history.specs.declared.state.Ending.{Ending}
+use Rattle.hv_history.specs.declared.state.Transaction.{Transaction}
+use Rattle.hv_history.specs.declared.state.Ending.TheVariants.{Committed, Aborted, Made, Dropped}
+use Rattle.hv_history.specs.State.{State, numbered, changed, owned, dropped, commits, made_by, ended, did, committed, given_id, opened, opening_tree, acted, after, nothing_yet, state_of}
 use Rattle.hv_history.specs.Legal.{is_open, is_started, IsRunning, StartFits, CreateFits, Fits, locks_of, locks_conflict, holds_against, is_named, is_create, made_name}
 use Rattle.hv_stands.proofs.Numbers.{one_value, found, numbered-or-last}
 use Rattle.hv_law_locks.specs.Dropping.{DropFits, FitsToo, AllFitToo, is_drop, dropped_name, is_named_there}
@@ -58,7 +64,7 @@ module _ (state now : State) (hold : LocksHold state)
       → WasOpen state.transactions n t → AllByRecursion (StaysLocked s.tables now.tables) (locks_of t)
   names-still n t s here unended snapshot x =
       all-then s.tables state.tables now.tables (locks_of t)
-      (subst (AllByRecursion (StaysLocked s.tables state.tables)) (sym x.locks) (hold.names n x.before x.here s x.unended (sym x.snapshot ∙ snapshot)))
+      (subst (λ locks. AllByRecursion (StaysLocked s.tables state.tables) locks) (sym x.locks) (hold.names n x.before x.here s x.unended (sym x.snapshot ∙ snapshot)))
       (step n t here (runs t s unended snapshot))
 
   goes-on : LocksHold now
@@ -74,7 +80,7 @@ held-false true true c p q e = e
 held-false true false c p q e = cc
 held-false false b c p q e = cc
 
-module _ (limits : Limits) (state : State) (number k : ℕ) (t : Transaction) (here : numbered state.transactions k ≡ Some t) (fits : StartFits limits state number t)
+module _ (limits : Limits) (state : State) (number : ℕ) (txn : TxnId) (t : Transaction) (here : numbered state.transactions txn.0 ≡ Some t) (fits : StartFits limits state number t)
     (hold : LocksHold state) where
   -- the one that starts is apart from those that run
   from-started : (n : ℕ) (b : Transaction) → numbered state.transactions n ≡ Some b → IsRunning b → AreApart (locks_of t) (locks_of b)
@@ -84,12 +90,12 @@ module _ (limits : Limits) (state : State) (number k : ℕ) (t : Transaction) (h
       (none-at (holds_against (locks_of t)) state.transactions n b fits.unlocked at))
 
   apart-started : (m n : ℕ) (a b : Transaction) → (m ≡ n → ⊥) → IsRunning a → IsRunning b
-      → ((k ≡ m → ⊥) × (numbered state.transactions m ≡ Some a)) ⊎ IsStartedHere state k m t a
-      → ((k ≡ n → ⊥) × (numbered state.transactions n ≡ Some b)) ⊎ IsStartedHere state k n t b
+      → ((txn.0 ≡ m → ⊥) × (numbered state.transactions m ≡ Some a)) ⊎ IsStartedHere state txn.0 m t a
+      → ((txn.0 ≡ n → ⊥) × (numbered state.transactions n ≡ Some b)) ⊎ IsStartedHere state txn.0 n t b
       → AreApart (locks_of a) (locks_of b)
   apart-started m n a b other runs_a runs_b (inl x) (inl y) = hold.apart m n a b other x.1 y.1 runs_a runs_b
   apart-started m n a b other runs_a runs_b (inl x) (inr y) =
-      subst (AreApart (locks_of a)) (sym y.locks) (apart-turned (locks_of t) (locks_of a) (from-started m a x.1 runs_a))
+      subst (λ locks. AreApart (locks_of a) locks) (sym y.locks) (apart-turned (locks_of t) (locks_of a) (from-started m a x.1 runs_a))
   apart-started m n a b other runs_a runs_b (inr x) (inl y) =
       subst (λ locks. AreApart locks (locks_of b)) (sym x.locks) (from-started n b y.1 runs_b)
   apart-started m n a b other runs_a runs_b (inr x) (inr y) = absurd (other (sym x.same ∙ y.same))
@@ -98,19 +104,19 @@ module _ (limits : Limits) (state : State) (number k : ℕ) (t : Transaction) (h
   snapshot-tables a s e name = subst (λ (x : Snapshot). StaysNamed x.tables a.tables name) (one_value a s e) (named-same a.tables name)
 
   names-started : (n : ℕ) (x : Transaction) (s : Snapshot) → IsTrue (is_open x) → x.snapshot ≡ Some s
-      → ((k ≡ n → ⊥) × (numbered state.transactions n ≡ Some x)) ⊎ IsStartedHere state k n t x
+      → ((txn.0 ≡ n → ⊥) × (numbered state.transactions n ≡ Some x)) ⊎ IsStartedHere state txn.0 n t x
       → AllByRecursion (StaysLocked s.tables state.tables) (locks_of x)
   names-started n x s unended snapshot (inl same) = hold.names n x same.1 s unended snapshot
   names-started n x s unended snapshot (inr is) =
       all-names s.tables state.tables
       (snapshot-tables (record { place = state.entries; tables = state.tables }) s (sym is.snapshot ∙ snapshot)) (locks_of x)
 
-  starts-on : LocksHold (after state (entry.Start (record { 0 = k }) number))
+  starts-on : LocksHold (after state (entry.Start txn number))
   unfolding acted
   starts-on = record {
     apart = λ m n a b other at_a at_b runs_a runs_b.
-        apart-started m n a b other runs_a runs_b (came-started state number k m t a here fits.waiting at_a) (came-started state number k n t b here fits.waiting at_b);
-    names = λ n x at s unended snapshot. names-started n x s unended snapshot (came-started state number k n t x here fits.waiting at);
+        apart-started m n a b other runs_a runs_b (came-started state number txn.0 m t a here fits.waiting at_a) (came-started state number txn.0 n t b here fits.waiting at_b);
+    names = λ n x at s unended snapshot. names-started n x s unended snapshot (came-started state number txn.0 n t x here fits.waiting at);
   }
 
 -- ---- a Create and a Drop, of a transaction whose name nobody else has locked
@@ -139,6 +145,9 @@ module _ (state : State) (k : ℕ) (t : Transaction) (here : numbered state.tran
 
 -- ---- each entry
 
+never-ended : (ending : Ending) (x : Transaction) → is_open (ended ending x) ≡ true → ⊥
+never-ended ending x e = let wrong : false ≡ true = e in cc
+
 pub holds-after : (limits : Limits) (state : State) (event : Entry) → FitsToo limits state event → LocksHold state → LocksHold (after state event)
 unfolding acted
 holds-after limits state (entry.Boot run) fits hold =
@@ -157,7 +166,7 @@ holds-after limits state (entry.Opened txn session number text) fits hold =
         cc
 holds-after limits state (entry.Start txn statement) fits hold =
     let t = found (StartFits limits state statement) (numbered state.transactions txn.0) fits in
-    starts-on limits state statement txn.0 t.0 t.1 t.2 hold
+    starts-on limits state statement txn t.0 t.1 t.2 hold
 holds-after limits state (entry.Given txn table write) fits hold =
     goes-on state (after state (entry.Given txn table write)) hold
     (λ n t at running. came-open (given_id table.0 write.0) (λ x. (refl, refl)) state.transactions txn.0 n t at running.unended)
@@ -165,25 +174,25 @@ holds-after limits state (entry.Given txn table write) fits hold =
     (λ name. named-changed (owned txn.0) name state.tables table.0 (λ x e. refl)) (locks_of t))
 holds-after limits state (entry.Commit txn wrote) fits hold =
     goes-on state (after state (entry.Commit txn wrote)) hold
-    (λ n t at running. was-same state.transactions n t (came-ended (committed state.entries wrote) (λ x e. cc) state.transactions txn.0 n t at running.unended).1 running.unended)
+    (λ n t at running. was-same state.transactions n t (came-ended (committed state.entries wrote) (λ x e. never-ended (Committed state.entries wrote) (did 0 x) e) state.transactions txn.0 n t at running.unended).1 running.unended)
     (λ n t at running. all-names state.tables _ (λ name. named-written name (commits (numbered state.transactions txn.0)) state.tables) (locks_of t))
 holds-after limits state (entry.Abort txn cause) fits hold =
     goes-on state (after state (entry.Abort txn cause)) hold
-    (λ n t at running. was-same state.transactions n t (came-ended (ended (Aborted state.entries cause)) (λ x e. cc) state.transactions txn.0 n t at running.unended).1 running.unended)
+    (λ n t at running. was-same state.transactions n t (came-ended (ended (Aborted state.entries cause)) (never-ended (Aborted state.entries cause)) state.transactions txn.0 n t at running.unended).1 running.unended)
     (λ n t at running. all-names state.tables state.tables (named-same state.tables) (locks_of t))
 holds-after limits state (entry.Create txn table) fits hold =
     let t = found (CreateFits state table.0) (numbered state.transactions txn.0) fits in
     goes-on state (after state (entry.Create txn table)) hold
-    (λ n x at running. was-same state.transactions n x (came-ended (ended (Made state.entries table.0)) (λ y e. cc) state.transactions txn.0 n x at running.unended).1 running.unended)
+    (λ n x at running. was-same state.transactions n x (came-ended (ended (Made state.entries table.0)) (never-ended (Made state.entries table.0)) state.transactions txn.0 n x at running.unended).1 running.unended)
     (λ n x at running.
-    let other = came-ended (ended (Made state.entries table.0)) (λ y e. cc) state.transactions txn.0 n x at running.unended in
+    let other = came-ended (ended (Made state.entries table.0)) (never-ended (Made state.entries table.0)) state.transactions txn.0 n x at running.unended in
     created-names state txn.0 t.0 t.1 t.2.running hold t.2.create table.0 n x other.0 other.1 running)
 holds-after limits state (entry.Drop txn table) fits hold =
     let t = found (DropFits state table.0) (numbered state.transactions txn.0) fits in
     goes-on state (after state (entry.Drop txn table)) hold
-    (λ n x at running. was-same state.transactions n x (came-ended (ended (Dropped state.entries table.0)) (λ y e. cc) state.transactions txn.0 n x at running.unended).1 running.unended)
+    (λ n x at running. was-same state.transactions n x (came-ended (ended (Dropped state.entries table.0)) (never-ended (Dropped state.entries table.0)) state.transactions txn.0 n x at running.unended).1 running.unended)
     (λ n x at running.
-    let other = came-ended (ended (Dropped state.entries table.0)) (λ y e. cc) state.transactions txn.0 n x at running.unended in
+    let other = came-ended (ended (Dropped state.entries table.0)) (never-ended (Dropped state.entries table.0)) state.transactions txn.0 n x at running.unended in
     dropped-names state txn.0 t.0 t.1 t.2.running hold t.2.drop table.0 t.2.named n x other.0 other.1 running)
 holds-after limits state (entry.Asked job table partition kind by) fits hold = absurd fits
 holds-after limits state (entry.Picked job watermark) fits hold = absurd fits

@@ -7,7 +7,9 @@ use Rattle.hv_ast.specs.declared.statement.Stmt.{Stmt}
 use Rattle.hv_ast.specs.declared.statement.Stmt.TheVariants as stmt
 use Rattle.hv_history.specs.declared.entry.Entry.{Entry}
 use Rattle.hv_history.specs.declared.entry.Entry.TheVariants as entry
-use Rattle.hv_history.specs.State.{State, Table, Transaction, numbered, opening_tree, after}
+use Rattle.hv_history.specs.declared.state.Table.{Table}
+use Rattle.hv_history.specs.declared.state.Transaction.{Transaction}
+use Rattle.hv_history.specs.State.{State, numbered, opening_tree, after}
 use Rattle.hv_history.specs.Legal.{Of, IsRunning, is_named, Fits}
 
 abbrev pub is_drop : Option Stmt → Bool

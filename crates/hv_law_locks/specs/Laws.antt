@@ -4,7 +4,10 @@ use Rattle.std.specs.List.{list_any}
 use Rattle.hv_base.specs.declared.ids.Limits.{Limits}
 use Rattle.hv_locks.specs.declared.table.Lock.{Lock}
 use Rattle.hv_history.specs.declared.entry.Entry.{Entry}
-use Rattle.hv_history.specs.State.{Table, Snapshot, Transaction, numbered, state_of, nothing_yet, opening_tree}
+use Rattle.hv_history.specs.declared.state.Table.{Table}
+use Rattle.hv_history.specs.declared.state.Snapshot.{Snapshot}
+use Rattle.hv_history.specs.declared.state.Transaction.{Transaction}
+use Rattle.hv_history.specs.State.{numbered, state_of, nothing_yet, opening_tree}
 use Rattle.hv_history.specs.Legal.{IsRunning, is_open, locks_of, is_named, is_create, made_name}
 use Rattle.hv_law_locks.specs.Dropping.{AllFitToo, is_drop, dropped_name, is_named_there}
 use Rattle.hv_law_locks.specs.Locked.{AreApart, KeepsNames}

@@ -3,7 +3,10 @@ use Rattle.std.specs.Prelude.{◌≡◌, ℕ, IsTrue, IsFalse, Some, List}
 use Rattle.std.specs.List.{AllByRecursion}
 use Rattle.hv_locks.specs.declared.table.Lock.{Lock}
 use Rattle.hv_locks.specs.Locking.{conflict}
-use Rattle.hv_history.specs.State.{State, Table, Snapshot, Transaction, numbered}
+use Rattle.hv_history.specs.declared.state.Table.{Table}
+use Rattle.hv_history.specs.declared.state.Snapshot.{Snapshot}
+use Rattle.hv_history.specs.declared.state.Transaction.{Transaction}
+use Rattle.hv_history.specs.State.{State, numbered}
 use Rattle.hv_history.specs.Legal.{IsRunning, is_open, locks_of}
 use Rattle.hv_law_locks.specs.Dropping.{is_named_there}
 
