@@ -17,37 +17,37 @@ is_one_of statuses status = list_any (λ n. n == status) statuses
 
 -- ---- what such a run did with a line: `Gains` where it was written whole, `GainsPart` where only a front of it was
 
-pub record Says (Wrote : List ℕ → List ℕ → List ℕ → Type 0) (line : List ℕ) (before after : Outside) : Type 0 where
-  pub wrote : Moves (Wrote line) before.sink after.sink
+pub record Says (Gained : List ℕ → List ℕ → List ℕ → Type 0) (line : List ℕ) (before after : Outside) : Type 0 where
+  pub wrote : Moves (Gained line) before.sink after.sink
   -- the store is as it was
   pub store_same : after.store ≡ before.store
 
-pub record IsBadWords (Wrote : List ℕ → List ℕ → List ℕ → Type 0) (words : List (List ℕ)) (before after : Outside) : Type 0 where
+pub record IsBadWords (Gained : List ℕ → List ℕ → List ℕ → Type 0) (words : List (List ℕ)) (before after : Outside) : Type 0 where
   pub words_are : run_of words ≡ None
   pub source_same : after.source ≡ before.source
-  pub says : Says Wrote words_line before after
+  pub says : Says Gained words_line before after
 
-pub record IsRefusedScript (Wrote : List ℕ → List ℕ → List ℕ → Type 0) (words : List (List ℕ)) (before after : Outside) : Type 0 where
+pub record IsRefusedScript (Gained : List ℕ → List ℕ → List ℕ → Type 0) (words : List (List ℕ)) (before after : Outside) : Type 0 where
   pub words_are : IsSome (run_of words)
   pub line : ℕ
   pub refused : Tells before.source (λ script. refused_at script ≡ Some line)
-  pub says : Says Wrote (script_line line) before after
+  pub says : Says Gained (script_line line) before after
 
-pub record IsBadJournal (Wrote : List ℕ → List ℕ → List ℕ → Type 0) (words : List (List ℕ)) (before after : Outside) : Type 0 where
+pub record IsBadJournal (Gained : List ℕ → List ℕ → List ℕ → Type 0) (words : List (List ℕ)) (before after : Outside) : Type 0 where
   pub words_are : IsSome (run_of words)
   pub unrefused : Tells before.source (λ script. refused_at script ≡ None)
   pub at : ℕ
   pub journal : Tells before.store (λ s. IsBadJournalAt profile s.journal at)
   pub shut : Tells before.store (HasNoBook profile)
-  pub says : Says Wrote (journal_line at) before after
+  pub says : Says Gained (journal_line at) before after
 
-pub record IsFullJournal (Wrote : List ℕ → List ℕ → List ℕ → Type 0) (words : List (List ℕ)) (before after : Outside) : Type 0 where
+pub record IsFullJournal (Gained : List ℕ → List ℕ → List ℕ → Type 0) (words : List (List ℕ)) (before after : Outside) : Type 0 where
   pub words_are : IsSome (run_of words)
   pub unrefused : Tells before.source (λ script. refused_at script ≡ None)
   pub entries : ℕ
   pub journal : Tells before.store (λ s. IsFullAt profile entries s.journal)
   pub shut : Tells before.store (HasFullBook profile)
-  pub says : Says Wrote full_line before after
+  pub says : Says Gained full_line before after
 
 -- a front of one of these lines was written, and no more
 abbrev pub CutsLine : List (List ℕ) → Outside → Outside → Type 0

@@ -73,19 +73,19 @@ IsSaidOrNot wanted line sink sink' faults faults' status =
     IsSaid wanted line sink sink' faults faults' status ⊎ ((status ≡ 7) × (sink' ≡ sink))
 
 -- a journal that is bad, and one that is full, is refused, and the store is then as it was; its line was written, or a front of it
-pub record IsClosed (Wrote : List ℕ → List ℕ → List ℕ → Type 0) (sink sink' : Option (List ℕ)) (told told' : Option Store) : Type 0 where
+pub record IsClosed (Gained : List ℕ → List ℕ → List ℕ → Type 0) (sink sink' : Option (List ℕ)) (told told' : Option Store) : Type 0 where
   pub at : ℕ
   pub journal : Tells told (λ s. IsBadJournalAt profile s.journal at)
   pub shut : Tells told (HasNoBook profile)
   pub same : told' ≡ told
-  pub wrote : Moves (Wrote (journal_line at)) sink sink'
+  pub wrote : Moves (Gained (journal_line at)) sink sink'
 
-pub record IsFilled (Wrote : List ℕ → List ℕ → List ℕ → Type 0) (sink sink' : Option (List ℕ)) (told told' : Option Store) : Type 0 where
+pub record IsFilled (Gained : List ℕ → List ℕ → List ℕ → Type 0) (sink sink' : Option (List ℕ)) (told told' : Option Store) : Type 0 where
   pub entries : ℕ
   pub journal : Tells told (λ s. IsFullAt profile entries s.journal)
   pub shut : Tells told (HasFullBook profile)
   pub same : told' ≡ told
-  pub wrote : Moves (Wrote full_line) sink sink'
+  pub wrote : Moves (Gained full_line) sink sink'
 
 pub record Opens (sink sink' : Option (List ℕ)) (told told' : Option Store) (status : ℕ) : Type 0 where
   pub bad : status ≡ 6 → IsClosed Gains sink sink' told told'
