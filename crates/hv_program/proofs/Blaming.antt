@@ -3,7 +3,7 @@ use Rattle.std.proofs.Common.{◌≡◌, ◌⊎◌, ℕ, ◌≤◌, ◌==◌, �
 use Rattle.std.proofs.lemmas.Bool.{eqb-true}
 use Rattle.hv_base.specs.Faults.{Rose}
 use Rattle.hv_shelf.specs.Disk.{Store}
-use Rattle.hv_script.specs.Words.{command_of}
+use Rattle.hv_script.specs.Words.{run_of}
 use Rattle.hv_script.specs.Actions.{refused_at}
 use Rattle.hv_script.specs.declared.words.Command.{Command}
 use Rattle.hv_history.specs.Legal.{profile}
@@ -127,10 +127,10 @@ not-both o line none some = let wrong : None ≡ Some line = sym none ∙ some i
 
 completes-told : (words : List (List ℕ)) (script : List ℕ) (sink : Option (List ℕ)) (s : Store) (after : Outside) (counts counts' : Counts) (status : ℕ)
     → Refuses words (record { source = Some script; sink = sink; store = Some s }) after status → HasCauses counts counts' status
-    → IsSome (command_of words) → IsFaultless counts counts' → refused_at script ≡ None → CanOpen profile s
+    → IsSome (run_of words) → IsFaultless counts counts' → refused_at script ≡ None → CanOpen profile s
     → IsTrue (is_one_of (0 ∷ 1 ∷ 7 ∷ []) status)
 completes-told words script sink s after counts counts' status h causes some ok fine small =
-    the-rest status (λ e. some-none (command_of words) some (h.bad_words e).words_are) (λ e. ok.source (causes.source e)) (λ e. ok.sink (causes.sink e)) (λ e. ok.store (causes.store e))
+    the-rest status (λ e. some-none (run_of words) some (h.bad_words e).words_are) (λ e. ok.source (causes.source e)) (λ e. ok.sink (causes.sink e)) (λ e. ok.store (causes.store e))
     (λ e. (h.bad_journal e).shut small.0 small.1.reads) (λ e. not-both (refused_at script) (h.refused_script e).line fine (h.refused_script e).refused)
     (λ e. omega (arith, (h.full_journal e).shut small.0 small.1.reads, small.1.room)) h.only
 

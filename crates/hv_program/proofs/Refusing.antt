@@ -4,8 +4,9 @@ use Rattle.std.specs.Prelude.{count_by}
 use Rattle.std.proofs.lemmas.List.{append-nil, length-append, take-append-le}
 use Rattle.std.proofs.lemmas.Bool.{ltb-true, ltb-false, lt-ltb, eqb-true}
 use Rattle.hv_base.specs.Told.{Tells, Moves}
+use Rattle.hv_base.specs.Sink.{Gains, GainsPart}
 use Rattle.hv_shelf.specs.Disk.{Store}
-use Rattle.hv_script.specs.Words.{command_of}
+use Rattle.hv_script.specs.Words.{run_of}
 use Rattle.hv_script.specs.declared.words.Command.{Command}
 use Rattle.hv_script.specs.Items.{items_of}
 use Rattle.hv_script.specs.declared.script.ScriptFault.{ScriptFault}
@@ -19,16 +20,16 @@ use Rattle.hv_program.specs.declared.stop.Stop.TheVariants as stop
 use Rattle.hv_program.specs.Stops.{status_of_stop}
 use Rattle.hv_program.specs.Reading.{TakesUpTo}
 use Rattle.hv_program.specs.Headline.{Outside}
-use Rattle.hv_program.specs.Serving.{ran_status, IsSaid, IsSaidOrNot, Opens}
-use Rattle.hv_program.specs.Lines.{words_line, script_line}
+use Rattle.hv_program.specs.Serving.{ran_status, IsSaid, IsSaidOrNot, IsClosed, IsFilled, Opens}
+use Rattle.hv_program.specs.Lines.{words_line, script_line, journal_line, full_line}
 use Rattle.hv_history.specs.declared.entry.Entry.{Entry}
 use Rattle.hv_history.specs.Legal.{profile}
-use Rattle.hv_recovery.specs.Recovery.{IsJournalOf}
+use Rattle.hv_recovery.specs.Recovery.{IsJournalOf, IsBadJournalAt}
 use Rattle.hv_house.specs.declared.boot.BootFault.{BootFault}
 use Rattle.hv_house.specs.declared.boot.BootFault.TheVariants as boot
-use Rattle.hv_house.specs.Booting.{CanOpen, IsFullAt, HasFullBook, IsBootFault}
+use Rattle.hv_house.specs.Booting.{CanOpen, IsFullAt, HasFullBook, HasNoBook, IsBootFault}
 use Rattle.hv_house.specs.Booting as boots
-use Rattle.hv_program.specs.Refused.{is_one_of, IsBadWords, IsRefusedScript, Refuses}
+use Rattle.hv_program.specs.Refused.{is_one_of, IsBadWords, IsRefusedScript, IsBadJournal, IsFullJournal, CutsLine, IsServing, DoesNothing, Refuses}
 
 -- ---- one of some statuses
 
@@ -68,7 +69,7 @@ none-of-two n not_zero not_one Goal h = first (split (0 == n) ((1 == n) || false
 
 opens-well : (n : ℕ) (sink sink' : Option (List ℕ)) (told told' : Option Store) → (n ≡ 6 → ⊥) → (n ≡ 9 → ⊥) → Tells told (CanOpen profile)
     → IsTrue (is_one_of (0 ∷ 1 ∷ 4 ∷ 5 ∷ 6 ∷ 7 ∷ 9 ∷ []) n) → Opens sink sink' told told' n
-opens-well n sink sink' told told' six nine can only = record { bad = λ e. absurd (six e); full = λ e. absurd (nine e); opened = λ h. can; only = only }
+opens-well n sink sink' told told' six nine can only = record { bad = λ e. absurd (six e); full = λ e. absurd (nine e); cut = λ e. inr (inr can); opened = λ h. can; only = only }
 
 pub opens-ran : (ran : Result Bool Stop) (sink sink' : Option (List ℕ)) (told told' : Option Store) → Tells told (CanOpen profile)
     → IfErr ran (λ why. IsTrue (is_one_of (4 ∷ 5 ∷ 7 ∷ []) (status_of_stop why))) → Opens sink sink' told told' (ran_status ran)
@@ -85,21 +86,26 @@ pub opens-run : (ran : Result Bool Stop) (status : ℕ) (sink sink' : Option (Li
 opens-run ran status sink sink' told told' now is opened why =
     subst (Opens sink sink' told told') (sym is) (opens-ran ran sink sink' told told' (could-open told now opened) why)
 
--- a run that did no statement
-opens-none : (n : ℕ) (sink sink' : Option (List ℕ)) (told told' : Option Store) → (n ≡ 6 → ⊥) → (n ≡ 9 → ⊥) → (n ≡ 0 → ⊥) → (n ≡ 1 → ⊥)
+-- a run that did no statement, and wrote nothing
+opens-none : (n : ℕ) (sink sink' : Option (List ℕ)) (told told' : Option Store) → (n ≡ 4 → ⊥) → (n ≡ 6 → ⊥) → (n ≡ 9 → ⊥) → (n ≡ 0 → ⊥) → (n ≡ 1 → ⊥)
     → IsTrue (is_one_of (0 ∷ 1 ∷ 4 ∷ 5 ∷ 6 ∷ 7 ∷ 9 ∷ []) n) → Opens sink sink' told told' n
-opens-none n sink sink' told told' six nine not_zero not_one only =
-    record { bad = λ e. absurd (six e); full = λ e. absurd (nine e); opened = none-of-two n not_zero not_one _; only = only }
+opens-none n sink sink' told told' four six nine not_zero not_one only = record {
+  bad = λ e. absurd (six e);
+  full = λ e. absurd (nine e);
+  cut = λ e. absurd (four e);
+  opened = none-of-two n not_zero not_one _;
+  only = only;
+}
 
 pub opens-store : (status : ℕ) (sink sink' : Option (List ℕ)) (told told' : Option Store) → status ≡ 5 → Opens sink sink' told told' status
 opens-store status sink sink' told told' is =
     subst (Opens sink sink' told told') (sym is)
-    (opens-none 5 sink sink' told told' (λ e. omega (arith, e)) (λ e. omega (arith, e)) (λ e. omega (arith, e)) (λ e. omega (arith, e)) refl)
+    (opens-none 5 sink sink' told told' (λ e. omega (arith, e)) (λ e. omega (arith, e)) (λ e. omega (arith, e)) (λ e. omega (arith, e)) (λ e. omega (arith, e)) refl)
 
 pub opens-memory : (status : ℕ) (sink sink' : Option (List ℕ)) (told told' : Option Store) → status ≡ 7 → Opens sink sink' told told' status
 opens-memory status sink sink' told told' is =
     subst (Opens sink sink' told told') (sym is)
-    (opens-none 7 sink sink' told told' (λ e. omega (arith, e)) (λ e. omega (arith, e)) (λ e. omega (arith, e)) (λ e. omega (arith, e)) refl)
+    (opens-none 7 sink sink' told told' (λ e. omega (arith, e)) (λ e. omega (arith, e)) (λ e. omega (arith, e)) (λ e. omega (arith, e)) (λ e. omega (arith, e)) refl)
 
 -- ---- a journal that is bad, and one that is full
 
@@ -107,21 +113,86 @@ pub full-found : (told told' : Option Store) (why : BootFault) (entries : ℕ) �
     → (told' ≡ told) × Tells told (λ s. IsFullAt profile entries s.journal) × Tells told (HasFullBook profile)
 full-found told told' why entries is h = subst (IsBootFault profile told told') is h
 
+pub bad-found : (told told' : Option Store) (why : BootFault) (at : ℕ) → why ≡ boot.BadJournal at → IsBootFault profile told told' why
+    → (told' ≡ told) × Tells told (λ s. IsBadJournalAt profile s.journal at) × Tells told (HasNoBook profile)
+bad-found told told' why at is h = subst (IsBootFault profile told told') is h
+
+module _ (sink sink' : Option (List ℕ)) (told told' : Option Store) where
+  -- its line was written
+  opens-six : IsClosed Gains sink sink' told told' → Opens sink sink' told told' 6
+  opens-six closed = record {
+    bad = λ e. closed;
+    full = λ e. absurd (omega (arith, e));
+    cut = λ e. absurd (omega (arith, e));
+    opened = none-of-two 6 (λ e. omega (arith, e)) (λ e. omega (arith, e)) _;
+    only = refl;
+  }
+
+  opens-nine : IsFilled Gains sink sink' told told' → Opens sink sink' told told' 9
+  opens-nine filled = record {
+    bad = λ e. absurd (omega (arith, e));
+    full = λ e. filled;
+    cut = λ e. absurd (omega (arith, e));
+    opened = none-of-two 9 (λ e. omega (arith, e)) (λ e. omega (arith, e)) _;
+    only = refl;
+  }
+
+  -- a front of it was
+  opens-cut : IsClosed GainsPart sink sink' told told' ⊎ IsFilled GainsPart sink sink' told told' ⊎ Tells told (CanOpen profile) → Opens sink sink' told told' 4
+  opens-cut cut = record {
+    bad = λ e. absurd (omega (arith, e));
+    full = λ e. absurd (omega (arith, e));
+    cut = λ e. cut;
+    opened = none-of-two 4 (λ e. omega (arith, e)) (λ e. omega (arith, e)) _;
+    only = refl;
+  }
+
+  pub opens-bad : (faults faults' status at : ℕ) (why : BootFault) → why ≡ boot.BadJournal at → IsBootFault profile told told' why
+      → IsSaidOrNot 6 (journal_line at) sink sink' faults faults' status → Opens sink sink' told told' status
+  opens-bad faults faults' status at why is fault said = by said
+    where
+      found : (told' ≡ told) × Tells told (λ s. IsBadJournalAt profile s.journal at) × Tells told (HasNoBook profile)
+      found = bad-found told told' why at is fault
+
+      by : IsSaidOrNot 6 (journal_line at) sink sink' faults faults' status → Opens sink sink' told told' status
+      by (inl (inl whole)) =
+          subst (Opens sink sink' told told') (sym whole.0)
+          (opens-six (record { at = at; journal = found.1; shut = found.2; same = found.0; wrote = whole.1.wrote }))
+      by (inl (inr cut)) =
+          subst (Opens sink sink' told told') (sym cut.0)
+          (opens-cut (inl (record { at = at; journal = found.1; shut = found.2; same = found.0; wrote = cut.1.wrote })))
+      by (inr unsaid) = opens-memory status sink sink' told told' unsaid.0
+
+  pub opens-full : (faults faults' status entries : ℕ) (why : BootFault) → why ≡ boot.Full entries → IsBootFault profile told told' why
+      → IsSaid 9 full_line sink sink' faults faults' status → Opens sink sink' told told' status
+  opens-full faults faults' status entries why is fault said = by said
+    where
+      found : (told' ≡ told) × Tells told (λ s. IsFullAt profile entries s.journal) × Tells told (HasFullBook profile)
+      found = full-found told told' why entries is fault
+
+      by : IsSaid 9 full_line sink sink' faults faults' status → Opens sink sink' told told' status
+      by (inl whole) =
+          subst (Opens sink sink' told told') (sym whole.0)
+          (opens-nine (record { entries = entries; journal = found.1; shut = found.2; same = found.0; wrote = whole.1.wrote }))
+      by (inr cut) =
+          subst (Opens sink sink' told told') (sym cut.0)
+          (opens-cut (inr (inl (record { entries = entries; journal = found.1; shut = found.2; same = found.0; wrote = cut.1.wrote }))))
+
 -- ---- the whole
 
 module _ (words : List (List ℕ)) (before after : Outside) where
-  some-not-none : IsSome (command_of words) → command_of words ≡ None → (Goal : Type 0) → Goal
-  some-not-none some none Goal = absurd (by (command_of words) some none)
+  some-not-none : IsSome (run_of words) → run_of words ≡ None → (Goal : Type 0) → Goal
+  some-not-none some none Goal = absurd (by (run_of words) some none)
     where
       by : (o : Option Command) → IsSome o → o ≡ None → ⊥
       by None is e = cc
       by (Some command) is e = cc
 
-  none-not-some : command_of words ≡ None → IsSome (command_of words) → (Goal : Type 0) → Goal
+  none-not-some : run_of words ≡ None → IsSome (run_of words) → (Goal : Type 0) → Goal
   none-not-some none some Goal = some-not-none some none Goal
 
   -- words that are no command
-  refuses-two : command_of words ≡ None → IsBadWords words before after → Refuses words before after 2
+  refuses-two : run_of words ≡ None → IsBadWords Gains words before after → Refuses words before after 2
   refuses-two none bad = record {
     bad_words = λ e. bad;
     bad_journal = λ e. absurd (omega (arith, e));
@@ -130,11 +201,13 @@ module _ (words : List (List ℕ)) (before after : Outside) where
     at_script = λ some. none-not-some none some _;
     at_journal = none-of-two 2 (λ e. omega (arith, e)) (λ e. omega (arith, e)) _;
     full_journal = λ e. absurd (omega (arith, e));
+    source_failed = λ e. absurd (omega (arith, e));
+    sink_failed = λ e. absurd (omega (arith, e));
     only = refl;
   }
 
-  refuses-four : command_of words ≡ None → Refuses words before after 4
-  refuses-four none = record {
+  refuses-four : run_of words ≡ None → IsBadWords GainsPart words before after → Refuses words before after 4
+  refuses-four none bad = record {
     bad_words = λ e. absurd (omega (arith, e));
     bad_journal = λ e. absurd (omega (arith, e));
     refused_script = λ e. absurd (omega (arith, e));
@@ -142,15 +215,19 @@ module _ (words : List (List ℕ)) (before after : Outside) where
     at_script = λ some. none-not-some none some _;
     at_journal = none-of-two 4 (λ e. omega (arith, e)) (λ e. omega (arith, e)) _;
     full_journal = λ e. absurd (omega (arith, e));
+    source_failed = λ e. absurd (omega (arith, e));
+    sink_failed = λ e. inl (inl bad);
     only = refl;
   }
 
-  pub refuses-words : (status : ℕ) → command_of words ≡ None → after.source ≡ before.source → after.store ≡ before.store
+  pub refuses-words : (status : ℕ) → run_of words ≡ None → after.source ≡ before.source → after.store ≡ before.store
       → (faults faults' : ℕ) → IsSaid 2 words_line before.sink after.sink faults faults' status → Refuses words before after status
   refuses-words status none source store faults faults' (inl said) =
       subst (Refuses words before after) (sym said.0)
       (refuses-two none (record { words_are = none; source_same = source; says = record { wrote = said.1.wrote; store_same = store } }))
-  refuses-words status none source store faults faults' (inr cut) = subst (Refuses words before after) (sym cut.0) (refuses-four none)
+  refuses-words status none source store faults faults' (inr cut) =
+      subst (Refuses words before after) (sym cut.0)
+      (refuses-four none (record { words_are = none; source_same = source; says = record { wrote = cut.1.wrote; store_same = store } }))
 
   -- a device failed, or memory ran out, before the store was opened
   all-lines : (n : ℕ) → IsTrue (is_one_of (3 ∷ 4 ∷ 7 ∷ 8 ∷ []) n) → (source : Option (List ℕ))
@@ -158,10 +235,11 @@ module _ (words : List (List ℕ)) (before after : Outside) where
   all-lines n h None = tt
   all-lines n h (Some script) = λ line e. h
 
-  refuses-quiet : (n : ℕ) → IsSome (command_of words) → (n ≡ 0 → ⊥) → (n ≡ 1 → ⊥) → (n ≡ 2 → ⊥) → (n ≡ 6 → ⊥) → (n ≡ 8 → ⊥) → (n ≡ 9 → ⊥)
+  refuses-quiet : (n : ℕ) → IsSome (run_of words) → (n ≡ 0 → ⊥) → (n ≡ 1 → ⊥) → (n ≡ 2 → ⊥) → (n ≡ 6 → ⊥) → (n ≡ 8 → ⊥) → (n ≡ 9 → ⊥)
       → IsTrue (is_one_of (3 ∷ 4 ∷ 7 ∷ 8 ∷ []) n)
+      → (n ≡ 3 → DoesNothing before after) → (n ≡ 4 → CutsLine words before after ⊎ IsServing words before)
       → IsTrue (is_one_of (0 ∷ 1 ∷ 2 ∷ 3 ∷ 4 ∷ 5 ∷ 6 ∷ 7 ∷ 8 ∷ 9 ∷ []) n) → Refuses words before after n
-  refuses-quiet n some not_zero not_one two six eight nine lines all = record {
+  refuses-quiet n some not_zero not_one two six eight nine lines three four all = record {
     bad_words = λ e. absurd (two e);
     bad_journal = λ e. absurd (six e);
     refused_script = λ e. absurd (eight e);
@@ -169,30 +247,34 @@ module _ (words : List (List ℕ)) (before after : Outside) where
     at_script = λ is. all-lines n lines before.source;
     at_journal = none-of-two n not_zero not_one _;
     full_journal = λ e. absurd (nine e);
+    source_failed = three;
+    sink_failed = four;
     only = all;
   }
 
-  refuses-three : IsSome (command_of words) → Refuses words before after 3
-  refuses-three some = refuses-quiet 3 some (λ e. omega (arith, e)) (λ e. omega (arith, e)) (λ e. omega (arith, e)) (λ e. omega (arith, e)) (λ e. omega (arith, e)) (λ e. omega (arith, e)) refl refl
+  refuses-three : IsSome (run_of words) → DoesNothing before after → Refuses words before after 3
+  refuses-three some nothing = refuses-quiet 3 some (λ e. omega (arith, e)) (λ e. omega (arith, e)) (λ e. omega (arith, e)) (λ e. omega (arith, e)) (λ e. omega (arith, e)) (λ e. omega (arith, e)) refl (λ e. nothing) (λ e. absurd (omega (arith, e))) refl
 
-  refuses-sink : IsSome (command_of words) → Refuses words before after 4
-  refuses-sink some = refuses-quiet 4 some (λ e. omega (arith, e)) (λ e. omega (arith, e)) (λ e. omega (arith, e)) (λ e. omega (arith, e)) (λ e. omega (arith, e)) (λ e. omega (arith, e)) refl refl
+  refuses-sink : IsSome (run_of words) → CutsLine words before after → Refuses words before after 4
+  refuses-sink some cut = refuses-quiet 4 some (λ e. omega (arith, e)) (λ e. omega (arith, e)) (λ e. omega (arith, e)) (λ e. omega (arith, e)) (λ e. omega (arith, e)) (λ e. omega (arith, e)) refl (λ e. absurd (omega (arith, e))) (λ e. inl cut) refl
 
-  refuses-seven : IsSome (command_of words) → Refuses words before after 7
-  refuses-seven some = refuses-quiet 7 some (λ e. omega (arith, e)) (λ e. omega (arith, e)) (λ e. omega (arith, e)) (λ e. omega (arith, e)) (λ e. omega (arith, e)) (λ e. omega (arith, e)) refl refl
+  refuses-seven : IsSome (run_of words) → Refuses words before after 7
+  refuses-seven some = refuses-quiet 7 some (λ e. omega (arith, e)) (λ e. omega (arith, e)) (λ e. omega (arith, e)) (λ e. omega (arith, e)) (λ e. omega (arith, e)) (λ e. omega (arith, e)) refl (λ e. absurd (omega (arith, e))) (λ e. absurd (omega (arith, e))) refl
 
-  pub refuses-memory : (status : ℕ) → IsSome (command_of words) → status ≡ 7 → Refuses words before after status
+  pub refuses-memory : (status : ℕ) → IsSome (run_of words) → status ≡ 7 → Refuses words before after status
   refuses-memory status some e = subst (Refuses words before after) (sym e) (refuses-seven some)
 
-  pub refuses-read : (status : ℕ) (why : Stop) → IsSome (command_of words) → status ≡ status_of_stop why
+  pub refuses-read : (status : ℕ) (why : Stop) → IsSome (run_of words) → status ≡ status_of_stop why
+      → after.sink ≡ before.sink → after.store ≡ before.store
       → IsTrue (is_one_of (3 ∷ 7 ∷ []) (status_of_stop why)) → Refuses words before after status
-  refuses-read status stop.Source some e h = subst (Refuses words before after) (sym e) (refuses-three some)
-  refuses-read status stop.Sink some e h = cc
-  refuses-read status stop.Store some e h = cc
-  refuses-read status stop.NoMemory some e h = refuses-memory status some e
+  refuses-read status stop.Source some e sink store h =
+      subst (Refuses words before after) (sym e) (refuses-three some (record { sink_same = sink; store_same = store }))
+  refuses-read status stop.Sink some e sink store h = cc
+  refuses-read status stop.Store some e sink store h = cc
+  refuses-read status stop.NoMemory some e sink store h = refuses-memory status some e
 
   -- a script that is refused
-  refuses-eight : IsRefusedScript words before after → Refuses words before after 8
+  refuses-eight : IsRefusedScript Gains words before after → Refuses words before after 8
   refuses-eight refused = record {
     bad_words = λ e. absurd (omega (arith, e));
     bad_journal = λ e. absurd (omega (arith, e));
@@ -201,22 +283,48 @@ module _ (words : List (List ℕ)) (before after : Outside) where
     at_script = λ is. all-lines 8 refl before.source;
     at_journal = none-of-two 8 (λ e. omega (arith, e)) (λ e. omega (arith, e)) _;
     full_journal = λ e. absurd (omega (arith, e));
+    source_failed = λ e. absurd (omega (arith, e));
+    sink_failed = λ e. absurd (omega (arith, e));
     only = refl;
   }
 
-  pub refuses-script : (status line : ℕ) → IsSome (command_of words) → Tells before.source (λ script. refused_at script ≡ Some line)
+  pub refuses-script : (status line : ℕ) → IsSome (run_of words) → Tells before.source (λ script. refused_at script ≡ Some line)
       → after.store ≡ before.store → (faults faults' : ℕ) → IsSaidOrNot 8 (script_line line) before.sink after.sink faults faults' status → Refuses words before after status
   refuses-script status line some refused store faults faults' (inl (inl said)) =
       subst (Refuses words before after) (sym said.0)
       (refuses-eight (record { words_are = some; line = line; refused = refused; says = record { wrote = said.1.wrote; store_same = store } }))
-  refuses-script status line some refused store faults faults' (inl (inr cut)) = subst (Refuses words before after) (sym cut.0) (refuses-sink some)
+  refuses-script status line some refused store faults faults' (inl (inr cut)) =
+      subst (Refuses words before after) (sym cut.0)
+      (refuses-sink some (inr (inl (record { words_are = some; line = line; refused = refused; says = record { wrote = cut.1.wrote; store_same = store } }))))
   refuses-script status line some refused store faults faults' (inr unsaid) = refuses-memory status some unsaid.0
 
   -- a script that is served
   wider : (n : ℕ) → IsTrue (is_one_of (0 ∷ 1 ∷ 4 ∷ 5 ∷ 6 ∷ 7 ∷ 9 ∷ []) n) → IsTrue (is_one_of (0 ∷ 1 ∷ 2 ∷ 3 ∷ 4 ∷ 5 ∷ 6 ∷ 7 ∷ 8 ∷ 9 ∷ []) n)
   wider n h = keep (0 == n) (is_one_of (1 ∷ 4 ∷ 5 ∷ 6 ∷ 7 ∷ 9 ∷ []) n) (is_one_of (1 ∷ 2 ∷ 3 ∷ 4 ∷ 5 ∷ 6 ∷ 7 ∷ 8 ∷ 9 ∷ []) n) (λ h0. keep (1 == n) (is_one_of (4 ∷ 5 ∷ 6 ∷ 7 ∷ 9 ∷ []) n) (is_one_of (2 ∷ 3 ∷ 4 ∷ 5 ∷ 6 ∷ 7 ∷ 8 ∷ 9 ∷ []) n) (λ h1. more (2 == n) (is_one_of (3 ∷ 4 ∷ 5 ∷ 6 ∷ 7 ∷ 8 ∷ 9 ∷ []) n) (more (3 == n) (is_one_of (4 ∷ 5 ∷ 6 ∷ 7 ∷ 8 ∷ 9 ∷ []) n) (keep (4 == n) (is_one_of (5 ∷ 6 ∷ 7 ∷ 9 ∷ []) n) (is_one_of (5 ∷ 6 ∷ 7 ∷ 8 ∷ 9 ∷ []) n) (λ h4. keep (5 == n) (is_one_of (6 ∷ 7 ∷ 9 ∷ []) n) (is_one_of (6 ∷ 7 ∷ 8 ∷ 9 ∷ []) n) (λ h5. keep (6 == n) (is_one_of (7 ∷ 9 ∷ []) n) (is_one_of (7 ∷ 8 ∷ 9 ∷ []) n) (λ h6. keep (7 == n) (is_one_of (9 ∷ []) n) (is_one_of (8 ∷ 9 ∷ []) n) (λ h7. more (8 == n) (is_one_of (9 ∷ []) n) (keep (9 == n) false false (λ h9. h9) h7)) h6) h5) h4) h1))) h0) h
 
-  pub refuses-served : (status : ℕ) → IsSome (command_of words) → Tells before.source (λ script. refused_at script ≡ None)
+  -- a line in place of the replies was cut, or the actions were done
+  cut-line : IsSome (run_of words) → Tells before.source (λ script. refused_at script ≡ None)
+      → IsClosed GainsPart before.sink after.sink before.store after.store ⊎ IsFilled GainsPart before.sink after.sink before.store after.store ⊎ Tells before.store (CanOpen profile)
+      → CutsLine words before after ⊎ IsServing words before
+  cut-line some fine (inl closed) = inl (inr (inr (inl (record {
+    words_are = some;
+    unrefused = fine;
+    at = closed.at;
+    journal = closed.journal;
+    shut = closed.shut;
+    says = record { wrote = closed.wrote; store_same = closed.same };
+  }))))
+  cut-line some fine (inr (inl filled)) = inl (inr (inr (inr (record {
+    words_are = some;
+    unrefused = fine;
+    entries = filled.entries;
+    journal = filled.journal;
+    shut = filled.shut;
+    says = record { wrote = filled.wrote; store_same = filled.same };
+  }))))
+  cut-line some fine (inr (inr opens)) = inr (record { words_are = some; unrefused = fine; opens = opens })
+
+  pub refuses-served : (status : ℕ) → IsSome (run_of words) → Tells before.source (λ script. refused_at script ≡ None)
       → Opens before.sink after.sink before.store after.store status → Refuses words before after status
   refuses-served status some fine opens = record {
     bad_words = λ e. absurd (let wrong : IsTrue (is_one_of (0 ∷ 1 ∷ 4 ∷ 5 ∷ 6 ∷ 7 ∷ 9 ∷ []) 2) = subst (λ (n : ℕ). IsTrue (is_one_of (0 ∷ 1 ∷ 4 ∷ 5 ∷ 6 ∷ 7 ∷ 9 ∷ []) n)) e opens.only in cc);
@@ -242,6 +350,8 @@ module _ (words : List (List ℕ)) (before after : Outside) where
       shut = filled.shut;
       says = record { wrote = filled.wrote; store_same = filled.same };
     };
+    source_failed = λ e. absurd (let wrong : IsTrue (is_one_of (0 ∷ 1 ∷ 4 ∷ 5 ∷ 6 ∷ 7 ∷ 9 ∷ []) 3) = subst (λ (n : ℕ). IsTrue (is_one_of (0 ∷ 1 ∷ 4 ∷ 5 ∷ 6 ∷ 7 ∷ 9 ∷ []) n)) e opens.only in cc);
+    sink_failed = λ e. cut-line some fine (opens.cut e);
     only = wider status opens.only;
   }
 

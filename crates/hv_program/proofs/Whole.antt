@@ -12,7 +12,7 @@ use Rattle.hv_script.specs.Actions.{actions_of, least, refused_at}
 use Rattle.hv_script.specs.Standing.{fault_lines, first_standing}
 use Rattle.hv_base.specs.Sink.{GainsPart}
 use Rattle.hv_base.specs.Told.{Tells}
-use Rattle.hv_script.specs.Words.{command_of}
+use Rattle.hv_script.specs.Words.{run_of}
 use Rattle.hv_program.specs.declared.stop.Stop.{Stop}
 use Rattle.hv_program.specs.declared.stop.Stop.TheVariants as stop
 use Rattle.hv_program.specs.Stops.{status_of_stop}
@@ -194,7 +194,7 @@ module _ (low high : ℕ) (words : List (List ℕ)) (book : List Entry) (script 
 -- ---- the cases of a run
 
 pub Headline-words : (low high : ℕ) (words : List (List ℕ)) (source sink sink' : Option (List ℕ)) (told : Option Store) (faults faults' status : ℕ)
-    → command_of words ≡ None → StaysTold sink sink' → IsSaid 2 words_line sink sink' faults faults' status
+    → run_of words ≡ None → StaysTold sink sink' → IsSaid 2 words_line sink sink' faults faults' status
     → Headline words (record { source = source; sink = sink; store = told }) (record { source = source; sink = sink'; store = told }) low high status
 Headline-words low high words source sink sink' told faults faults' status none heard said =
     Headline-by low high words source source sink sink' told told status (stays_same source) heard (leaves-same sink told)
@@ -224,7 +224,7 @@ tells-here : {A : Type 0} (P : A → Type 0) (o : Option A) (x : A) → o ≡ So
 tells-here P o x e h = subst (λ w. Tells w P) e h
 
 pub Headline-refused : (low high : ℕ) (words : List (List ℕ)) (source source' sink sink' : Option (List ℕ)) (told : Option Store) (faults faults' status line : ℕ)
-    → IsSome (command_of words) → Tells source (λ script. refused_at script ≡ Some line)
+    → IsSome (run_of words) → Tells source (λ script. refused_at script ≡ Some line)
     → StaysTold source source' → StaysTold sink sink' → IsSaidOrNot 8 (script_line line) sink sink' faults faults' status
     → Headline words (record { source = source; sink = sink; store = told }) (record { source = source'; sink = sink'; store = told }) low high status
 Headline-refused low high words source source' sink sink' told faults faults' status line some refused read heard said =

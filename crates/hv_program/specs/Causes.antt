@@ -2,7 +2,7 @@
 use Rattle.std.specs.Prelude.{◌≡◌, ℕ, IsTrue, IsSome, None, List, [], ◌∷◌}
 use Rattle.hv_base.specs.Faults.{Rose}
 use Rattle.hv_base.specs.Told.{Tells}
-use Rattle.hv_script.specs.Words.{command_of}
+use Rattle.hv_script.specs.Words.{run_of}
 use Rattle.hv_script.specs.Actions.{refused_at}
 use Rattle.hv_history.specs.Legal.{profile}
 use Rattle.hv_house.specs.Booting.{CanOpen}
@@ -31,6 +31,6 @@ pub record IsFaultless (before now : Counts) : Type 0 where
 -- memory doesn't run out.
 abbrev pub Completes : List (List ℕ) → Outside → Counts → Counts → ℕ → Type 0
 Completes words before counts counts' status =
-    IsSome (command_of words) → IsFaultless counts counts'
+    IsSome (run_of words) → IsFaultless counts counts'
     → Tells before.source (λ script. refused_at script ≡ None
     → Tells before.store (λ s. CanOpen profile s → IsTrue (is_one_of (0 ∷ 1 ∷ 7 ∷ []) status)))

@@ -4,7 +4,7 @@ use Rattle.hv_base.specs.Sink.{GainsPart}
 use Rattle.hv_shelf.specs.Disk.{Store}
 use Rattle.hv_history.specs.declared.entry.Entry.{Entry}
 use Rattle.hv_house.specs.Booting.{opening_of, OpensTo}
-use Rattle.hv_script.specs.Words.{command_of}
+use Rattle.hv_script.specs.Words.{run_of}
 use Rattle.hv_script.specs.Actions.{refused_at, actions_of}
 use Rattle.hv_history.specs.State.{state_of}
 use Rattle.hv_history.specs.Legal.{load, profile}
@@ -34,8 +34,8 @@ pub record IsAllDone (low high : ℕ) (book : List Entry) (script left written n
 -- the line of a run that does nothing
 abbrev pub IsLineOf : List (List ℕ) → List Entry → List ℕ → List ℕ → Type 0
 IsLineOf words book script line =
-    ((command_of words ≡ None) × (line ≡ words_line))
-    ⊎ (IsSome (command_of words) × ((at : ℕ) × (refused_at script ≡ Some at) × (line ≡ script_line at)))
+    ((run_of words ≡ None) × (line ≡ words_line))
+    ⊎ (IsSome (run_of words) × ((at : ℕ) × (refused_at script ≡ Some at) × (line ≡ script_line at)))
     ⊎ ((refused_at script ≡ None) × (profile.entries < load (state_of book) + 1) × (line ≡ full_line))
 
 -- a front of that line was written, and the store is as it was

@@ -72,23 +72,25 @@ abbrev pub IsSaidOrNot : ℕ → List ℕ → Option (List ℕ) → Option (List
 IsSaidOrNot wanted line sink sink' faults faults' status =
     IsSaid wanted line sink sink' faults faults' status ⊎ ((status ≡ 7) × (sink' ≡ sink))
 
--- a journal that is bad, and one that is full, is refused, and the store is then as it was
-pub record IsClosed (sink sink' : Option (List ℕ)) (told told' : Option Store) : Type 0 where
+-- a journal that is bad, and one that is full, is refused, and the store is then as it was; its line was written, or a front of it
+pub record IsClosed (Gained : List ℕ → List ℕ → List ℕ → Type 0) (sink sink' : Option (List ℕ)) (told told' : Option Store) : Type 0 where
   pub at : ℕ
   pub journal : Tells told (λ s. IsBadJournalAt profile s.journal at)
   pub shut : Tells told (HasNoBook profile)
   pub same : told' ≡ told
-  pub wrote : Moves (Gains (journal_line at)) sink sink'
+  pub wrote : Moves (Gained (journal_line at)) sink sink'
 
-pub record IsFilled (sink sink' : Option (List ℕ)) (told told' : Option Store) : Type 0 where
+pub record IsFilled (Gained : List ℕ → List ℕ → List ℕ → Type 0) (sink sink' : Option (List ℕ)) (told told' : Option Store) : Type 0 where
   pub entries : ℕ
   pub journal : Tells told (λ s. IsFullAt profile entries s.journal)
   pub shut : Tells told (HasFullBook profile)
   pub same : told' ≡ told
-  pub wrote : Moves (Gains full_line) sink sink'
+  pub wrote : Moves (Gained full_line) sink sink'
 
 pub record Opens (sink sink' : Option (List ℕ)) (told told' : Option Store) (status : ℕ) : Type 0 where
-  pub bad : status ≡ 6 → IsClosed sink sink' told told'
-  pub full : status ≡ 9 → IsFilled sink sink' told told'
+  pub bad : status ≡ 6 → IsClosed Gains sink sink' told told'
+  pub full : status ≡ 9 → IsFilled Gains sink sink' told told'
+  -- a front of such a line was written, or actions were done
+  pub cut : status ≡ 4 → IsClosed GainsPart sink sink' told told' ⊎ IsFilled GainsPart sink sink' told told' ⊎ Tells told (CanOpen profile)
   pub opened : IsTrue (is_one_of (0 ∷ 1 ∷ []) status) → Tells told (CanOpen profile)
   pub only : IsTrue (is_one_of (0 ∷ 1 ∷ 4 ∷ 5 ∷ 6 ∷ 7 ∷ 9 ∷ []) status)

@@ -14,7 +14,7 @@ use crate::run::run;
 use crate::stop::Stop;
 use hv_base::{Gate, Limits, Sink, Source, write_all};
 use hv_house::{BootFault, House};
-use hv_script::{Action, MAX_SCRIPT, ScriptFault, read_actions, read_words};
+use hv_script::{Action, MAX_SCRIPT, ScriptFault, read_actions, read_run};
 use hv_session::hv_acts::ToldHouse;
 use hv_shelf::Shelf;
 use std::alloc::Global;
@@ -181,7 +181,7 @@ pub fn hive<R: Threads + Wait + Sync, I: Source, O: Sink, D: Shelf + Send + Drop
           store = D.faults result.shelf;
         }) result.status }
 {
-    if read_words(words).is_none() {
+    if read_run(words).is_none() {
         return Ended {
             status: said(sink, b"hive: bad words\n", 2),
             shelf,

@@ -18,4 +18,4 @@ pub use script::{
     Cut, MAX_SCRIPT, MAX_STATEMENTS, MAX_TEXT, ScriptFault, cut_script, earlier_of, is_directive,
 };
 pub use standing::MAX_SESSIONS;
-pub use words::{Command, DEFAULT_WORKERS, read_words};
+pub use words::{Command, DEFAULT_WORKERS, read_run, read_words};

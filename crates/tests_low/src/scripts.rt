@@ -1,6 +1,8 @@
 use crate::words::{number, piece};
 use hv_base::NoMemory;
-use hv_script::{Action, Cut, ScriptFault, Session, cut_script, read_actions, read_words};
+use hv_script::{
+    Action, Cut, ScriptFault, Session, cut_script, read_actions, read_run, read_words,
+};
 use std::alloc::{AllocError, Global};
 use std::str;
 
@@ -110,16 +112,16 @@ fn long(alloc: Global, out: &mut String, words: &[&str], cut: bool) -> Result<()
     Ok(write!(out, "{found:?}")?)
 }
 
-/// The command of no, one and two words.
-fn words_of(alloc: Global, out: &mut String) -> Result<(), NoMemory> {
-    let words = [
-        String::from_str(alloc, "run")?,
-        String::from_str(alloc, "run")?,
-    ];
-    for count in 0..3 {
-        write!(out, "{:?} ", read_words(&words[..count]))?;
+/// The command of these words, which stand with spaces between them, and whether it runs today.
+fn words_of(alloc: Global, out: &mut String, line: &str) -> Result<(), NoMemory> {
+    let mut words = Vec::new(alloc);
+    for word in line.split(' ') {
+        if !word.is_empty() {
+            words.push(String::from_str(alloc, word)?)?;
+        }
     }
-    Ok(())
+    let runs = read_run(&words).is_some();
+    Ok(write!(out, "{:?} {runs}", read_words(&words))?)
 }
 
 pub fn answer(alloc: Global, out: &mut String, call: &str, words: &[&str]) -> Result<(), NoMemory> {
@@ -130,7 +132,7 @@ pub fn answer(alloc: Global, out: &mut String, call: &str, words: &[&str]) -> Re
         "broken" => broken(alloc, out),
         "long_cut" => long(alloc, out, words, true),
         "long" => long(alloc, out, words, false),
-        "words" => words_of(alloc, out),
+        "words" => words_of(alloc, out, piece(words, 0)),
         _ => Ok(()),
     }
 }

@@ -3,7 +3,7 @@ use Rattle.std.proofs.Common.{◌≤◌, ap, refl, ◌∙◌}
 use Rattle.hv_history.specs.Legal.{profile}
 use Rattle.hv_session.specs.hv_acts.specs.hv_telling.proofs.Opening.{opened-is-whole}
 use Rattle.hv_program.proofs.Ends.{Serves-run, Serves-store, Serves-memory, Serves-full}
-use Rattle.hv_program.proofs.Refusing.{opens-run, opens-store, opens-memory, full-found}
+use Rattle.hv_program.proofs.Refusing.{opens-run, opens-store, opens-memory, opens-bad, opens-full, full-found}
 use Rattle.hv_program.proofs.Blaming.{blames-run, blames-store, blames-memory}
 use Rattle.hv_house.specs.House.{entries_of}
 use Rattle.hv_house.specs.Steps.{IsOpenedOver}
@@ -61,3 +61,11 @@ pub returns-in-Err-Full-default-clause-served : goal.returns-in-Err-Full-default
 returns-in-Err-Full-default-clause-served g c =
     let full = full-found _ _ _ _ c.in-Err-Full-default.field-0-0-is c.in-Err-Full-default.ensures.bad in
     Serves-full _ _ _ _ _ _ _ _ _ _ full.0 full.2 c.full_journal.ensures.said
+
+pub returns-in-Err-Full-default-clause-opened : goal.returns-in-Err-Full-default-clause-opened
+returns-in-Err-Full-default-clause-opened g c =
+    opens-full _ _ _ _ _ _ _ _ _ c.in-Err-Full-default.field-0-0-is c.in-Err-Full-default.ensures.bad c.full_journal.ensures.said
+
+pub returns-in-Err-BadJournal-default-clause-opened : goal.returns-in-Err-BadJournal-default-clause-opened
+returns-in-Err-BadJournal-default-clause-opened g c =
+    opens-bad _ _ _ _ _ _ _ _ _ c.in-Err-BadJournal-default.field-0-0-is c.in-Err-BadJournal-default.ensures.bad c.bad_journal.ensures.said
