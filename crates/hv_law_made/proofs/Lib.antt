@@ -1,0 +1,3 @@
+pub mod NamedLemmas
+pub mod UnmadeLemmas
+pub mod FrameLemmas

@@ -1,0 +1,132 @@
+-- What keeps the files beside a book with compactions standing: each entry, and each change of the files.
+use Rattle.std.specs.Prelude.{◌≡◌, ◌⊎◌, ℕ, Bool, true, false, IsSome, Option, Some, None, List}
+use Rattle.std.specs.List.{AllByRecursion}
+use Rattle.std.specs.FinMap as tree
+use Rattle.hv_shelf.specs.declared.place.Place.{Place}
+use Rattle.hv_shelf.specs.Disk.{Tree}
+use Rattle.hv_rowfile.specs.declared.record.Rec.{Rec}
+use Rattle.hv_dirs.specs.declared.names.DirName.{DirName}
+use Rattle.hv_dirs.specs.Names.{text_of}
+use Rattle.hv_history.specs.declared.entry.Entry.{Entry}
+use Rattle.hv_history.specs.declared.entry.Entry.TheVariants as entry
+use Rattle.hv_history.specs.declared.state.Table.{Table}
+use Rattle.hv_history.specs.State.{State, Job, numbered, after}
+use Rattle.hv_stands.specs.Files.{AreEncoded, IsLoose, IsOwn, own_dir}
+use Rattle.hv_jobs.specs.Covers.{is_job_of, range_names, covers}
+use Rattle.hv_law_made.specs.Made.{made_recs, made_names, is_spare, is_gone, jobs_at}
+use Rattle.hv_law_made.specs.Named.{AllHaveNames}
+use Rattle.hv_law_made.specs.Standing.{HasFile, MayHold, IsStagedAt, is_live_at, Standing}
+use Rattle.hv_law_visible.specs.Members.{IsIn}
+
+-- ---- files come and go
+
+-- nothing that has to stand is there
+abbrev pub MayGo : State → Place → Type 0
+MayGo state place = (made_recs state place ≡ None) ⊎ ((is_spare state place ≡ true) ⊎ (is_live_at state place ≡ false))
+
+-- the place is in an own directory of a write id that isn't committed, or in a staged one
+abbrev pub MayCome : State → Place → Type 0
+MayCome state place = IsLoose state place ⊎ IsStagedAt state place
+
+-- what stands now at a place where the files changed
+abbrev pub MayTurn : State → Place → Option (List ℕ) → Type 0
+MayTurn state place None = MayGo state place
+MayTurn state place (Some bytes) = MayCome state place
+
+-- Of the files of a book nothing goes that has to stand, and nothing comes but where writes and jobs put.
+abbrev pub ChangesStand : Type 0
+ChangesStand =
+    (state : State) (before now : Tree) → AllHaveNames state
+    → ((place : Place) → (tree.get now place ≡ tree.get before place) ⊎ MayTurn state place (tree.get now place))
+    → Standing state before → Standing state now
+
+-- The book makes nothing in a directory where writes and jobs put, and nobody's cleaning took it away.
+pub record IsUnmade (state : State) (place : Place) : Type 0 where
+  pub recs : made_recs state place ≡ None
+  pub spare : is_spare state place ≡ false
+  pub gone : is_gone state place ≡ false
+
+abbrev pub PutsAreUnmade : Type 0
+PutsAreUnmade = (state : State) (place : Place) → AllHaveNames state → MayCome state place → IsUnmade state place
+
+-- ---- an entry
+
+-- at a place where this is made: just its file, or none
+abbrev pub Holds : Option (Bool × List Rec) → ℕ → Option (List ℕ) → Type 0
+Holds None bucket found = found ≡ None
+Holds (Some file) bucket found = HasFile file.0 bucket file.1 found
+
+-- the place is in a directory that a job of its partition makes with this range
+pub record IsFinalOf (state : State) (number low high : ℕ) (place : Place) : Type 0 where
+  pub job : Job
+  pub is : numbered state.jobs number ≡ Some job
+  pub here : is_job_of place.table.0 place.partition job ≡ true
+  pub name : DirName
+  pub among : IsIn name (range_names job.kind low high)
+  pub dir : place.dir ≡ text_of name
+
+-- the place is in an own directory of this write id
+pub record IsOwnOf (table write : ℕ) (place : Place) : Type 0 where
+  pub table_is : place.table.0 ≡ table
+  pub deletes : Bool
+  pub statement : ℕ
+  pub dir : place.dir ≡ own_dir deletes write statement
+
+-- the place is in a directory that the book makes and this job covers
+pub record IsCoveredBy (state : State) (number : ℕ) (place : Place) : Type 0 where
+  pub job : Job
+  pub is : numbered state.jobs number ≡ Some job
+  pub here : is_job_of place.table.0 place.partition job ≡ true
+  pub table : Table
+  pub table_is : numbered state.tables place.table.0 ≡ Some table
+  pub name : DirName
+  pub among : IsIn name (made_names table.writes (jobs_at state place) place.partition)
+  pub dir : place.dir ≡ text_of name
+  pub covered : covers job name ≡ true
+
+-- What an entry asks of the files. Where it makes directories, they have just what is made there; where it says that
+-- some are empty, they have nothing.
+abbrev pub IsFiledFor : Entry → State → Tree → Type 0
+IsFiledFor (entry.Commit txn wrote) state files =
+    ((place : Place) → IsOwn state.tables txn.0 place → Holds (made_recs (after state (entry.Commit txn wrote)) place) place.bucket (tree.get files place))
+    × AllByRecursion AreEncoded (after state (entry.Commit txn wrote)).tables
+IsFiledFor (entry.Create txn table) state files =
+    ((place : Place) → IsOwn state.tables txn.0 place → Holds (made_recs (after state (entry.Create txn table)) place) place.bucket (tree.get files place))
+    × AllByRecursion AreEncoded (after state (entry.Create txn table)).tables
+IsFiledFor (entry.Drop txn table) state files =
+    ((place : Place) → IsOwn state.tables txn.0 place → Holds (made_recs (after state (entry.Drop txn table)) place) place.bucket (tree.get files place))
+    × AllByRecursion AreEncoded (after state (entry.Drop txn table)).tables
+IsFiledFor (entry.Published job low high mark) state files =
+    (place : Place) → IsFinalOf state job.0 low.0 high.0 place
+    → Holds (made_recs (after state (entry.Published job low high mark)) place) place.bucket (tree.get files place)
+IsFiledFor (entry.Cleaned job) state files = (place : Place) → IsCoveredBy state job.0 place → tree.get files place ≡ None
+IsFiledFor (entry.Forgot table write) state files = (place : Place) → IsOwnOf table.0 write.0 place → tree.get files place ≡ None
+IsFiledFor _ state files = Unit {0}
+
+-- What an entry changes at a place, whatever stands there: what it makes anew, what may not hold anything any more, and what it says
+-- is empty, is of the places that it asks of.
+pub record ChangesAt (state now : State) (Asked : Place → Type 0) : Type 0 where
+  -- what was made is made, and what is made anew is at a place that it asks of
+  pub stays : (place : Place) (file : Bool × List Rec) → made_recs state place ≡ Some file → made_recs now place ≡ Some file
+  pub anew : (place : Place) (file : Bool × List Rec) → made_recs now place ≡ Some file → (made_recs state place ≡ Some file) ⊎ Asked place
+  -- what might hold anything still may, but for those places
+  pub held : (place : Place) → MayHold state place → MayHold now place ⊎ Asked place
+  -- what nobody needs nobody needs later
+  pub spared : (place : Place) (file : Bool × List Rec) → made_recs state place ≡ Some file → is_spare state place ≡ true → is_spare now place ≡ true
+  -- what was removed is at no other places
+  pub emptied : (place : Place) → is_live_at now place ≡ true → is_gone now place ≡ true → (is_gone state place ≡ true) ⊎ Asked place
+  pub live : (place : Place) → is_live_at now place ≡ true → is_live_at state place ≡ true
+  pub tables : (place : Place) → IsSome (numbered state.tables place.table.0) → IsSome (numbered now.tables place.table.0)
+
+-- At the places that an entry asks of stands what is made there then, and nothing where that is nothing or was removed.
+pub record IsAsked (now : State) (Asked : Place → Type 0) (files : Tree) : Type 0 where
+  pub whole : (place : Place) → Asked place → is_live_at now place ≡ true → is_spare now place ≡ false → Holds (made_recs now place) place.bucket (tree.get files place)
+  pub bare : (place : Place) → Asked place → made_recs now place ≡ None → tree.get files place ≡ None
+  pub gone : (place : Place) → Asked place → is_live_at now place ≡ true → is_gone now place ≡ true → tree.get files place ≡ None
+  pub encoded : AllByRecursion AreEncoded now.tables
+
+-- the frame of the law on entries: an entry that changes so much, and is filed so, keeps the files standing
+abbrev pub ChangedStands : Type 0
+ChangedStands =
+    (state now : State) (Asked : Place → Type 0) (files : Tree)
+    → ChangesAt state now Asked → IsAsked now Asked files → Standing state files → Standing now files

@@ -1,0 +1,6 @@
+//! Which directories a book makes with its compactions, and which files stand then: definitions and laws.
+#![tactic(auto)]
+
+mod laws;
+
+pub use laws::{changed_stands, changes_stand, puts_are_unmade};
