@@ -1,5 +1,5 @@
 -- Entries and changes of files keep the files of a book standing.
-use Rattle.std.proofs.Common.{refl, ◌≡◌, ◌⊎◌, inl, inr, ℕ, ◌==◌, ◌&&◌, nat_eq, Bool, true, false, IsSome, Option, Some, None, List, [], sym, ap, ◌∙◌, subst, eqb-true, true≢false}
+use Rattle.std.proofs.Common.{refl, ◌≡◌, ◌⊎◌, inl, inr, ℕ, ◌==◌, ◌&&◌, nat_eq, Bool, true, false, is_some, IsSome, Option, Some, None, List, [], sym, ap, ◌∙◌, subst, eqb-true, true≢false}
 use Rattle.std.specs.FinMap as finmap
 use Rattle.std.specs.List.{AllByRecursion}
 use Rattle.std.specs.Cmp.Lexicographic.{pointwise}
@@ -18,7 +18,7 @@ use Rattle.hv_law_made.specs.Laws.{MayGo, MayCome, MayTurn, ChangesStand, Holds,
 use Rattle.hv_law_made.proofs.UnmadeLemmas.{puts-unmade}
 
 some-is : {A : Type 0} (o : Option A) (x : A) → o ≡ Some x → IsSome o
-some-is o x e = subst IsSome (sym e) tt
+some-is o x e = ap is_some e
 
 -- ---- files come and go
 

@@ -1,3 +1,5 @@
 pub mod NamedLemmas
 pub mod UnmadeLemmas
 pub mod FrameLemmas
+pub mod QuietLemmas
+pub mod FreeLemmas

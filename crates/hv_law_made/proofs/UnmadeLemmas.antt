@@ -40,7 +40,7 @@ write_in (dir.Wide deletes low high) = 0
 write_in (dir.Staged job name) = 0
 
 -- the name is an own one of that write id
-abbrev IsOwnName : ℕ → DirName → Type 0
+abbrev pub IsOwnName : ℕ → DirName → Type 0
 IsOwnName write (dir.Base high) = ⊥
 IsOwnName write (dir.Own deletes other statement) = other.0 ≡ write
 IsOwnName write (dir.Wide deletes low high) = ⊥
@@ -49,7 +49,7 @@ IsOwnName write (dir.Staged job name) = ⊥
 own-rest : (write other statement last : ℕ) → write < write_end → other < write_end → texts.own_rest write statement ≡ texts.own_rest other last → write ≡ other
 own-rest write other statement last few small e = (texts.fixed-parts 7 write other (behind write statement) (behind other last) few small e).0
 
-own-name : (name : DirName) (deletes : Bool) (write statement : ℕ) → IsName name → write < write_end → text_of name ≡ own_dir deletes write statement → IsOwnName write name
+pub own-name : (name : DirName) (deletes : Bool) (write statement : ℕ) → IsName name → write < write_end → text_of name ≡ own_dir deletes write statement → IsOwnName write name
 own-name (dir.Base high) deletes write statement is few e =
     texts.apart (text_of (dir.Base high)) (own_dir deletes write statement) 98 100 (texts.base-first high.0) (texts.own-first deletes write statement) texts.base-delta e
 own-name (dir.Own other id last) deletes write statement is few e =
@@ -86,7 +86,7 @@ own-among writes jobs write name own at = elim (in-either name (flat_map write_n
   | inr made ↦ let of = from-flat job_names name jobs made in absurd (own-made write of.0.kind of.0.published name own of.2)
 ]
 
-abbrev IsStagedName : DirName → Type 0
+abbrev pub IsStagedName : DirName → Type 0
 IsStagedName (dir.Base high) = ⊥
 IsStagedName (dir.Own deletes other statement) = ⊥
 IsStagedName (dir.Wide deletes low high) = ⊥
@@ -124,7 +124,7 @@ done-undone (Some (Some (ending.Dropped place table))) done undone = done
 -- ---- at such a place
 
 module _ (state : State) (place : Place) (table : Table) (here : numbered state.tables place.table.0 ≡ Some table) (has : HasNames state table) where
-  names-here : (name : DirName) → IsIn name (names_in table.writes (jobs_at state place)) → IsName name
+  pub names-here : (name : DirName) → IsIn name (names_in table.writes (jobs_at state place)) → IsName name
   names-here =
       names-are table state.jobs (jobs_at state place) (λ job at. (from-filter (is_job_of place.table.0 place.partition) job state.jobs at).0) has.writes has.jobs
 

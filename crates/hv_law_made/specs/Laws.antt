@@ -1,19 +1,19 @@
 -- What keeps the files beside a book with compactions standing: each entry, and each change of the files.
-use Rattle.std.specs.Prelude.{◌≡◌, ◌⊎◌, ℕ, Bool, true, false, IsSome, Option, Some, None, List}
+use Rattle.std.specs.Prelude.{◌≡◌, ◌⊎◌, ℕ, Bool, true, false, IsSome, Option, Some, None, List, map}
 use Rattle.std.specs.List.{AllByRecursion}
 use Rattle.std.specs.FinMap as tree
 use Rattle.hv_shelf.specs.declared.place.Place.{Place}
 use Rattle.hv_shelf.specs.Disk.{Tree}
 use Rattle.hv_rowfile.specs.declared.record.Rec.{Rec}
 use Rattle.hv_dirs.specs.declared.names.DirName.{DirName}
-use Rattle.hv_dirs.specs.Names.{text_of}
+use Rattle.hv_dirs.specs.Names.{IsName, is_compacted, text_of}
 use Rattle.hv_history.specs.declared.entry.Entry.{Entry}
 use Rattle.hv_history.specs.declared.entry.Entry.TheVariants as entry
 use Rattle.hv_history.specs.declared.state.Table.{Table}
 use Rattle.hv_history.specs.State.{State, Job, numbered, after}
-use Rattle.hv_stands.specs.Files.{AreEncoded, IsLoose, IsOwn, own_dir}
-use Rattle.hv_jobs.specs.Covers.{is_job_of, range_names, covers}
-use Rattle.hv_law_made.specs.Made.{made_recs, made_names, is_spare, is_gone, jobs_at}
+use Rattle.hv_stands.specs.Files.{AreEncoded, IsLoose, IsOwn, IsUndone, ending_of, own_dir}
+use Rattle.hv_jobs.specs.Covers.{is_job_of, range_names, covers, is_past}
+use Rattle.hv_law_made.specs.Made.{made_recs, made_names, names_in, is_spare, is_gone, jobs_at}
 use Rattle.hv_law_made.specs.Named.{AllHaveNames}
 use Rattle.hv_law_made.specs.Standing.{HasFile, MayHold, IsStagedAt, is_live_at, Standing}
 use Rattle.hv_law_visible.specs.Members.{IsIn}
@@ -130,3 +130,30 @@ abbrev pub ChangedStands : Type 0
 ChangedStands =
     (state now : State) (Asked : Place → Type 0) (files : Tree)
     → ChangesAt state now Asked → IsAsked now Asked files → Standing state files → Standing now files
+
+-- ---- entries that leave the tables and the jobs as they are
+
+-- what is past stays past, and what isn't committed isn't committed later
+pub record IsQuiet (state now : State) : Type 0 where
+  pub tables : now.tables ≡ state.tables
+  pub jobs : now.jobs ≡ state.jobs
+  pub past : (job : Job) → is_past state job ≡ true → is_past now job ≡ true
+  pub undone : (txn : ℕ) → IsUndone (numbered (map ending_of state.transactions) txn) → IsUndone (numbered (map ending_of now.transactions) txn)
+
+-- an opening, a start, an abort and the like keep all standing
+abbrev pub QuietStands : Type 0
+QuietStands = (state now : State) (files : Tree) → IsQuiet state now → Standing state files → Standing now files
+
+-- ---- a directory's name is free before a job gives it
+
+-- a name of a compaction's directory that nothing of the partition has yet
+pub record IsNewName (state : State) (place : Place) (name : DirName) : Type 0 where
+  pub named : IsName name
+  pub compacted : is_compacted name ≡ true
+  pub dir : place.dir ≡ text_of name
+  pub new : (table : Table) → numbered state.tables place.table.0 ≡ Some table → IsIn name (names_in table.writes (jobs_at state place)) → ⊥
+
+abbrev pub NewNamesAreFree : Type 0
+NewNamesAreFree =
+    (state : State) (files : Tree) (place : Place) (name : DirName) → AllHaveNames state → Standing state files → is_live_at state place ≡ true
+    → IsNewName state place name → tree.get files place ≡ None

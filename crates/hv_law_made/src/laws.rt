@@ -1,4 +1,4 @@
-ghost use Rattle.hv_law_made.specs.Laws.{ChangesStand, PutsAreUnmade, ChangedStands};
+ghost use Rattle.hv_law_made.specs.Laws.{ChangesStand, PutsAreUnmade, ChangedStands, QuietStands, NewNamesAreFree};
 
 /// The book makes nothing where writes and jobs put.
 pub fn puts_are_unmade()
@@ -13,4 +13,14 @@ pub fn changes_stand()
 /// An entry keeps the files standing that changes no more than its places, where they are as it asks.
 pub fn changed_stands()
     ensures law { ChangedStands }
+{}
+
+/// An entry that leaves the tables and the jobs keeps the files standing.
+pub fn quiet_stands()
+    ensures law { QuietStands }
+{}
+
+/// Under a name that nothing has yet no file stands.
+pub fn new_names_are_free()
+    ensures law { NewNamesAreFree }
 {}
