@@ -14,7 +14,7 @@ use Rattle.hv_stands.proofs.Soundness.{all-numbered}
 use Rattle.hv_law_made.specs.Made.{made_recs, is_spare, is_gone}
 use Rattle.hv_law_made.specs.Named.{AllHaveNames, IsOfTable}
 use Rattle.hv_law_made.specs.Standing.{HasFile, MayHold, is_live_at, Standing}
-use Rattle.hv_law_made.specs.Laws.{MayGo, MayCome, MayTurn, ChangesStand, Holds, ChangesAt, IsAsked, ChangedStands}
+use Rattle.hv_law_made.specs.Laws.{MayGo, MayCome, MayTurn, ChangesStand, Holds, ChangesAt, IsAsked, AreButFor, ChangedStands}
 use Rattle.hv_law_made.proofs.UnmadeLemmas.{puts-unmade}
 
 some-is : {A : Type 0} (o : Option A) (x : A) → o ≡ Some x → IsSome o
@@ -82,40 +82,66 @@ changes-stand state before now has turns standing = changed-files state before n
 
 -- ---- an entry
 
-module _ (state now : State) (Asked : Place → Type 0) (files : Tree)
-    (changes : ChangesAt state now Asked) (asked : IsAsked now Asked files) (standing : Standing state files) where
+module _ (state now : State) (Asked : Place → Type 0) (before files : Tree) (changes : ChangesAt state now Asked)
+    (same : AreButFor Asked before files) (asked : IsAsked now Asked files) (standing : Standing state before) where
+  made-as-was : (place : Place) (deletes : Bool) (recs : List Rec) → is_live_at now place ≡ true → is_spare now place ≡ false
+      → made_recs now place ≡ Some (deletes, recs) → (b : Bool) → is_spare state place ≡ b → made_recs state place ≡ Some (deletes, recs)
+      → HasFile deletes place.bucket recs (finmap.get before place)
+  made-as-was place deletes recs live needed e true spare was =
+      absurd (true≢false (sym (changes.spared place (deletes, recs) was spare) ∙ needed))
+  made-as-was place deletes recs live needed e false was_needed was = standing.made place deletes recs (changes.live place live) was_needed was
+
+  made-asked : (place : Place) (deletes : Bool) (recs : List Rec) → is_live_at now place ≡ true → is_spare now place ≡ false
+      → made_recs now place ≡ Some (deletes, recs) → Asked place → HasFile deletes place.bucket recs (finmap.get files place)
+  made-asked place deletes recs live needed e it = subst (λ o. Holds o place.bucket (finmap.get files place)) e (asked.whole place it live needed)
+
   made-then : (place : Place) (deletes : Bool) (recs : List Rec) → is_live_at now place ≡ true → is_spare now place ≡ false
       → made_recs now place ≡ Some (deletes, recs) → HasFile deletes place.bucket recs (finmap.get files place)
-  made-then place deletes recs live needed e = elim (changes.anew place (deletes, recs) e) [
-    | inl was ↦ by (is_spare state place) refl was
-    | inr it ↦ subst (λ o. Holds o place.bucket (finmap.get files place)) e (asked.whole place it live needed)
+  made-then place deletes recs live needed e = elim (same place) [
+    | inl as_was ↦ elim (changes.anew place (deletes, recs) e) [
+      | inl was ↦ subst (HasFile deletes place.bucket recs) (sym as_was) (made-as-was place deletes recs live needed e (is_spare state place) refl was)
+      | inr it ↦ made-asked place deletes recs live needed e it
+    ]
+    | inr it ↦ made-asked place deletes recs live needed e it
   ]
-    where
-      by : (b : Bool) → is_spare state place ≡ b → made_recs state place ≡ Some (deletes, recs) → HasFile deletes place.bucket recs (finmap.get files place)
-      by true spare was = absurd (true≢false (sym (changes.spared place (deletes, recs) was spare) ∙ needed))
-      by false was_needed was = standing.made place deletes recs (changes.live place live) was_needed was
+
+  other-was : (place : Place) (bytes : List ℕ) → finmap.get files place ≡ Some bytes → finmap.get before place ≡ Some bytes → made_recs now place ≡ None
+      → (o : Option (Bool × List Rec)) → made_recs state place ≡ o → MayHold now place
+  other-was place bytes is was none (Some file) e = absurd (none_is (made_recs now place) file none (changes.stays place file e))
+  other-was place bytes is was none None e = elim (changes.held place (standing.other place bytes was e)) [
+    | inl still ↦ still
+    | inr it ↦ absurd (none_is (finmap.get files place) bytes (asked.bare place it none) is)
+  ]
 
   other-then : (place : Place) (bytes : List ℕ) → finmap.get files place ≡ Some bytes → made_recs now place ≡ None → MayHold now place
-  other-then place bytes is none = by (made_recs state place) refl
-    where
-      by : (o : Option (Bool × List Rec)) → made_recs state place ≡ o → MayHold now place
-      by (Some file) e = absurd (none_is (made_recs now place) file none (changes.stays place file e))
-      by None e = elim (changes.held place (standing.other place bytes is e)) [
-        | inl still ↦ still
-        | inr it ↦ absurd (none_is (finmap.get files place) bytes (asked.bare place it none) is)
-      ]
+  other-then place bytes is none = elim (same place) [
+    | inl as_was ↦ other-was place bytes is (sym as_was ∙ is) none (made_recs state place) refl
+    | inr it ↦ absurd (none_is (finmap.get files place) bytes (asked.bare place it none) is)
+  ]
+
+  gone-then : (place : Place) → is_live_at now place ≡ true → is_gone now place ≡ true → finmap.get files place ≡ None
+  gone-then place live e = elim (same place) [
+    | inl as_was ↦ elim (changes.emptied place live e) [
+      | inl was ↦ as_was ∙ standing.gone place (changes.live place live) was
+      | inr it ↦ asked.gone place it live e
+    ]
+    | inr it ↦ asked.gone place it live e
+  ]
+
+  tables-then : (place : Place) (bytes : List ℕ) → finmap.get files place ≡ Some bytes → IsSome (numbered now.tables place.table.0)
+  tables-then place bytes is = elim (same place) [
+    | inl as_was ↦ changes.tables place (standing.tables place bytes (sym as_was ∙ is))
+    | inr it ↦ asked.tables place it
+  ]
 
   entry-stands : Standing now files
   entry-stands = record {
     made = made-then;
     other = other-then;
-    tables = λ place bytes is. changes.tables place (standing.tables place bytes is);
-    gone = λ place live e. elim (changes.emptied place live e) [
-      | inl was ↦ standing.gone place (changes.live place live) was
-      | inr it ↦ asked.gone place it live e
-    ];
+    tables = tables-then;
+    gone = gone-then;
     encoded = asked.encoded;
   }
 
 pub changed-stands : ChangedStands
-changed-stands state now Asked files changes asked standing = entry-stands state now Asked files changes asked standing
+changed-stands state now Asked before files changes same asked standing = entry-stands state now Asked before files changes same asked standing

@@ -155,9 +155,11 @@ module _ (state now : State) (quiet : IsQuiet state now) where
     whole = λ place never live needed. absurd never;
     bare = λ place never none. absurd never;
     gone = λ place never live e. absurd never;
+    tables = λ place never. absurd never;
     encoded = subst (AllByRecursion AreEncoded) (sym quiet.tables) encoded;
   }
 
 pub quiet-stands : QuietStands
 quiet-stands state now files quiet standing =
-    changed-stands state now (nowhere state now quiet) files (quiet-changes state now quiet) (quiet-asked state now quiet files standing.encoded) standing
+    changed-stands state now (nowhere state now quiet) files files (quiet-changes state now quiet) (λ place. inl refl)
+    (quiet-asked state now quiet files standing.encoded) standing

@@ -84,24 +84,33 @@ pub record IsCoveredBy (state : State) (number : ℕ) (place : Place) : Type 0 w
   pub dir : place.dir ≡ text_of name
   pub covered : covers job name ≡ true
 
--- What an entry asks of the files. Where it makes directories, they have just what is made there; where it says that
--- some are empty, they have nothing.
-abbrev pub IsFiledFor : Entry → State → Tree → Type 0
-IsFiledFor (entry.Commit txn wrote) state files =
-    ((place : Place) → IsOwn state.tables txn.0 place → Holds (made_recs (after state (entry.Commit txn wrote)) place) place.bucket (tree.get files place))
-    × AllByRecursion AreEncoded (after state (entry.Commit txn wrote)).tables
-IsFiledFor (entry.Create txn table) state files =
-    ((place : Place) → IsOwn state.tables txn.0 place → Holds (made_recs (after state (entry.Create txn table)) place) place.bucket (tree.get files place))
-    × AllByRecursion AreEncoded (after state (entry.Create txn table)).tables
-IsFiledFor (entry.Drop txn table) state files =
-    ((place : Place) → IsOwn state.tables txn.0 place → Holds (made_recs (after state (entry.Drop txn table)) place) place.bucket (tree.get files place))
-    × AllByRecursion AreEncoded (after state (entry.Drop txn table)).tables
-IsFiledFor (entry.Published job low high mark) state files =
-    (place : Place) → IsFinalOf state job.0 low.0 high.0 place
-    → Holds (made_recs (after state (entry.Published job low high mark)) place) place.bucket (tree.get files place)
-IsFiledFor (entry.Cleaned job) state files = (place : Place) → IsCoveredBy state job.0 place → tree.get files place ≡ None
-IsFiledFor (entry.Forgot table write) state files = (place : Place) → IsOwnOf table.0 write.0 place → tree.get files place ≡ None
-IsFiledFor _ state files = Unit {0}
+-- the places of which an entry asks what stands there: its own directories, those that a job publishes, those that it has cleaned, and
+-- those of a write id that is forgotten
+abbrev pub AsksAt : Entry → State → Place → Type 0
+AsksAt (entry.Commit txn wrote) state place = IsOwn state.tables txn.0 place
+AsksAt (entry.Create txn table) state place = IsOwn state.tables txn.0 place
+AsksAt (entry.Drop txn table) state place = IsOwn state.tables txn.0 place
+AsksAt (entry.Published job low high mark) state place = IsFinalOf state job.0 low.0 high.0 place
+AsksAt (entry.Cleaned job) state place = IsCoveredBy state job.0 place
+AsksAt (entry.Forgot table write) state place = IsOwnOf table.0 write.0 place
+AsksAt _ state place = ⊥
+
+-- what it asks for there: the file that the book makes then, and nothing where its directory was removed
+abbrev pub wants_at : Entry → State → Place → Option (Bool × List Rec)
+wants_at (entry.Cleaned job) state place = None
+wants_at event state place = made_recs (after state event) place
+
+-- what a commit inserts is said by files
+abbrev pub IsEncodedFor : Entry → State → Type 0
+IsEncodedFor (entry.Commit txn wrote) state = AllByRecursion AreEncoded (after state (entry.Commit txn wrote)).tables
+IsEncodedFor (entry.Create txn table) state = AllByRecursion AreEncoded (after state (entry.Create txn table)).tables
+IsEncodedFor (entry.Drop txn table) state = AllByRecursion AreEncoded (after state (entry.Drop txn table)).tables
+IsEncodedFor _ state = Unit {0}
+
+-- what an entry asks of the files
+pub record IsFiledFor (event : Entry) (state : State) (files : Tree) : Type 0 where
+  pub at : (place : Place) → AsksAt event state place → Holds (wants_at event state place) place.bucket (tree.get files place)
+  pub encoded : IsEncodedFor event state
 
 -- What an entry changes at a place, whatever stands there: what it makes anew, what may not hold anything any more, and what it says
 -- is empty, is of the places that it asks of.
@@ -123,13 +132,19 @@ pub record IsAsked (now : State) (Asked : Place → Type 0) (files : Tree) : Typ
   pub whole : (place : Place) → Asked place → is_live_at now place ≡ true → is_spare now place ≡ false → Holds (made_recs now place) place.bucket (tree.get files place)
   pub bare : (place : Place) → Asked place → made_recs now place ≡ None → tree.get files place ≡ None
   pub gone : (place : Place) → Asked place → is_live_at now place ≡ true → is_gone now place ≡ true → tree.get files place ≡ None
+  pub tables : (place : Place) → Asked place → IsSome (numbered now.tables place.table.0)
   pub encoded : AllByRecursion AreEncoded now.tables
 
--- the frame of the law on entries: an entry that changes so much, and is filed so, keeps the files standing
+-- the files are what they were but for these places
+abbrev pub AreButFor : (Place → Type 0) → Tree → Tree → Type 0
+AreButFor Asked before files = (place : Place) → (tree.get files place ≡ tree.get before place) ⊎ Asked place
+
+-- The frame of the law on entries: an entry that changes so much, and is filed so, keeps the files standing. What it asks of may have
+-- come just before it: a job's directories get their names, and then the book is told.
 abbrev pub ChangedStands : Type 0
 ChangedStands =
-    (state now : State) (Asked : Place → Type 0) (files : Tree)
-    → ChangesAt state now Asked → IsAsked now Asked files → Standing state files → Standing now files
+    (state now : State) (Asked : Place → Type 0) (before files : Tree)
+    → ChangesAt state now Asked → AreButFor Asked before files → IsAsked now Asked files → Standing state before → Standing now files
 
 -- ---- entries that leave the tables and the jobs as they are
 
