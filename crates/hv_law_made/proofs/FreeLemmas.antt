@@ -1,5 +1,5 @@
 -- Under a name that no job of the partition has given yet no file stands.
-use Rattle.std.proofs.Common.{refl, ◌≡◌, ◌⊎◌, inl, inr, ℕ, Bool, true, false, Option, Some, None, List, sym, ap, ◌∙◌, subst, true≢false}
+use Rattle.std.proofs.Common.{refl, ◌≡◌, ◌⊎◌, inl, inr, ℕ, Bool, true, false, is_some, Option, Some, None, List, sym, ap, ◌∙◌, subst, true≢false}
 use Rattle.std.specs.FinMap as finmap
 use Rattle.hv_shelf.specs.declared.place.Place.{Place}
 use Rattle.hv_shelf.specs.Disk.{Tree}
@@ -13,7 +13,7 @@ use Rattle.hv_stands.proofs.Numbers.{same_one}
 use Rattle.hv_stands.proofs.Soundness.{all-numbered}
 use Rattle.hv_law_made.specs.Made.{names_in, is_spare, jobs_at}
 use Rattle.hv_law_made.specs.Named.{HasNames, AllHaveNames}
-use Rattle.hv_law_made.specs.Standing.{MayHold, is_live_table, is_live_at, Standing}
+use Rattle.hv_law_made.specs.Standing.{MayHold, is_live_at, Standing}
 use Rattle.hv_law_made.specs.Laws.{IsUnmade, IsNewName, NewNamesAreFree}
 use Rattle.hv_law_made.proofs.UnmadeLemmas.{IsOwnName, own-name, IsStagedName, names-here, unnamed-unmade}
 use Rattle.hv_law_visible.specs.Members.{IsIn}
@@ -31,8 +31,11 @@ not-staged (dir.Own deletes other statement) e staged = staged
 not-staged (dir.Wide deletes low high) e staged = staged
 not-staged (dir.Staged job name) e staged = true≢false (sym e)
 
-dead-table : (o : Option Table) → is_live_table o ≡ true → o ≡ None → ⊥
-dead-table o live none = true≢false (sym live ∙ ap is_live_table none)
+-- no file is of a table that wasn't made
+no-table : (state : State) (files : Tree) (place : Place) → Standing state files → numbered state.tables place.table.0 ≡ None
+    → (o : Option (List ℕ)) → finmap.get files place ≡ o → o ≡ None
+no-table state files place standing none None e = refl
+no-table state files place standing none (Some bytes) e = absurd (true≢false (sym (standing.tables place bytes e) ∙ ap is_some none))
 
 module _ (state : State) (files : Tree) (place : Place) (name : DirName) (has : AllHaveNames state) (standing : Standing state files)
     (live : is_live_at state place ≡ true) (new : IsNewName state place name) (table : Table) (here : numbered state.tables place.table.0 ≡ Some table) where
@@ -70,5 +73,5 @@ pub new-free : NewNamesAreFree
 new-free state files place name has standing live new = by (numbered state.tables place.table.0) refl
   where
     by : (o : Option Table) → numbered state.tables place.table.0 ≡ o → finmap.get files place ≡ None
-    by None e = absurd (dead-table (numbered state.tables place.table.0) live e)
+    by None e = no-table state files place standing e (finmap.get files place) refl
     by (Some table) e = free-here state files place name has standing live new table e

@@ -28,10 +28,10 @@ pub record HasFile (deletes : Bool) (bucket : ℕ) (recs : List Rec) (found : Op
   pub encodes : IsEncodingOf deletes bucket recs bytes
 
 abbrev pub is_live_table : Option Table → Bool
-is_live_table None = false
+is_live_table None = true
 is_live_table (Some table) = table.is_live
 
--- the place is in a table that wasn't dropped
+-- the place is in no table that was dropped
 abbrev pub is_live_at : State → Place → Bool
 is_live_at state place = is_live_table (numbered state.tables place.table.0)
 
