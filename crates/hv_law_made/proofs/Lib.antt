@@ -3,3 +3,4 @@ pub mod UnmadeLemmas
 pub mod FrameLemmas
 pub mod QuietLemmas
 pub mod FreeLemmas
+pub mod GrowLemmas

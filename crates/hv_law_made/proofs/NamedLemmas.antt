@@ -135,6 +135,7 @@ module _ (state : State) (place : Place) (table : Table) (here : numbered state.
   pub record IsGoneBy : Type 0 where
     pub name : DirName
     pub among : IsIn name (names_in table.writes (jobs_at state place))
+    pub made : is_made table.writes place.partition name ≡ true
     pub dir_is : place.dir ≡ text_of name
     pub cleaned : is_cleaned_away (jobs_at state place) name ≡ true
 
@@ -146,7 +147,7 @@ module _ (state : State) (place : Place) (table : Table) (here : numbered state.
       (sym (ap (is_gone_in state place) here) ∙ e) in
       let kept = from-filter (is_made table.writes place.partition) found.0 names found.1 in
       let both = and_parts (is_named place.dir found.0) (is_cleaned_away (jobs_at state place) found.0) found.2 in
-      record { name = found.0; among = kept.0; dir_is = sym (same-text (text_of found.0) place.dir both.0); cleaned = both.1 }
+      record { name = found.0; among = kept.0; made = kept.1; dir_is = sym (same-text (text_of found.0) place.dir both.0); cleaned = both.1 }
 
 -- whether a directory is needed doesn't hang on the bucket
 pub spare-same : (state : State) (place : Place) (bucket : ℕ)
