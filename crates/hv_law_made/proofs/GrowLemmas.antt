@@ -9,12 +9,13 @@ use Rattle.hv_dirs.specs.declared.names.DirName.{DirName}
 use Rattle.hv_dirs.specs.Names.{text_of}
 use Rattle.hv_history.specs.declared.state.Table.{Table}
 use Rattle.hv_history.specs.State.{State, numbered}
+use Rattle.hv_stands.specs.Files.{IsLoose}
 use Rattle.hv_stands.proofs.Numbers.{none_is}
 use Rattle.hv_stands.proofs.Soundness.{all-numbered}
 use Rattle.hv_jobs.specs.Covers.{is_freed, is_cleaned_away}
 use Rattle.hv_law_made.specs.Made.{name_file, names_in, is_made, made_names, is_named, jobs_at, recs_in, made_recs, is_spare_name, is_spare_in, is_spare, is_gone_name, is_gone_in, is_gone}
 use Rattle.hv_law_made.specs.Named.{HasNames, AllHaveNames}
-use Rattle.hv_law_made.specs.Standing.{MayHold, is_live_at}
+use Rattle.hv_law_made.specs.Standing.{MayHold, IsStagedAt, is_live_at}
 use Rattle.hv_law_made.specs.Laws.{ChangesAt}
 use Rattle.hv_law_made.proofs.NamedLemmas.{text-same, file-named, file-from, recs-are, spare-by, gone-by}
 use Rattle.hv_law_made.proofs.UnmadeLemmas.{names-here}
@@ -44,7 +45,9 @@ pub record Grows (state now : State) (Asked : Place → Type 0) : Type 0 where
       → (table : Table) × (numbered now.tables place.table.0 ≡ Some table) × GrowsAt state now (Asked place) place before table
   -- a table that wasn't there has nothing
   pub none : (place : Place) → numbered state.tables place.table.0 ≡ None → (made_recs now place ≡ None) × (is_gone now place ≡ false)
-  pub held : (place : Place) → MayHold state place → MayHold now place ⊎ Asked place
+  pub loose : (place : Place) → IsLoose state place → IsLoose now place ⊎ Asked place
+  pub staged : (place : Place) → IsStagedAt state place → IsStagedAt now place
+  pub dead : (place : Place) → is_live_at state place ≡ false → is_live_at now place ≡ false
   pub live : (place : Place) → is_live_at now place ≡ true → is_live_at state place ≡ true
 
 -- ---- by the name of the place's directory
@@ -150,11 +153,17 @@ module _ (state now : State) (Asked : Place → Type 0) (grows : Grows state now
     tables-by None e some = absurd (true≢false (sym some ∙ ap is_some e))
     tables-by (Some before) e some = let at = grows.each place before e in ap is_some at.1
 
+  held-still : (place : Place) → MayHold state place → MayHold now place ⊎ Asked place
+  held-still place (inl loose) = elim (grows.loose place loose) [ | inl still ↦ inl (inl still) | inr it ↦ inr it ]
+  held-still place (inr (inl spare)) = inl (inr (inl (spared-by place (numbered state.tables place.table.0) refl spare)))
+  held-still place (inr (inr (inl staged))) = inl (inr (inr (inl (grows.staged place staged))))
+  held-still place (inr (inr (inr dead))) = inl (inr (inr (inr (grows.dead place dead))))
+
   pub grown-changes : ChangesAt state now Asked
   grown-changes = record {
     stays = λ place. stays-by place (numbered state.tables place.table.0) refl;
     anew = λ place. anew-by place (numbered state.tables place.table.0) refl;
-    held = grows.held;
+    held = held-still;
     spared = λ place file e. spared-by place (numbered state.tables place.table.0) refl;
     emptied = λ place live. emptied-by place (numbered state.tables place.table.0) refl;
     live = grows.live;
