@@ -4,3 +4,4 @@ pub mod FrameLemmas
 pub mod QuietLemmas
 pub mod FreeLemmas
 pub mod GrowLemmas
+pub mod StepLemmas
