@@ -23,7 +23,7 @@ use Rattle.hv_law_visible.specs.Members.{IsIn}
 use Rattle.hv_law_visible.proofs.MemberLemmas.{any-in, in-filter}
 
 -- a directory that the book makes at a place, of a table with these writes
-abbrev is_name_of : State → Table → Place → DirName → Type 0
+abbrev pub is_name_of : State → Table → Place → DirName → Type 0
 is_name_of state table place name = IsIn name (names_in table.writes (jobs_at state place)) × (place.dir ≡ text_of name)
 
 -- at a place of a table that was there
@@ -77,7 +77,7 @@ module _ (state : State) (place : Place) (table : Table) (here : numbered state.
       (and_from (is_named place.dir name) (is_cleaned_away (jobs_at state place) name) (text-same (text_of name) place.dir (sym is.1)) cleaned)
 
 -- what is made is made of a table
-recs-nowhere : (state : State) (place : Place) → numbered state.tables place.table.0 ≡ None → made_recs state place ≡ None
+pub recs-nowhere : (state : State) (place : Place) → numbered state.tables place.table.0 ≡ None → made_recs state place ≡ None
 unfolding made_recs
 recs-nowhere state place none = ap (recs_in state place) none
 

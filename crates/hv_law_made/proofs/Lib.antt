@@ -5,3 +5,4 @@ pub mod QuietLemmas
 pub mod FreeLemmas
 pub mod GrowLemmas
 pub mod StepLemmas
+pub mod StepGrows

@@ -1,6 +1,6 @@
 -- A job's step that leaves what its directories are and whether it was published: it was picked, was empty, or failed. Then all stands on,
 -- and so it does where its directories were removed and the entry says that.
-use Rattle.std.proofs.Common.{refl, ◌≡◌, ◌⊎◌, inl, inr, ℕ, zero, suc, ◌&&◌, ◌||◌, nat_eq, Bool, true, false, cond, IsSome, Option, Some, None, List, [], ◌∷◌, ◌++◌, map, filter, sym, ap, ◌∙◌, subst}
+use Rattle.std.proofs.Common.{refl, ◌≡◌, ℕ, zero, suc, ◌&&◌, ◌||◌, nat_eq, Bool, true, false, cond, Option, Some, None, List, [], ◌∷◌, ◌++◌, filter, ap, ◌∙◌}
 use Rattle.std.specs.Prelude.{◌==◌, is_none}
 use Rattle.std.specs.Cmp.Lexicographic.{pointwise}
 use Rattle.std.specs.List.{flat_map, list_any}
@@ -65,7 +65,7 @@ pub record IsStep (state now : State) (f : Job → Job) (number : ℕ) : Type 0 
   pub same : (job : Job) → IsSameJob (f job) job
 
 module _ (state now : State) (f : Job → Job) (number : ℕ) (step : IsStep state now f number) where
-  job-of-same : (table : ℕ) (partition : List ℕ) (job : Job) → is_job_of table partition (f job) ≡ is_job_of table partition job
+  pub job-of-same : (table : ℕ) (partition : List ℕ) (job : Job) → is_job_of table partition (f job) ≡ is_job_of table partition job
   job-of-same table partition job = λ i. ((step.same job).table i == table) && pointwise nat_eq ((step.same job).partition i) partition
 
   pub covers-same : (name : DirName) (job : Job) → covers (f job) name ≡ covers job name
