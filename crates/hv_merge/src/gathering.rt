@@ -72,9 +72,9 @@ fn merge_two(alloc: Global, first: Vec<Rec>, second: Vec<Rec>) -> Result<Vec<Rec
     ensures rises { IfOk result (λ recs. RisesFrom None recs.items) }
 {
     let mut recs = Vec::with_capacity(alloc, first.len().saturating_add(second.len()))?;
-    let mut first = VecDeque::from_vec(first);
-    let mut second = VecDeque::from_vec(second);
-    while let Some(rec) = take_next(&mut first, &mut second) {
+    let mut left = VecDeque::from_vec(first);
+    let mut right = VecDeque::from_vec(second);
+    while let Some(rec) = take_next(&mut left, &mut right) {
         recs.push(rec)?;
     }
     Ok(recs)
@@ -96,9 +96,9 @@ pub fn gather(
         ≡ gathered low.0 high.0 (map (λ file. file.items) files.items)) }
     ensures rising { IfOk result (λ recs. RisesFrom None recs.items) }
 {
-    let mut files = files;
+    let mut rest = files;
     let mut recs = Vec::new(alloc);
-    while let Some(file) = files.pop() {
+    while let Some(file) = rest.pop() {
         recs = merge_two(alloc, in_range(file, low, high), recs)?;
     }
     Ok(recs)
