@@ -1,20 +1,18 @@
 -- Entries and changes of files keep the files of a book standing.
-use Rattle.std.proofs.Common.{refl, ◌≡◌, ◌⊎◌, inl, inr, ℕ, ◌==◌, ◌&&◌, nat_eq, Bool, true, false, is_some, IsSome, Option, Some, None, List, [], sym, ap, ◌∙◌, subst, eqb-true, true≢false}
+use Rattle.std.proofs.Common.{refl, ◌≡◌, ◌⊎◌, inl, inr, ℕ, ◌==◌, nat_eq, Bool, true, false, is_some, IsSome, Option, Some, None, List, sym, ap, ◌∙◌, subst, eqb-true, true≢false}
 use Rattle.std.specs.FinMap as finmap
-use Rattle.std.specs.List.{AllByRecursion}
 use Rattle.std.specs.Cmp.Lexicographic.{pointwise}
 use Rattle.std.proofs.lemmas.Bool.{and_parts}
 use Rattle.hv_shelf.specs.declared.place.Place.{Place}
 use Rattle.hv_shelf.specs.Disk.{Tree}
 use Rattle.hv_rowfile.specs.declared.record.Rec.{Rec}
-use Rattle.hv_history.specs.declared.state.Table.{Table}
-use Rattle.hv_history.specs.State.{State, Job, numbered}
-use Rattle.hv_stands.proofs.Numbers.{either, none_is}
+use Rattle.hv_history.specs.State.{State, numbered}
+use Rattle.hv_stands.proofs.Numbers.{none_is}
 use Rattle.hv_stands.proofs.Soundness.{all-numbered}
 use Rattle.hv_law_made.specs.Made.{made_recs, is_spare, is_gone}
 use Rattle.hv_law_made.specs.Named.{AllHaveNames, IsOfTable}
 use Rattle.hv_law_made.specs.Standing.{HasFile, MayHold, is_live_at, Standing}
-use Rattle.hv_law_made.specs.Laws.{MayGo, MayCome, MayTurn, ChangesStand, Holds, ChangesAt, IsAsked, AreButFor, ChangedStands}
+use Rattle.hv_law_made.specs.Laws.{MayCome, MayTurn, ChangesStand, Holds, ChangesAt, IsAsked, AreButFor}
 use Rattle.hv_law_made.proofs.UnmadeLemmas.{puts-unmade}
 
 some-is : {A : Type 0} (o : Option A) (x : A) → o ≡ Some x → IsSome o
@@ -143,5 +141,7 @@ module _ (state now : State) (Asked : Place → Type 0) (before files : Tree) (c
     encoded = asked.encoded;
   }
 
-pub changed-stands : ChangedStands
+-- the frame of the law on entries
+pub changed-stands : (state now : State) (Asked : Place → Type 0) (before files : Tree)
+    → ChangesAt state now Asked → AreButFor Asked before files → IsAsked now Asked files → Standing state before → Standing now files
 changed-stands state now Asked before files changes same asked standing = entry-stands state now Asked before files changes same asked standing

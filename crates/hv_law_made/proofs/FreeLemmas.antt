@@ -1,17 +1,17 @@
 -- Under a name that no job of the partition has given yet no file stands.
-use Rattle.std.proofs.Common.{refl, ◌≡◌, ◌⊎◌, inl, inr, ℕ, Bool, true, false, is_some, Option, Some, None, List, sym, ap, ◌∙◌, subst, true≢false}
+use Rattle.std.proofs.Common.{refl, ◌≡◌, inl, inr, ℕ, true, is_some, Option, Some, None, List, sym, ap, ◌∙◌, subst, true≢false}
 use Rattle.std.specs.FinMap as finmap
 use Rattle.hv_shelf.specs.declared.place.Place.{Place}
 use Rattle.hv_shelf.specs.Disk.{Tree}
 use Rattle.hv_dirs.specs.declared.names.DirName.{DirName}
 use Rattle.hv_dirs.specs.declared.names.DirName.TheVariants as dir
-use Rattle.hv_dirs.specs.Names.{IsName, is_compacted, text_of}
+use Rattle.hv_dirs.specs.Names.{is_compacted}
 use Rattle.hv_dirs.proofs.NameLemmas as texts
 use Rattle.hv_history.specs.declared.state.Table.{Table}
 use Rattle.hv_history.specs.State.{State, numbered}
 use Rattle.hv_stands.proofs.Numbers.{same_one}
 use Rattle.hv_stands.proofs.Soundness.{all-numbered}
-use Rattle.hv_law_made.specs.Made.{names_in, is_spare, jobs_at}
+use Rattle.hv_law_made.specs.Made.{names_in, jobs_at}
 use Rattle.hv_law_made.specs.Named.{HasNames, AllHaveNames}
 use Rattle.hv_law_made.specs.Standing.{MayHold, is_live_at, Standing}
 use Rattle.hv_law_made.specs.Laws.{IsUnmade, IsNewName, NewNamesAreFree}

@@ -1,6 +1,6 @@
 -- What an entry does to the directories of a partition, name by name: those that were made stay and hold what they held, what was free
 -- stays free, and what is new is at places that the entry asks of. So it changes no more than these.
-use Rattle.std.proofs.Common.{refl, ◌≡◌, ◌⊎◌, inl, inr, ℕ, ◌&&◌, Bool, true, false, is_some, IsSome, Option, Some, None, List, sym, ap, ◌∙◌, subst, true≢false}
+use Rattle.std.proofs.Common.{refl, ◌≡◌, ◌⊎◌, inl, inr, Bool, true, false, is_some, IsSome, Option, Some, None, List, sym, ap, ◌∙◌, true≢false}
 use Rattle.std.proofs.lemmas.Bool.{and_from}
 use Rattle.hv_shelf.specs.declared.place.Place.{Place}
 use Rattle.hv_logic.specs.declared.catalog.Shape.{Shape}

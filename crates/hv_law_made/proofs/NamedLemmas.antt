@@ -1,6 +1,6 @@
 -- The names that a table's writes and a partition's jobs make: each is one of the format, and so they differ in their texts, and a place
 -- has the file of its directory's name.
-use Rattle.std.proofs.Common.{refl, ◌≡◌, ◌⊎◌, inl, inr, ℕ, ◌<◌, ◌≤◌, Bool, true, false, cond, Option, Some, None, List, [], ◌∷◌, ◌++◌, sym, ap, ◌∙◌, subst, arith, true≢false}
+use Rattle.std.proofs.Common.{refl, ◌≡◌, inl, inr, ℕ, Bool, true, cond, Option, Some, None, List, [], ◌∷◌, sym, ap, ◌∙◌, subst, arith, true≢false}
 use Rattle.std.specs.List.{flat_map, AllByRecursion}
 use Rattle.std.proofs.lemmas.Bool.{and_parts}
 use Rattle.std.proofs.lemmas.Slice.Eq.{bytes_eq-Decides}

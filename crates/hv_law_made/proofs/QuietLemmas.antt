@@ -1,7 +1,6 @@
 -- What is made and what is spare hangs on the tables, the jobs and which transactions are open; so entries that leave the first two, and
 -- open nothing that a compaction waits for, keep all standing.
-use Rattle.std.proofs.Common.{refl, ◌≡◌, ◌⊎◌, inl, inr, ℕ, ◌&&◌, Bool, true, false, is_some, IsSome, Option, Some, None, List, [], ◌∷◌, map, sym, ap, ◌∙◌, subst}
-use Rattle.std.specs.FinMap as finmap
+use Rattle.std.proofs.Common.{refl, ◌≡◌, inl, inr, ℕ, Bool, true, false, is_some, Option, Some, None, List, sym, ap, ◌∙◌, subst}
 use Rattle.std.specs.List.{list_any, AllByRecursion}
 use Rattle.std.proofs.lemmas.Bool.{and_parts, and_from}
 use Rattle.hv_shelf.specs.declared.place.Place.{Place}
@@ -9,12 +8,11 @@ use Rattle.hv_shelf.specs.Disk.{Tree}
 use Rattle.hv_rowfile.specs.declared.record.Rec.{Rec}
 use Rattle.hv_dirs.specs.declared.names.DirName.{DirName}
 use Rattle.hv_history.specs.declared.state.Table.{Table}
-use Rattle.hv_history.specs.declared.state.Transaction.{Transaction}
 use Rattle.hv_history.specs.State.{State, Job, numbered}
-use Rattle.hv_stands.specs.Files.{AreEncoded, IsLoose, IsOwn, IsUndone, ending_of}
-use Rattle.hv_jobs.specs.Covers.{jobs_of, is_past, covers, frees, is_freed, is_cleaned_away}
+use Rattle.hv_stands.specs.Files.{AreEncoded, IsOwn}
+use Rattle.hv_jobs.specs.Covers.{jobs_of, is_past, covers, frees, is_freed}
 use Rattle.hv_law_made.specs.Made.{file_among, names_in, made_names, is_named, made_recs, is_spare_name, is_spare_in, is_spare, is_gone_name, is_gone_in, is_gone, recs_in}
-use Rattle.hv_law_made.specs.Standing.{MayHold, IsStagedAt, is_live_table, is_live_at, Standing}
+use Rattle.hv_law_made.specs.Standing.{MayHold, is_live_table, is_live_at}
 use Rattle.hv_law_made.specs.Laws.{ChangesAt, IsAsked, IsQuiet, QuietStands}
 use Rattle.hv_law_made.proofs.FrameLemmas.{changed-stands}
 use Rattle.hv_law_visible.proofs.MemberLemmas.{any-in, in-any}

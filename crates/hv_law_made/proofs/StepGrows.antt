@@ -1,5 +1,5 @@
 -- Such a step changes no directory: what was made is made, what was free is free. What is cleaned anew is at places that are asked of.
-use Rattle.std.proofs.Common.{refl, ◌≡◌, ◌⊎◌, inl, inr, ℕ, ◌==◌, ◌&&◌, nat_eq, Bool, true, false, cond, is_some, IsSome, Option, Some, None, List, ◌++◌, map, sym, ap, ◌∙◌, subst, eqb-true}
+use Rattle.std.proofs.Common.{refl, ◌≡◌, ◌⊎◌, inl, inr, ℕ, ◌==◌, ◌&&◌, nat_eq, Bool, true, false, cond, IsSome, Some, None, ◌++◌, map, sym, ap, ◌∙◌, subst, eqb-true}
 use Rattle.std.specs.Cmp.Lexicographic.{pointwise}
 use Rattle.std.specs.List.{flat_map}
 use Rattle.hv_shelf.specs.declared.place.Place.{Place}
@@ -52,6 +52,9 @@ module _ (state now : State) (f : Job → Job) (number : ℕ) (step : IsStep sta
     undone = subst (λ transactions. IsUndone (numbered (map ending_of transactions) loose.txn)) (sym step.transactions) loose.undone;
   }
 
+  abbrev is_here : Place → Job → Bool
+  is_here at j = (j.table == at.table.0) && pointwise nat_eq j.partition at.partition
+
   staged-still : (place : Place) → IsStagedAt state place → IsStagedAt now place
   staged-still place staged = elim (either (staged.number == number)) [
     | inl e ↦
@@ -79,9 +82,6 @@ module _ (state now : State) (f : Job → Job) (number : ℕ) (step : IsStep sta
       dir = staged.dir;
     }
   ]
-    where
-      abbrev is_here : Place → Job → Bool
-      is_here at j = (j.table == at.table.0) && pointwise nat_eq j.partition at.partition
 
   pub step-grows : Grows state now Asked
   step-grows = record {

@@ -5,10 +5,9 @@ use Rattle.std.specs.Prelude.{◌==◌, is_none}
 use Rattle.std.specs.Cmp.Lexicographic.{pointwise}
 use Rattle.std.specs.List.{flat_map, list_any}
 use Rattle.hv_dirs.specs.declared.names.DirName.{DirName}
-use Rattle.hv_history.specs.declared.entry.JobKind.{JobKind}
 use Rattle.hv_history.specs.declared.state.Transaction.{Transaction}
 use Rattle.hv_history.specs.State.{State, Job, changed, changed_at}
-use Rattle.hv_jobs.specs.Covers.{is_job_of, jobs_of, first_open, if_below, is_past_by, is_past, names_by, job_names, covers_by, covers, frees, is_freed}
+use Rattle.hv_jobs.specs.Covers.{is_job_of, jobs_of, first_open, if_below, is_past_by, names_by, job_names, covers_by, covers, frees, is_freed}
 
 -- ---- a list of which one element is changed
 

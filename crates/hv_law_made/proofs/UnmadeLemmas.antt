@@ -1,6 +1,6 @@
 -- The book makes nothing where writes and jobs put: own directories of write ids that aren't committed, and staged ones.
-use Rattle.std.proofs.Common.{refl, ◌≡◌, ◌⊎◌, inl, inr, ℕ, ◌<◌, ◌≤◌, Bool, true, false, Option, Some, None, List, [], ◌∷◌, ◌++◌, map, sym, ap, ◌∙◌, subst, arith}
-use Rattle.std.specs.List.{flat_map, AllByRecursion}
+use Rattle.std.proofs.Common.{refl, ◌≡◌, inl, inr, ℕ, ◌<◌, Bool, Option, Some, None, List, map, sym, ap, ◌∙◌, subst}
+use Rattle.std.specs.List.{flat_map}
 use Rattle.std.proofs.lemmas.Bool.{false_from_ne_true}
 use Rattle.hv_shelf.specs.declared.place.Place.{Place}
 use Rattle.hv_rowfile.specs.declared.record.Rec.{Rec}
@@ -19,13 +19,13 @@ use Rattle.hv_history.specs.State.{State, Job, numbered}
 use Rattle.hv_stands.specs.Files as stands
 use Rattle.hv_stands.specs.Files.{ending_of, own_dir}
 use Rattle.hv_stands.specs.Sound.{IsDone, IsOfCommitted}
-use Rattle.hv_stands.proofs.Numbers.{one_value, same_one}
+use Rattle.hv_stands.proofs.Numbers.{same_one}
 use Rattle.hv_stands.proofs.Soundness.{all-numbered}
-use Rattle.hv_jobs.specs.Covers.{is_job_of, jobs_of, names_by, job_names}
+use Rattle.hv_jobs.specs.Covers.{is_job_of, names_by, job_names}
 use Rattle.hv_law_made.specs.Made.{write_names, names_in, jobs_at, recs_in, made_recs, is_spare_in, is_spare, is_gone_in, is_gone}
-use Rattle.hv_law_made.specs.Named.{HasNames, AllHaveNames, IsOfTable}
+use Rattle.hv_law_made.specs.Named.{HasNames}
 use Rattle.hv_law_made.specs.Standing.{IsStagedAt}
-use Rattle.hv_law_made.specs.Laws.{MayCome, IsUnmade, PutsAreUnmade}
+use Rattle.hv_law_made.specs.Laws.{IsUnmade, PutsAreUnmade}
 use Rattle.hv_law_made.proofs.NamedLemmas.{file-from, names-are, recs-are, spare-by, gone-by}
 use Rattle.hv_law_visible.specs.Members.{IsIn}
 use Rattle.hv_law_visible.proofs.MemberLemmas.{in-either, from-flat, from-filter}

@@ -112,6 +112,9 @@ pub record IsFiledFor (event : Entry) (state : State) (files : Tree) : Type 0 wh
   pub at : (place : Place) → AsksAt event state place → Holds (wants_at event state place) place.bucket (tree.get files place)
   pub encoded : IsEncodedFor event state
 
+-- The frame of the law on entries: an entry that changes so much, and is filed so, keeps the files standing. What it asks of may have
+-- come just before it: a job's directories get their names, and then the book is told.
+--
 -- What an entry changes at a place, whatever stands there: what it makes anew, what may not hold anything any more, and what it says
 -- is empty, is of the places that it asks of.
 pub record ChangesAt (state now : State) (Asked : Place → Type 0) : Type 0 where
@@ -138,13 +141,6 @@ pub record IsAsked (now : State) (Asked : Place → Type 0) (files : Tree) : Typ
 -- the files are what they were but for these places
 abbrev pub AreButFor : (Place → Type 0) → Tree → Tree → Type 0
 AreButFor Asked before files = (place : Place) → (tree.get files place ≡ tree.get before place) ⊎ Asked place
-
--- The frame of the law on entries: an entry that changes so much, and is filed so, keeps the files standing. What it asks of may have
--- come just before it: a job's directories get their names, and then the book is told.
-abbrev pub ChangedStands : Type 0
-ChangedStands =
-    (state now : State) (Asked : Place → Type 0) (before files : Tree)
-    → ChangesAt state now Asked → AreButFor Asked before files → IsAsked now Asked files → Standing state before → Standing now files
 
 -- ---- entries that leave the tables and the jobs as they are
 

@@ -1,6 +1,6 @@
 -- Each directory that a book makes has a name of the format, so that two names differ in their texts: write ids, statements and ranges
 -- are such as names can say.
-use Rattle.std.specs.Prelude.{◌≡◌, ℕ, ◌<◌, Option, Some, None, IsSome, List, map}
+use Rattle.std.specs.Prelude.{◌≡◌, ℕ, ◌<◌, Option, Some, None, IsSome, map}
 use Rattle.std.specs.List.{AllByRecursion}
 use Rattle.hv_dirs.specs.Names.{IsNumber, IsRange, statement_end, write_end}
 use Rattle.hv_history.specs.declared.state.Table.{Table}

@@ -1,4 +1,4 @@
-ghost use Rattle.hv_law_made.specs.Laws.{ChangesStand, PutsAreUnmade, ChangedStands, QuietStands, NewNamesAreFree};
+ghost use Rattle.hv_law_made.specs.Laws.{ChangesStand, PutsAreUnmade, QuietStands, NewNamesAreFree};
 
 /// The book makes nothing where writes and jobs put.
 pub fn puts_are_unmade()
@@ -8,11 +8,6 @@ pub fn puts_are_unmade()
 /// Where nothing goes that has to stand, and nothing comes but where writes and jobs put, all stands on.
 pub fn changes_stand()
     ensures law { ChangesStand }
-{}
-
-/// An entry keeps the files standing that changes no more than its places, where they are as it asks.
-pub fn changed_stands()
-    ensures law { ChangedStands }
 {}
 
 /// An entry that leaves the tables and the jobs keeps the files standing.

@@ -3,4 +3,4 @@
 
 mod laws;
 
-pub use laws::{changed_stands, changes_stand, new_names_are_free, puts_are_unmade, quiet_stands};
+pub use laws::{changes_stand, new_names_are_free, puts_are_unmade, quiet_stands};

@@ -13,7 +13,7 @@ use Rattle.hv_law_visible.specs.Laws.{TakesNoLoose}
 use Rattle.hv_law_visible.proofs.ListLemmas.{says-up-to}
 use Rattle.hv_law_visible.proofs.SnapshotLemmas.{snapshot-fits, cut-fits}
 use Rattle.hv_law_visible.proofs.VisibleLemmas.{takes-no-loose}
-use Rattle.hv_law_needed.specs.Needed.{IsBefore, IsAny, MoreArePast, AReaderTakesWhatItNeeds, AJobTakesWhatItNeeds, TheEndTakesWhatItNeeds}
+use Rattle.hv_law_needed.specs.Needed.{IsBefore, IsAny, AReaderTakesWhatItNeeds, AJobTakesWhatItNeeds, TheEndTakesWhatItNeeds}
 
 module _ (past more : Compaction → Type 0) (jobs : List Compaction) (wider : (job : Compaction) → IsIn job jobs → past job → more job) where
   loose-wider : (d : Delta) → IsLoose past jobs d → IsLoose more jobs d
@@ -32,7 +32,10 @@ module _ (past more : Compaction → Type 0) (jobs : List Compaction) (wider : (
     ];
   }
 
-pub more-past : {Found : Type 0} → MoreArePast Found
+-- what stands where some compactions are past stands also where more are: it may be gone, or it is whole
+pub more-past : {Found : Type 0} (id_of : Found → RowId) (past more : Compaction → Type 0) (foreign : ℕ → Type 0) (writes : List (Write Found))
+    (jobs : List Compaction) (tree : Tree Found) → ((job : Compaction) → IsIn job jobs → past job → more job)
+    → Stands id_of past foreign writes jobs tree → Stands id_of more foreign writes jobs tree
 more-past id_of past more foreign writes jobs tree wider stands = record {
   deltas = kind-wider past more jobs wider foreign _ tree.deltas tree.inserts stands.deltas;
   delete_deltas = kind-wider past more jobs wider foreign _ tree.delete_deltas tree.deletes stands.delete_deltas;

@@ -20,13 +20,6 @@ IsBefore reader job = mark_of job ≤ reader.txn
 abbrev pub IsAny : Compaction → Type 0
 IsAny job = Unit {0}
 
--- Where some compactions are past, what stands stands also where more are: it may be gone, or it is whole.
-abbrev pub MoreArePast : Type 0 → Type 0
-MoreArePast Found =
-    (id_of : Found → RowId) (past more : Compaction → Type 0) (foreign : ℕ → Type 0) (writes : List (Write Found)) (jobs : List Compaction) (tree : Tree Found)
-    → ((job : Compaction) → IsIn job jobs → past job → more job)
-    → Stands id_of past foreign writes jobs tree → Stands id_of more foreign writes jobs tree
-
 -- An open snapshot's reader takes nothing that a compaction covers which came before it, also where others that are open keep that.
 abbrev pub AReaderTakesWhatItNeeds : Type 0 → Type 0
 AReaderTakesWhatItNeeds Found =

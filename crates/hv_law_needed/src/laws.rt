@@ -1,9 +1,4 @@
-ghost use Rattle.hv_law_needed.specs.Needed.{MoreArePast, AReaderTakesWhatItNeeds, AJobTakesWhatItNeeds, TheEndTakesWhatItNeeds};
-
-/// What stands where some compactions are past stands also where more are.
-pub fn more_are_past<F>()
-    ensures law { MoreArePast F }
-{}
+ghost use Rattle.hv_law_needed.specs.Needed.{AReaderTakesWhatItNeeds, AJobTakesWhatItNeeds, TheEndTakesWhatItNeeds};
 
 /// A reader takes nothing that a compaction covers which came before it.
 pub fn a_reader_takes_what_it_needs<F>()

@@ -4,6 +4,5 @@
 mod laws;
 
 pub use laws::{
-    a_job_takes_what_it_needs, a_reader_takes_what_it_needs, more_are_past,
-    the_end_takes_what_it_needs,
+    a_job_takes_what_it_needs, a_reader_takes_what_it_needs, the_end_takes_what_it_needs,
 };
