@@ -20,7 +20,7 @@ use Rattle.hv_table_rows.proofs.Names.{same-text, text-same}
 use Rattle.hv_law_made.specs.Made.{is_up_to, rows_up_to, base_recs, in_partition, has_rows, if_bare, some_or, name_file}
 use Rattle.hv_law_visible.specs.Members.{IsIn}
 use Rattle.hv_law_visible.specs.History as visible
-use Rattle.hv_law_visible.specs.History.{is_upto, rows_in}
+use Rattle.hv_law_visible.specs.History.{Write, is_upto, rows_in}
 use Rattle.hv_law_visible.proofs.MemberLemmas.{from-flat, in-map, from-map, in-filter, from-filter, in-any}
 use Rattle.hv_law_visible.proofs.SortingLemmas.{from-sorted}
 use Rattle.hv_law_partitions.specs.Partitions.{id_of, write_in, writes_of}
@@ -36,13 +36,15 @@ bare-some true recs e = absurd (true≢false e)
 bare-some false [] e = refl
 bare-some false (r ∷ recs) e = refl
 
-bare-only : (b zero_bucket : Bool) (file : Bool × List Rec) → cond b None (cond zero_bucket (Some (false, [])) None) ≡ Some file
-    → cond b None (cond zero_bucket (Some (false, [])) None) ≡ Some (false, [])
+abbrev bare_of : Bool → Bool → Option (Bool × List Rec)
+bare_of b zero_bucket = cond {A = Option (Bool × List Rec)} b None (cond {A = Option (Bool × List Rec)} zero_bucket (Some (false, [])) None)
+
+bare-only : (b zero_bucket : Bool) (file : Bool × List Rec) → bare_of b zero_bucket ≡ Some file → bare_of b zero_bucket ≡ Some (false, [])
 bare-only true zero_bucket file e = cc
 bare-only false true file e = refl
 bare-only false false file e = cc
 
-if-bare-is : (b : Bool) (bucket : ℕ) → if_bare b bucket ≡ cond b None (cond (bucket == 0) (Some (false, [])) None)
+if-bare-is : (b : Bool) (bucket : ℕ) → if_bare b bucket ≡ bare_of b (bucket == 0)
 if-bare-is true bucket = refl
 if-bare-is false bucket = refl
 
@@ -88,14 +90,15 @@ module _ (table : Table) (partition : List ℕ)
 
   -- ---- the rows of the partition up to a number
 
+  upto-by : (b : Bool) (w : Written) (xs : List (Write Found)) (ys : List Written) → xs ≡ writes_of partition ys
+      → cond b (write_in partition w ∷ xs) xs ≡ writes_of partition (cond b (w ∷ ys) ys)
+  upto-by true w xs ys e = ap (λ ws. write_in partition w ∷ ws) e
+  upto-by false w xs ys e = e
+
   upto-same : (base : ℕ) (writes : List Written) → filter (is_upto base) (writes_of partition writes) ≡ writes_of partition (filter (is_up_to base) writes)
   upto-same base [] = refl
-  upto-same base (w ∷ writes) = by (nat_le w.write base)
-    where
-      by : (b : Bool) → cond b (write_in partition w ∷ filter (is_upto base) (writes_of partition writes)) (filter (is_upto base) (writes_of partition writes))
-          ≡ writes_of partition (cond b (w ∷ filter (is_up_to base) writes) (filter (is_up_to base) writes))
-      by true = ap (λ ws. write_in partition w ∷ ws) (upto-same base writes)
-      by false = upto-same base writes
+  upto-same base (w ∷ writes) =
+      upto-by (nat_le w.write base) w (filter (is_upto base) (writes_of partition writes)) (filter (is_up_to base) writes) (upto-same base writes)
 
   abbrev pub left : ℕ → List Found
   left base = rows_in id_of (writes_of partition table.writes) base
