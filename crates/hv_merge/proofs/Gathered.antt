@@ -5,7 +5,7 @@ use Rattle.std.specs.declared.cmp.Ordering.TheVariants.{Less, Equal, Greater}
 use Rattle.std.specs.Ordering.{is_lt, is_eq}
 use Rattle.std.specs.List.{flat_map, AllByRecursion}
 use Rattle.std.specs.Cmp.{IsTotalOrder, tied_itself}
-use Rattle.std.proofs.lemmas.List.{append-nil}
+use Rattle.std.proofs.lemmas.List.{append-nil, map-append}
 use Rattle.std.proofs.lemmas.Option.{same_Some}
 use Rattle.hv_base.specs.declared.ids.RowId.{RowId}
 use Rattle.hv_base.specs.Identifiers.{row_id_cmp, row_id_eq, row_id_total, row_id_ties}
@@ -17,6 +17,7 @@ use Rattle.hv_rowfile.specs.Layout.{RisesFrom, id_of as record_id}
 use Rattle.hv_merge.specs.Steps.{is_below}
 use Rattle.hv_merge.specs.Gathering.{rec_cmp, is_in_range, in_range, gathered, put_all, next_of, first_left, second_left}
 use Rattle.hv_merge.proofs.Fronts.{turned, tied_id}
+use Rattle.hv_merge.proofs.Looks.{all-front, all-behind}
 
 total : IsTotalOrder rec_cmp
 total = by_id-total record_id
@@ -218,3 +219,27 @@ file-more low high file recs done e =
 pub gathered-none : (low high : ℕ) → gathered low high [] ≡ []
 unfolding gathered
 gathered-none low high = refl
+
+-- ---- the last one of these files is taken
+
+module _ {V : Type 0} (items : V → List Rec) where
+  pub popped : (rest left : List V) (file : V) → rest ≡ left ++ file ∷ [] → map items rest ≡ map items left ++ items file ∷ []
+  popped rest left file e = ap (map items) e ∙ map-append items left (file ∷ [])
+
+  pub left-over : (rest left : List V) (file : V) (done whole : List (List Rec)) → rest ≡ left ++ file ∷ [] → map items rest ++ done ≡ whole
+      → map items left ++ items file ∷ done ≡ whole
+  left-over rest left file done whole e before =
+      sym (append_assoc (map items left) (items file ∷ []) done) ∙ ap (λ (z : List (List Rec)). z ++ done) (sym (popped rest left file e)) ∙ before
+
+  pub last-rises : (rest left : List V) (file : V) → rest ≡ left ++ file ∷ [] → AllByRecursion (RisesFrom None) (map items rest) → RisesFrom None (items file)
+  last-rises rest left file e all =
+      (all-behind (RisesFrom None) (map items left) (items file ∷ []) (subst (AllByRecursion (RisesFrom None)) (popped rest left file e) all)).0
+
+  pub left-rise : (rest left : List V) (file : V) → rest ≡ left ++ file ∷ [] → AllByRecursion (RisesFrom None) (map items rest)
+      → AllByRecursion (RisesFrom None) (map items left)
+  left-rise rest left file e all =
+      all-front (RisesFrom None) (map items left) (items file ∷ []) (subst (AllByRecursion (RisesFrom None)) (popped rest left file e) all)
+
+-- without a next record all was taken
+pub finished : (recs xs ys whole : List Rec) → next_of xs ys ≡ None → recs ++ put_all xs ys ≡ whole → recs ≡ whole
+finished recs xs ys whole none before = sym (append-nil recs) ∙ ap (λ (z : List Rec). recs ++ z) (sym (ended xs ys none)) ∙ before
