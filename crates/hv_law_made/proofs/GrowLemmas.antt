@@ -35,7 +35,8 @@ pub record GrowsAt (state now : State) (Asked : Type 0) (place : Place) (before 
   pub made : (name : DirName) → is_name_of state before place name → is_made table.writes place.partition name ≡ is_made before.writes place.partition name
   pub freed : (name : DirName) → is_name_of state before place name → is_freed state (jobs_at state place) name ≡ true → is_freed now (jobs_at now place) name ≡ true
   pub new : (name : DirName) → is_name_of now table place name → is_name_of state before place name ⊎ Asked
-  pub cleaned : (name : DirName) → is_name_of state before place name → is_cleaned_away (jobs_at now place) name ≡ true
+  pub cleaned : (name : DirName) → is_name_of state before place name → is_made before.writes place.partition name ≡ true
+      → is_cleaned_away (jobs_at now place) name ≡ true
       → (is_cleaned_away (jobs_at state place) name ≡ true) ⊎ Asked
 
 pub record Grows (state now : State) (Asked : Place → Type 0) : Type 0 where
@@ -60,7 +61,7 @@ module _ (state : State) (place : Place) (table : Table) (here : numbered state.
       ∙ file-named table.info.shape table.writes place (names_in table.writes (jobs_at state place)) name (names-here state place table here has)
       (names-here state place table here has name is.0) is.0 is.1
 
-  spare-of-name : is_made table.writes place.partition name ≡ true → is_freed state (jobs_at state place) name ≡ true → is_spare state place ≡ true
+  pub spare-of-name : is_made table.writes place.partition name ≡ true → is_freed state (jobs_at state place) name ≡ true → is_spare state place ≡ true
   unfolding is_spare
   spare-of-name made freed =
       ap (is_spare_in state place) here
@@ -124,7 +125,7 @@ module _ (state now : State) (Asked : Place → Type 0) (grows : Grows state now
     emptied-here e =
         let by = gone-by now place table here e in
         elim (at.new by.name (by.among, by.dir_is)) [
-          | inl is ↦ elim (at.cleaned by.name is by.cleaned) [
+          | inl is ↦ elim (at.cleaned by.name is (sym (at.made by.name is) ∙ by.made) by.cleaned) [
             | inl cleaned ↦ inl (gone-of-name state place before was has-before by.name is (sym (at.made by.name is) ∙ by.made) cleaned)
             | inr it ↦ inr it
           ]
@@ -141,7 +142,7 @@ module _ (state now : State) (Asked : Place → Type 0) (grows : Grows state now
     anew-by None e file is = absurd (none_is (made_recs now place) file (grows.none place e).0 is)
     anew-by (Some before) e file is = let at = grows.each place before e in anew-here place before at.0 e at.1 at.2 file is
 
-    spared-by : (o : Option Table) → numbered state.tables place.table.0 ≡ o → is_spare state place ≡ true → is_spare now place ≡ true
+    pub spared-by : (o : Option Table) → numbered state.tables place.table.0 ≡ o → is_spare state place ≡ true → is_spare now place ≡ true
     spared-by None e spare = absurd (true≢false (sym spare ∙ spare-nowhere state place e))
     spared-by (Some before) e spare = let at = grows.each place before e in spared-here place before at.0 e at.1 at.2 spare
 
@@ -154,7 +155,7 @@ module _ (state now : State) (Asked : Place → Type 0) (grows : Grows state now
     tables-by (Some before) e some = let at = grows.each place before e in ap is_some at.1
 
   held-still : (place : Place) → MayHold state place → MayHold now place ⊎ Asked place
-  held-still place (inl loose) = elim (grows.loose place loose) [ | inl still ↦ inl (inl still) | inr it ↦ inr it ]
+  held-still place (inl loose) = elim (grows.loose place loose) [ inl still ↦ inl (inl still) | inr it ↦ inr it ]
   held-still place (inr (inl spare)) = inl (inr (inl (spared-by place (numbered state.tables place.table.0) refl spare)))
   held-still place (inr (inr (inl staged))) = inl (inr (inr (inl (grows.staged place staged))))
   held-still place (inr (inr (inr dead))) = inl (inr (inr (inr (grows.dead place dead))))

@@ -6,3 +6,4 @@ pub mod FreeLemmas
 pub mod GrowLemmas
 pub mod StepLemmas
 pub mod StepGrows
+pub mod StepStands

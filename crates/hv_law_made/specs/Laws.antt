@@ -2,6 +2,8 @@
 use Rattle.std.specs.Prelude.{◌≡◌, ◌⊎◌, ℕ, Bool, true, false, IsSome, Option, Some, None, List, map}
 use Rattle.std.specs.List.{AllByRecursion}
 use Rattle.std.specs.FinMap as tree
+use Rattle.hv_base.specs.declared.ids.JobId.{JobId}
+use Rattle.hv_base.specs.declared.ids.TableId.{TableId}
 use Rattle.hv_shelf.specs.declared.place.Place.{Place}
 use Rattle.hv_shelf.specs.Disk.{Tree}
 use Rattle.hv_rowfile.specs.declared.record.Rec.{Rec}
@@ -9,6 +11,7 @@ use Rattle.hv_dirs.specs.declared.names.DirName.{DirName}
 use Rattle.hv_dirs.specs.Names.{IsName, is_compacted, text_of}
 use Rattle.hv_history.specs.declared.entry.Entry.{Entry}
 use Rattle.hv_history.specs.declared.entry.Entry.TheVariants as entry
+use Rattle.hv_history.specs.declared.entry.JobKind.{JobKind}
 use Rattle.hv_history.specs.declared.state.Table.{Table}
 use Rattle.hv_history.specs.State.{State, Job, numbered, after}
 use Rattle.hv_stands.specs.Files.{AreEncoded, IsLoose, IsOwn, IsUndone, ending_of, own_dir}
@@ -168,3 +171,37 @@ abbrev pub NewNamesAreFree : Type 0
 NewNamesAreFree =
     (state : State) (files : Tree) (place : Place) (name : DirName) → AllHaveNames state → Standing state files → is_live_at state place ≡ true
     → IsNewName state place name → tree.get files place ≡ None
+
+-- ---- steps of a job
+
+-- the job that was picked, was empty, or failed
+abbrev pub stepped_job : Entry → Option ℕ
+stepped_job (entry.Picked job watermark) = Some job.0
+stepped_job (entry.Empty job) = Some job.0
+stepped_job (entry.Failed job cause) = Some job.0
+stepped_job _ = None
+
+-- what holds of the names before and behind an entry
+pub record KeepsNames (state : State) (event : Entry) : Type 0 where
+  pub before : AllHaveNames state
+  pub behind : AllHaveNames (after state event)
+
+-- such a step keeps all standing
+abbrev pub JobStepsStand : Type 0
+JobStepsStand =
+    (state : State) (event : Entry) (number : ℕ) (job : Job) (files : Tree) → stepped_job event ≡ Some number → numbered state.jobs number ≡ Some job
+    → KeepsNames state event → Standing state files → Standing (after state event) files
+
+-- a job that is past was cleaned, and its directories are empty
+abbrev pub CleanedStands : Type 0
+CleanedStands =
+    (state : State) (job : JobId) (which : Job) (files : Tree) → numbered state.jobs job.0 ≡ Some which → is_past state which ≡ true
+    → KeepsNames state (entry.Cleaned job) → IsFiledFor (entry.Cleaned job) state files
+    → Standing state files → Standing (after state (entry.Cleaned job)) files
+
+-- a job that is asked for makes nothing
+abbrev pub AskedStands : Type 0
+AskedStands =
+    (state : State) (job : JobId) (table : TableId) (partition : List ℕ) (kind : JobKind) (by : ℕ) (files : Tree)
+    → KeepsNames state (entry.Asked job table partition kind by)
+    → Standing state files → Standing (after state (entry.Asked job table partition kind by)) files

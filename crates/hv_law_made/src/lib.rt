@@ -3,4 +3,7 @@
 
 mod laws;
 
-pub use laws::{changes_stand, new_names_are_free, puts_are_unmade, quiet_stands};
+pub use laws::{
+    asked_stands, changes_stand, cleaned_stands, job_steps_stand, new_names_are_free,
+    puts_are_unmade, quiet_stands,
+};

@@ -1,15 +1,14 @@
 -- What stands stands where more compactions are past, and so each reader takes what it needs.
-use Rattle.std.proofs.Common.{refl, ◌≡◌, ◌⊎◌, inl, inr, ℕ, ◌≤◌, Option, Some, None, List, [], ◌++◌, sym, subst}
+use Rattle.std.proofs.Common.{refl, ◌≡◌, inl, inr, ℕ, ◌≤◌, Option, Some, None, List, [], ◌++◌, subst}
 use Rattle.std.proofs.lemmas.List.{append-nil}
 use Rattle.hv_base.specs.declared.ids.RowId.{RowId}
 use Rattle.hv_dirs.specs.Choice.{Delta, sight_of}
 use Rattle.hv_law_visible.specs.Members.{IsIn}
-use Rattle.hv_law_visible.specs.History.{Write, Compaction, end_of, mark_of, IsMade}
+use Rattle.hv_law_visible.specs.History.{Write, Compaction}
 use Rattle.hv_law_visible.specs.Visible.{Tree}
-use Rattle.hv_law_visible.specs.Stands.{IsSound, Fits, IsLoose, IsLooseBase, IsForeign, Stand, Stands}
-use Rattle.hv_law_visible.specs.Snapshots.{Fate, Open, Committed, Aborted, Forgotten, fate_of, list_at, list_up_to, GoesTo, IsUndone, IsSince}
+use Rattle.hv_law_visible.specs.Stands.{Fits, IsLoose, IsLooseBase, Stand, Stands}
+use Rattle.hv_law_visible.specs.Snapshots.{Fate, Open, Committed, Aborted, Forgotten, fate_of, list_at, list_up_to, GoesTo, IsUndone}
 use Rattle.hv_law_visible.specs.Readers.{Reader, IsPast, Knows}
-use Rattle.hv_law_visible.specs.Laws.{TakesNoLoose}
 use Rattle.hv_law_visible.proofs.ListLemmas.{says-up-to}
 use Rattle.hv_law_visible.proofs.SnapshotLemmas.{snapshot-fits, cut-fits}
 use Rattle.hv_law_visible.proofs.VisibleLemmas.{takes-no-loose}

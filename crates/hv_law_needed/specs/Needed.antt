@@ -3,11 +3,11 @@
 -- Source: Hive Transactions, compactor and cleaner.
 use Rattle.std.specs.Prelude.{◌≡◌, ℕ, ◌≤◌, Some, List, ◌++◌}
 use Rattle.hv_base.specs.declared.ids.RowId.{RowId}
-use Rattle.hv_dirs.specs.Choice.{Sight, sight_of}
+use Rattle.hv_dirs.specs.Choice.{sight_of}
 use Rattle.hv_law_visible.specs.Members.{IsIn}
 use Rattle.hv_law_visible.specs.History.{Write, Compaction, end_of, mark_of}
 use Rattle.hv_law_visible.specs.Visible.{Tree}
-use Rattle.hv_law_visible.specs.Stands.{IsSound, Fits, Stands}
+use Rattle.hv_law_visible.specs.Stands.{IsSound, Stands}
 use Rattle.hv_law_visible.specs.Snapshots.{Fate, Committed, fate_of, list_at, list_up_to, IsUndone, IsSince}
 use Rattle.hv_law_visible.specs.Readers.{Reader, IsPast, Knows}
 use Rattle.hv_law_visible.specs.Laws.{TakesNoLoose}

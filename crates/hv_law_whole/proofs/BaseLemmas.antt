@@ -1,5 +1,5 @@
 -- The records of a base's files are the rows that were left up to its number.
-use Rattle.std.proofs.Common.{refl, ◌≡◌, inl, inr, ℕ, ◌==◌, ◌&&◌, nat_eq, nat_le, Bool, true, false, cond, Option, Some, None, List, [], ◌∷◌, ◌++◌, map, filter, take, drop, length, sym, ap, ◌∙◌, subst, true≢false}
+use Rattle.std.proofs.Common.{refl, ◌≡◌, inl, inr, ℕ, ◌==◌, nat_eq, nat_le, Bool, true, false, cond, Option, Some, None, List, [], ◌∷◌, ◌++◌, filter, take, drop, length, sym, ap, ◌∙◌, subst, true≢false}
 use Rattle.std.specs.Cmp.Lexicographic.{pointwise}
 use Rattle.std.specs.List.{flat_map, list_any}
 use Rattle.std.proofs.lemmas.Bool.{and_parts, and_from}

@@ -1,12 +1,11 @@
 -- The directories of a partition, of one kind: each that the history makes may be gone, or it stands with its records, over all its
 -- buckets; and what else stands is an own one of a write id that isn't committed.
-use Rattle.std.proofs.Common.{refl, ◌≡◌, ◌⊎◌, inl, inr, ℕ, zero, suc, ◌+◌, ◌<◌, ◌≤◌, ◌==◌, ◌&&◌, nat_le, Bool, true, false, cond, IsFalse, Option, Some, None, List, [], ◌∷◌, ◌++◌, filter, map, option_map, sym, ap, ◌∙◌, subst, arith, eqb-true, true≢false}
+use Rattle.std.proofs.Common.{refl, ◌≡◌, ◌⊎◌, inl, inr, ℕ, zero, suc, ◌+◌, ◌<◌, ◌==◌, Bool, true, false, Option, Some, None, List, [], ◌∷◌, filter, map, option_map, sym, ap, ◌∙◌, subst, arith, eqb-true, true≢false}
 use Rattle.std.specs.Prelude.{◌↔◌}
 use Rattle.std.specs.FinMap as finmap
-use Rattle.std.specs.List.{flat_map, list_any, slice_get, AllByRecursion}
+use Rattle.std.specs.List.{flat_map, list_any, slice_get}
 use Rattle.std.proofs.lemmas.Bool.{and_parts}
 use Rattle.hv_shelf.specs.declared.place.Place.{Place}
-use Rattle.hv_shelf.specs.declared.place.DirAt.{DirAt}
 use Rattle.hv_shelf.specs.Disk as disk
 use Rattle.hv_logic.specs.declared.effect.Found.{Found}
 use Rattle.hv_rowfile.specs.declared.record.Rec.{Rec}
@@ -32,12 +31,12 @@ use Rattle.hv_stands.specs.Files as stands
 use Rattle.hv_stands.specs.Sound.{IsDone, IsOfCommitted}
 use Rattle.hv_stands.proofs.Numbers.{one_value, same_one, numbered-map, either}
 use Rattle.hv_jobs.specs.Covers.{is_job_of, jobs_of, is_freed}
-use Rattle.hv_law_made.specs.Made.{has_written, rec_cmp, delta_recs, base_recs, some_or, name_file, names_in, is_made, file_among, made_recs, is_spare}
+use Rattle.hv_law_made.specs.Made.{has_written, rec_cmp, delta_recs, base_recs, some_or, name_file, names_in, is_made, made_recs, is_spare}
 use Rattle.hv_law_made.specs.Standing.{HasFile, is_live_table, is_live_at, MayHold, Standing}
 use Rattle.hv_law_visible.specs.Members.{IsIn}
 use Rattle.hv_law_visible.specs.History.{Write, Compaction, has_write, IsMade, IsMadeBase}
 use Rattle.hv_law_visible.specs.Stands.{IsLoose, IsLooseBase, IsForeign, Stand}
-use Rattle.hv_law_visible.specs.Snapshots.{Fate, IsUndone, fate_of}
+use Rattle.hv_law_visible.specs.Snapshots.{IsUndone, fate_of}
 use Rattle.hv_law_visible.specs.Readers.{IsPast}
 use Rattle.hv_law_visible.proofs.MemberLemmas.{in-flat, from-flat, in-map, from-map, in-filter, from-filter}
 use Rattle.hv_law_visible.proofs.SortingLemmas.{from-sorted, to-sorted}

@@ -1,5 +1,5 @@
 -- Which names a table's writes and a partition's jobs make, in the words of the laws on directories.
-use Rattle.std.proofs.Common.{refl, ◌≡◌, inl, inr, ℕ, ◌==◌, Bool, true, false, List, [], ◌∷◌, ◌++◌, sym, ap, ◌∙◌, subst, eqb-true}
+use Rattle.std.proofs.Common.{refl, ◌≡◌, inl, inr, ℕ, ◌==◌, Bool, true, false, List, subst, eqb-true}
 use Rattle.std.specs.List.{flat_map}
 use Rattle.std.proofs.lemmas.Bool.{and_parts}
 use Rattle.hv_dirs.specs.Choice.{Delta, Own, Wide}

@@ -1,6 +1,5 @@
 -- The directories of a partition stand beside a book with its compactions.
-use Rattle.std.proofs.Common.{refl, ◌≡◌, ◌⊎◌, inl, inr, ℕ, ◌==◌, Bool, true, false, List, [], filter, map, sym, ap, ◌∙◌, subst}
-use Rattle.std.specs.List.{list_any}
+use Rattle.std.proofs.Common.{◌≡◌, inl, inr, ℕ, Bool, true, false, List, filter, map, sym, ap, subst}
 use Rattle.hv_base.specs.declared.ids.RowId.{RowId}
 use Rattle.hv_shelf.specs.Disk as disk
 use Rattle.hv_logic.specs.declared.effect.Found.{Found}
@@ -8,7 +7,7 @@ use Rattle.hv_dirs.specs.Choice.{Delta, Own, Wide}
 use Rattle.hv_choosing.specs.Taken.{delta_name}
 use Rattle.hv_history.specs.declared.state.Table.{Table}
 use Rattle.hv_history.specs.declared.state.Written.{Written}
-use Rattle.hv_history.specs.State.{State, Job, numbered}
+use Rattle.hv_history.specs.State.{State, Job}
 use Rattle.hv_jobs.specs.Covers.{jobs_of}
 use Rattle.hv_law_made.specs.Made.{has_written, in_partition, has_events, is_made}
 use Rattle.hv_law_visible.specs.Members.{IsIn}
