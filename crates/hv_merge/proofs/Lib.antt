@@ -1,4 +1,5 @@
 pub mod Fronts
+pub mod Gathered
 pub mod Kept
 pub mod Looks
 pub mod Parts

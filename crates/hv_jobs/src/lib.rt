@@ -1,0 +1,2 @@
+//! What compaction jobs make and cover, by a book's entries alone: definitions.
+#![tactic(auto)]

@@ -1,0 +1,4 @@
+pub mod Made
+pub mod Standing
+pub mod Named
+pub mod Laws

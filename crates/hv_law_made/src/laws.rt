@@ -1,0 +1,36 @@
+ghost use Rattle.hv_law_made.specs.Laws.{ChangesStand, PutsAreUnmade, QuietStands, NewNamesAreFree, JobStepsStand, CleanedStands, AskedStands};
+
+/// The book makes nothing where writes and jobs put.
+pub fn puts_are_unmade()
+    ensures law { PutsAreUnmade }
+{}
+
+/// Where nothing goes that has to stand, and nothing comes but where writes and jobs put, all stands on.
+pub fn changes_stand()
+    ensures law { ChangesStand }
+{}
+
+/// An entry that leaves the tables and the jobs keeps the files standing.
+pub fn quiet_stands()
+    ensures law { QuietStands }
+{}
+
+/// Under a name that nothing has yet no file stands.
+pub fn new_names_are_free()
+    ensures law { NewNamesAreFree }
+{}
+
+/// A job that is picked, is empty, or fails keeps the files standing.
+pub fn job_steps_stand()
+    ensures law { JobStepsStand }
+{}
+
+/// A job that is asked for keeps them standing.
+pub fn asked_stands()
+    ensures law { AskedStands }
+{}
+
+/// And so does one that was cleaned, where nothing stands of what it covers.
+pub fn cleaned_stands()
+    ensures law { CleanedStands }
+{}

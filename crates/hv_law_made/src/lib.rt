@@ -1,0 +1,9 @@
+//! Which directories a book makes with its compactions, and which files stand then: definitions and laws.
+#![tactic(auto)]
+
+mod laws;
+
+pub use laws::{
+    asked_stands, changes_stand, cleaned_stands, job_steps_stand, new_names_are_free,
+    puts_are_unmade, quiet_stands,
+};

@@ -1,0 +1,5 @@
+pub mod JobLemmas
+pub mod NamedLemmas
+pub mod BaseLemmas
+pub mod KindLemmas
+pub mod WholeLemmas
