@@ -1,9 +1,11 @@
 -- What keeps the files beside a book with compactions standing: each entry, and each change of the files.
-use Rattle.std.specs.Prelude.{◌≡◌, ◌⊎◌, ℕ, Bool, true, false, IsSome, Option, Some, None, List, map}
-use Rattle.std.specs.List.{AllByRecursion}
+use Rattle.std.specs.Prelude.{◌≡◌, ◌⊎◌, ℕ, ◌==◌, Bool, true, false, IsSome, Option, Some, None, List, map}
+use Rattle.std.specs.List.{list_any, AllByRecursion}
 use Rattle.std.specs.FinMap as tree
 use Rattle.hv_base.specs.declared.ids.JobId.{JobId}
 use Rattle.hv_base.specs.declared.ids.TableId.{TableId}
+use Rattle.hv_base.specs.declared.ids.TxnId.{TxnId}
+use Rattle.hv_base.specs.declared.ids.WriteId.{WriteId}
 use Rattle.hv_shelf.specs.declared.place.Place.{Place}
 use Rattle.hv_shelf.specs.Disk.{Tree}
 use Rattle.hv_rowfile.specs.declared.record.Rec.{Rec}
@@ -15,7 +17,7 @@ use Rattle.hv_history.specs.declared.entry.JobKind.{JobKind}
 use Rattle.hv_history.specs.declared.state.Table.{Table}
 use Rattle.hv_history.specs.State.{State, Job, numbered, after}
 use Rattle.hv_stands.specs.Files.{AreEncoded, IsLoose, IsOwn, IsUndone, ending_of, own_dir}
-use Rattle.hv_jobs.specs.Covers.{is_job_of, range_names, covers, is_past}
+use Rattle.hv_jobs.specs.Covers.{is_job_of, range_names, job_names, covers, is_past}
 use Rattle.hv_law_made.specs.Made.{made_recs, made_names, names_in, is_spare, is_gone, jobs_at}
 use Rattle.hv_law_made.specs.Named.{AllHaveNames}
 use Rattle.hv_law_made.specs.Standing.{HasFile, MayHold, IsStagedAt, is_live_at, Standing}
@@ -205,3 +207,62 @@ AskedStands =
     (state : State) (job : JobId) (table : TableId) (partition : List ℕ) (kind : JobKind) (by : ℕ) (files : Tree)
     → KeepsNames state (entry.Asked job table partition kind by)
     → Standing state files → Standing (after state (entry.Asked job table partition kind by)) files
+
+-- ---- a publication
+
+-- No other job of its partition has a directory of this name, and none that was cleaned covers it.
+pub record IsNewFor (state : State) (job : Job) (name : DirName) : Type 0 where
+  pub apart : (number : ℕ) (other : Job) → numbered state.jobs number ≡ Some other → is_job_of job.table job.partition other ≡ true → IsIn name (job_names other) → ⊥
+  pub uncovered : (number : ℕ) (other : Job) → numbered state.jobs number ≡ Some other → is_job_of job.table job.partition other ≡ true → other.is_cleaned ≡ true
+      → covers other name ≡ false
+
+-- a job that isn't published yet, and a range whose directories are new
+pub record IsToPublish (state : State) (number low high : ℕ) (job : Job) : Type 0 where
+  pub is : numbered state.jobs number ≡ Some job
+  pub unpublished : job.published ≡ None
+  pub uncleaned : job.is_cleaned ≡ false
+  pub new : (name : DirName) → IsIn name (range_names job.kind low high) → IsNewFor state job name
+
+-- Its directories may have come just before the entry.
+abbrev pub PublishedStands : Type 0
+PublishedStands =
+    (state : State) (job : JobId) (low high : WriteId) (mark : TxnId) (which : Job) (before files : Tree) → IsToPublish state job.0 low.0 high.0 which
+    → KeepsNames state (entry.Published job low high mark) → AreButFor (AsksAt (entry.Published job low high mark) state) before files
+    → IsFiledFor (entry.Published job low high mark) state files
+    → Standing state before → Standing (after state (entry.Published job low high mark)) files
+
+-- ---- a write id, an aborted id, a table
+
+abbrev pub GivenStands : Type 0
+GivenStands =
+    (state : State) (txn : TxnId) (table : TableId) (write : WriteId) (files : Tree)
+    → AllHaveNames state → Standing state files → Standing (after state (entry.Given txn table write)) files
+
+-- the id is one of a transaction that was aborted, and wasn't forgotten yet
+pub record IsToForget (state : State) (number write : ℕ) (table : Table) : Type 0 where
+  pub is : numbered state.tables number ≡ Some table
+  pub txn : ℕ
+  pub owner : numbered table.owners write ≡ Some txn
+  pub undone : IsUndone (numbered (map ending_of state.transactions) txn)
+  pub kept : list_any (λ other. other == write) table.forgotten ≡ false
+
+abbrev pub ForgottenStands : Type 0
+ForgottenStands =
+    (state : State) (table : TableId) (write : WriteId) (which : Table) (files : Tree) → IsToForget state table.0 write.0 which
+    → AllHaveNames state → IsFiledFor (entry.Forgot table write) state files
+    → Standing state files → Standing (after state (entry.Forgot table write)) files
+
+-- ---- the end of a transaction that is open
+
+abbrev pub IsUnended : State → TxnId → Type 0
+IsUnended state txn = numbered (map ending_of state.transactions) txn.0 ≡ Some None
+
+abbrev pub DroppedStands : Type 0
+DroppedStands =
+    (state : State) (txn : TxnId) (table : TableId) (files : Tree) → IsUnended state txn → AllHaveNames state → IsFiledFor (entry.Drop txn table) state files
+    → Standing state files → Standing (after state (entry.Drop txn table)) files
+
+abbrev pub CreatedStands : Type 0
+CreatedStands =
+    (state : State) (txn : TxnId) (table : TableId) (files : Tree) → IsUnended state txn → AllHaveNames state → IsFiledFor (entry.Create txn table) state files
+    → Standing state files → Standing (after state (entry.Create txn table)) files
