@@ -12,3 +12,4 @@ pub mod CalmLemmas
 pub mod TableStands
 pub mod PastLemmas
 pub mod EndStands
+pub mod CommitStands

@@ -37,7 +37,10 @@ module _ (mark : ℕ) where
   above number (t ∷ ts) none = above-by number t ts (is_open t) refl (above (number + 1) ts) none
 
   none-here : (number : ℕ) (b : Bool) → nat_lt number mark ≡ b → mark ≤ number → is_none (cond b (Some number) None) ≡ true
-  none-here number true e le = let lt = ltb-true number mark e in omega (arith, lt, le)
+  none-here number true e le =
+      let lt = ltb-true number mark e in
+      let no : ⊥ = omega (arith, lt, le) in
+      absurd no
   none-here number false e le = refl
 
   none-by : (number : ℕ) (t : Transaction) (ts : List Transaction) (b : Bool) → is_open t ≡ b

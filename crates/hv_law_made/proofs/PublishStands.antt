@@ -49,7 +49,7 @@ shift : {A : Type 0} (xs : List A) (y x : A) (n : ℕ) → numbered xs n ≡ Som
 shift xs y x zero e = cc
 shift xs y x (suc n) e = e
 
-numbered-at : {A : Type 0} (xs : List A) (x : A) → IsIn x xs → (n : ℕ) × (numbered xs n ≡ Some x)
+pub numbered-at : {A : Type 0} (xs : List A) (x : A) → IsIn x xs → (n : ℕ) × (numbered xs n ≡ Some x)
 numbered-at [] x at = absurd at
 numbered-at (y ∷ xs) x (inl e) = (1, ap Some e)
 numbered-at (y ∷ xs) x (inr at) = let there = numbered-at xs x at in (suc there.0, shift xs y x there.0 there.1)

@@ -57,7 +57,7 @@ module _ (state now : State) (past : (job : Job) → is_past state job ≡ true 
       let both = and_parts (is_past state job) (covers job name) e in
       and_from (is_past now job) (covers job name) (past job both.0) both.1
 
-  freed-still : (name : DirName) (jobs : List Job) → is_freed state jobs name ≡ true → is_freed now jobs name ≡ true
+  pub freed-still : (name : DirName) (jobs : List Job) → is_freed state jobs name ≡ true → is_freed now jobs name ≡ true
   freed-still name jobs e =
       let found = in-any (frees state name) jobs e in
       any-in (frees now name) found.0 jobs found.1 (frees-still name found.0 found.2)

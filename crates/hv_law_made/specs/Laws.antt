@@ -1,9 +1,10 @@
 -- What keeps the files beside a book with compactions standing: each entry, and each change of the files.
-use Rattle.std.specs.Prelude.{◌≡◌, ◌⊎◌, ℕ, ◌==◌, Bool, true, false, IsSome, Option, Some, None, List, map}
+use Rattle.std.specs.Prelude.{◌≡◌, ◌⊎◌, ℕ, ◌<◌, ◌==◌, Bool, true, false, IsSome, Option, Some, None, List, ◌++◌, map}
 use Rattle.std.specs.List.{list_any, AllByRecursion}
 use Rattle.std.specs.FinMap as tree
 use Rattle.hv_base.specs.declared.ids.JobId.{JobId}
 use Rattle.hv_base.specs.declared.ids.TableId.{TableId}
+use Rattle.hv_base.specs.declared.ids.Touch.{Touch}
 use Rattle.hv_base.specs.declared.ids.TxnId.{TxnId}
 use Rattle.hv_base.specs.declared.ids.WriteId.{WriteId}
 use Rattle.hv_shelf.specs.declared.place.Place.{Place}
@@ -15,6 +16,7 @@ use Rattle.hv_history.specs.declared.entry.Entry.{Entry}
 use Rattle.hv_history.specs.declared.entry.Entry.TheVariants as entry
 use Rattle.hv_history.specs.declared.entry.JobKind.{JobKind}
 use Rattle.hv_history.specs.declared.state.Table.{Table}
+use Rattle.hv_history.specs.declared.state.Written.{Written}
 use Rattle.hv_history.specs.State.{State, Job, numbered, after}
 use Rattle.hv_stands.specs.Files.{AreEncoded, IsLoose, IsOwn, IsUndone, ending_of, own_dir}
 use Rattle.hv_jobs.specs.Covers.{is_job_of, range_names, job_names, covers, is_past}
@@ -266,3 +268,40 @@ abbrev pub CreatedStands : Type 0
 CreatedStands =
     (state : State) (txn : TxnId) (table : TableId) (files : Tree) → IsUnended state txn → AllHaveNames state → IsFiledFor (entry.Create txn table) state files
     → Standing state files → Standing (after state (entry.Create txn table)) files
+
+-- ---- a commit
+
+abbrev pub IsBelow : Option (ℕ × ℕ × ℕ) → ℕ → Type 0
+IsBelow None write = Unit {0}
+IsBelow (Some range) write = range.1 < write
+
+-- one of its writes is of its own write id, which isn't forgotten
+pub record IsNewWrite (txn : ℕ) (before : Table) (written : Written) : Type 0 where
+  pub owner : numbered before.owners written.write ≡ Some txn
+  pub kept : list_any (λ other. other == written.write) before.forgotten ≡ false
+
+-- behind the commit a table has these writes more
+pub record GetsWrites (txn : ℕ) (before table : Table) : Type 0 where
+  pub info : table.info ≡ before.info
+  pub is_live : table.is_live ≡ before.is_live
+  pub owners : table.owners ≡ before.owners
+  pub forgotten : table.forgotten ≡ before.forgotten
+  pub more : List Written
+  pub writes : table.writes ≡ before.writes ++ more
+  pub each : (written : Written) → IsIn written more → IsNewWrite txn before written
+
+-- Its transaction is open. What it writes, however many statements of it do, is under write ids of its own; these are above all that jobs of
+-- their tables have published.
+pub record IsCommitting (state : State) (txn : TxnId) (wrote : List Touch) : Type 0 where
+  pub unended : IsUnended state txn
+  pub tables : (number : ℕ) (before : Table) → numbered state.tables number ≡ Some before
+      → (table : Table) × (numbered (after state (entry.Commit txn wrote)).tables number ≡ Some table) × GetsWrites txn.0 before table
+  pub none : (number : ℕ) → numbered state.tables number ≡ None → numbered (after state (entry.Commit txn wrote)).tables number ≡ None
+  pub above : (number : ℕ) (before : Table) (write : ℕ) → numbered state.tables number ≡ Some before → numbered before.owners write ≡ Some txn.0
+      → (n : ℕ) (job : Job) → numbered state.jobs n ≡ Some job → job.table ≡ number → IsBelow job.published write
+
+abbrev pub CommittedStands : Type 0
+CommittedStands =
+    (state : State) (txn : TxnId) (wrote : List Touch) (files : Tree) → IsCommitting state txn wrote → KeepsNames state (entry.Commit txn wrote)
+    → IsFiledFor (entry.Commit txn wrote) state files
+    → Standing state files → Standing (after state (entry.Commit txn wrote)) files

@@ -1,4 +1,4 @@
-ghost use Rattle.hv_law_made.specs.Laws.{ChangesStand, PutsAreUnmade, QuietStands, NewNamesAreFree, JobStepsStand, CleanedStands, AskedStands, PublishedStands, GivenStands, ForgottenStands, DroppedStands, CreatedStands};
+ghost use Rattle.hv_law_made.specs.Laws.{ChangesStand, PutsAreUnmade, QuietStands, NewNamesAreFree, JobStepsStand, CleanedStands, AskedStands, PublishedStands, GivenStands, ForgottenStands, DroppedStands, CreatedStands, CommittedStands};
 
 /// The book makes nothing where writes and jobs put.
 pub fn puts_are_unmade()
@@ -58,4 +58,9 @@ pub fn dropped_stands()
 /// And so does one that is created.
 pub fn created_stands()
     ensures law { CreatedStands }
+{}
+
+/// And so does a commit whose files stand.
+pub fn committed_stands()
+    ensures law { CommittedStands }
 {}

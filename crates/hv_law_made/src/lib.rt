@@ -4,7 +4,7 @@
 mod laws;
 
 pub use laws::{
-    asked_stands, changes_stand, cleaned_stands, created_stands, dropped_stands, forgotten_stands,
-    given_stands, job_steps_stand, new_names_are_free, published_stands, puts_are_unmade,
-    quiet_stands,
+    asked_stands, changes_stand, cleaned_stands, committed_stands, created_stands, dropped_stands,
+    forgotten_stands, given_stands, job_steps_stand, new_names_are_free, published_stands,
+    puts_are_unmade, quiet_stands,
 };
