@@ -92,8 +92,7 @@ module _ (state now : State) (jobs_same : now.jobs ≡ state.jobs) (named : AllH
     spare-by (Some before) (Some table) same e =
         (λ i. list_any (is_spare_name now (jobs_of k place.partition (jobs_same i)) place.dir)
         (made_names (same.1 i) (jobs_of k place.partition (jobs_same i)) place.partition))
-        ∙ frees-any state now past (jobs_of k place.partition state.jobs) place.dir
-        (made_names before.writes (jobs_of k place.partition state.jobs) place.partition) e
+        ∙ frees-any state now (λ job at. past job) k place.partition place.dir (made_names before.writes (jobs_of k place.partition state.jobs) place.partition) e
 
     pub spare-calm : is_spare state place ≡ true → is_spare now place ≡ true
     unfolding is_spare

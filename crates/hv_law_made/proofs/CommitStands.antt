@@ -223,7 +223,7 @@ module _ (state : State) (txn : TxnId) (wrote : List Touch) (now : State)
       files = λ name at. file-grown before.info.shape place.partition before.writes table.writes name place.bucket (same-hits name at);
       made = λ name at. made-grown before.info.shape place.partition before.writes table.writes name (same-hits name at);
       freed = λ name at e. subst (λ jobs. is_freed now jobs name ≡ true) (sym jobs-here)
-          (freed-still state now (end-past state now txn.0 g transactions_are) name (jobs_at state place) e);
+          (freed-still state now (λ job at. end-past state now txn.0 g transactions_are job) place.table.0 place.partition name e);
       new = come;
       cleaned = λ name at made e. inl (subst (λ jobs. is_cleaned_away jobs name ≡ true) jobs-here e);
     }

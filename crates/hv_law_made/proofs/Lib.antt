@@ -13,3 +13,4 @@ pub mod TableStands
 pub mod PastLemmas
 pub mod EndStands
 pub mod CommitStands
+pub mod OpenStands

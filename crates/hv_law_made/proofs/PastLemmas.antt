@@ -6,6 +6,7 @@ use Rattle.hv_history.specs.declared.state.Transaction.{Transaction}
 use Rattle.hv_history.specs.State.{State, changed, changed_at}
 use Rattle.hv_history.specs.Legal.{is_open}
 use Rattle.hv_jobs.specs.Covers.{first_open, if_below, is_past_by}
+use Rattle.hv_law_made.specs.Laws.{IsMarked}
 
 abbrev pub is_open_one : Option Transaction → Bool
 is_open_one None = false
@@ -56,10 +57,6 @@ module _ (mark : ℕ) where
 -- no transaction is open now that wasn't, but from this number on
 abbrev pub OpensFrom : ℕ → List Transaction → List Transaction → Type 0
 OpensFrom top before now = (k : ℕ) → open_at now k ≡ true → (open_at before k ≡ true) ⊎ (top ≤ k + 1)
-
-abbrev pub IsMarked : ℕ → Option (ℕ × ℕ × ℕ) → Type 0
-IsMarked top None = Unit {0}
-IsMarked top (Some range) = range.2 ≤ top
 
 pub past-stays : (state now : State) (top : ℕ) → OpensFrom top state.transactions now.transactions → (o : Option (ℕ × ℕ × ℕ)) → IsMarked top o
     → is_past_by state o ≡ true → is_past_by now o ≡ true

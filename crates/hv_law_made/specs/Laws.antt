@@ -1,5 +1,5 @@
 -- What keeps the files beside a book with compactions standing: each entry, and each change of the files.
-use Rattle.std.specs.Prelude.{◌≡◌, ◌⊎◌, ℕ, ◌<◌, ◌==◌, Bool, true, false, IsSome, Option, Some, None, List, ◌++◌, map}
+use Rattle.std.specs.Prelude.{◌≡◌, ◌⊎◌, ℕ, ◌+◌, ◌<◌, ◌≤◌, ◌==◌, Bool, true, false, IsSome, Option, Some, None, List, ◌++◌, length, map}
 use Rattle.std.specs.List.{list_any, AllByRecursion}
 use Rattle.std.specs.FinMap as tree
 use Rattle.hv_base.specs.declared.ids.JobId.{JobId}
@@ -155,7 +155,7 @@ AreButFor Asked before files = (place : Place) → (tree.get files place ≡ tre
 pub record IsQuiet (state now : State) : Type 0 where
   pub tables : now.tables ≡ state.tables
   pub jobs : now.jobs ≡ state.jobs
-  pub past : (job : Job) → is_past state job ≡ true → is_past now job ≡ true
+  pub past : (job : Job) → IsIn job state.jobs → is_past state job ≡ true → is_past now job ≡ true
   pub undone : (txn : ℕ) → IsUndone (numbered (map ending_of state.transactions) txn) → IsUndone (numbered (map ending_of now.transactions) txn)
 
 -- an opening, a start, an abort and the like keep all standing
@@ -305,3 +305,27 @@ CommittedStands =
     (state : State) (txn : TxnId) (wrote : List Touch) (files : Tree) → IsCommitting state txn wrote → KeepsNames state (entry.Commit txn wrote)
     → IsFiledFor (entry.Commit txn wrote) state files
     → Standing state files → Standing (after state (entry.Commit txn wrote)) files
+
+-- ---- the other entries of transactions
+
+-- the mark of a published job is at most this number
+abbrev pub IsMarked : ℕ → Option (ℕ × ℕ × ℕ) → Type 0
+IsMarked top None = Unit {0}
+IsMarked top (Some range) = range.2 ≤ top
+
+-- a transaction that is opened has a number that no mark is above
+abbrev pub OpenedStands : Type 0
+OpenedStands =
+    (state : State) (txn : TxnId) (session : List ℕ) (number : ℕ) (text : List ℕ) (files : Tree)
+    → ((job : Job) → IsIn job state.jobs → IsMarked (length state.transactions + 1) job.published)
+    → Standing state files → Standing (after state (entry.Opened txn session number text)) files
+
+-- an opening of the store, a start, an abort
+abbrev pub is_quiet_entry : Entry → Bool
+is_quiet_entry (entry.Boot run) = true
+is_quiet_entry (entry.Start txn statement) = true
+is_quiet_entry (entry.Abort txn cause) = true
+is_quiet_entry _ = false
+
+abbrev pub QuietEntriesStand : Type 0
+QuietEntriesStand = (state : State) (event : Entry) (files : Tree) → is_quiet_entry event ≡ true → Standing state files → Standing (after state event) files

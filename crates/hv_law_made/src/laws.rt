@@ -1,4 +1,4 @@
-ghost use Rattle.hv_law_made.specs.Laws.{ChangesStand, PutsAreUnmade, QuietStands, NewNamesAreFree, JobStepsStand, CleanedStands, AskedStands, PublishedStands, GivenStands, ForgottenStands, DroppedStands, CreatedStands, CommittedStands};
+ghost use Rattle.hv_law_made.specs.Laws.{ChangesStand, PutsAreUnmade, QuietStands, NewNamesAreFree, JobStepsStand, CleanedStands, AskedStands, PublishedStands, GivenStands, ForgottenStands, DroppedStands, CreatedStands, CommittedStands, OpenedStands, QuietEntriesStand};
 
 /// The book makes nothing where writes and jobs put.
 pub fn puts_are_unmade()
@@ -63,4 +63,14 @@ pub fn created_stands()
 /// And so does a commit whose files stand.
 pub fn committed_stands()
     ensures law { CommittedStands }
+{}
+
+/// A transaction that is opened keeps them standing.
+pub fn opened_stands()
+    ensures law { OpenedStands }
+{}
+
+/// And so do an opening of the store, a start, an abort.
+pub fn quiet_entries_stand()
+    ensures law { QuietEntriesStand }
 {}
