@@ -35,7 +35,7 @@ module _ (mark : ℕ) where
   pub above : (number : ℕ) (ts : List Transaction) → is_none (if_below mark (first_open number ts)) ≡ true → IsAbove number ts
   above number [] none zero e = absurd (true≢false (sym e))
   above number [] none (suc k) e = absurd (true≢false (sym e))
-  above number (t ∷ ts) none = above-by number t ts (is_open t) refl (above (number + 1) ts) none
+  above number (t ∷ ts) none k e = above-by number t ts (is_open t) refl (above (number + 1) ts) none k e
 
   none-here : (number : ℕ) (b : Bool) → nat_lt number mark ≡ b → mark ≤ number → is_none (cond b (Some number) None) ≡ true
   none-here number true e le =

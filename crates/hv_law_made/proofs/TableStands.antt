@@ -51,7 +51,7 @@ unless-same : (g : Transaction → Transaction) → ((t : Transaction) → (g t)
 unless-same g keeps None t = keeps t
 unless-same g keeps (Some ending) t = refl
 
-while-same : (g : Transaction → Transaction) → ((t : Transaction) → (g t).ending ≡ t.ending) → (t : Transaction) → (while_open g t).ending ≡ t.ending
+pub while-same : (g : Transaction → Transaction) → ((t : Transaction) → (g t).ending ≡ t.ending) → (t : Transaction) → (while_open g t).ending ≡ t.ending
 while-same g keeps t = unless-same g keeps t.ending t
 
 pub past-by : (state now : State) → first_open 1 now.transactions ≡ first_open 1 state.transactions → (o : Option (ℕ × ℕ × ℕ)) → is_past_by state o ≡ true → is_past_by now o ≡ true
@@ -112,7 +112,7 @@ module _ (f : Table → Table) (keeps : (t : Table) → (f t).is_live ≡ t.is_l
   live-at (t ∷ ts) (suc n) zero = refl
   live-at (t ∷ ts) (suc n) (suc k) = live-at ts n k
 
-  live-by : (ts : List Table) (n k : ℕ) → is_live_table (numbered (changed f ts n) k) ≡ is_live_table (numbered ts k)
+  pub live-by : (ts : List Table) (n k : ℕ) → is_live_table (numbered (changed f ts n) k) ≡ is_live_table (numbered ts k)
   live-by ts n zero = refl
   live-by ts zero (suc k) = refl
   live-by ts (suc n) (suc k) = live-at ts n k
