@@ -7,3 +7,10 @@ pub mod GrowLemmas
 pub mod StepLemmas
 pub mod StepGrows
 pub mod StepStands
+pub mod PublishStands
+pub mod CalmLemmas
+pub mod TableStands
+pub mod PastLemmas
+pub mod EndStands
+pub mod CommitStands
+pub mod OpenStands

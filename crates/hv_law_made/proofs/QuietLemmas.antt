@@ -10,16 +10,17 @@ use Rattle.hv_dirs.specs.declared.names.DirName.{DirName}
 use Rattle.hv_history.specs.declared.state.Table.{Table}
 use Rattle.hv_history.specs.State.{State, Job, numbered}
 use Rattle.hv_stands.specs.Files.{AreEncoded, IsOwn}
-use Rattle.hv_jobs.specs.Covers.{jobs_of, is_past, covers, frees, is_freed}
+use Rattle.hv_jobs.specs.Covers.{is_job_of, jobs_of, is_past, covers, frees, is_freed}
 use Rattle.hv_law_made.specs.Made.{file_among, names_in, made_names, is_named, made_recs, is_spare_name, is_spare_in, is_spare, is_gone_name, is_gone_in, is_gone, recs_in}
 use Rattle.hv_law_made.specs.Standing.{MayHold, is_live_table, is_live_at}
 use Rattle.hv_law_made.specs.Laws.{ChangesAt, IsAsked, IsQuiet, QuietStands}
 use Rattle.hv_law_made.proofs.FrameLemmas.{changed-stands}
-use Rattle.hv_law_visible.proofs.MemberLemmas.{any-in, in-any}
+use Rattle.hv_law_visible.proofs.MemberLemmas.{from-filter, any-in, in-any}
+use Rattle.hv_law_visible.specs.Members.{IsIn}
 
 -- ---- by tables and jobs
 
-abbrev recs_of : Place → List Job → Option Table → Option (Bool × List Rec)
+abbrev pub recs_of : Place → List Job → Option Table → Option (Bool × List Rec)
 recs_of place jobs None = None
 recs_of place jobs (Some table) =
     file_among table.info.shape table.writes place (names_in table.writes (jobs_of place.table.0 place.partition jobs))
@@ -32,10 +33,10 @@ unfolding made_recs
 recs-at state place None e = ap (recs_in state place) e
 recs-at state place (Some table) e = ap (recs_in state place) e
 
-recs-are : (state : State) (place : Place) → made_recs state place ≡ recs_by state.tables state.jobs place
+pub recs-are : (state : State) (place : Place) → made_recs state place ≡ recs_by state.tables state.jobs place
 recs-are state place = recs-at state place (numbered state.tables place.table.0) refl
 
-abbrev gone_of : Place → List Job → Option Table → Bool
+abbrev pub gone_of : Place → List Job → Option Table → Bool
 gone_of place jobs None = false
 gone_of place jobs (Some table) =
     list_any (is_gone_name (jobs_of place.table.0 place.partition jobs) place.dir)
@@ -46,33 +47,36 @@ unfolding is_gone
 gone-at state place None e = ap (is_gone_in state place) e
 gone-at state place (Some table) e = ap (is_gone_in state place) e
 
-gone-is : (state : State) (place : Place) → is_gone state place ≡ gone_of place state.jobs (numbered state.tables place.table.0)
+pub gone-is : (state : State) (place : Place) → is_gone state place ≡ gone_of place state.jobs (numbered state.tables place.table.0)
 gone-is state place = gone-at state place (numbered state.tables place.table.0) refl
 
 -- ---- what is past stays past
 
-module _ (state now : State) (quiet : IsQuiet state now) where
-  frees-still : (name : DirName) (job : Job) → frees state name job ≡ true → frees now name job ≡ true
-  frees-still name job e =
+module _ (state now : State) (past : (job : Job) → IsIn job state.jobs → is_past state job ≡ true → is_past now job ≡ true) (table : ℕ) (partition : List ℕ) where
+  abbrev here : List Job
+  here = jobs_of table partition state.jobs
+
+  frees-still : (name : DirName) (job : Job) → IsIn job here → frees state name job ≡ true → frees now name job ≡ true
+  frees-still name job at e =
       let both = and_parts (is_past state job) (covers job name) e in
-      and_from (is_past now job) (covers job name) (quiet.past job both.0) both.1
+      and_from (is_past now job) (covers job name) (past job (from-filter (is_job_of table partition) job state.jobs at).0 both.0) both.1
 
-  freed-still : (name : DirName) (jobs : List Job) → is_freed state jobs name ≡ true → is_freed now jobs name ≡ true
-  freed-still name jobs e =
-      let found = in-any (frees state name) jobs e in
-      any-in (frees now name) found.0 jobs found.1 (frees-still name found.0 found.2)
+  pub freed-still : (name : DirName) → is_freed state here name ≡ true → is_freed now here name ≡ true
+  freed-still name e =
+      let found = in-any (frees state name) here e in
+      any-in (frees now name) found.0 here found.1 (frees-still name found.0 found.1 found.2)
 
-  named-still : (jobs : List Job) (text : List ℕ) (name : DirName) → is_spare_name state jobs text name ≡ true → is_spare_name now jobs text name ≡ true
-  named-still jobs text name e =
-      let both = and_parts (is_named text name) (is_freed state jobs name) e in
-      and_from (is_named text name) (is_freed now jobs name) both.0 (freed-still name jobs both.1)
+  named-still : (text : List ℕ) (name : DirName) → is_spare_name state here text name ≡ true → is_spare_name now here text name ≡ true
+  named-still text name e =
+      let both = and_parts (is_named text name) (is_freed state here name) e in
+      and_from (is_named text name) (is_freed now here name) both.0 (freed-still name both.1)
 
-  any-still : (jobs : List Job) (text : List ℕ) (names : List DirName) → list_any (is_spare_name state jobs text) names ≡ true
-      → list_any (is_spare_name now jobs text) names ≡ true
-  any-still jobs text names e =
-      let found = in-any (is_spare_name state jobs text) names e in
-      any-in (is_spare_name now jobs text) found.0 names found.1 (named-still jobs text found.0 found.2)
+  pub frees-any : (text : List ℕ) (names : List DirName) → list_any (is_spare_name state here text) names ≡ true → list_any (is_spare_name now here text) names ≡ true
+  frees-any text names e =
+      let found = in-any (is_spare_name state here text) names e in
+      any-in (is_spare_name now here text) found.0 names found.1 (named-still text found.0 found.2)
 
+module _ (state now : State) (quiet : IsQuiet state now) where
   -- under the jobs and the table as they were
   abbrev spare_of : State → Place → Option Table → Bool
   spare_of by place None = false
@@ -83,7 +87,7 @@ module _ (state now : State) (quiet : IsQuiet state now) where
   spare-of-still : (place : Place) (o : Option Table) → spare_of state place o ≡ true → spare_of now place o ≡ true
   spare-of-still place None e = e
   spare-of-still place (Some table) e =
-      any-still (jobs_of place.table.0 place.partition state.jobs) place.dir (made_names table.writes (jobs_of place.table.0 place.partition state.jobs) place.partition) e
+      frees-any state now quiet.past place.table.0 place.partition place.dir (made_names table.writes (jobs_of place.table.0 place.partition state.jobs) place.partition) e
 
   spare-was : (place : Place) (o : Option Table) → numbered state.tables place.table.0 ≡ o → is_spare state place ≡ spare_of state place o
   unfolding is_spare

@@ -87,6 +87,18 @@ pub from-changed : {A : Type 0} (f : A → A) (xs : List A) (n : ℕ) (x : A) �
 from-changed f xs zero x at = inl at
 from-changed f xs (suc n) x at = slice-changed f xs n x at
 
+slice-kept : {A : Type 0} (f : A → A) (xs : List A) (n : ℕ) (x : A) → IsIn x xs → IsIn x (changed_at f xs n) ⊎ (slice_get xs n ≡ Some x)
+slice-kept f [] n x at = inl at
+slice-kept f (y ∷ xs) zero x (inl e) = inr (ap Some e)
+slice-kept f (y ∷ xs) zero x (inr at) = inl (inr at)
+slice-kept f (y ∷ xs) (suc n) x (inl e) = inl (inl e)
+slice-kept f (y ∷ xs) (suc n) x (inr at) = elim (slice-kept f xs n x at) [ inl still ↦ inl (inr still) | inr is ↦ inr is ]
+
+-- what was in it still is, or is that one
+pub kept-changed : {A : Type 0} (f : A → A) (xs : List A) (n : ℕ) (x : A) → IsIn x xs → IsIn x (changed f xs n) ⊎ (numbered xs n ≡ Some x)
+kept-changed f xs zero x at = inl at
+kept-changed f xs (suc n) x at = slice-kept f xs n x at
+
 -- ---- such a step
 
 pub record IsSameJob (after before : Job) : Type 0 where

@@ -1,9 +1,12 @@
 -- What keeps the files beside a book with compactions standing: each entry, and each change of the files.
-use Rattle.std.specs.Prelude.{◌≡◌, ◌⊎◌, ℕ, Bool, true, false, IsSome, Option, Some, None, List, map}
-use Rattle.std.specs.List.{AllByRecursion}
+use Rattle.std.specs.Prelude.{◌≡◌, ◌⊎◌, ℕ, ◌+◌, ◌<◌, ◌≤◌, ◌==◌, Bool, true, false, IsSome, Option, Some, None, List, ◌++◌, length, map}
+use Rattle.std.specs.List.{list_any, AllByRecursion}
 use Rattle.std.specs.FinMap as tree
 use Rattle.hv_base.specs.declared.ids.JobId.{JobId}
 use Rattle.hv_base.specs.declared.ids.TableId.{TableId}
+use Rattle.hv_base.specs.declared.ids.Touch.{Touch}
+use Rattle.hv_base.specs.declared.ids.TxnId.{TxnId}
+use Rattle.hv_base.specs.declared.ids.WriteId.{WriteId}
 use Rattle.hv_shelf.specs.declared.place.Place.{Place}
 use Rattle.hv_shelf.specs.Disk.{Tree}
 use Rattle.hv_rowfile.specs.declared.record.Rec.{Rec}
@@ -13,9 +16,10 @@ use Rattle.hv_history.specs.declared.entry.Entry.{Entry}
 use Rattle.hv_history.specs.declared.entry.Entry.TheVariants as entry
 use Rattle.hv_history.specs.declared.entry.JobKind.{JobKind}
 use Rattle.hv_history.specs.declared.state.Table.{Table}
+use Rattle.hv_history.specs.declared.state.Written.{Written}
 use Rattle.hv_history.specs.State.{State, Job, numbered, after}
 use Rattle.hv_stands.specs.Files.{AreEncoded, IsLoose, IsOwn, IsUndone, ending_of, own_dir}
-use Rattle.hv_jobs.specs.Covers.{is_job_of, range_names, covers, is_past}
+use Rattle.hv_jobs.specs.Covers.{is_job_of, range_names, job_names, covers, is_past}
 use Rattle.hv_law_made.specs.Made.{made_recs, made_names, names_in, is_spare, is_gone, jobs_at}
 use Rattle.hv_law_made.specs.Named.{AllHaveNames}
 use Rattle.hv_law_made.specs.Standing.{HasFile, MayHold, IsStagedAt, is_live_at, Standing}
@@ -151,7 +155,7 @@ AreButFor Asked before files = (place : Place) → (tree.get files place ≡ tre
 pub record IsQuiet (state now : State) : Type 0 where
   pub tables : now.tables ≡ state.tables
   pub jobs : now.jobs ≡ state.jobs
-  pub past : (job : Job) → is_past state job ≡ true → is_past now job ≡ true
+  pub past : (job : Job) → IsIn job state.jobs → is_past state job ≡ true → is_past now job ≡ true
   pub undone : (txn : ℕ) → IsUndone (numbered (map ending_of state.transactions) txn) → IsUndone (numbered (map ending_of now.transactions) txn)
 
 -- an opening, a start, an abort and the like keep all standing
@@ -205,3 +209,123 @@ AskedStands =
     (state : State) (job : JobId) (table : TableId) (partition : List ℕ) (kind : JobKind) (by : ℕ) (files : Tree)
     → KeepsNames state (entry.Asked job table partition kind by)
     → Standing state files → Standing (after state (entry.Asked job table partition kind by)) files
+
+-- ---- a publication
+
+-- No other job of its partition has a directory of this name, and none that was cleaned covers it.
+pub record IsNewFor (state : State) (job : Job) (name : DirName) : Type 0 where
+  pub apart : (number : ℕ) (other : Job) → numbered state.jobs number ≡ Some other → is_job_of job.table job.partition other ≡ true → IsIn name (job_names other) → ⊥
+  pub uncovered : (number : ℕ) (other : Job) → numbered state.jobs number ≡ Some other → is_job_of job.table job.partition other ≡ true → other.is_cleaned ≡ true
+      → covers other name ≡ false
+
+-- a job that isn't published yet, and a range whose directories are new
+pub record IsToPublish (state : State) (number low high : ℕ) (job : Job) : Type 0 where
+  pub is : numbered state.jobs number ≡ Some job
+  pub unpublished : job.published ≡ None
+  pub uncleaned : job.is_cleaned ≡ false
+  pub new : (name : DirName) → IsIn name (range_names job.kind low high) → IsNewFor state job name
+
+-- Its directories may have come just before the entry.
+abbrev pub PublishedStands : Type 0
+PublishedStands =
+    (state : State) (job : JobId) (low high : WriteId) (mark : TxnId) (which : Job) (before files : Tree) → IsToPublish state job.0 low.0 high.0 which
+    → KeepsNames state (entry.Published job low high mark) → AreButFor (AsksAt (entry.Published job low high mark) state) before files
+    → IsFiledFor (entry.Published job low high mark) state files
+    → Standing state before → Standing (after state (entry.Published job low high mark)) files
+
+-- ---- a write id, an aborted id, a table
+
+abbrev pub GivenStands : Type 0
+GivenStands =
+    (state : State) (txn : TxnId) (table : TableId) (write : WriteId) (files : Tree)
+    → AllHaveNames state → Standing state files → Standing (after state (entry.Given txn table write)) files
+
+-- the id is one of a transaction that was aborted, and wasn't forgotten yet
+pub record IsToForget (state : State) (number write : ℕ) (table : Table) : Type 0 where
+  pub is : numbered state.tables number ≡ Some table
+  pub txn : ℕ
+  pub owner : numbered table.owners write ≡ Some txn
+  pub undone : IsUndone (numbered (map ending_of state.transactions) txn)
+  pub kept : list_any (λ other. other == write) table.forgotten ≡ false
+
+abbrev pub ForgottenStands : Type 0
+ForgottenStands =
+    (state : State) (table : TableId) (write : WriteId) (which : Table) (files : Tree) → IsToForget state table.0 write.0 which
+    → AllHaveNames state → IsFiledFor (entry.Forgot table write) state files
+    → Standing state files → Standing (after state (entry.Forgot table write)) files
+
+-- ---- the end of a transaction that is open
+
+abbrev pub IsUnended : State → TxnId → Type 0
+IsUnended state txn = numbered (map ending_of state.transactions) txn.0 ≡ Some None
+
+abbrev pub DroppedStands : Type 0
+DroppedStands =
+    (state : State) (txn : TxnId) (table : TableId) (files : Tree) → IsUnended state txn → AllHaveNames state → IsFiledFor (entry.Drop txn table) state files
+    → Standing state files → Standing (after state (entry.Drop txn table)) files
+
+abbrev pub CreatedStands : Type 0
+CreatedStands =
+    (state : State) (txn : TxnId) (table : TableId) (files : Tree) → IsUnended state txn → AllHaveNames state → IsFiledFor (entry.Create txn table) state files
+    → Standing state files → Standing (after state (entry.Create txn table)) files
+
+-- ---- a commit
+
+abbrev pub IsBelow : Option (ℕ × ℕ × ℕ) → ℕ → Type 0
+IsBelow None write = Unit {0}
+IsBelow (Some range) write = range.1 < write
+
+-- one of its writes is of its own write id, which isn't forgotten
+pub record IsNewWrite (txn : ℕ) (before : Table) (written : Written) : Type 0 where
+  pub owner : numbered before.owners written.write ≡ Some txn
+  pub kept : list_any (λ other. other == written.write) before.forgotten ≡ false
+
+-- behind the commit a table has these writes more
+pub record GetsWrites (txn : ℕ) (before table : Table) : Type 0 where
+  pub info : table.info ≡ before.info
+  pub is_live : table.is_live ≡ before.is_live
+  pub owners : table.owners ≡ before.owners
+  pub forgotten : table.forgotten ≡ before.forgotten
+  pub more : List Written
+  pub writes : table.writes ≡ before.writes ++ more
+  pub each : (written : Written) → IsIn written more → IsNewWrite txn before written
+
+-- Its transaction is open. What it writes, however many statements of it do, is under write ids of its own; these are above all that jobs of
+-- their tables have published.
+pub record IsCommitting (state : State) (txn : TxnId) (wrote : List Touch) : Type 0 where
+  pub unended : IsUnended state txn
+  pub tables : (number : ℕ) (before : Table) → numbered state.tables number ≡ Some before
+      → (table : Table) × (numbered (after state (entry.Commit txn wrote)).tables number ≡ Some table) × GetsWrites txn.0 before table
+  pub none : (number : ℕ) → numbered state.tables number ≡ None → numbered (after state (entry.Commit txn wrote)).tables number ≡ None
+  pub above : (number : ℕ) (before : Table) (write : ℕ) → numbered state.tables number ≡ Some before → numbered before.owners write ≡ Some txn.0
+      → (n : ℕ) (job : Job) → numbered state.jobs n ≡ Some job → job.table ≡ number → IsBelow job.published write
+
+abbrev pub CommittedStands : Type 0
+CommittedStands =
+    (state : State) (txn : TxnId) (wrote : List Touch) (files : Tree) → IsCommitting state txn wrote → KeepsNames state (entry.Commit txn wrote)
+    → IsFiledFor (entry.Commit txn wrote) state files
+    → Standing state files → Standing (after state (entry.Commit txn wrote)) files
+
+-- ---- the other entries of transactions
+
+-- the mark of a published job is at most this number
+abbrev pub IsMarked : ℕ → Option (ℕ × ℕ × ℕ) → Type 0
+IsMarked top None = Unit {0}
+IsMarked top (Some range) = range.2 ≤ top
+
+-- a transaction that is opened has a number that no mark is above
+abbrev pub OpenedStands : Type 0
+OpenedStands =
+    (state : State) (txn : TxnId) (session : List ℕ) (number : ℕ) (text : List ℕ) (files : Tree)
+    → ((job : Job) → IsIn job state.jobs → IsMarked (length state.transactions + 1) job.published)
+    → Standing state files → Standing (after state (entry.Opened txn session number text)) files
+
+-- an opening of the store, a start, an abort
+abbrev pub is_quiet_entry : Entry → Bool
+is_quiet_entry (entry.Boot run) = true
+is_quiet_entry (entry.Start txn statement) = true
+is_quiet_entry (entry.Abort txn cause) = true
+is_quiet_entry _ = false
+
+abbrev pub QuietEntriesStand : Type 0
+QuietEntriesStand = (state : State) (event : Entry) (files : Tree) → is_quiet_entry event ≡ true → Standing state files → Standing (after state event) files

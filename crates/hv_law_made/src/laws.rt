@@ -1,4 +1,4 @@
-ghost use Rattle.hv_law_made.specs.Laws.{ChangesStand, PutsAreUnmade, QuietStands, NewNamesAreFree, JobStepsStand, CleanedStands, AskedStands};
+ghost use Rattle.hv_law_made.specs.Laws.{ChangesStand, PutsAreUnmade, QuietStands, NewNamesAreFree, JobStepsStand, CleanedStands, AskedStands, PublishedStands, GivenStands, ForgottenStands, DroppedStands, CreatedStands, CommittedStands, OpenedStands, QuietEntriesStand};
 
 /// The book makes nothing where writes and jobs put.
 pub fn puts_are_unmade()
@@ -33,4 +33,44 @@ pub fn asked_stands()
 /// And so does one that was cleaned, where nothing stands of what it covers.
 pub fn cleaned_stands()
     ensures law { CleanedStands }
+{}
+
+/// And so does a publication of new directories which have their files.
+pub fn published_stands()
+    ensures law { PublishedStands }
+{}
+
+/// A write id that is given keeps them standing.
+pub fn given_stands()
+    ensures law { GivenStands }
+{}
+
+/// And so does one that is forgotten, where nothing stands of it.
+pub fn forgotten_stands()
+    ensures law { ForgottenStands }
+{}
+
+/// A table that is dropped keeps them standing.
+pub fn dropped_stands()
+    ensures law { DroppedStands }
+{}
+
+/// And so does one that is created.
+pub fn created_stands()
+    ensures law { CreatedStands }
+{}
+
+/// And so does a commit whose files stand.
+pub fn committed_stands()
+    ensures law { CommittedStands }
+{}
+
+/// A transaction that is opened keeps them standing.
+pub fn opened_stands()
+    ensures law { OpenedStands }
+{}
+
+/// And so do an opening of the store, a start, an abort.
+pub fn quiet_entries_stand()
+    ensures law { QuietEntriesStand }
 {}

@@ -4,6 +4,7 @@
 mod laws;
 
 pub use laws::{
-    asked_stands, changes_stand, cleaned_stands, job_steps_stand, new_names_are_free,
-    puts_are_unmade, quiet_stands,
+    asked_stands, changes_stand, cleaned_stands, committed_stands, created_stands, dropped_stands,
+    forgotten_stands, given_stands, job_steps_stand, new_names_are_free, opened_stands,
+    published_stands, puts_are_unmade, quiet_entries_stand, quiet_stands,
 };
