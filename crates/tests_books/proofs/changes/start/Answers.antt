@@ -1,0 +1,16 @@
+use Rattle.std.proofs.Common.{ap, ◌∙◌}
+use Rattle.std.specs.Prelude.{slice_set}
+use Rattle.std.specs.Option.{option_copied}
+use Rattle.hv_history.specs.declared.state.Transaction.{Transaction}
+use Rattle.hv_history.specs.State.{while_open}
+use Rattle.hv_history.proofs.NumberLemmas.{put_changed}
+use Rattle.tests_books.specs.Replay.{state_at, started_with}
+use Rattle.tests_books.proofs.ChangeLemmas.{changed-with}
+use Rattle.tests_books.proofs.changes.start.Goals as goal
+
+pub returns : goal.returns
+returns c =
+    ap (λ (t : Transaction). slice_set c.args.transactions.now.items c.in-Some.at t) c.in_ok-start_one.ensures
+    ∙ put_changed while_open (started_with c.args.place c.args.tables.now (option_copied c.args.tree) c.args.number) c.args.transactions.now.items c.deref.result.now c.args.txn c.in-Some.at c.index_mut-transaction.result.now
+    c.deref.ensures.value c.in-Some.ensures.1 c.index_mut-transaction.ensures.value
+    ∙ changed-with (state_at c.args.place c.args.transactions.now.items c.args.tables.now) (option_copied c.args.tree) c.args.number c.args.transactions.now.items c.args.txn c.requires

@@ -1,0 +1,18 @@
+use Rattle.std.proofs.Common.{◌<◌, ◌≤◌, length, sym, ap, ◌∙◌, arith}
+use Rattle.std.specs.Prelude.{slice_set}
+use Rattle.std.specs.Option.{option_copied}
+use Rattle.hv_history.specs.declared.state.Statement.{Statement}
+use Rattle.tests_books.specs.Replay.{meant_with}
+use Rattle.tests_books.proofs.ChangeLemmas.{put_at, stays_at}
+use Rattle.tests_books.proofs.statements.mean.Goals as goal
+
+pub returns-in_ok-mean_one : goal.returns-in_ok-mean_one
+returns-in_ok-mean_one c =
+    let within : c.args.number < length c.args.statements.now.items = omega (arith, c.if-at-len.true, c.len.ensures, c.args.statements.now.ok.0) in
+    ap (λ (s : Statement). slice_set c.args.statements.now.items c.args.number s) c.in_ok-mean_one.ensures
+    ∙ put_at (meant_with c.args.tables.now (option_copied c.args.tree)) c.args.statements.now.items c.args.number c.index_mut-statement.result.now within c.index_mut-statement.ensures.value
+
+pub returns-else-at-len : goal.returns-else-at-len
+returns-else-at-len c =
+    let beyond : length c.args.statements.now.items ≤ c.args.number = omega (arith, c.if-at-len.false, c.len.ensures, c.args.statements.now.ok.0) in
+    sym (stays_at (meant_with c.args.tables.now (option_copied c.args.tree)) c.args.statements.now.items c.args.number beyond)
