@@ -1,2 +1,3 @@
-pub mod ChangeLemmas
-pub mod ReplayLemmas
+pub mod Meanings
+pub mod Writes
+pub mod Steps

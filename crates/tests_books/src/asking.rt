@@ -1,5 +1,5 @@
 //! What is printed for a transaction, and what is known at a position.
-use crate::replay;
+use crate::answers::answer;
 use crate::replay::Replay;
 use crate::words::{number, piece};
 use hv_ast::{Stmt, discard};
@@ -17,7 +17,7 @@ pub fn prints(
     book: &Book,
     words: &[&str],
 ) -> Result<(), NoMemory> {
-    let done = match replay::answer(alloc, book, number(words, 0))? {
+    let done = match answer(alloc, book.entries(), number(words, 0))? {
         Some(printed) => out.push_str(str::from_utf8(printed.as_slice()).unwrap_or("bytes")),
         None => out.push_str("open"),
     };
@@ -54,14 +54,13 @@ fn show_known(
 
 /// The live tables that a replay up to a position has.
 pub fn known(alloc: Global, out: &mut String, book: &Book, words: &[&str]) -> Result<(), NoMemory> {
-    let position = number(words, 0) as usize;
-    if book.entries().len() < position {
+    let Some(front) = book.entries().get(..number(words, 0) as usize) else {
         return Ok(());
-    }
-    let replay = Replay::of(alloc, book, position)?;
-    for table in replay.tables() {
+    };
+    let replay = Replay::of(alloc, front)?;
+    for table in replay.tables.as_slice() {
         if table.is_live {
-            show_known(out, table, replay.transactions())?;
+            show_known(out, table, &replay.transactions)?;
         }
     }
     Ok(())
@@ -87,12 +86,8 @@ pub fn tables(
 
 /// The write id list of a table at a position.
 pub fn list(alloc: Global, out: &mut String, book: &Book, words: &[&str]) -> Result<(), NoMemory> {
-    let list = list_at(
-        alloc,
-        book,
-        number(words, 1) as usize,
-        TableId(number(words, 0)),
-    )?;
+    let position = number(words, 1) as usize;
+    let list = list_at(alloc, book, position, TableId(number(words, 0)))?;
     Ok(write!(out, "{list:?}")?)
 }
 

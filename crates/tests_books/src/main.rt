@@ -5,14 +5,14 @@
 //! with # says what follows, over a book without entries.
 #![tactic(auto)]
 
+mod answers;
 mod asking;
-mod changes;
-mod content;
 mod happening;
-mod printing;
+mod meanings;
 mod replay;
-mod statements;
+mod tables;
 mod taking;
+mod transactions;
 mod words;
 
 use crate::words::plain;
