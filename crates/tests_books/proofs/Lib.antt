@@ -1,3 +1,3 @@
-pub mod Meanings
+pub mod Starts
 pub mod Writes
 pub mod Steps

@@ -2,13 +2,14 @@
 use Rattle.std.proofs.Common.{◌≡◌, ℕ, ◌+◌, ◌<◌, List, [], ◌∷◌, length, get_or, take, fold, refl, sym, ap, ◌∙◌, arith}
 use Rattle.std.proofs.lemmas.List.{length-take-le}
 use Rattle.std.proofs.lemmas.List.Sums.{fold_more}
+use Rattle.hv_base.specs.declared.ids.TxnId.{TxnId}
 use Rattle.hv_history.specs.declared.entry.Entry.{Entry}
 use Rattle.hv_history.specs.declared.entry.Entry.TheVariants as entry
 use Rattle.hv_history.specs.declared.state.Table.{Table}
 use Rattle.hv_history.specs.declared.state.Transaction.{Transaction}
 use Rattle.hv_history.specs.State.{State, nothing_yet, changed, while_open, acted, after, state_of, started}
-use Rattle.tests_books.specs.Replay.{state_at, begun}
-use Rattle.tests_books.proofs.Meanings.{begun-started}
+use Rattle.tests_books.specs.Replay.{state_at, moved}
+use Rattle.tests_books.proofs.Starts.{begun-started}
 
 -- ---- what an entry does to transactions and tables rests on these, and on its place
 
@@ -55,6 +56,16 @@ tables-alone state (entry.Empty job) = refl
 tables-alone state (entry.Cleaned job) = refl
 tables-alone state (entry.Failed job cause) = refl
 tables-alone state (entry.Forgot table write) = refl
+
+-- a Start, by the tables that the replay has
+pub start_acts : (place : ℕ) (transactions : List Transaction) (tables seen : List Table) (event : Entry) (txn : TxnId) (statement : ℕ)
+    → event ≡ entry.Start txn statement → seen ≡ tables
+    → changed (while_open (moved place seen event)) transactions txn.0 ≡ (acted (state_at place transactions tables) event).transactions
+unfolding acted
+start_acts place transactions tables seen event txn statement is same =
+    (λ k. changed (while_open (moved place (same k) (is k))) transactions txn.0)
+    ∙ (λ k. changed (while_open (λ (t : Transaction). begun-started (state_at place transactions tables) statement t k)) transactions txn.0)
+    ∙ ap (λ (e : Entry). (acted (state_at place transactions tables) e).transactions) (sym is)
 
 counted : (state : State) (book : List Entry) → (fold after state book).entries ≡ state.entries + length book
 counted state [] = omega arith

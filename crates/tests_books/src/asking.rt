@@ -7,6 +7,7 @@ use hv_base::{NoMemory, TableId, Text};
 use hv_book::Book;
 use hv_earlier::{catalog_at, list_at};
 use hv_history::{Ending, Table, Transaction, numbered};
+use hv_logic::TableInfo;
 use hv_reading::{TextFault, read_statement, read_text};
 use std::alloc::{AllocError, Global};
 use std::str;
@@ -42,11 +43,12 @@ fn show_known(
     table: &Table,
     transactions: &[Transaction],
 ) -> Result<(), AllocError> {
-    write!(out, "{} {}", table.info.shape.name, table.owners.len())?;
-    for (place, txn) in table.owners.as_slice().iter().enumerate() {
-        let mark = mark(numbered(transactions, *txn));
+    let owners = table.owners.as_slice();
+    write!(out, "{} {}", table.info.shape.name, owners.len())?;
+    for at in 0..owners.len() {
+        let mark = mark(numbered(transactions, owners[at]));
         if !mark.is_empty() {
-            write!(out, " {}{mark}", place + 1)?;
+            write!(out, " {}{mark}", at + 1)?;
         }
     }
     out.push_str(",")
@@ -66,7 +68,16 @@ pub fn known(alloc: Global, out: &mut String, book: &Book, words: &[&str]) -> Re
     Ok(())
 }
 
-/// The tables at a position, each by its number, its name and its columns.
+/// A table by its number, its name and its columns.
+fn show_table(out: &mut String, info: &TableInfo) -> Result<(), AllocError> {
+    write!(out, "{} {}", info.table.0, info.shape.name)?;
+    for column in info.shape.columns.as_slice() {
+        write!(out, " {}", column.name)?;
+    }
+    out.push_str(".")
+}
+
+/// The tables at a position.
 pub fn tables(
     alloc: Global,
     out: &mut String,
@@ -75,11 +86,7 @@ pub fn tables(
 ) -> Result<(), NoMemory> {
     let catalog = catalog_at(alloc, book, number(words, 0) as usize)?;
     for info in catalog.tables.as_slice() {
-        write!(out, "{} {}", info.table.0, info.shape.name)?;
-        for column in info.shape.columns.as_slice() {
-            write!(out, " {}", column.name)?;
-        }
-        write!(out, ".")?;
+        show_table(out, info)?;
     }
     Ok(())
 }

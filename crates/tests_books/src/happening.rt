@@ -9,8 +9,8 @@ use hv_book::Book;
 use hv_history::{Cause, Entry};
 use std::alloc::Global;
 
-/// The entry that a row names: of its transaction, table and write id, with what it wrote.
-fn entry_of(call: &str, words: &[&str], wrote: List<Touch>) -> Entry
+/// The entry that a row names: of its transaction, table and write id.
+fn entry_of(call: &str, words: &[&str]) -> Entry
     ensures { tree_of_entry result ≡ None }
 {
     let txn = TxnId(number(words, 0));
@@ -23,7 +23,6 @@ fn entry_of(call: &str, words: &[&str], wrote: List<Touch>) -> Entry
             table,
             write: WriteId(number(words, 2)),
         },
-        "commits" => Entry::Commit { txn, wrote },
         "fails" => Entry::Abort {
             txn,
             cause: Cause::Memory,
@@ -38,24 +37,24 @@ fn entry_of(call: &str, words: &[&str], wrote: List<Touch>) -> Entry
     }
 }
 
-/// Nothing, or so many rows that were inserted into a table.
-fn touched(alloc: Global, words: &[&str]) -> Result<List<Touch>, NoMemory> {
-    let inserted = number(words, 2);
-    if inserted == 0 {
-        return Ok(List::empty(alloc));
-    }
-    let touch = Touch {
-        table: TableId(number(words, 1)),
-        partition: Text::of(alloc, "")?,
-        inserted,
-        deleted: 0,
-    };
-    Ok(List::from_vec(vec![in alloc; touch]?))
+pub fn happens(book: &mut Book, call: &str, words: &[&str]) -> Result<(), NoMemory> {
+    book.push(entry_of(call, words), None)
 }
 
-pub fn happens(alloc: Global, book: &mut Book, call: &str, words: &[&str]) -> Result<(), NoMemory> {
-    let entry = entry_of(call, words, touched(alloc, words)?);
-    book.push(entry, None)
+/// A commit, of nothing or of so many rows that were inserted into a table.
+pub fn commits(alloc: Global, book: &mut Book, words: &[&str]) -> Result<(), NoMemory> {
+    let mut touches = Vec::new(alloc);
+    if words.len() == 3 {
+        touches.push(Touch {
+            table: TableId(number(words, 1)),
+            partition: Text::of(alloc, "")?,
+            inserted: number(words, 2),
+            deleted: 0,
+        })?;
+    }
+    let txn = TxnId(number(words, 0));
+    let wrote = List::from_vec(touches);
+    book.push(Entry::Commit { txn, wrote }, None)
 }
 
 /// Opens a transaction for a text, or shows the text's fault.

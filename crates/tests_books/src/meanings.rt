@@ -24,8 +24,10 @@ pub fn tree_of(alloc: Global, text: &Text) -> Result<Option<Stmt>, NoMemory>
 {
     match read_text(alloc, text) {
         Ok(tree) => Ok(Some(tree)),
-        Err(TextFault::NoMemory) => Err(NoMemory),
-        Err(_) => Ok(None),
+        Err(fault) => match fault {
+            TextFault::NoMemory => Err(NoMemory),
+            _ => Ok(None),
+        },
     }
 }
 
@@ -93,6 +95,14 @@ fn seen_tables(alloc: Global, tables: &[Table]) -> Result<Vec<Seen>, NoMemory>
     Ok(seen)
 }
 
+fn copy_of(alloc: Global, seen: &Seen) -> Result<Seen, NoMemory>
+    ensures { IfOk result (λ copy. copy ≡ seen.now) }
+{
+    let rows = seen.rows.duplicate(alloc)?;
+    let info = seen.info.duplicate(alloc)?;
+    Ok(Seen { info, rows })
+}
+
 // The tables that a statement names, in the order in which it names them.
 fn its_tables(alloc: Global, tree: &Stmt, seen: &[Seen]) -> Result<Vec<Seen>, NoMemory>
     ensures { IfOk result (λ tables. tables.items ≡ its_tables tree.now seen.now) }
@@ -101,9 +111,7 @@ fn its_tables(alloc: Global, tree: &Stmt, seen: &[Seen]) -> Result<Vec<Seen>, No
     let mut tables = Vec::new(alloc);
     for lock in &locks {
         if let Some(table) = named(&lock.name, seen) {
-            let rows = table.rows.duplicate(alloc)?;
-            let info = table.info.duplicate(alloc)?;
-            tables.push(Seen { info, rows })?;
+            tables.push(copy_of(alloc, table)?)?;
         }
     }
     Ok(tables)
@@ -116,9 +124,11 @@ fn meaning_of(
 ) -> Result<Option<Boxed<Meaning>>, NoMemory>
     ensures { IfOk result (λ meaning. meaning ≡ meaning_of (seen_tables tables.now) tree.now) }
 {
-    let seen = seen_tables(alloc, tables)?;
-    let tables = its_tables(alloc, tree, &seen)?;
-    match meaning_in(alloc, tree, tables)? {
+    let named = {
+        let seen = seen_tables(alloc, tables)?;
+        its_tables(alloc, tree, &seen)?
+    };
+    match meaning_in(alloc, tree, named)? {
         Some(found) => {
             let Touching { meaning, .. } = found;
             Ok(Some(Boxed::new(alloc, meaning)?))

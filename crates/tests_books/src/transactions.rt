@@ -21,14 +21,16 @@ pub fn open(
     ensures { OnOk result (transactions.new.items
         ≡ transactions.old.items ++ opened session.now number text.now ∷ []) }
 {
+    let session = session.duplicate(alloc)?;
+    let text = text.duplicate(alloc)?;
     let statement = Statement {
         number,
-        text: text.duplicate(alloc)?,
+        text,
         meaning: None,
         wrote: List::empty(alloc),
     };
     transactions.push(Transaction {
-        session: session.duplicate(alloc)?,
+        session,
         statements: List::from_vec(vec![in alloc; statement]?),
         snapshot: None,
         given: List::empty(alloc),

@@ -2,7 +2,7 @@ use Rattle.std.proofs.Common.{◌<◌, ◌≤◌, length, sym, ap, ◌∙◌, ar
 use Rattle.std.specs.Prelude.{slice_set}
 use Rattle.hv_history.specs.declared.state.Statement.{Statement}
 use Rattle.tests_books.specs.Replay.{meant}
-use Rattle.tests_books.proofs.Meanings.{put_at, stays_at}
+use Rattle.tests_books.proofs.Starts.{put_at, stays_at}
 use Rattle.tests_books.proofs.transactions.mean.Goals as goal
 
 pub returns-in_ok-mean_one : goal.returns-in_ok-mean_one

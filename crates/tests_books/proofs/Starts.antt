@@ -1,5 +1,5 @@
 -- A text that has a fault is no statement, and what a Start means rests on the tables.
-use Rattle.std.proofs.Common.{◌≡◌, ℕ, ◌<◌, ◌≤◌, Option, Some, None, List, length, refl, sym, ◌∙◌, arith}
+use Rattle.std.proofs.Common.{◌≡◌, ℕ, suc, ◌<◌, ◌≤◌, Option, Some, None, List, length, refl, sym, ◌∙◌, arith}
 use Rattle.std.specs.Prelude.{slice_set, slice_index_or, Ok, Err}
 use Rattle.std.specs.Option.{option_map}
 use Rattle.hv_ast.specs.declared.statement.Setting.{Setting}
@@ -8,7 +8,10 @@ use Rattle.hv_ast.specs.declared.statement.Stmt.TheVariants as s
 use Rattle.hv_ast.specs.Tokens.{Text, Tokens, tokens_of}
 use Rattle.hv_grammar.specs.Settings.{behind_set, setting_in}
 use Rattle.hv_grammar.specs.StatementReading.{Answer, found, nesting, syntax, statement_of}
-use Rattle.hv_grammar.specs.Texts.{TextFault, tree_of, fault_of, tree_in, fault_in, statement_tree, statement_fault, tree_by, fault_by, setting_fault}
+use Rattle.hv_grammar.specs.Texts.{TextFault, BadCharacter, OpenString, WideNumber, Syntax, Nesting, tree_of, fault_of, tree_in, fault_in, statement_tree, statement_fault, tree_by, fault_by, setting_fault}
+use Rattle.hv_reading.specs.declared.fault.TextFault as reading
+use Rattle.hv_reading.specs.declared.fault.TextFault.TheVariants as told
+use Rattle.hv_reading.specs.Faults.{IsFaultOf}
 use Rattle.hv_history.specs.declared.state.Statement.{Statement}
 use Rattle.hv_history.specs.declared.state.Transaction.{Transaction}
 use Rattle.hv_history.specs.State.{State, changed_at, means, meaning_in, started, first_of, first_known}
@@ -36,10 +39,17 @@ module _ (fault : TextFault) where
   of-parts None tokens e = of-tokens tokens e
 
   pub no-tree : (text : Text) → fault_of text ≡ Some fault → tree_of text ≡ None
-  unfolding tree_of
-
-  unfolding fault_of
+  unfolding tree_of fault_of
   no-tree text e = of-parts (behind_set text) (tokens_of text) e
+
+-- an error that tells of a fault
+pub no_tree_of : (fault : reading.TextFault) (text : Text) → IsFaultOf fault text → (fault ≡ told.NoMemory → ⊥) → tree_of text ≡ None
+no_tree_of (told.BadCharacter at) text is not = no-tree (BadCharacter at) text is
+no_tree_of (told.OpenString at) text is not = no-tree (OpenString at) text is
+no_tree_of (told.WideNumber at) text is not = no-tree (WideNumber at) text is
+no_tree_of told.Syntax text is not = no-tree Syntax text is
+no_tree_of (told.Nesting at) text is not = no-tree (Nesting at) text is
+no_tree_of told.NoMemory text is not = absurd (not refl)
 
 -- ---- a Start rests on its place and on the tables
 
