@@ -1,0 +1,79 @@
+-- A text that has a fault is no statement, and what a Start means rests on the tables.
+use Rattle.std.proofs.Common.{◌≡◌, ℕ, suc, ◌<◌, ◌≤◌, Option, Some, None, List, length, refl, sym, ◌∙◌, arith}
+use Rattle.std.specs.Prelude.{slice_set, slice_index_or, Ok, Err}
+use Rattle.std.specs.Option.{option_map}
+use Rattle.hv_ast.specs.declared.statement.Setting.{Setting}
+use Rattle.hv_ast.specs.declared.statement.Stmt.{Stmt}
+use Rattle.hv_ast.specs.declared.statement.Stmt.TheVariants as s
+use Rattle.hv_ast.specs.Tokens.{Text, Tokens, tokens_of}
+use Rattle.hv_grammar.specs.Settings.{behind_set, setting_in}
+use Rattle.hv_grammar.specs.StatementReading.{Answer, found, nesting, syntax, statement_of}
+use Rattle.hv_grammar.specs.Texts.{TextFault, BadCharacter, OpenString, WideNumber, Syntax, Nesting, tree_of, fault_of, tree_in, fault_in, statement_tree, statement_fault, tree_by, fault_by, setting_fault}
+use Rattle.hv_reading.specs.declared.fault.TextFault as reading
+use Rattle.hv_reading.specs.declared.fault.TextFault.TheVariants as told
+use Rattle.hv_reading.specs.Faults.{IsFaultOf}
+use Rattle.hv_history.specs.declared.state.Statement.{Statement}
+use Rattle.hv_history.specs.declared.state.Transaction.{Transaction}
+use Rattle.hv_history.specs.State.{State, changed_at, means, meaning_in, started, first_of, first_known}
+use Rattle.hv_history.proofs.NumberLemmas.{place-some, place-none, put_changed}
+use Rattle.tests_books.specs.Replay.{state_at, meaning_over, begun}
+
+-- ---- what has a fault has no tree
+
+module _ (fault : TextFault) where
+  of-answer : (answer : Answer) → fault_in answer ≡ Some fault → tree_in answer ≡ None
+  of-answer (found tree) e = cc
+  of-answer (nesting at) e = refl
+  of-answer syntax e = refl
+
+  of-tokens : (tokens : Tokens) → statement_fault tokens ≡ Some fault → statement_tree tokens ≡ None
+  of-tokens (Ok tokens) e = of-answer (statement_of tokens) e
+  of-tokens (Err why) e = refl
+
+  of-setting : (setting : Option Setting) → setting_fault setting ≡ Some fault → option_map s.Set setting ≡ None
+  of-setting (Some setting) e = cc
+  of-setting None e = refl
+
+  of-parts : (rest : Option Text) (tokens : Tokens) → fault_by rest tokens ≡ Some fault → tree_by rest tokens ≡ None
+  of-parts (Some rest) tokens e = of-setting (setting_in rest) e
+  of-parts None tokens e = of-tokens tokens e
+
+  pub no-tree : (text : Text) → fault_of text ≡ Some fault → tree_of text ≡ None
+  unfolding tree_of fault_of
+  no-tree text e = of-parts (behind_set text) (tokens_of text) e
+
+-- an error that tells of a fault
+pub no_tree_of : (fault : reading.TextFault) (text : Text) → IsFaultOf fault text → (fault ≡ told.NoMemory → ⊥) → tree_of text ≡ None
+no_tree_of (told.BadCharacter at) text is not = no-tree (BadCharacter at) text is
+no_tree_of (told.OpenString at) text is not = no-tree (OpenString at) text is
+no_tree_of (told.WideNumber at) text is not = no-tree (WideNumber at) text is
+no_tree_of told.Syntax text is not = no-tree Syntax text is
+no_tree_of (told.Nesting at) text is not = no-tree (Nesting at) text is
+no_tree_of told.NoMemory text is not = absurd (not refl)
+
+-- ---- a Start rests on its place and on the tables
+
+means-over : (state : State) (tree : Option Stmt) → meaning_over state.tables tree ≡ means state tree
+means-over state None = refl
+means-over state (Some tree) = refl
+
+meaning-over : (state : State) (text : List ℕ) → meaning_over state.tables (tree_of text) ≡ meaning_in state text
+unfolding meaning_in
+meaning-over state text = means-over state (tree_of text)
+
+pub begun-started : (state : State) (number : ℕ) (transaction : Transaction)
+    → begun state.entries state.tables number transaction ≡ started state number transaction
+begun-started state number transaction =
+    λ k. record transaction {
+      statements = changed_at (λ (s : Statement). record s { meaning = first_known s.meaning (meaning-over state s.text k) }) transaction.statements number;
+      snapshot = first_of transaction.snapshot (record { place = state.entries; tables = state.tables });
+    }
+
+-- ---- the statement at a place
+
+pub put_at : (f : Statement → Statement) (xs : List Statement) (at : ℕ) (x : Statement) → at < length xs
+    → x ≡ slice_index_or xs at x → slice_set xs at (f x) ≡ changed_at f xs at
+put_at f xs at x within is = put_changed (λ f. f) f xs xs (suc at) at x refl (place-some xs (suc at) at (omega arith) within).1 is
+
+pub stays_at : (f : Statement → Statement) (xs : List Statement) (at : ℕ) → length xs ≤ at → changed_at f xs at ≡ xs
+stays_at f xs at beyond = place-none xs (suc at) at (omega arith) beyond f

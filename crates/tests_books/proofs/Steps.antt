@@ -1,0 +1,99 @@
+-- How a replay follows the state of a book, entry by entry.
+use Rattle.std.proofs.Common.{◌≡◌, ℕ, ◌+◌, ◌<◌, List, [], ◌∷◌, length, get_or, take, fold, refl, sym, ap, ◌∙◌, arith}
+use Rattle.std.proofs.lemmas.List.{length-take-le}
+use Rattle.std.proofs.lemmas.List.Sums.{fold_more}
+use Rattle.hv_base.specs.declared.ids.TxnId.{TxnId}
+use Rattle.hv_history.specs.declared.entry.Entry.{Entry}
+use Rattle.hv_history.specs.declared.entry.Entry.TheVariants as entry
+use Rattle.hv_history.specs.declared.state.Table.{Table}
+use Rattle.hv_history.specs.declared.state.Transaction.{Transaction}
+use Rattle.hv_history.specs.State.{State, nothing_yet, changed, while_open, acted, after, state_of, started}
+use Rattle.tests_books.specs.Replay.{state_at, moved}
+use Rattle.tests_books.proofs.Starts.{begun-started}
+
+-- ---- what an entry does to transactions and tables rests on these, and on its place
+
+started-alone : (state : State) (number : ℕ) (transaction : Transaction)
+    → started (state_at state.entries state.transactions state.tables) number transaction ≡ started state number transaction
+started-alone state number transaction =
+    sym (begun-started (state_at state.entries state.transactions state.tables) number transaction) ∙ begun-started state number transaction
+
+transactions-alone : (state : State) (event : Entry)
+    → (acted (state_at state.entries state.transactions state.tables) event).transactions ≡ (acted state event).transactions
+unfolding acted
+transactions-alone state (entry.Boot run) = refl
+transactions-alone state (entry.Opened txn session number text) = refl
+transactions-alone state (entry.Start txn statement) =
+    λ k. changed (while_open (λ (t : Transaction). started-alone state statement t k)) state.transactions txn.0
+transactions-alone state (entry.Given txn table write) = refl
+transactions-alone state (entry.Commit txn wrote) = refl
+transactions-alone state (entry.Abort txn cause) = refl
+transactions-alone state (entry.Create txn table) = refl
+transactions-alone state (entry.Drop txn table) = refl
+transactions-alone state (entry.Asked job table partition kind by) = refl
+transactions-alone state (entry.Picked job watermark) = refl
+transactions-alone state (entry.Published job low high mark) = refl
+transactions-alone state (entry.Empty job) = refl
+transactions-alone state (entry.Cleaned job) = refl
+transactions-alone state (entry.Failed job cause) = refl
+transactions-alone state (entry.Forgot table write) = refl
+
+tables-alone : (state : State) (event : Entry)
+    → (acted (state_at state.entries state.transactions state.tables) event).tables ≡ (acted state event).tables
+unfolding acted
+tables-alone state (entry.Boot run) = refl
+tables-alone state (entry.Opened txn session number text) = refl
+tables-alone state (entry.Start txn statement) = refl
+tables-alone state (entry.Given txn table write) = refl
+tables-alone state (entry.Commit txn wrote) = refl
+tables-alone state (entry.Abort txn cause) = refl
+tables-alone state (entry.Create txn table) = refl
+tables-alone state (entry.Drop txn table) = refl
+tables-alone state (entry.Asked job table partition kind by) = refl
+tables-alone state (entry.Picked job watermark) = refl
+tables-alone state (entry.Published job low high mark) = refl
+tables-alone state (entry.Empty job) = refl
+tables-alone state (entry.Cleaned job) = refl
+tables-alone state (entry.Failed job cause) = refl
+tables-alone state (entry.Forgot table write) = refl
+
+-- a Start, by the tables that the replay has
+pub start_acts : (place : ℕ) (transactions : List Transaction) (tables seen : List Table) (event : Entry) (txn : TxnId) (statement : ℕ)
+    → event ≡ entry.Start txn statement → seen ≡ tables
+    → changed (while_open (moved place seen event)) transactions txn.0 ≡ (acted (state_at place transactions tables) event).transactions
+unfolding acted
+start_acts place transactions tables seen event txn statement is same =
+    (λ k. changed (while_open (moved place (same k) (is k))) transactions txn.0)
+    ∙ (λ k. changed (while_open (λ (t : Transaction). begun-started (state_at place transactions tables) statement t k)) transactions txn.0)
+    ∙ ap (λ (e : Entry). (acted (state_at place transactions tables) e).transactions) (sym is)
+
+counted : (state : State) (book : List Entry) → (fold after state book).entries ≡ state.entries + length book
+counted state [] = omega arith
+counted state (event ∷ book) = let later = counted (after state event) book in omega (arith, later)
+
+-- a place is the number of the entries before it
+place-counted : (book : List Entry) (at : ℕ) → at < length book → (state_of (take at book)).entries ≡ at
+place-counted book at p =
+    let taken : length (take at book) ≡ at = length-take-le at book (omega arith) in
+    let all = counted nothing_yet (take at book) in
+    omega (arith, all, taken)
+
+module _ (book : List Entry) (at : ℕ) (event : Entry) (transactions : List Transaction) (tables : List Table)
+    (within : at < length book) (is : event ≡ get_or book at event)
+    (same : transactions ≡ (state_of (take at book)).transactions) (same' : tables ≡ (state_of (take at book)).tables) where
+  goes_on : state_of (take (at + 1) book) ≡ after (state_of (take at book)) event
+  goes_on = fold_more after nothing_yet book at event within ∙ ap (after (state_of (take at book))) (sym is)
+
+  at_state : state_at at transactions tables
+      ≡ state_at (state_of (take at book)).entries (state_of (take at book)).transactions (state_of (take at book)).tables
+  at_state = λ k. state_at (sym (place-counted book at within) k) (same k) (same' k)
+
+  pub next_transactions : (acted (state_at at transactions tables) event).transactions ≡ (state_of (take (at + 1) book)).transactions
+  next_transactions =
+      ap (λ (s : State). (acted s event).transactions) at_state ∙ transactions-alone (state_of (take at book)) event
+      ∙ ap (λ (s : State). s.transactions) (sym goes_on)
+
+  pub next_tables : (acted (state_at at transactions tables) event).tables ≡ (state_of (take (at + 1) book)).tables
+  next_tables =
+      ap (λ (s : State). (acted s event).tables) at_state ∙ tables-alone (state_of (take at book)) event
+      ∙ ap (λ (s : State). s.tables) (sym goes_on)
