@@ -18,7 +18,6 @@ use Rattle.hv_history.specs.declared.state.Ending.{Ending}
 use Rattle.hv_history.specs.declared.state.Ending.TheVariants.{Aborted, Made, Dropped}
 use Rattle.hv_history.specs.Book.{tree_at, tree_of_entry}
 use Rattle.hv_history.specs.State.{State, numbered, changed, changed_at, while_open, unless_ended, started, given_id, committed, ended, meant_in, wrote_as, owned, dropped, forgot, written_to, tables_behind, commits, opened, made_by, made_shape, created_shape, statement_tree, opening_tree, acted, after}
-use Rattle.hv_meaning.proofs.Meanings.{get-mapped as get-map}
 use Rattle.hv_book.specs.Notes.{Notes, noted, ending}
 use Rattle.hv_book.specs.Briefs.{shape_at, table_shape}
 use Rattle.hv_book.proofs.NoteLaws.{map-same}
@@ -33,6 +32,11 @@ get-front (x ∷ xs) ys (suc n) p = get-front xs ys n (omega arith)
 pub get-last : {A : Type 0} (xs : List A) (x : A) → slice_get (xs ++ x ∷ []) (length xs) ≡ Some x
 get-last [] x = refl
 get-last (y ∷ xs) x = get-last xs x
+
+get-map : {A B : Type 0} (f : A → B) (xs : List A) (n : ℕ) → slice_get (map f xs) n ≡ option_map f (slice_get xs n)
+get-map f [] n = refl
+get-map f (x ∷ xs) zero = refl
+get-map f (x ∷ xs) (suc n) = get-map f xs n
 
 pub numbered-map : {A B : Type 0} (f : A → B) (xs : List A) (n : ℕ) → numbered (map f xs) n ≡ option_map f (numbered xs n)
 numbered-map f xs zero = refl

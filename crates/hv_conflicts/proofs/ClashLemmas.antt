@@ -10,11 +10,12 @@ use Rattle.hv_base.specs.declared.ids.Touch.{Touch}
 use Rattle.hv_history.specs.declared.entry.Entry.{Entry}
 use Rattle.hv_history.specs.declared.entry.Entry.TheVariants as entry
 use Rattle.hv_history.specs.declared.state.Transaction.{Transaction}
+use Rattle.hv_history.specs.declared.state.Snapshot.{Snapshot}
 use Rattle.hv_history.specs.declared.state.Ending.{Ending}
 use Rattle.hv_history.specs.declared.state.Ending.TheVariants.{Committed, Aborted, Made, Dropped}
 use Rattle.hv_history.specs.State.{State, numbered, state_of}
 use Rattle.hv_history.specs.Legal.{Of, IsRunning, ConflictFits, MeetsNoConflict, IsFirstConflict, first_shared, commits_against, commits_before, deletes_in, deleted_behind, place_of_snapshot, touch_conflicts, touches_conflict}
-use Rattle.hv_book.specs.Briefs.{brief}
+use Rattle.hv_book.specs.Briefs.{brief, snapshot_place}
 use Rattle.hv_book.specs.Commits.{touches_of_entry, touches_at, pass, passes_at, is_committed, commits_so, IsRising}
 use Rattle.hv_book.proofs.CommitLaws.{IsTold, told-of}
 use Rattle.hv_book.proofs.BookLaws.{follows}

@@ -22,6 +22,7 @@ use Rattle.hv_merge.specs.declared.shown.Shown.{Shown}
 use Rattle.hv_merge.specs.declared.turns.Turn.{Turn}
 use Rattle.hv_merge.specs.Steps.{valid_row, valid_rows, is_before, taken_before, left_before, run_of, rest_of, front_at, behind_at, later, later_at, last_at, gone_from, kept_front, kept_run, gone_after}
 use Rattle.hv_merge.proofs.Fronts.{cmp, all_rows, Over, NotBelow, turned, tied_id, not_tied, put_all, rising-append, put-below, put-front, below-over, over-below, over-merge, front_of, behind_of, last_of, left_of, later-none, later-later}
+use Rattle.hv_merge.proofs.RisingLemmas.{lt-is}
 use Rattle.hv_merge.proofs.Kept.{is_in, kept, coming, IdsRise, AllAbove, above, rises-file, rises-files, starts, rises-gone, kept-later, one-step}
 use Rattle.hv_merge.proofs.Looks.{all-append, all-front, all-behind, never, isnt, lt-step, lt-trans, Starts, IsTurn, starts-all}
 
@@ -119,7 +120,7 @@ module _ (list : WriteIds) where
 
   over-id : (others : Option RowId) (id y : RowId) → is_before id others ≡ true → is_before y others ≡ false → row_id_cmp y id ≡ Greater
   over-id None id y e f = absurd (true≢false f)
-  over-id (Some other) id y e f = turned id y Less (Rattle.hv_merge.proofs.Fronts.lt-is (row_id_cmp id y) (lt-step id other y e f))
+  over-id (Some other) id y e f = turned id y Less (lt-is (row_id_cmp id y) (lt-step id other y e f))
 
   over-rows : (others : Option RowId) (id : RowId) (rows : List Shown) → is_before id others ≡ true → AllByRecursion (IsAfter others) rows → Over id rows
   over-rows others id [] e h = tt

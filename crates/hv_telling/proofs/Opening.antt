@@ -25,7 +25,7 @@ use Rattle.hv_house.specs.House.{entries_of, IsFaithful}
 use Rattle.hv_house.specs.Booting.{number_next, marked_from, lost_entry, opening_entries, opening_of, OpensTo, Opens}
 use Rattle.hv_house.specs.Steps.{IsOpenedOver}
 use Rattle.hv_house.proofs.Faithful.{opened-faithful}
-use Rattle.hv_recovery.proofs.Books.{is_once as one-journal}
+use Rattle.hv_house.specs.hv_recovery.proofs.Books.{is_once as one-journal}
 use Rattle.hv_house.proofs.Openings.{none-of, booted}
 use Rattle.hv_telling.specs.Telling.{IsToldHouse, StandsByMarks, HoldsTrue}
 use Rattle.hv_telling.specs.Laws.{OpenedIsWhole, OpenedIsTold}
