@@ -36,7 +36,7 @@ total-flat weight f g same (x ∷ xs) =
 
 -- ---- ids up to the highest one
 
-upto : ℕ → (ℕ → ℕ → ℕ) → ℕ → ℕ → ℕ
+pub upto : ℕ → (ℕ → ℕ → ℕ) → ℕ → ℕ → ℕ
 upto high weight write txn = only_if (nat_le write high) (weight write txn)
 
 pub upto-none : (high : ℕ) (weight : ℕ → ℕ → ℕ) (write : ℕ) (owners : List ℕ) → high < write → total_from (upto high weight) write owners ≡ 0
