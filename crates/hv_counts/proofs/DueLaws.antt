@@ -1,9 +1,9 @@
 -- What the notes say of the commits of a table at an earlier place is what these say there, each as often.
 use Rattle.std.proofs.Common.{◌≡◌, ℕ, suc, ◌+◌, ◌<◌, Bool, true, false, Option, Some, None, List, [], ◌∷◌, ◌++◌, length, map, filter, take, drop, refl, sym, ap, ◌∙◌, subst, arith}
-use Rattle.std.specs.Prelude.{if◌then◌else◌, ◌==◌, ◌&&◌, nat_le, IsSomeAnd}
+use Rattle.std.specs.Prelude.{◌==◌, ◌&&◌, nat_le, if◌then◌else◌, IsSomeAnd}
 use Rattle.std.specs.Option.{option_map}
 use Rattle.std.specs.List.{slice_get, flat_map}
-use Rattle.std.proofs.lemmas.Bool.{ne_eqb}
+use Rattle.std.proofs.lemmas.Bool.{lt-leb, le-leb, ne_eqb}
 use Rattle.std.proofs.lemmas.List.Concat.{flat_map-cons}
 use Rattle.hv_base.specs.declared.ids.Touch.{Touch}
 use Rattle.hv_history.specs.declared.entry.Entry.{Entry}
@@ -25,7 +25,6 @@ use Rattle.hv_earlier.specs.Fates.{fate_by, fate_of}
 use Rattle.hv_earlier.specs.Places.{only_those}
 use Rattle.hv_earlier.proofs.PlaceLaws.{go-on, owners-go-on}
 use Rattle.hv_earlier.proofs.WalkLaws.{total-same, walk-start, walk-step}
-use Rattle.hv_earlier.proofs.ExceptionLaws.{upto-front}
 use Rattle.hv_counts.specs.declared.due.Due.{Due}
 use Rattle.hv_counts.specs.declared.spot.Spot.{Spot}
 use Rattle.hv_counts.specs.Counts.{dues_of, dues_from, dues_in}
@@ -73,6 +72,21 @@ module _ (entries : List Entry) (position txn : ℕ) where
 
 upto : ℕ → (ℕ → ℕ → ℕ) → ℕ → ℕ → ℕ
 upto high weight write txn = only_if (nat_le write high) (weight write txn)
+
+upto-none : (high : ℕ) (weight : ℕ → ℕ → ℕ) (write : ℕ) (owners : List ℕ) → high < write → total_from (upto high weight) write owners ≡ 0
+unfolding upto
+upto-none high weight write [] above = refl
+upto-none high weight write (txn ∷ owners) above =
+    let first : only_if (nat_le write high) (weight write txn) ≡ 0 = ap (λ b. only_if b (weight write txn)) (lt-leb write high above) in
+    omega (arith, first, upto-none high weight (write + 1) owners (omega (arith, above)))
+
+upto-front : (high : ℕ) (weight : ℕ → ℕ → ℕ) (write : ℕ) (owners more : List ℕ) → write + length owners ≡ high + 1
+    → total_from (upto high weight) write (owners ++ more) ≡ total_from weight write owners
+unfolding upto
+upto-front high weight write [] more long = upto-none high weight write more (omega (arith, long))
+upto-front high weight write (txn ∷ owners) more long =
+    let first : only_if (nat_le write high) (weight write txn) ≡ weight write txn = ap (λ b. only_if b (weight write txn)) (le-leb write high (omega (arith, long))) in
+    omega (arith, first, upto-front high weight (write + 1) owners more (omega (arith, long)))
 
 -- ---- all ids of a table
 
