@@ -18,7 +18,7 @@ use std::mem::ManuallyDrop;
 const LIMITS: Limits = Limits { entries: 131_072 };
 
 /// Leaves a store as it is.
-fn leave<D>(store: D) {
+fn leave<D: Drop>(store: D) {
     let _left = ManuallyDrop::new(store);
 }
 
