@@ -1,7 +1,0 @@
-use Rattle.tests_house.proofs.calls.create.Given as goal
-
-abbrev pub ghost-fits : goal.ghost-fits
-ghost-fits g a = a.self.now.limits
-
-abbrev pub ghost-create : goal.ghost-create
-ghost-create g a = a.self.now.limits

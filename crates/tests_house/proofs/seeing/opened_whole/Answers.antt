@@ -1,7 +1,0 @@
-use Rattle.tests_house.specs.Asking.{told_memory}
-use Rattle.tests_house.proofs.seeing.opened_whole.Goals as goal
-
-pub returns-in-Ok : goal.returns-in-Ok
-returns-in-Ok c = record {
-  whole = c.opened_is_whole.ensures.whole told_memory c.args.store c.in-Ok.house c.in-Ok.ensures.ready c.in-Ok.ensures.opened c.in-Ok.ensures.over c.in-Ok.ensures.tree;
-}
