@@ -19,18 +19,29 @@ fn cause_text(cause: Option<Cause>) -> &'static str {
         Some(Cause::NotAFolder) => "where a folder is to be stands none, but a file or a link",
         Some(Cause::NotAFile) => "where a file is to be stands none, but a folder or a link",
         Some(Cause::NotPermitted) => "reading or writing there isn't permitted",
-        Some(Cause::InUse) => "it is in use by another run",
+        Some(Cause::InUse) => "it is in use by another run, or was made meanwhile",
+        Some(Cause::Exchanged) => {
+            "it isn't the one that this run has opened: the folder, its journal or its tables was moved, exchanged or taken away"
+        }
+        Some(Cause::NoJournal) => {
+            "tables stand in it, and the journal that tells of them is missing or empty: put it back, or run over a new folder"
+        }
         Some(Cause::Full) => "the device is full",
         Some(Cause::ClosedStream) => "a standard stream of this program is closed",
+        Some(Cause::TooManyOpen) => "too many files are open: raise the limit ('ulimit -n')",
+        Some(Cause::LongPath) => {
+            "its path, or that of what is to stand in it, is too long: use a shorter one"
+        }
+        Some(Cause::Gone) => "a folder there is gone, or takes no files",
         Some(Cause::Unsynced) => "an earlier change isn't sure to be kept",
         Some(Cause::Other) | None => "the device failed",
     }
 }
 
 /// Says why the store failed.
-fn blame_store<R: Eprint>(rt: &R, cause: Option<Cause>) {
+fn blame_store<R: Eprint>(rt: &R, folder: &str, cause: Option<Cause>) {
     let text = cause_text(cause);
-    let _ = eprintln!(rt; "hive: the store in the folder can't be used: {text}");
+    let _ = eprintln!(rt; "hive: the store in the folder {folder} can't be used: {text}");
 }
 
 /// Says before the script is read that it is read to its end, where it comes from a terminal.
@@ -40,8 +51,26 @@ pub fn announce<R: Eprint>(rt: &R, words: &[String], terminal: bool) {
     }
 }
 
+/// Says which word isn't as it should be.
+pub fn blame_words<R: Eprint>(rt: &R, words: &[String]) {
+    match words {
+        [] => {
+            let _ = eprintln!(rt; "hive: the command is missing: 'run' is the one that there is");
+        }
+        [command, ..] if command.as_str() != "run" => {
+            let _ = eprintln!(rt;
+                "hive: '{command}' is no command: 'run' is the one that there is"
+            );
+        }
+        [_, more, ..] => {
+            let _ = eprintln!(rt; "hive: '{more}' is a word too many");
+        }
+        _ => {}
+    }
+}
+
 /// Says why a run ended with this status, or what to do.
-pub fn advise<R: Eprint>(rt: &R, status: u8, cause: Option<Cause>) {
+pub fn advise<R: Eprint>(rt: &R, folder: &str, status: u8, cause: Option<Cause>) {
     match status {
         2 => usage(rt),
         3 => {
@@ -50,10 +79,10 @@ pub fn advise<R: Eprint>(rt: &R, status: u8, cause: Option<Cause>) {
         4 => {
             let _ = eprintln!(rt; "hive: the replies could not be written to standard output");
         }
-        5 => blame_store(rt, cause),
+        5 => blame_store(rt, folder, cause),
         6 => {
             let _ = eprintln!(rt;
-                "hive: the journal is damaged at that byte, and nothing was changed: restore the folder, or run over a new one"
+                "hive: the journal in {folder} is damaged at that byte, or was written by a later version, and nothing was changed: restore the folder, or run over a new one"
             );
         }
         7 => {
@@ -66,7 +95,7 @@ pub fn advise<R: Eprint>(rt: &R, status: u8, cause: Option<Cause>) {
         }
         9 => {
             let _ = eprintln!(rt;
-                "hive: the journal has no room for another run, and nothing was changed: run over a new folder"
+                "hive: the journal in {folder} has no room for another run, and nothing was changed: run over a new folder"
             );
         }
         _ => {}
