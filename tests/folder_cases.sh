@@ -1,56 +1,19 @@
 #!/bin/bash
-# Cases over real files, which no contract can speak of: tests/folder_cases.sh PROGRAM [EVERY]
+# What happens around a folder, over real files: tests/folder_cases.sh PROGRAM [EVERY]
 #
-# PROGRAM is the built program, as crates/hive/out/hive. A folder that is exchanged under a run, journals that are
-# missing or empty, limits of the system, and the reasons of refusals. Where strace is there a run is stopped at each
-# EVERY-th of its calls of the system (3 if left out), and something is exchanged there before it goes on. Each case that
-# isn't so prints a line; the last line says how many are, and the status is 1 where one isn't.
+# PROGRAM is the built program, as crates/hive/out/hive. A folder that is exchanged under a run, journals that are missing or
+# empty, and limits of the system. Where EVERY is above 0 and strace is there, a run is also stopped at each EVERY-th of its
+# calls of the system (3 if left out), and something is exchanged there before it goes on, or it is killed there; and a
+# folder is exchanged at moments of chance. Each case that isn't so prints a line; the last line says how many are, and the
+# status is 1 where one isn't.
 set -u
-program=$(realpath "$1") || exit 2
+# shellcheck source=tests/cases.sh
+. "$(dirname "$(realpath "$0")")/cases.sh"
 every=${2:-3}
-place=$(mktemp -d) || exit 2
-trap 'rm -rf "$place"' EXIT
-cd "$place" || exit 2
-right=0
-wrong=0
-
-# so NAME COMMAND..: counts whether the command succeeds.
-so() {
-    local name=$1
-    shift
-    if "$@"; then
-        right=$((right + 1))
-    else
-        wrong=$((wrong + 1))
-        echo "not so: $name"
-    fi
-}
-
-# run FOLDER: runs the script of standard input; the status is in $status, what it printed in out and err.
-run() {
-    "$program" "$1" run >out 2>err
-    status=$?
-}
-
-fresh() {
-    rm -rf "${place:?}"/*
-}
 
 # Each name below a folder, and the sum of each file.
 sums() {
     (cd "$1" && find . | sort && find . -type f -exec sha256sum {} + | sort)
-}
-
-is_status() {
-    [ "$status" = "$1" ]
-}
-
-said() {
-    grep -qF -- "$1" err
-}
-
-silent() {
-    [ ! -s out ]
 }
 
 # rows FOLDER: how many rows its table t has.
@@ -86,7 +49,11 @@ has_all() {
 
 # Ends with 5, or with 0 where nothing was left to be done.
 is_stopped() {
-    is_status 5 && said "it isn't the one that this run has opened" || { is_status 0 && [ "$(acknowledged)" = "$1" ]; }
+    if is_status 5; then
+        said "it isn't the one that this run has opened"
+    else
+        is_status 0 && [ "$(acknowledged)" = "$1" ]
+    fi
 }
 
 exchange_folder() {
@@ -101,7 +68,16 @@ take_journal() {
     mkdir kept && mv wh/journal wh/lock kept/
 }
 
-# stopped_at NUMBER ACTION: a run is stopped at its call of the system of that number, and the action is done. 1 where the
+# holds PROCESS PATH: the process has it open.
+holds() {
+    local open
+    for open in "/proc/$1/fd"/*; do
+        [ "$(readlink "$open")" = "$2" ] && return 0
+    done
+    return 1
+}
+
+# stopped_at NUMBER PART ACTION: a run is stopped at its call of the system of that number, and the action is done. 1 where the
 # run has no such call, 2 where the part of the store wasn't held yet.
 stopped_at() {
     local tracer pid state turns=0 found=0
@@ -113,7 +89,7 @@ stopped_at() {
         pid=$(pgrep -P $tracer -x "$(basename "$program" | cut -c1-15)" | head -n 1)
         state=$([ -n "$pid" ] && sed 's/.*) //' "/proc/$pid/stat" 2>/dev/null | cut -c1)
         if [ "$state" = T ] || [ "$state" = t ]; then
-            if ls -l "/proc/$pid/fd" 2>/dev/null | grep -q -- "-> $place/$2\$"; then
+            if holds "$pid" "$place/$2"; then
                 "$3"
                 found=1
             fi
@@ -130,7 +106,7 @@ stopped_at() {
     return 1
 }
 
-# at_each_call PART ACTION CHECK: over the calls behind which the part of the store is held.
+# at_each_call PART ACTION CHECK KIND: over the calls behind which the part of the store is held, of a store of that kind.
 at_each_call() {
     local number=1 tried=0 answer
     while :; do
@@ -171,33 +147,94 @@ journal_is_so() {
     has_all wh "$before" && [ $ok = 0 ]
 }
 
-echo "== exchanged at a call of the system"
-if command -v strace >/dev/null; then
+# exchanged_at_output ACTION: a run waits within a reply of some 200 KB that nobody reads, the action is done, and the run
+# goes on with a statement that changes something.
+exchanged_at_output() {
+    local line text
+    text=$(printf 'x%.0s' $(seq 30000))
+    {
+        echo 'CREATE TABLE IF NOT EXISTS t (a INT);'
+        for n in 1 2 3 4 5 6 7; do echo "INSERT INTO t VALUES ($n);"; done
+        echo "SELECT '$text' AS wide FROM t;"
+        echo 'INSERT INTO t VALUES (8);'
+    } >script
+    rm -f replies && mkfifo replies
+    "$program" wh run <script >replies 2>err &
+    exec 3<replies
+    : >out
+    while read -r line <&3 && [ "$line" != wide ]; do echo "$line" >>out; done
+    "$1"
+    cat <&3 >rest
+    exec 3<&-
+    wait $!
+    status=$?
+}
+
+echo "== exchanged while a reply is printed"
+for kind in standing new; do
+    for case in exchange_folder:folder_is_so exchange_tables:tables_are_so take_journal:journal_is_so; do
+        fresh
+        store other
+        [ $kind = new ] || store wh
+        before=$([ $kind = new ] && echo 0 || echo 7)
+        sums other >wanted
+        exchanged_at_output "${case%%:*}"
+        so "${case%%:*}, a $kind store: the run ends with 5" is_status 5
+        so "${case%%:*}, a $kind store: the seven rows before are acknowledged" [ "$(acknowledged)" = 7 ]
+        so "${case%%:*}, a $kind store: all is as it should be" "${case##*:}"
+    done
+done
+
+# killed_at_each_call: the first run over a folder is killed at its calls, and the next one opens what it left.
+killed_at_each_call() {
+    local number=1
+    while :; do
+        fresh
+        inserts 3 >script
+        strace -f -qqq -o /dev/null -e inject=all:signal=KILL:when=$number "$program" wh run <script >out 2>err
+        status=$?
+        is_status 0 && break
+        cp out first
+        echo 'CREATE TABLE IF NOT EXISTS t (a INT);' >script
+        run wh <script
+        so "the folder opens that a run left which was killed at call $number" is_status 0
+        cp first out
+        so "with each row that was acknowledged at call $number" has_all wh 0
+        number=$((number + every))
+    done
+    so "a first run was killed at some calls" [ $number -gt 50 ]
+    echo "killed at each ${every}th of $number calls of the system"
+}
+
+if [ "$every" -gt 0 ] && command -v strace >/dev/null; then
+    echo "== exchanged at a call of the system"
     for kind in standing new; do
         at_each_call wh exchange_folder folder_is_so $kind
         at_each_call wh/tables exchange_tables tables_are_so $kind
         at_each_call wh/journal take_journal journal_is_so $kind
     done
-else
-    echo "strace isn't there: not tried"
+    echo "== killed at a call of the system"
+    killed_at_each_call
 fi
 
-echo "== exchanged in the middle of a run, at any moment"
-for round in $(seq 20); do
-    fresh
-    store other
-    sums other >wanted
-    inserts 400 >script
-    "$program" wh run <script >out 2>err &
-    while [ ! -s out ]; do sleep 0.01; done
-    sleep "0.$((RANDOM % 9))$((RANDOM % 9))"
-    exchange_folder
-    wait $!
-    status=$?
-    so "round $round: the run ends with 5" is_status 5
-    so "round $round: the other folder is as it was" [ "$(sums wh)" = "$(cat wanted)" ]
-    so "round $round: each acknowledged row is there" has_all old 0
-done
+if [ "$every" -gt 0 ]; then
+    echo "== exchanged in the middle of a run, at moments of chance"
+    for round in $(seq 20); do
+        fresh
+        store other
+        sums other >wanted
+        inserts 400 >script
+        "$program" wh run <script >out 2>err &
+        while [ ! -s out ]; do sleep 0.01; done
+        sleep "0.$((RANDOM % 9))$((RANDOM % 9))"
+        exchange_folder
+        wait $!
+        status=$?
+        so "round $round: the run ends with 5, or was over" is_stopped 400
+        so "round $round: the other folder is as it was" [ "$(sums wh)" = "$(cat wanted)" ]
+        so "round $round: each acknowledged row is there" has_all old 0
+    done
+fi
 
 echo "== a journal that is missing or empty"
 fresh
@@ -248,9 +285,9 @@ for limit in 3 4 5 6; do
 done
 fresh
 inserts 1 >script
-(ulimit -n 9 && "$program" wh run <script >out 2>err)
+(ulimit -n 8 && "$program" wh run <script >out 2>err)
 status=$?
-so "nine descriptors are enough" is_status 0
+so "eight descriptors are enough" is_status 0
 fresh
 deep=$(printf 'd%.0s' $(seq 240))
 long=.
@@ -265,90 +302,13 @@ run "$long/wh" <script
 so "a path of $((${#long} + 3)) bytes is refused" is_status 5
 so "and said to be too long" said "is too long"
 so "nothing stands there" [ "$(find . -name wh | wc -l)" = 1 ]
-for folder in /proc/self /proc/self/wh /proc/self/fd/wh; do
-    run $folder <script
+while IFS='|' read -r folder want; do
+    run "$folder" <script
     so "$folder is refused" is_status 5
-    so "$folder has its cause" eval '! said "the device failed"'
-done
-
-echo "== reasons of refusals"
-fresh
-cat >script <<'S'
-CREATE TABLE t (a INT, s STRING);
-INSERT INTO t VALUES (1, 'FAILED 4 Syntax'), (2, 'FAILED 13 BadType');
-
-SELECT * FROM t; SELECT nothing FROM t;
--- a comment
-  DROP TABLE t;
-INSERT INTO t
-  VALUES (1);
-SELECT s AS `FAILED 4 Syntax` FROM t WHERE a > 2;
-SELECT s AS `-- session x` FROM t WHERE a > 2;
-;
-SELECT a || s FROM t;
-S
-cat >wanted <<'S'
-hive: a new store was made in the folder wh
-line 4, statement 4: 11 NoColumn: correct the name (docs/REFUSALS.md)
-line 6, statement 5: 4 Syntax: no statement that begins so runs: docs/LANGUAGE.md has those that do (docs/REFUSALS.md)
-line 7, statement 6: 14 BadCount: give each column one value (docs/REFUSALS.md)
-line 11, statement 9: 4 Syntax: no statement stands before that ';' (docs/REFUSALS.md)
-line 12, statement 10: 1 BadCharacter 9: correct the text at that byte of the statement (docs/REFUSALS.md)
-5 of 10 statements were refused
-S
-run wh <script
-so "a refusal ends with 1" is_status 1
-so "each refusal has its line, and no row has one" diff err wanted
-cat >script <<'S'
-CREATE TABLE p (a INT);
-INSERT INTO p VALUES (1);
-!session ada
-!hold commit
-UPDATE p SET a = 2;
-!session bo
-!hold commit
-UPDATE p SET b = 2;
-!go ada
-!go bo
-!hold commit
-UPDATE p SET a = 4;
-!session ada
-UPDATE p SET a = 3;
-!hold start
-DELETE FROM p WHERE c = 1;
-!session bo
-!go ada
-!go bo
-S
-cat >wanted <<'S'
-line 8, statement 4, session bo: 11 NoColumn: correct the name (docs/REFUSALS.md)
-line 16, statement 7, session ada: 11 NoColumn: correct the name (docs/REFUSALS.md)
-line 12, statement 5, session bo: 30 Conflict with 16 on p: do the statement again (docs/REFUSALS.md)
-3 of 7 statements were refused
-S
-run wh <script
-sed -i 's/with [0-9]* on/with 16 on/' err
-so "statements that are held are told at their own lines" diff err wanted
-while IFS='|' read -r text want; do
-    printf "$text" >script
-    run wh <script
-    so "status 8: $text" is_status 8
-    so "status 8 says why: $want" said "$want"
+    so "$folder has its cause" said "$want"
 done <<'S'
-SELECT 1;\n!sesion ada\n|line 2: there is no such directive: !sesion ada
-SELECT 1;\n\n-- \303\n|line 3: byte 14 of the script isn't UTF-8
-!go ada\n|line 1: that session isn't held: !go ada
-!hold read\n!session ada\n|line 2: it stands between a hold and its statement: !session ada
-!hold read\nSELECT 1;\nSELECT 2;\n|line 3: the statement is of a session that is held
-\n!hold read\nSELECT 1;\n|line 2: that hold has no '!go'
+/proc/self|where a folder is to be stands none
+/proc/self/wh|a folder there is gone, or takes no files
+/proc/self/fd/wh|a folder there is gone, or takes no files
 S
-for words in 'wh rum|'"'rum' is no command" 'wh run more|'"'more' is a word too many" 'wh|the command is missing' '-x run|'"'-x' is no folder"; do
-    # shellcheck disable=SC2086
-    "$program" ${words%%|*} <script >out 2>err
-    status=$?
-    so "bad words: ${words%%|*}" is_status 2
-    so "bad words are named: ${words##*|}" said "${words##*|}"
-done
-
-echo "$right cases are so, $wrong aren't"
-[ $wrong = 0 ]
+ended

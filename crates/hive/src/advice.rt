@@ -1,11 +1,13 @@
 //! What is said on standard error: the cause of a status, or what to do.
 use hv_files::Cause;
+use hv_script::read_run;
 
 /// How the program is called.
 fn usage<R: Eprint>(rt: &R) {
     let _ = eprintln!(rt;
-        "usage: hive FOLDER run < SCRIPT
+        "usage: hive FOLDER run [--workers N] < SCRIPT
 Runs the statements of SCRIPT over the store in FOLDER, which is made where it isn't there yet.
+N, from 1 to 8, is on how many threads a query may work.
 Replies go to standard output. The status is 0, or 1 where a statement was refused; above 1 the run stopped.
 FOLDER is no empty word and doesn't begin with '-'; the folder in which it is to stand must be there.
 example: echo 'CREATE TABLE t (a INT); INSERT INTO t VALUES (1); SELECT * FROM t' | hive warehouse run"
@@ -46,8 +48,43 @@ fn blame_store<R: Eprint>(rt: &R, folder: &str, cause: Option<Cause>) {
 
 /// Says before the script is read that it is read to its end, where it comes from a terminal.
 pub fn announce<R: Eprint>(rt: &R, words: &[String], terminal: bool) {
-    if terminal && words.len() == 1 {
+    if terminal && read_run(words).is_some() {
         let _ = eprintln!(rt; "hive: the script is read to its end: finish it with Ctrl-D");
+    }
+}
+
+/// What stands behind the longest front of the words that is a command.
+fn left_of(words: &[String]) -> &[String] {
+    let mut left = words;
+    for count in 1..=words.len() {
+        let (front, rest) = words.split_at(count);
+        if read_run(front).is_some() {
+            left = rest;
+        }
+    }
+    left
+}
+
+/// Says which of the words behind a command isn't as it should be.
+fn blame_option<R: Eprint>(rt: &R, left: &[String]) {
+    match left {
+        [] => {}
+        [option] if option.as_str() == "--workers" => {
+            let _ = eprintln!(rt; "hive: behind '{option}' a number from 1 to 8 is missing");
+        }
+        [option, number, ..] if option.as_str() == "--workers" => {
+            let _ = eprintln!(rt;
+                "hive: '{number}' can't stand behind '{option}': one number from 1 to 8 can, once"
+            );
+        }
+        [word, ..] if word.starts_with("--workers=") => {
+            let _ = eprintln!(rt;
+                "hive: '{word}' can't stand there: it is one number from 1 to 8, given once"
+            );
+        }
+        [word, ..] => {
+            let _ = eprintln!(rt; "hive: '{word}' is a word too many");
+        }
     }
 }
 
@@ -55,17 +92,12 @@ pub fn announce<R: Eprint>(rt: &R, words: &[String], terminal: bool) {
 pub fn blame_words<R: Eprint>(rt: &R, words: &[String]) {
     match words {
         [] => {
-            let _ = eprintln!(rt; "hive: the command is missing: 'run' is the one that there is");
+            let _ = eprintln!(rt; "hive: the command is missing: 'run' is the one that runs");
         }
         [command, ..] if command.as_str() != "run" => {
-            let _ = eprintln!(rt;
-                "hive: '{command}' is no command: 'run' is the one that there is"
-            );
+            let _ = eprintln!(rt; "hive: '{command}' is no command that runs: 'run' is the one");
         }
-        [_, more, ..] => {
-            let _ = eprintln!(rt; "hive: '{more}' is a word too many");
-        }
-        _ => {}
+        _ => blame_option(rt, left_of(words)),
     }
 }
 

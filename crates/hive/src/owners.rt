@@ -75,7 +75,9 @@ fn ends_at(refusal: Refusal) -> Ends {
             Ends::Any,
         Refusal::RowLimit | Refusal::PartitionLimit | Refusal::MergeTwice => Ends::Commit,
         Refusal::Conflict | Refusal::Aborted => Ends::Last,
-        Refusal::Blocked | Refusal::JournalFull => Ends::Start,
+        Refusal::Blocked => Ends::Start,
+        // It has no room to begin, or for its write id.
+        Refusal::JournalFull => Ends::Any,
         _ if refusal.number() < 10 => Ends::Start,
         _ if refusal.number() < 30 => Ends::Read,
         _ => Ends::Any,

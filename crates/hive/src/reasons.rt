@@ -15,17 +15,27 @@ struct Lines<'a> {
     lines: Vec<u64>,
 }
 
+/// The letters with which a text begins.
+fn first_word(text: &str) -> &[u8] {
+    let bytes = text.as_bytes();
+    match bytes.iter().position(|byte| !byte.is_ascii_alphabetic()) {
+        Some(end) => bytes.get(..end).unwrap_or(bytes),
+        None => bytes,
+    }
+}
+
 /// What to do where a text is no statement that runs.
 fn syntax_advice(text: &str) -> &'static str {
-    let Some(word) = text.split_ascii_whitespace().next() else {
+    if text.is_empty() {
         return "no statement stands before that ';'";
-    };
+    }
+    let word = first_word(text);
     for beginning in &BEGINNINGS {
-        if word.eq_ignore_ascii_case(beginning) {
+        if word.eq_ignore_ascii_case(beginning.as_bytes()) {
             return "docs/LANGUAGE.md has the forms that run";
         }
     }
-    "no statement that begins so runs: docs/LANGUAGE.md has those that do"
+    "no statement that begins so runs: docs/FROM_HIVE.md has what to write"
 }
 
 /// What to do, in a few words.

@@ -27,7 +27,9 @@ pub fn refuse<R: Eprint, O: Sink>(rt: &R, sink: &mut O, folder: &str, refusal: R
             status
         }
         Refusal::Version => {
-            let _ = eprintln!(rt; "hive 0.1");
+            let _ = eprintln!(rt;
+                "hive 0.1 (of which commit it is, and whether it is proved: ./hive-run --version)"
+            );
             let status = refuse_words(sink);
             advise(rt, folder, status, None);
             status

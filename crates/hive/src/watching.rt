@@ -33,13 +33,18 @@ fn first_line(bytes: &[u8]) -> &[u8] {
     }
 }
 
+/// Whether a reply is the line of a session.
+fn is_session_line(bytes: &[u8]) -> bool {
+    bytes.starts_with(b"-- session ") && bytes.iter().filter(|byte| **byte == b'\n').count() == 1
+}
+
 /// What a reply of these bytes is. A refusal alone begins with `FAILED`: names of columns, with which the
 /// reply of a query begins, are in small letters.
 fn read_reply(alloc: Global, bytes: &[u8]) -> Result<Reply, NoMemory> {
     if let Some(rest) = bytes.strip_prefix(b"FAILED ") {
         let line = str::from_utf8(first_line(rest)).unwrap_or("");
         Ok(Reply::Refused(String::from_str(alloc, line)?))
-    } else if bytes.starts_with(b"-- session ") {
+    } else if is_session_line(bytes) {
         Ok(Reply::Session)
     } else {
         Ok(Reply::Other)

@@ -263,8 +263,9 @@ impl<R: Files<File = File>> System for RealFiles<R> {
         };
         let file = self.open_part(part, by.as_str(), &seen)?;
         if matches!(part, Part::Folder) {
+            let folder = String::from_str(self.alloc, path)?;
             self.held.number = self.by_number(&file)?;
-            self.held.path = String::from_str(self.alloc, path)?;
+            self.held.path = folder;
         }
         self.held.hold(part, file);
         Ok(true)
