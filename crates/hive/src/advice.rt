@@ -53,7 +53,7 @@ pub fn announce<R: Eprint>(rt: &R, words: &[String], terminal: bool) {
     }
 }
 
-/// What stands behind the longest front of the words that is a command.
+/// What stands after the longest front of the words that is a command.
 fn left_of(words: &[String]) -> &[String] {
     let mut left = words;
     for count in 1..=words.len() {
@@ -65,16 +65,16 @@ fn left_of(words: &[String]) -> &[String] {
     left
 }
 
-/// Says which of the words behind a command isn't as it should be.
+/// Says which of the words after a command isn't as it should be.
 fn blame_option<R: Eprint>(rt: &R, left: &[String]) {
     match left {
         [] => {}
         [option] if option.as_str() == "--workers" => {
-            let _ = eprintln!(rt; "hive: behind '{option}' a number from 1 to 8 is missing");
+            let _ = eprintln!(rt; "hive: after '{option}' a number from 1 to 8 is missing");
         }
         [option, number, ..] if option.as_str() == "--workers" => {
             let _ = eprintln!(rt;
-                "hive: '{number}' can't stand behind '{option}': one number from 1 to 8 can, once"
+                "hive: '{number}' can't stand after '{option}': one number from 1 to 8 can, once"
             );
         }
         [word, ..] if word.starts_with("--workers=") => {

@@ -49,7 +49,7 @@ struct Window {
 #[derive(Clone, Copy)]
 enum Fate {
     Before,
-    Behind,
+    After,
     Unknown,
 }
 
@@ -120,7 +120,7 @@ fn can_end_before(reply: Option<&Reply>, stage: Stage) -> bool {
 }
 
 /// Whether a statement that was held before a stage may reply so.
-fn can_end_behind(reply: Option<&Reply>, stage: Stage) -> bool {
+fn can_end_after(reply: Option<&Reply>, stage: Stage) -> bool {
     match reply {
         None => true,
         Some(Reply::Session) => false,
@@ -135,7 +135,7 @@ fn can_end_behind(reply: Option<&Reply>, stage: Stage) -> bool {
 /// Whether statements that were held may reply so, in this order.
 fn can_all_end(replies: &[Reply], held: &[Held]) -> bool {
     for (place, one) in held.iter().enumerate() {
-        if !can_end_behind(replies.get(place), one.stage) {
+        if !can_end_after(replies.get(place), one.stage) {
             return false;
         }
     }
@@ -152,16 +152,16 @@ fn find(held: &[Held], place: u64) -> Option<Held> {
     None
 }
 
-/// What is released behind a held statement of the session at a place.
-fn window_behind(
+/// What is released after a held statement of the session at a place.
+fn window_after(
     alloc: Global,
-    behind: &[Action],
+    after: &[Action],
     held: &[Held],
     place: u64,
 ) -> Result<Window, NoMemory> {
     let mut released = Vec::new(alloc);
     let mut closed = false;
-    for action in behind {
+    for action in after {
         let Action::Release(session) = action else {
             break;
         };
@@ -181,20 +181,20 @@ fn fate_of(own: Held, window: &Window, replies: &[Reply]) -> Fate {
     let released = window.released.as_slice();
     let last = replies.get(released.len());
     if !window.closed {
-        // The next one to print is the line of a session, behind those that are released.
+        // The next one to print is the line of a session, after those that are released.
         return match last {
-            Some(Reply::Session) => Fate::Behind,
+            Some(Reply::Session) => Fate::After,
             Some(_) => Fate::Before,
             None => Fate::Unknown,
         };
     }
     let others = replies.get(1..).unwrap_or(&[]);
     let before = can_end_before(replies.first(), own.stage) && can_all_end(others, released);
-    let behind = can_end_behind(last, own.stage) && can_all_end(replies, released);
-    match (before, behind) {
-        _ if released.is_empty() => Fate::Behind,
+    let after = can_end_after(last, own.stage) && can_all_end(replies, released);
+    match (before, after) {
+        _ if released.is_empty() => Fate::After,
         (true, false) => Fate::Before,
-        (false, true) => Fate::Behind,
+        (false, true) => Fate::After,
         _ => Fate::Unknown,
     }
 }
@@ -204,13 +204,13 @@ impl Owners {
     fn hold(&mut self, own: Held, window: &Window, replies: &[Reply]) -> Result<(), NoMemory> {
         match fate_of(own, window, replies) {
             Fate::Before => self.owners.push(Owner::sure(own.number))?,
-            Fate::Behind => self.held.push(own)?,
+            Fate::After => self.held.push(own)?,
             Fate::Unknown => self.spread(own, window)?,
         }
         Ok(())
     }
 
-    /// The statement replied before what is released behind it, or behind it.
+    /// The statement replied before what is released after it, or after it.
     fn spread(&mut self, own: Held, window: &Window) -> Result<(), NoMemory> {
         let mut before = own.number;
         for one in &window.released {
@@ -232,7 +232,7 @@ impl Owners {
         &mut self,
         alloc: Global,
         statement: &Statement,
-        behind: &[Action],
+        after: &[Action],
         replies: &[Reply],
     ) -> Result<(), NoMemory> {
         let Some(stage) = statement.hold else {
@@ -244,21 +244,21 @@ impl Owners {
             number: statement.number,
             stage,
         };
-        let window = window_behind(alloc, behind, self.held.as_slice(), own.place)?;
+        let window = window_after(alloc, after, self.held.as_slice(), own.place)?;
         let rest = replies.get(self.owners.len()..).unwrap_or(&[]);
         self.hold(own, &window, rest)
     }
 
-    /// Passes an action, with those behind it.
+    /// Passes an action, with those after it.
     fn pass(
         &mut self,
         alloc: Global,
         action: &Action,
-        behind: &[Action],
+        after: &[Action],
         replies: &[Reply],
     ) -> Result<(), NoMemory> {
         match action {
-            Action::Run(statement) => self.run(alloc, statement, behind, replies),
+            Action::Run(statement) => self.run(alloc, statement, after, replies),
             Action::Announce(_) => {
                 self.owners.push(Owner {
                     number: None,
@@ -287,10 +287,10 @@ pub fn owners_of(
         owners: Vec::new(alloc),
         held: Vec::new(alloc),
     };
-    let mut behind = actions;
+    let mut after = actions;
     for action in actions {
-        behind = behind.get(1..).unwrap_or(&[]);
-        owners.pass(alloc, action, behind, replies)?;
+        after = after.get(1..).unwrap_or(&[]);
+        owners.pass(alloc, action, after, replies)?;
     }
     let Owners { owners, held: _ } = owners;
     Ok(owners)

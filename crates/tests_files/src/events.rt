@@ -39,7 +39,7 @@ fn make(files: &mut MemoryFiles, stands: bool) -> Result<(), NoMemory> {
     Ok(())
 }
 
-/// Where what isn't to be touched stands, before the event and behind it.
+/// Where what isn't to be touched stands, before the event and after it.
 fn places(event: Event) -> (&'static str, &'static str) {
     match event {
         Event::Folder => ("other", "wh"),
@@ -48,7 +48,7 @@ fn places(event: Event) -> (&'static str, &'static str) {
     }
 }
 
-/// Whether each call behind the event has failed, and each before it was done.
+/// Whether each call after the event has failed, and each before it was done.
 fn calls_are_so(
     rt: &HostRuntime,
     shelf: &mut FileShelf<MemoryFiles>,
@@ -79,7 +79,7 @@ fn tried(rt: &HostRuntime, words: &[&str], due: u64, calls: &[&str]) -> Result<W
     let event = event_of(piece(words, 0));
     let mut files = MemoryFiles::new(rt.alloc(), event, due);
     make(&mut files, piece(words, 1) == "stands")?;
-    let (before, behind) = places(event);
+    let (before, after) = places(event);
     let mut wanted = String::new(rt.alloc());
     files.print(&mut wanted, before)?;
     let Ok(mut shelf) = FileShelf::over(rt.alloc(), files, "wh") else {
@@ -92,7 +92,7 @@ fn tried(rt: &HostRuntime, words: &[&str], due: u64, calls: &[&str]) -> Result<W
     let so = calls_are_so(rt, &mut shelf, calls)?;
     let happened = shelf.system().has_happened();
     let mut found = String::new(rt.alloc());
-    let place = if happened { behind } else { before };
+    let place = if happened { after } else { before };
     shelf.system().print(&mut found, place)?;
     let opens = FileShelf::over(rt.alloc(), shelf.system().left()?, "wh").is_ok();
     let killed = matches!(event, Event::Stop);

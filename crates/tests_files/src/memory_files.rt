@@ -41,7 +41,7 @@ pub struct MemoryFiles {
     /// The path of the folder that is held.
     root: String,
     event: Event,
-    /// Before which call it happens, counted from the first behind the first opening.
+    /// Before which call it happens, counted from the first after the first opening.
     due: u64,
     calls: u64,
     begun: bool,
