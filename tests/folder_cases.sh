@@ -106,7 +106,7 @@ stopped_at() {
     return 1
 }
 
-# at_each_call PART ACTION CHECK KIND: over the calls behind which the part of the store is held, of a store of that kind.
+# at_each_call PART ACTION CHECK KIND: over the calls after which the part of the store is held, of a store of that kind.
 at_each_call() {
     local number=1 tried=0 answer
     while :; do

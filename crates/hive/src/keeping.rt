@@ -1,4 +1,6 @@
-use hv_base::{Failed, NoMemory, Source};
+ghost use Rattle.std.specs.Prelude.{◌≡◌};
+
+use hv_base::{Failed, Source};
 use std::alloc::Global;
 
 /// A source that keeps what it gave, so that a statement can be told by its line.
@@ -11,7 +13,9 @@ pub struct Keeping<I> {
 }
 
 impl<I> Keeping<I> {
-    pub fn new(alloc: Global, source: I) -> Keeping<I> {
+    pub fn new(alloc: Global, source: I) -> Keeping<I>
+        ensures within { result.source ≡ source }
+    {
         Keeping {
             source,
             bytes: Vec::new(alloc),

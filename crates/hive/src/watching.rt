@@ -1,3 +1,5 @@
+ghost use Rattle.std.specs.Prelude.{◌≡◌};
+
 use hv_base::{Failed, NoMemory, Sink};
 use std::alloc::Global;
 use std::{mem, str};
@@ -52,7 +54,9 @@ fn read_reply(alloc: Global, bytes: &[u8]) -> Result<Reply, NoMemory> {
 }
 
 impl<O> Watching<O> {
-    pub fn new(alloc: Global, sink: O) -> Watching<O> {
+    pub fn new(alloc: Global, sink: O) -> Watching<O>
+        ensures within { result.sink ≡ sink }
+    {
         Watching {
             sink,
             alloc,
@@ -73,7 +77,9 @@ impl<O> Watching<O> {
     }
 
     /// The reply begins of which these are all bytes.
-    fn begin(&mut self, bytes: &[u8]) {
+    fn begin(&mut self, bytes: &[u8])
+        ensures within { self.new.sink ≡ self.old.sink }
+    {
         match read_reply(self.alloc, bytes) {
             Ok(reply) => self.begun = reply,
             Err(NoMemory) => self.whole = false,
@@ -81,7 +87,9 @@ impl<O> Watching<O> {
     }
 
     /// The reply that was begun is written whole.
-    fn end(&mut self) {
+    fn end(&mut self)
+        ensures within { self.new.sink ≡ self.old.sink }
+    {
         let reply = mem::replace(&mut self.begun, Reply::Other);
         self.whole &= self.replies.push(reply).is_ok();
     }
