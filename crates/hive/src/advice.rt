@@ -23,7 +23,7 @@ fn cause_text(cause: Option<Cause>) -> &'static str {
         Some(Cause::NotPermitted) => "reading or writing there isn't permitted",
         Some(Cause::InUse) => "it is in use by another run, or was made meanwhile",
         Some(Cause::Exchanged) => {
-            "it isn't the one that this run has opened: the folder, its journal or its tables was moved, exchanged or taken away"
+            "it isn't the one that this run has opened: the folder, its journal or its tables was moved, exchanged, taken away, or made by another run"
         }
         Some(Cause::NoJournal) => {
             "tables stand in it, and the journal that tells of them is missing or empty: put it back, or run over a new folder"
