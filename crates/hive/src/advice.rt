@@ -57,9 +57,10 @@ pub fn announce<R: Eprint>(rt: &R, words: &[String], terminal: bool) {
 fn left_of(words: &[String]) -> &[String] {
     let mut left = words;
     for count in 1..=words.len() {
-        let (front, rest) = words.split_at(count);
-        if read_run(front).is_some() {
-            left = rest;
+        if let (Some(front), Some(rest)) = (words.get(..count), words.get(count..)) {
+            if read_run(front).is_some() {
+                left = rest;
+            }
         }
     }
     left

@@ -159,34 +159,55 @@ impl<'a> Sessions<'a> {
     }
 }
 
-/// Why an item on the line may not stand there, with its bytes.
-fn item_fault(
-    alloc: Global,
-    items: &[Item],
-    line: u64,
-) -> Result<Option<(&'static str, String)>, NoMemory> {
-    let mut sessions = Sessions {
-        names: Vec::new(alloc),
+/// Why an item may not stand where it does, and its text where it is a directive.
+#[derive(Clone, Copy)]
+struct ItemFault<'a> {
+    why: &'static str,
+    shown: &'a str,
+}
+
+/// The text of a directive.
+fn shown_of(bytes: &[u8]) -> &str {
+    if is_directive(bytes) {
+        str::from_utf8(trimmed(bytes)).unwrap_or("")
+    } else {
+        ""
+    }
+}
+
+/// The sessions before the first item.
+fn first_sessions<'a>(alloc: Global) -> Result<Sessions<'a>, NoMemory> {
+    let mut names = Vec::new(alloc);
+    names.push(b"main".as_slice())?;
+    Ok(Sessions {
+        names,
         current: b"main",
         statements: 0,
         pending: None,
         held: Vec::new(alloc),
-    };
-    sessions.names.push(b"main")?;
+    })
+}
+
+/// Why an item on the line may not stand there.
+fn item_fault<'a>(
+    alloc: Global,
+    items: &'a [Item],
+    line: u64,
+) -> Result<Option<ItemFault<'a>>, NoMemory> {
+    let mut sessions = first_sessions(alloc)?;
     for item in items {
         if let Some(why) = sessions.pass(item)? {
             if item.line == line {
-                let shown = if is_directive(item.bytes.as_slice()) {
-                    str::from_utf8(trimmed(item.bytes.as_slice())).unwrap_or("")
-                } else {
-                    ""
-                };
-                return Ok(Some((why, String::from_str(alloc, shown)?)));
+                let shown = shown_of(item.bytes.as_slice());
+                return Ok(Some(ItemFault { why, shown }));
             }
         }
     }
     Ok(if sessions.is_unreleased(line) {
-        Some(("that hold has no '!go'", String::new(alloc)))
+        Some(ItemFault {
+            why: "that hold has no '!go'",
+            shown: "",
+        })
     } else {
         None
     })
@@ -221,7 +242,7 @@ fn tell_line<R: Eprint>(rt: &R, alloc: Global, script: &[u8], line: u64) -> Resu
         return Ok(());
     }
     let cut = cut_script(alloc, script)?;
-    if let Some((why, shown)) = item_fault(alloc, cut.items.as_slice(), line)? {
+    if let Some(ItemFault { why, shown }) = item_fault(alloc, cut.items.as_slice(), line)? {
         let space = if shown.is_empty() { "" } else { ": " };
         let _ = eprintln!(rt; "hive: line {line}: {why}{space}{shown}");
     }
