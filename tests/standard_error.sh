@@ -24,15 +24,17 @@ SELECT s AS `FAILED 4 Syntax` FROM t WHERE a > 2;
 SELECT s AS `-- session x` FROM t WHERE a > 2;
 ;
 SELECT a || s FROM t;
+CREATE TABLE copy LIKE t;
 S
 cat >wanted <<'S'
 hive: a new store was made in the folder wh
 line 4, statement 4: 11 NoColumn: correct the name (docs/REFUSALS.md)
-line 6, statement 5: 4 Syntax: no statement that begins so runs: docs/FROM_HIVE.md has what to write (docs/REFUSALS.md)
+line 6, statement 5: 4 Syntax: this form doesn't run yet: docs/LANGUAGE.md has those that do (docs/REFUSALS.md)
 line 7, statement 6: 14 BadCount: give each column one value (docs/REFUSALS.md)
 line 11, statement 9: 4 Syntax: no statement stands before that ';' (docs/REFUSALS.md)
 line 12, statement 10: 1 BadCharacter at 9: correct the text at that byte of the statement (docs/REFUSALS.md)
-5 of 10 statements were refused
+line 13, statement 11: 4 Syntax: docs/LANGUAGE.md has the forms, docs/FROM_HIVE.md what to write for others (docs/REFUSALS.md)
+6 of 11 statements were refused
 S
 run wh <script
 so "a refusal ends with 1" is_status 1

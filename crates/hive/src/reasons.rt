@@ -1,12 +1,11 @@
 //! Why statements were refused, on standard error: a line for each, with its place in the script.
 use crate::owners::{Owner, owners_of, refusal_of};
 use crate::watching::Reply;
-use hv_base::{NoMemory, Refusal};
+use hv_ast::discard;
+use hv_base::{NoMemory, Refusal, Text};
+use hv_reading::read_text;
 use hv_script::{Action, ScriptFault, Statement, cut_script, is_directive, read_actions};
 use std::alloc::Global;
-
-/// With what the statements begin that run.
-const BEGINNINGS: [&str; 6] = ["CREATE", "INSERT", "UPDATE", "DELETE", "TRUNCATE", "SELECT"];
 
 /// The statements of a script, each with the line on which it begins.
 #[derive(Drop)]
@@ -15,36 +14,27 @@ struct Lines<'a> {
     lines: Vec<u64>,
 }
 
-/// The letters with which a text begins.
-fn first_word(text: &str) -> &[u8] {
-    let bytes = text.as_bytes();
-    match bytes.iter().position(|byte| !byte.is_ascii_alphabetic()) {
-        Some(end) => bytes.get(..end).unwrap_or(bytes),
-        None => bytes,
-    }
-}
-
 /// What to do where a text is no statement that runs.
-fn syntax_advice(text: &str) -> &'static str {
-    if text.is_empty() {
+fn syntax_advice(alloc: Global, text: &Text) -> &'static str {
+    if text.as_str().is_empty() {
         return "no statement stands before that ';'";
     }
-    let word = first_word(text);
-    for beginning in &BEGINNINGS {
-        if word.eq_ignore_ascii_case(beginning.as_bytes()) {
-            return "docs/LANGUAGE.md has the forms that run";
+    match read_text(alloc, text) {
+        Ok(tree) => {
+            discard(tree);
+            "this form doesn't run yet: docs/LANGUAGE.md has those that do"
         }
+        Err(_) => "docs/LANGUAGE.md has the forms, docs/FROM_HIVE.md what to write for others",
     }
-    "no statement that begins so runs: docs/FROM_HIVE.md has what to write"
 }
 
 /// What to do, in a few words.
-fn advice(refusal: Refusal, text: &str) -> &'static str {
+fn advice(refusal: Refusal) -> &'static str {
     match refusal {
         Refusal::BadCharacter => "correct the text at that byte of the statement",
         Refusal::OpenString => "close the string or the backquote",
         Refusal::WideNumber => "write a smaller number",
-        Refusal::Syntax => syntax_advice(text),
+        Refusal::Syntax => "docs/LANGUAGE.md has the forms that run",
         Refusal::Nesting => "nest less deep",
         Refusal::NoTable => "create the table, or correct its name",
         Refusal::NoColumn => "correct the name",
@@ -96,13 +86,13 @@ impl<'a> Lines<'a> {
         Ok(text)
     }
 
-    fn advice(&self, owner: Owner, reply: &str) -> &'static str {
-        let Some(refusal) = refusal_of(reply) else {
-            return "look there";
-        };
-        match self.statement(owner.number.unwrap_or(0)) {
-            Some((statement, _)) => advice(refusal, statement.text.as_str()),
-            None => advice(refusal, ""),
+    /// What to do about a reply, in a few words.
+    fn advice(&self, alloc: Global, owner: Owner, reply: &str) -> &'static str {
+        let statement = self.statement(owner.number.unwrap_or(0));
+        match (refusal_of(reply), statement) {
+            (Some(Refusal::Syntax), Some((statement, _))) => syntax_advice(alloc, &statement.text),
+            (Some(refusal), _) => advice(refusal),
+            (None, _) => "look there",
         }
     }
 }
@@ -150,7 +140,7 @@ fn tell_all<R: Eprint>(
         if let Reply::Refused(text) = reply {
             refused = refused.saturating_add(1);
             let place = lines.places(alloc, *owner)?;
-            let what = lines.advice(*owner, text.as_str());
+            let what = lines.advice(alloc, *owner, text.as_str());
             let _ = eprintln!(rt; "{place}: {text}: {what} (docs/REFUSALS.md)");
         }
     }
