@@ -49,7 +49,7 @@ S
 run wh <script
 so "rows alone: status 0" is_status 0
 so "a table whose rows say FAILED gives no line" [ ! -s err ]
-so "and four replies have them" [ "$(grep -c "FAILED 4 Syntax" out)" = 6 ]
+so "and their replies have them" [ "$(grep -c "FAILED 4 Syntax" out)" = 5 ]
 
 echo "== every statement of a script of refusals"
 cp "$top/examples/refusals.hql" script
