@@ -1,5 +1,3 @@
-ghost use Rattle.std.specs.Prelude.{◌≡◌};
-
 use hv_base::{Failed, Source};
 use std::alloc::Global;
 
@@ -13,9 +11,7 @@ pub struct Keeping<I> {
 }
 
 impl<I> Keeping<I> {
-    pub fn new(alloc: Global, source: I) -> Keeping<I>
-        ensures within { result.source ≡ source }
-    {
+    pub fn new(alloc: Global, source: I) -> Keeping<I> {
         Keeping {
             source,
             bytes: Vec::new(alloc),

@@ -1,5 +1,3 @@
-ghost use Rattle.std.specs.Prelude.{◌≡◌};
-
 use hv_base::{Failed, NoMemory, Sink};
 use std::alloc::Global;
 use std::{mem, str};
@@ -14,10 +12,9 @@ pub enum Reply {
     Other,
 }
 
-/// A sink that notes the replies which go by. Each is handed to it whole, or what is left of it.
+/// What was noted of the replies.
 #[derive(Drop)]
-pub struct Watching<O> {
-    sink: O,
+struct Notes {
     alloc: Global,
     /// The reply of which bytes are left, and how many.
     begun: Reply,
@@ -25,6 +22,13 @@ pub struct Watching<O> {
     replies: Vec<Reply>,
     /// Memory was found for all of them.
     whole: bool,
+}
+
+/// A sink that notes the replies which go by. Each is handed to it whole, or what is left of it.
+#[derive(Drop)]
+pub struct Watching<O> {
+    sink: O,
+    notes: Notes,
 }
 
 /// The first line of a text.
@@ -53,33 +57,9 @@ fn read_reply(alloc: Global, bytes: &[u8]) -> Result<Reply, NoMemory> {
     }
 }
 
-impl<O> Watching<O> {
-    pub fn new(alloc: Global, sink: O) -> Watching<O>
-        ensures within { result.sink ≡ sink }
-    {
-        Watching {
-            sink,
-            alloc,
-            begun: Reply::Other,
-            left: 0,
-            replies: Vec::new(alloc),
-            whole: true,
-        }
-    }
-
-    /// The replies that were written whole, None where memory was missing for them.
-    pub fn replies(&self) -> Option<&[Reply]> {
-        if self.whole {
-            Some(self.replies.as_slice())
-        } else {
-            None
-        }
-    }
-
+impl Notes {
     /// The reply begins of which these are all bytes.
-    fn begin(&mut self, bytes: &[u8])
-        ensures within { self.new.sink ≡ self.old.sink }
-    {
+    fn begin(&mut self, bytes: &[u8]) {
         match read_reply(self.alloc, bytes) {
             Ok(reply) => self.begun = reply,
             Err(NoMemory) => self.whole = false,
@@ -87,11 +67,44 @@ impl<O> Watching<O> {
     }
 
     /// The reply that was begun is written whole.
-    fn end(&mut self)
-        ensures within { self.new.sink ≡ self.old.sink }
-    {
+    fn end(&mut self) {
         let reply = mem::replace(&mut self.begun, Reply::Other);
         self.whole &= self.replies.push(reply).is_ok();
+    }
+
+    /// So many of these bytes were written.
+    fn note(&mut self, bytes: &[u8], count: usize) {
+        if self.left == 0 {
+            self.begin(bytes);
+        }
+        self.left = bytes.len().saturating_sub(count);
+        if self.left == 0 {
+            self.end();
+        }
+    }
+}
+
+impl<O> Watching<O> {
+    pub fn new(alloc: Global, sink: O) -> Watching<O> {
+        Watching {
+            sink,
+            notes: Notes {
+                alloc,
+                begun: Reply::Other,
+                left: 0,
+                replies: Vec::new(alloc),
+                whole: true,
+            },
+        }
+    }
+
+    /// The replies that were written whole, None where memory was missing for them.
+    pub fn replies(&self) -> Option<&[Reply]> {
+        if self.notes.whole {
+            Some(self.notes.replies.as_slice())
+        } else {
+            None
+        }
     }
 }
 
@@ -101,14 +114,8 @@ impl<O: Sink> Sink for Watching<O> {
     ghost faults = { λ s. O.faults s.sink };
 
     fn write(&mut self, bytes: &[u8]) -> Result<usize, Failed> {
-        if self.left == 0 {
-            self.begin(bytes);
-        }
         let count = self.sink.write(bytes)?;
-        self.left = bytes.len() - count;
-        if self.left == 0 {
-            self.end();
-        }
+        self.notes.note(bytes, count);
         Ok(count)
     }
 }
