@@ -8,8 +8,9 @@ say() {
 
 usage() {
     cat <<END
-usage: ./$name FOLDER run < SCRIPT
+usage: ./$name FOLDER run [--workers N] < SCRIPT
 Runs the statements of SCRIPT over the store in FOLDER, which is made where it isn't there yet.
+N, from 1 to 8, is on how many threads a query may work.
 Replies go to standard output. The status is 0, or 1 where a statement was refused; above 1 the run stopped.
 FOLDER is no empty word and doesn't begin with '-'; the folder in which it is to stand must be there.
        ./$name --help, --version, or --path: builds the program where it isn't, and prints its path

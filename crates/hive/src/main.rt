@@ -2,21 +2,31 @@
 #![tactic(auto)]
 
 mod advice;
+mod keeping;
+mod owners;
+mod reasons;
 mod refusal;
+mod script_fault;
+mod watching;
 
-use crate::advice::{advise, announce};
+use crate::advice::{advise, announce, blame_words};
+use crate::keeping::Keeping;
+use crate::reasons::tell_refusals;
 use crate::refusal::{Refusal, refuse};
+use crate::script_fault::tell_script_fault;
+use crate::watching::{Reply, Watching};
 use hv_base::NoGate;
 use hv_files::{FileFault, FileShelf};
 use hv_program::hive;
 use hv_streams::{Standard, StdSink, StdSource};
+use std::alloc::Global;
 use std::env;
 use std::io::{ErrorKind, IsTerminal};
 use std::process::ExitCode;
 use std::rt::Env;
 
 /// The folder and the words of the command. A first word that is empty or begins with `-` is no folder.
-fn words_of<R: AllocGlobal + Env>(rt: &R) -> Result<(String, Vec<String>), Refusal> {
+fn words_of<R: AllocGlobal + Env + Eprint>(rt: &R) -> Result<(String, Vec<String>), Refusal> {
     let mut words = match env::args(rt) {
         Ok(words) => words,
         Err(error) if error.kind() == ErrorKind::OutOfMemory => return Err(Refusal::NoMemory),
@@ -26,6 +36,10 @@ fn words_of<R: AllocGlobal + Env>(rt: &R) -> Result<(String, Vec<String>), Refus
     let folder = match words.next() {
         Some(folder) if !folder.is_empty() && !folder.starts_with('-') => folder,
         Some(word) if word.as_str() == "--version" => return Err(Refusal::Version),
+        Some(word) if word.as_str() != "--help" => {
+            let _ = eprintln!(rt; "hive: '{word}' is no folder");
+            return Err(Refusal::BadWords);
+        }
         _ => return Err(Refusal::BadWords),
     };
     match words.collect(rt.alloc()) {
@@ -42,18 +56,39 @@ fn refusal_of(fault: FileFault) -> Refusal {
     }
 }
 
+/// Says of the script why statements, or all of it, were refused.
+fn tell<R: Eprint>(
+    rt: &R,
+    alloc: Global,
+    status: u8,
+    script: Option<&[u8]>,
+    replies: Option<&[Reply]>,
+) {
+    let told = match (script, replies, status) {
+        (Some(script), _, 8) => tell_script_fault(rt, alloc, script),
+        (Some(script), Some(replies), _) => tell_refusals(rt, alloc, script, replies),
+        _ => Ok(()),
+    };
+    if told.is_err() {
+        let _ = eprintln!(rt; "hive: there is no memory for the reasons of refusals");
+    }
+}
+
 fn main(rt: HostRuntime) -> ExitCode {
     let _standard = Standard::hold(&rt);
-    let mut source = StdSource::new(rt.stdin());
-    let mut sink = StdSink::new(rt.stdout());
+    let alloc = rt.alloc();
+    let mut source = Keeping::new(alloc, StdSource::new(rt.stdin()));
+    let mut sink = Watching::new(alloc, StdSink::new(rt.stdout()));
     let (folder, words) = match words_of(&rt) {
         Ok(words) => words,
-        Err(refusal) => return ExitCode::from(refuse(&rt, &mut sink, refusal)),
+        Err(refusal) => return ExitCode::from(refuse(&rt, &mut sink, "", refusal)),
     };
-    let alloc = rt.alloc();
     let shelf = match FileShelf::at(alloc, rt, folder.as_str()) {
         Ok(shelf) => shelf,
-        Err(fault) => return ExitCode::from(refuse(&rt, &mut sink, refusal_of(fault))),
+        Err(fault) => {
+            let refusal = refusal_of(fault);
+            return ExitCode::from(refuse(&rt, &mut sink, folder.as_str(), refusal));
+        }
     };
     announce(&rt, words.as_slice(), rt.stdin().is_terminal());
     let ended = hive(
@@ -65,6 +100,13 @@ fn main(rt: HostRuntime) -> ExitCode {
         shelf,
         &NoGate,
     );
-    advise(&rt, ended.status, ended.shelf.last_cause());
+    if ended.status == 2 {
+        blame_words(&rt, words.as_slice());
+    }
+    if ended.shelf.is_made() {
+        let _ = eprintln!(rt; "hive: a new store was made in the folder {folder}");
+    }
+    tell(&rt, alloc, ended.status, source.script(), sink.replies());
+    advise(&rt, folder.as_str(), ended.status, ended.shelf.last_cause());
     ExitCode::from(ended.status)
 }

@@ -16,28 +16,30 @@ pub enum Refusal {
     NoMemory,
 }
 
-/// Says why a run was refused, bad words on the sink too, and gives the status.
-pub fn refuse<R: Eprint, O: Sink>(rt: &R, sink: &mut O, refusal: Refusal) -> u8
+/// Says why a run over a folder was refused, bad words on the sink too, and gives the status.
+pub fn refuse<R: Eprint, O: Sink>(rt: &R, sink: &mut O, folder: &str, refusal: Refusal) -> u8
     ensures { Ends refusal (O.written sink.old) (O.written sink.new) result }
 {
     match refusal {
         Refusal::BadWords => {
             let status = refuse_words(sink);
-            advise(rt, status, None);
+            advise(rt, folder, status, None);
             status
         }
         Refusal::Version => {
-            let _ = eprintln!(rt; "hive 0.1");
+            let _ = eprintln!(rt;
+                "hive 0.1 (of which commit it is, and whether it is proved: ./hive-run --version)"
+            );
             let status = refuse_words(sink);
-            advise(rt, status, None);
+            advise(rt, folder, status, None);
             status
         }
         Refusal::Store(cause) => {
-            advise(rt, 5, Some(cause));
+            advise(rt, folder, 5, Some(cause));
             5
         }
         Refusal::NoMemory => {
-            advise(rt, 7, None);
+            advise(rt, folder, 7, None);
             7
         }
     }

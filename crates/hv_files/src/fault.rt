@@ -16,12 +16,23 @@ pub enum Cause {
     NotAFile,
     /// The system doesn't permit it, or the device can only be read.
     NotPermitted,
-    /// Another run has the store open, or made it meanwhile.
+    /// Another run has the store open, or the folder was made meanwhile.
     InUse,
+    /// The folder, its journal or its tables isn't the one that was opened: it was moved, exchanged or
+    /// taken away.
+    Exchanged,
+    /// Tables stand in the folder, and the journal that tells of them is missing or empty.
+    NoJournal,
     /// The device or a quota is full.
     Full,
     /// A standard stream of the program is closed, so that a file would take its place.
     ClosedStream,
+    /// The program, or the machine, may open no further file.
+    TooManyOpen,
+    /// A name or a path is too long for the system, or the folder's for what is to stand in it.
+    LongPath,
+    /// What it is to be made in is gone, or takes no files.
+    Gone,
     /// An earlier sync failed, so that no change is sure to be kept.
     Unsynced,
     /// Anything else.
@@ -35,6 +46,9 @@ pub enum FileFault {
     NoMemory,
 }
 
+/// The numbers that Linux gives where the machine, or the program, has too many files open.
+const TOO_MANY_OPEN: [i32; 2] = [23, 24];
+
 /// The cause of an error of the system.
 pub fn cause_of(error: &io::Error) -> Cause {
     match error.kind() {
@@ -42,6 +56,16 @@ pub fn cause_of(error: &io::Error) -> Cause {
         ErrorKind::IsADirectory => Cause::NotAFile,
         ErrorKind::PermissionDenied | ErrorKind::ReadOnlyFilesystem => Cause::NotPermitted,
         ErrorKind::StorageFull | ErrorKind::QuotaExceeded => Cause::Full,
+        ErrorKind::InvalidFilename => Cause::LongPath,
+        ErrorKind::NotFound => Cause::Gone,
+        _ => cause_of_number(error.raw_os_error()),
+    }
+}
+
+/// The cause of an error that std has no kind for.
+fn cause_of_number(number: Option<i32>) -> Cause {
+    match number {
+        Some(number) if TOO_MANY_OPEN.contains(&number) => Cause::TooManyOpen,
         _ => Cause::Other,
     }
 }

@@ -1,8 +1,8 @@
 ghost use Rattle.std.specs.Prelude.{◌≡◌, None, IfOk, IfSome, OnOk, IsErr, IsErrOf, string_bytes};
 ghost use Rattle.hv_shelf.specs.Causes.{SoftCause, HardCause};
 ghost use Rattle.hv_shelf.specs.Places.{dir_named};
-ghost use Rattle.hv_files.specs.Acts.{Puts};
-ghost use Rattle.hv_files.specs.Acts.Act.{Gives, Moves, TakesFolder};
+ghost use Rattle.hv_files.specs.Acts.{Keeps, Puts, Stands};
+ghost use Rattle.hv_files.specs.Acts.Act.{Gives, Moves, TakesFolder, WritesJournal};
 ghost use Rattle.hv_paths.specs.Paths.{tables_path, file_path, working_path, path_of_dir, dir_of};
 
 use crate::counts::Counts;
@@ -21,7 +21,9 @@ use std::rt::Files;
 
 /// A store over the files of one folder, of which one may be open at a time on a machine. It tells
 /// nothing. The folder is made with the first change. What a successful call has changed is on the
-/// device, but for writes to the journal, which are there behind the next sync.
+/// device, but for writes to the journal, which are there behind the next sync. Each call that changes
+/// anything first looks whether the folder, its journal and its tables are those that were opened, and
+/// fails where one isn't.
 #[derive(Drop)]
 pub struct FileShelf<S> {
     system: S,
@@ -33,27 +35,31 @@ pub struct FileShelf<S> {
 
 impl<R: Files<File = File> + Drop> FileShelf<RealFiles<R>> {
     /// Opens the store in the folder at `path`, or looks whether it can be made there: the folder above
-    /// must be there. It is refused where another run has the store open, too.
+    /// must be there. It is refused where another run has the store open, where tables stand in the
+    /// folder and no journal tells of them, and where the path is too long for what is to stand there.
     pub fn at(alloc: Global, rt: R, path: &str) -> Result<FileShelf<RealFiles<R>>, FileFault>
         ensures counts { IfOk result (λ s. (s.counts.faults ≡ 0) × (s.counts.hard ≡ 0)) }
         ensures root { IfOk result (λ s. string_bytes s.tree.root ≡ tables_path path.now) }
+        ensures folder { IfOk result (λ s. string_bytes s.home.folder ≡ path.now) }
     {
-        FileShelf::over(alloc, RealFiles::new(rt), path)
+        FileShelf::over(alloc, RealFiles::new(alloc, rt), path)
     }
 }
 
 impl<S: System + Drop> FileShelf<S> {
-    fn over(alloc: Global, mut system: S, path: &str) -> Result<FileShelf<S>, FileFault>
+    /// Opens the store in the folder at `path` of another system's files.
+    pub fn over(alloc: Global, mut system: S, path: &str) -> Result<FileShelf<S>, FileFault>
         ensures counts { IfOk result (λ s. (s.counts.faults ≡ 0) × (s.counts.hard ≡ 0)) }
         ensures root { IfOk result (λ s. string_bytes s.tree.root ≡ tables_path path.now) }
+        ensures folder { IfOk result (λ s. string_bytes s.home.folder ≡ path.now) }
     {
-        let (home, journal) = Home::open(alloc, &mut system, path)?;
+        let home = Home::open(alloc, &mut system, path)?;
         let root = tables_path(alloc, path)?;
         Ok(FileShelf {
             system,
             home,
             tree: Tree::new(alloc, root),
-            journal,
+            journal: Journal::new(),
             counts: Counts::new(),
         })
     }
@@ -63,25 +69,86 @@ impl<S: System + Drop> FileShelf<S> {
         self.counts.cause
     }
 
-    fn write(&mut self, at: u64, bytes: &[u8]) -> Result<(), FileFault>
-        ensures root { self.new.tree.root ≡ self.old.tree.root }
-        ensures counts { self.new.counts ≡ self.old.counts }
-    {
-        self.home.make(&mut self.system, &mut self.journal)?;
-        self.journal.write(at, bytes)
+    /// Whether this run has made the store, which had no journal before.
+    pub fn is_made(&self) -> bool {
+        self.home.is_made()
     }
 
+    /// The system over whose files the store stands.
+    pub fn system(&self) -> &S {
+        &self.system
+    }
+
+    /// Looks whether what is held stands in its place, and makes what isn't there yet.
+    #[tactic(auto, using(crate::proofs::ActLemmas::stands_on))]
+    fn begin(&mut self) -> Result<(), FileFault>
+        ensures stood { OnOk result (Stands (S.changes self.old.system) (S.did self.new.system)
+            (string_bytes self.old.home.folder)) }
+        ensures root { self.new.tree.root ≡ self.old.tree.root }
+        ensures folder { self.new.home.folder ≡ self.old.home.folder }
+        ensures counts { self.new.counts ≡ self.old.counts }
+    {
+        self.home.test(&mut self.system)?;
+        self.home.make(&mut self.system)
+    }
+
+    #[tactic(auto, using(crate::proofs::ActLemmas::stands_on))]
+    fn write(&mut self, at: u64, bytes: &[u8]) -> Result<(), FileFault>
+        ensures stood { OnOk result (Stands (S.changes self.old.system) (S.did self.new.system)
+            (string_bytes self.old.home.folder)) }
+        ensures acts { OnOk result (S.did self.new.system (WritesJournal at bytes.now)) }
+        ensures root { self.new.tree.root ≡ self.old.tree.root }
+        ensures folder { self.new.home.folder ≡ self.old.home.folder }
+        ensures counts { self.new.counts ≡ self.old.counts }
+    {
+        self.begin()?;
+        self.system.journal_write(at, bytes)
+    }
+
+    #[tactic(auto, using(crate::proofs::ActLemmas::stands_on))]
     fn put_file(&mut self, place: &Place, bytes: &[u8]) -> Result<(), FileFault>
+        ensures stood { OnOk result (Stands (S.changes self.old.system) (S.did self.new.system)
+            (string_bytes self.old.home.folder)) }
         ensures acts { OnOk result (Puts (S.did self.new.system)
             (working_path (string_bytes self.old.tree.root) place.now)
             (file_path (string_bytes self.old.tree.root) place.now)
             (path_of_dir (string_bytes self.old.tree.root) (dir_of place.now))
             bytes.now) }
         ensures root { self.new.tree.root ≡ self.old.tree.root }
+        ensures folder { self.new.home.folder ≡ self.old.home.folder }
         ensures counts { self.new.counts ≡ self.old.counts }
     {
-        self.home.make(&mut self.system, &mut self.journal)?;
+        self.begin()?;
         self.tree.put(&mut self.system, place, bytes)
+    }
+
+    #[tactic(auto, using(crate::proofs::ActLemmas::stands_on))]
+    fn rename_dir(&mut self, from: &DirAt, to: &Text) -> Result<(), FileFault>
+        ensures stood { OnOk result (Stands (S.changes self.old.system) (S.did self.new.system)
+            (string_bytes self.old.home.folder)) }
+        ensures acts { OnOk result (S.did self.new.system
+            (Moves (path_of_dir (string_bytes self.old.tree.root) from.now)
+            (path_of_dir (string_bytes self.old.tree.root) (dir_named from.now to.now)))) }
+        ensures root { self.new.tree.root ≡ self.old.tree.root }
+        ensures folder { self.new.home.folder ≡ self.old.home.folder }
+        ensures counts { self.new.counts ≡ self.old.counts }
+    {
+        self.home.test(&mut self.system)?;
+        self.tree.rename(&mut self.system, from, to)
+    }
+
+    #[tactic(auto, using(crate::proofs::ActLemmas::stands_on))]
+    fn remove_dir(&mut self, dir: &DirAt) -> Result<(), FileFault>
+        ensures stood { OnOk result (Stands (S.changes self.old.system) (S.did self.new.system)
+            (string_bytes self.old.home.folder)) }
+        ensures acts { OnOk result (S.did self.new.system
+            (TakesFolder (path_of_dir (string_bytes self.old.tree.root) dir.now))) }
+        ensures root { self.new.tree.root ≡ self.old.tree.root }
+        ensures folder { self.new.home.folder ≡ self.old.home.folder }
+        ensures counts { self.new.counts ≡ self.old.counts }
+    {
+        self.home.test(&mut self.system)?;
+        self.tree.remove(&mut self.system, dir)
     }
 }
 
@@ -95,22 +162,31 @@ impl<S: System + Drop> Shelf for FileShelf<S> {
     ghost hard = { λ s. s.counts.hard };
 
     fn journal_len(&mut self) -> Result<u64, Failed> {
-        let done = self.journal.len();
+        let done = self.system.journal_len();
         self.counts.hard_device(done)
     }
 
     fn journal_read(&mut self, at: u64, out: &mut [u8]) -> Result<usize, Failed> {
-        let done = self.journal.read(at, out);
+        let done = self.journal.read(&mut self.system, at, out);
         self.counts.hard_device(done)
     }
 
-    fn journal_write(&mut self, at: u64, bytes: &[u8]) -> Result<(), ShelfFault> {
+    fn journal_write(&mut self, at: u64, bytes: &[u8]) -> Result<(), ShelfFault>
+        ensures cause { HardCause (IsErrOf result ShelfFault.Failed) self.old.counts.faults
+            self.new.counts.faults self.old.counts.hard self.new.counts.hard }
+        ensures stays { ¬ (IsErrOf result ShelfFault.Failed)
+            → self.new.counts.hard ≡ self.old.counts.hard }
+        ensures stood { OnOk result (Stands (S.changes self.old.system) (S.did self.new.system)
+            (string_bytes self.old.home.folder)) }
+        ensures acts { OnOk result (S.did self.new.system (WritesJournal at bytes.now)) }
+        ensures folder { self.new.home.folder ≡ self.old.home.folder }
+    {
         let done = self.write(at, bytes);
         self.counts.hard(done)
     }
 
     fn journal_sync(&mut self) -> Result<(), Failed> {
-        let done = self.journal.sync();
+        let done = self.journal.sync(&mut self.system);
         self.counts.hard_device(done)
     }
 
@@ -137,12 +213,15 @@ impl<S: System + Drop> Shelf for FileShelf<S> {
             self.new.counts.faults self.old.counts.hard self.new.counts.hard }
         ensures stays { ¬ (IsErrOf result ShelfFault.Failed)
             → self.new.counts.hard ≡ self.old.counts.hard }
+        ensures stood { OnOk result (Stands (S.changes self.old.system) (S.did self.new.system)
+            (string_bytes self.old.home.folder)) }
         ensures acts { OnOk result (Puts (S.did self.new.system)
             (working_path (string_bytes self.old.tree.root) place.now)
             (file_path (string_bytes self.old.tree.root) place.now)
             (path_of_dir (string_bytes self.old.tree.root) (dir_of place.now))
             bytes.now) }
         ensures root { self.new.tree.root ≡ self.old.tree.root }
+        ensures folder { self.new.home.folder ≡ self.old.home.folder }
     {
         let done = self.put_file(place, bytes);
         self.counts.soft(done)
@@ -153,12 +232,15 @@ impl<S: System + Drop> Shelf for FileShelf<S> {
             self.new.counts.faults self.old.counts.hard self.new.counts.hard }
         ensures stays { ¬ (IsErrOf result ShelfFault.Failed)
             → self.new.counts.hard ≡ self.old.counts.hard }
+        ensures stood { OnOk result (Stands (S.changes self.old.system) (S.did self.new.system)
+            (string_bytes self.old.home.folder)) }
         ensures acts { OnOk result (S.did self.new.system
             (Moves (path_of_dir (string_bytes self.old.tree.root) from.now)
             (path_of_dir (string_bytes self.old.tree.root) (dir_named from.now to.now)))) }
         ensures root { self.new.tree.root ≡ self.old.tree.root }
+        ensures folder { self.new.home.folder ≡ self.old.home.folder }
     {
-        let done = self.tree.rename(&mut self.system, from, to);
+        let done = self.rename_dir(from, to);
         self.counts.hard(done)
     }
 
@@ -168,11 +250,14 @@ impl<S: System + Drop> Shelf for FileShelf<S> {
             self.new.counts.faults self.old.counts.hard self.new.counts.hard }
         ensures stays { ¬ (IsErr result)
             → self.new.counts.hard ≡ self.old.counts.hard }
+        ensures stood { OnOk result (Stands (S.changes self.old.system) (S.did self.new.system)
+            (string_bytes self.old.home.folder)) }
         ensures acts { OnOk result (S.did self.new.system
             (TakesFolder (path_of_dir (string_bytes self.old.tree.root) dir.now))) }
         ensures root { self.new.tree.root ≡ self.old.tree.root }
+        ensures folder { self.new.home.folder ≡ self.old.home.folder }
     {
-        let done = self.tree.remove(&mut self.system, dir);
+        let done = self.remove_dir(dir);
         self.counts.soft_device(done)
     }
 

@@ -1,11 +1,19 @@
-//! The folder of a store: its lock, and its making.
+//! The folder of a store: what is held open of it, and its making.
+ghost use Rattle.std.specs.Prelude.{◌≡◌, IfOk, OnOk, string_bytes};
+ghost use Rattle.hv_files.specs.Acts.{Keeps, Stands};
+ghost use Rattle.hv_files.specs.Acts.Act.{Finds};
+ghost use Rattle.hv_files.specs.Parts.{part_path};
+
 use crate::fault::{Cause, FileFault};
-use crate::journal::Journal;
-use crate::system::{Stand, System};
-use hv_paths::{journal_path, lock_path, tables_path};
+use crate::system::{Part, System};
+use hv_base::NoMemory;
+use hv_paths::{is_table, journal_path, lock_path, tables_path};
 use std::alloc::Global;
-use std::fs::{File, TryLockError};
 use std::path::Path;
+
+/// The most bytes of the folder's path: the system takes 4,095, and 512 are kept for the longest name
+/// below the folder.
+pub const LONGEST_FOLDER: usize = 3_583;
 
 /// How far the folder of a store was made.
 #[derive(Clone, Copy)]
@@ -21,19 +29,10 @@ enum Made {
 #[derive(Drop)]
 pub struct Home {
     alloc: Global,
-    folder: String,
-    /// Open for as long as the store is, since the system's lock on it goes with it.
-    lock: Option<File>,
+    pub folder: String,
     made: Made,
-}
-
-/// Locks a file for as long as it is open.
-fn locked(file: File) -> Result<File, FileFault> {
-    match file.try_lock() {
-        Ok(()) => Ok(file),
-        Err(TryLockError::WouldBlock) => Err(FileFault::Device(Cause::InUse)),
-        Err(TryLockError::Error(error)) => Err(FileFault::from(error)),
-    }
+    /// There was no journal when it was opened.
+    is_new: bool,
 }
 
 /// The path of the folder above, which for a lone name is the working folder.
@@ -42,26 +41,6 @@ fn above(path: &str) -> &str {
         Some(above) if !above.as_str().is_empty() => above.as_str(),
         _ => ".",
     }
-}
-
-/// Opens the file at a path if there is one, and locks it.
-fn open_locked<S: System>(system: &mut S, path: &str) -> Result<Option<File>, FileFault> {
-    match system.open_file(path)? {
-        Some(file) => Ok(Some(locked(file)?)),
-        None => Ok(None),
-    }
-}
-
-/// Makes a file and locks it, where none is held yet.
-fn make_locked<S: System>(
-    system: &mut S,
-    held: &mut Option<File>,
-    path: &str,
-) -> Result<(), FileFault> {
-    if held.is_none() {
-        *held = Some(locked(system.make_file(path)?)?);
-    }
-    Ok(())
 }
 
 /// Looks at the folder in which a store's folder is to be made.
@@ -73,50 +52,70 @@ fn look_above<S: System>(system: &mut S, folder: &str) -> Result<(), FileFault> 
     }
 }
 
+/// Whether the journal that is held tells of nothing: it has no byte, or its first gate is closed.
+fn tells_nothing<S: System>(system: &mut S) -> Result<bool, FileFault> {
+    let mut gate = [0];
+    let count = system.journal_read(0, &mut gate)?;
+    Ok(count == 0 || gate[0] == 0)
+}
+
+/// Whether a table's folder stands in the folder of all tables.
+fn has_tables<S: System>(alloc: Global, system: &mut S, tables: &str) -> Result<bool, FileFault> {
+    let names = system.names_in(alloc, tables)?.unwrap_or(Vec::new(alloc));
+    Ok(names.iter().any(|name| is_table(name.as_str())))
+}
+
 impl Home {
-    /// Looks at the store's folder, and opens and locks what stands there: nothing is made. It fails
-    /// where another run has the store open, and where anything but its own files and folders stands
-    /// under their names.
-    pub fn open<S: System>(
-        alloc: Global,
-        system: &mut S,
-        path: &str,
-    ) -> Result<(Home, Journal), FileFault> {
-        let mut home = Home {
+    /// Looks at the store's folder, and holds what stands there: nothing is made. It fails where another
+    /// run holds the store, where anything but its own files and folders stands under their names, where
+    /// the path is too long for what is to stand in the folder, and where tables stand in it without a
+    /// journal that tells of them.
+    pub fn open<S: System>(alloc: Global, system: &mut S, path: &str) -> Result<Home, FileFault>
+        ensures folder { IfOk result (λ home. string_bytes home.folder ≡ path.now) }
+    {
+        if path.len() > LONGEST_FOLDER {
+            return Err(FileFault::Device(Cause::LongPath));
+        }
+        if system.open(Part::Folder, path)? {
+            open_parts(alloc, system, path)?;
+        } else {
+            look_above(system, path)?;
+        }
+        Ok(Home {
             alloc,
             folder: String::from_str(alloc, path)?,
-            lock: None,
             made: Made::NotYet,
-        };
-        match system.stand(path)? {
-            Stand::Folder => {}
-            Stand::Nothing => {
-                look_above(system, path)?;
-                return Ok((home, Journal::new(None)));
-            }
-            _ => return Err(FileFault::Device(Cause::NotAFolder)),
-        }
-        let tables = tables_path(alloc, path)?;
-        match system.stand(tables.as_str())? {
-            Stand::Folder | Stand::Nothing => {}
-            _ => return Err(FileFault::Device(Cause::NotAFolder)),
-        }
-        home.lock = open_locked(system, lock_path(alloc, path)?.as_str())?;
-        let journal = open_locked(system, journal_path(alloc, path)?.as_str())?;
-        Ok((home, Journal::new(journal)))
+            is_new: !system.holds(Part::Journal),
+        })
+    }
+
+    /// Whether this run has made the store.
+    pub fn is_made(&self) -> bool {
+        self.is_new && matches!(self.made, Made::Whole)
+    }
+
+    /// Fails where the folder, its journal or its tables isn't the one that is held.
+    pub fn test<S: System>(&self, system: &mut S) -> Result<(), FileFault>
+        ensures keeps { Keeps (S.did system.old) (S.did system.new) }
+        ensures stood { OnOk result
+            (Stands (S.changes system.old) (S.did system.new) (string_bytes self.now.folder)) }
+    {
+        let folder = self.folder.as_str();
+        test_part(self.alloc, system, Part::Folder, folder)?;
+        test_part(self.alloc, system, Part::Journal, folder)?;
+        test_part(self.alloc, system, Part::Tables, folder)
     }
 
     /// Makes the folder and what belongs into it, before the first change.
-    pub fn make<S: System>(
-        &mut self,
-        system: &mut S,
-        journal: &mut Journal,
-    ) -> Result<(), FileFault> {
+    pub fn make<S: System>(&mut self, system: &mut S) -> Result<(), FileFault>
+        ensures keeps { Keeps (S.did system.old) (S.did system.new) }
+        ensures folder { self.new.folder ≡ self.old.folder }
+    {
         match self.made {
             Made::Whole => Ok(()),
             Made::Failed => Err(FileFault::Device(Cause::Unsynced)),
             Made::NotYet => {
-                let done = self.make_whole(system, journal);
+                let done = make_parts(self.alloc, system, self.folder.as_str());
                 self.made = match done {
                     Ok(()) => Made::Whole,
                     Err(FileFault::NoMemory) => Made::NotYet,
@@ -126,44 +125,157 @@ impl Home {
             }
         }
     }
+}
 
-    fn make_whole<S: System>(
-        &mut self,
-        system: &mut S,
-        journal: &mut Journal,
-    ) -> Result<(), FileFault> {
-        let lock = lock_path(self.alloc, self.folder.as_str())?;
-        let file = journal_path(self.alloc, self.folder.as_str())?;
-        let tables = tables_path(self.alloc, self.folder.as_str())?;
-        self.make_parts(system, journal, &lock, &file, &tables)
+/// Where a part of the store in a folder stands.
+fn part_path(alloc: Global, folder: &str, part: Part) -> Result<String, NoMemory>
+    ensures path { IfOk result (λ path. string_bytes path ≡ part_path part folder.now) }
+{
+    match part {
+        Part::Folder => Ok(String::from_str(alloc, folder)?),
+        Part::Tables => tables_path(alloc, folder),
+        Part::Lock => lock_path(alloc, folder),
+        Part::Journal => journal_path(alloc, folder),
     }
+}
 
-    /// Makes what isn't there yet, under these paths.
-    fn make_parts<S: System>(
-        &mut self,
-        system: &mut S,
-        journal: &mut Journal,
-        lock: &String,
-        file: &String,
-        tables: &String,
-    ) -> Result<(), FileFault> {
-        self.make_folder(system, journal.file.is_none())?;
-        make_locked(system, &mut self.lock, lock.as_str())?;
-        make_locked(system, &mut journal.file, file.as_str())?;
-        system.make_folder(tables.as_str())?;
-        system.sync_folder(self.folder.as_str())
-    }
+/// Holds a part, if something stands at its path; whether it does.
+fn open_part<S: System>(
+    alloc: Global,
+    system: &mut S,
+    part: Part,
+    folder: &str,
+) -> Result<bool, FileFault>
+    ensures keeps { Keeps (S.did system.old) (S.did system.new) }
+{
+    let path = part_path(alloc, folder, part)?;
+    system.open(part, path.as_str())
+}
 
-    /// Makes the store's own folder, whose name is to survive a stop. One that stands may be what a
-    /// stopped run left: the folder above is synced then too, if this run may read it.
-    fn make_folder<S: System>(&mut self, system: &mut S, anew: bool) -> Result<(), FileFault> {
-        let folder = self.folder.as_str();
-        if system.make_folder(folder)? {
-            return system.sync_folder(above(folder));
-        }
-        if anew {
-            let _ = system.sync_folder(above(folder));
-        }
+/// Holds what stands in the folder.
+fn open_parts<S: System>(alloc: Global, system: &mut S, folder: &str) -> Result<(), FileFault> {
+    let tables = open_part(alloc, system, Part::Tables, folder)?;
+    open_part(alloc, system, Part::Lock, folder)?;
+    open_part(alloc, system, Part::Journal, folder)?;
+    if tables && tells_nothing(system)? {
+        test_tables(alloc, system, folder)
+    } else {
         Ok(())
     }
+}
+
+/// Fails where a table's folder stands there.
+fn test_tables<S: System>(alloc: Global, system: &mut S, folder: &str) -> Result<(), FileFault> {
+    let tables = tables_path(alloc, folder)?;
+    if has_tables(alloc, system, tables.as_str())? {
+        Err(FileFault::Device(Cause::NoJournal))
+    } else {
+        Ok(())
+    }
+}
+
+/// Fails where what is held of a part isn't what stands at its path.
+fn test_part<S: System>(
+    alloc: Global,
+    system: &mut S,
+    part: Part,
+    folder: &str,
+) -> Result<(), FileFault>
+    ensures keeps { Keeps (S.did system.old) (S.did system.new) }
+    ensures counted { S.changes system.new ≡ S.changes system.old }
+    ensures found { OnOk result (S.did system.new (Finds (S.changes system.old) (part_path part folder.now))) }
+{
+    let path = part_path(alloc, folder, part)?;
+    if system.is_at(part, path.as_str())? {
+        Ok(())
+    } else {
+        Err(FileFault::Device(Cause::Exchanged))
+    }
+}
+
+/// Makes what isn't held yet.
+#[tactic(auto, using(crate::proofs::ActLemmas::keeps_on))]
+fn make_parts<S: System>(alloc: Global, system: &mut S, folder: &str) -> Result<(), FileFault>
+    ensures keeps { Keeps (S.did system.old) (S.did system.new) }
+{
+    make_folder(alloc, system, folder)?;
+    make_file(alloc, system, Part::Lock, folder)?;
+    make_file(alloc, system, Part::Journal, folder)?;
+    make_tables(alloc, system, folder)?;
+    system.sync_folder(folder)
+}
+
+/// Makes the store's own folder, whose name is to survive a stop. One that stands may be what a stopped
+/// run left: the folder above is synced then too, if this run may read it.
+#[tactic(auto, using(crate::proofs::ActLemmas::keeps_on))]
+fn make_folder<S: System>(alloc: Global, system: &mut S, folder: &str) -> Result<(), FileFault>
+    ensures keeps { Keeps (S.did system.old) (S.did system.new) }
+{
+    if !system.holds(Part::Folder) {
+        return make_new(alloc, system, folder);
+    }
+    if !system.holds(Part::Journal) {
+        let _ = system.sync_folder(above(folder));
+    }
+    Ok(())
+}
+
+/// Makes the folder where nothing stood when the store was opened.
+#[tactic(auto, using(crate::proofs::ActLemmas::keeps_on))]
+fn make_new<S: System>(alloc: Global, system: &mut S, folder: &str) -> Result<(), FileFault>
+    ensures keeps { Keeps (S.did system.old) (S.did system.new) }
+{
+    if !system.make_folder(folder)? {
+        return Err(FileFault::Device(Cause::InUse));
+    }
+    system.sync_folder(above(folder))?;
+    hold_made(alloc, system, Part::Folder, folder)
+}
+
+/// Holds a folder that this run has made: nothing stands in it yet.
+#[tactic(auto, using(crate::proofs::ActLemmas::keeps_on))]
+fn hold_made<S: System>(
+    alloc: Global,
+    system: &mut S,
+    part: Part,
+    path: &str,
+) -> Result<(), FileFault>
+    ensures keeps { Keeps (S.did system.old) (S.did system.new) }
+{
+    let is_there = system.open(part, path)?;
+    match system.names_in(alloc, path)? {
+        Some(names) if is_there && names.is_empty() => Ok(()),
+        _ => Err(FileFault::Device(Cause::Exchanged)),
+    }
+}
+
+/// Makes a file that isn't held yet.
+fn make_file<S: System>(
+    alloc: Global,
+    system: &mut S,
+    part: Part,
+    folder: &str,
+) -> Result<(), FileFault>
+    ensures keeps { Keeps (S.did system.old) (S.did system.new) }
+{
+    if system.holds(part) {
+        return Ok(());
+    }
+    let path = part_path(alloc, folder, part)?;
+    system.make_file(part, path.as_str())
+}
+
+/// Makes the folder of all tables, if it isn't held yet.
+#[tactic(auto, using(crate::proofs::ActLemmas::keeps_on))]
+fn make_tables<S: System>(alloc: Global, system: &mut S, folder: &str) -> Result<(), FileFault>
+    ensures keeps { Keeps (S.did system.old) (S.did system.new) }
+{
+    if system.holds(Part::Tables) {
+        return Ok(());
+    }
+    let tables = tables_path(alloc, folder)?;
+    if !system.make_folder(tables.as_str())? {
+        return Err(FileFault::Device(Cause::InUse));
+    }
+    hold_made(alloc, system, Part::Tables, tables.as_str())
 }

@@ -8,6 +8,7 @@
 mod counts;
 mod fault;
 mod file_shelf;
+mod held;
 mod home;
 mod journal;
 mod known;
@@ -19,4 +20,4 @@ mod tree;
 pub use fault::{Cause, FileFault};
 pub use file_shelf::FileShelf;
 pub use real::RealFiles;
-pub use system::{Stand, System};
+pub use system::{Part, Stand, System};

@@ -2,13 +2,14 @@
 ghost use Rattle.std.specs.Prelude.{◌≤◌, length, IfOk};
 
 use crate::fault::{Cause, FileFault, cause_of};
-use crate::system::{Stand, System};
+use crate::held::{Held, held_metadata, is_same, locked};
+use crate::system::{Part, Stand, System};
 use hv_base::NoMemory;
 use std::alloc::Global;
 use std::fs::{self, File, Metadata, OpenOptions};
 use std::io::{self, ErrorKind, Read, Write};
 use std::os::fd::AsRawFd;
-use std::os::unix::fs::MetadataExt;
+use std::os::unix::fs::FileExt;
 use std::rt::Files;
 
 /// How many bytes of names are asked for at a time.
@@ -18,9 +19,15 @@ const CHUNK: usize = 4096;
 const LAST_STREAM: i32 = 2;
 
 /// The files of the machine. It tells nothing of what was done.
+///
+/// The folder that is held is known to the system by its descriptor, and `/proc/self/fd` gives that a
+/// path: so what stands in the folder is asked for in this very folder, though it be moved and another
+/// have its name. Where there is no `/proc` a path is taken by its names.
 #[derive(Drop)]
 pub struct RealFiles<R> {
     rt: R,
+    alloc: Global,
+    held: Held,
 }
 
 /// A call that changes names, by paths.
@@ -33,8 +40,17 @@ enum Change<'a> {
 }
 
 impl<R: Files<File = File>> RealFiles<R> {
-    pub fn new(rt: R) -> RealFiles<R> {
-        RealFiles { rt }
+    pub fn new(alloc: Global, rt: R) -> RealFiles<R> {
+        RealFiles {
+            rt,
+            alloc,
+            held: Held::new(alloc),
+        }
+    }
+
+    /// The path by which the system is asked for this one.
+    fn taken(&self, path: &str) -> Result<String, NoMemory> {
+        self.held.taken(self.alloc, path)
     }
 
     fn change_once(&self, change: Change<'_>) -> io::Result<()> {
@@ -84,12 +100,47 @@ impl<R: Files<File = File>> RealFiles<R> {
             return Err(FileFault::Device(Cause::NotAFile));
         }
         let file = how.open(&self.rt, path)?;
-        let found = held_metadata(&file)?;
-        if found.dev() == seen.dev() && found.ino() == seen.ino() {
+        if is_same(&held_metadata(&file)?, seen) {
             Ok(file)
         } else {
             Err(FileFault::Device(Cause::NotAFile))
         }
+    }
+
+    /// Opens the folder that `look` has seen, and no other that took its place.
+    fn open_seen_folder(&self, path: &str, seen: &Metadata) -> Result<File, FileFault> {
+        if !seen.is_dir() {
+            return Err(FileFault::Device(Cause::NotAFolder));
+        }
+        let folder = above_streams(fs::open(&self.rt, path)?)?;
+        if is_same(&held_metadata(&folder)?, seen) {
+            Ok(folder)
+        } else {
+            Err(FileFault::Device(Cause::NotAFolder))
+        }
+    }
+
+    /// Opens a part that stands at a path.
+    fn open_part(&self, part: Part, path: &str, seen: &Metadata) -> Result<File, FileFault> {
+        match part {
+            Part::Folder | Part::Tables => self.open_seen_folder(path, seen),
+            Part::Lock | Part::Journal => {
+                let mut how = OpenOptions::new();
+                how.read(true).write(true);
+                locked(above_streams(self.open_seen(&how, path, seen)?)?)
+            }
+        }
+    }
+
+    /// A path by which the system finds what is open, whatever its name is; None where there is no such.
+    fn by_number(&self, file: &File) -> Result<Option<String>, FileFault> {
+        let number = file.as_raw_fd();
+        let path = format!(in self.alloc; "/proc/self/fd/{number}")?;
+        let is_found = match fs::metadata(&self.rt, path.as_str()) {
+            Ok(found) => is_same(&found, &held_metadata(file)?),
+            Err(_) => false,
+        };
+        Ok(if is_found { Some(path) } else { None })
     }
 
     /// Makes a file where nothing stands.
@@ -110,18 +161,6 @@ impl<R: Files<File = File>> RealFiles<R> {
             Ok(file) => Ok(file),
         }
     }
-}
-
-/// What the system says of an open file.
-pub fn held_metadata(file: &File) -> Result<Metadata, FileFault> {
-    for _ in 0..u64::MAX {
-        match file.metadata() {
-            Ok(found) => return Ok(found),
-            Err(error) if error.kind() == ErrorKind::Interrupted => {}
-            Err(error) => return Err(FileFault::Device(cause_of(&error))),
-        }
-    }
-    Err(FileFault::Device(Cause::Other))
 }
 
 /// The file, where it doesn't stand in the place of a standard stream that is closed.
@@ -171,6 +210,20 @@ fn push_names(alloc: Global, names: &mut Vec<String>, bytes: &[u8]) -> Result<()
     Ok(())
 }
 
+/// All names that an open folder gives.
+fn all_names<D: Read>(alloc: Global, folder: &mut D) -> Result<Vec<String>, FileFault> {
+    let mut chunk = [0; CHUNK];
+    let mut names = Vec::new(alloc);
+    for _ in 0..u64::MAX {
+        let count = read_names(folder, &mut chunk)?;
+        if count == 0 {
+            return Ok(names);
+        }
+        push_names(alloc, &mut names, &chunk[..count])?;
+    }
+    Err(FileFault::Device(Cause::Other))
+}
+
 /// Opens a folder to read its names, which refuses a link, None where nothing stands at the path.
 fn open_folder<R: Files>(rt: &R, path: &str) -> Result<Option<R::Dir>, FileFault> {
     for _ in 0..u64::MAX {
@@ -184,11 +237,103 @@ fn open_folder<R: Files>(rt: &R, path: &str) -> Result<Option<R::Dir>, FileFault
     Err(FileFault::Device(Cause::Other))
 }
 
+/// One read of a file from a place on, made again where a signal interrupts it.
+fn read_at(file: &File, at: u64, out: &mut [u8]) -> Result<usize, FileFault>
+    ensures { IfOk result (λ count. count ≤ length out.new) }
+{
+    for _ in 0..u64::MAX {
+        match file.read_at(out, at) {
+            Ok(count) => return Ok(count),
+            Err(error) if error.kind() == ErrorKind::Interrupted => {}
+            Err(error) => return Err(FileFault::from(error)),
+        }
+    }
+    Err(FileFault::Device(Cause::Other))
+}
+
 impl<R: Files<File = File>> System for RealFiles<R> {
     ghost did = { λ _ _. Unit {0} };
 
+    ghost changes = { λ _. 0 };
+
+    fn open(&mut self, part: Part, path: &str) -> Result<bool, FileFault> {
+        let by = self.taken(path)?;
+        let Some(seen) = self.look(by.as_str())? else {
+            return Ok(false);
+        };
+        let file = self.open_part(part, by.as_str(), &seen)?;
+        if matches!(part, Part::Folder) {
+            let folder = String::from_str(self.alloc, path)?;
+            self.held.number = self.by_number(&file)?;
+            self.held.path = folder;
+        }
+        self.held.hold(part, file);
+        Ok(true)
+    }
+
+    fn make_file(&mut self, part: Part, path: &str) -> Result<(), FileFault> {
+        let by = self.taken(path)?;
+        let made = match self.create(by.as_str()) {
+            Err(error) if error.kind() == ErrorKind::AlreadyExists => {
+                return Err(FileFault::Device(Cause::InUse));
+            }
+            Err(error) => return Err(FileFault::Device(cause_of(&error))),
+            Ok(file) => file,
+        };
+        self.held.hold(part, locked(above_streams(made)?)?);
+        Ok(())
+    }
+
+    fn holds(&self, part: Part) -> bool {
+        self.held.file(part).is_some()
+    }
+
+    fn is_at(&mut self, part: Part, path: &str) -> Result<bool, FileFault> {
+        let by = self.taken(path)?;
+        let found = self.look(by.as_str())?;
+        match (self.held.file(part), found) {
+            (Some(file), Some(found)) => Ok(is_same(&held_metadata(file)?, &found)),
+            (None, None) => Ok(true),
+            _ => Ok(false),
+        }
+    }
+
+    fn journal_len(&mut self) -> Result<u64, FileFault> {
+        match self.held.file(Part::Journal) {
+            Some(file) => Ok(held_metadata(file)?.len()),
+            None => Ok(0),
+        }
+    }
+
+    fn journal_read(&mut self, at: u64, out: &mut [u8]) -> Result<usize, FileFault> {
+        match self.held.file(Part::Journal) {
+            Some(file) => read_at(file, at, out),
+            None => Ok(0),
+        }
+    }
+
+    fn journal_write(&mut self, at: u64, bytes: &[u8]) -> Result<(), FileFault> {
+        match self.held.file(Part::Journal) {
+            Some(file) => {
+                file.write_all_at(bytes, at)?;
+                Ok(())
+            }
+            None => Err(FileFault::Device(Cause::Other)),
+        }
+    }
+
+    fn journal_sync(&mut self) -> Result<(), FileFault> {
+        match self.held.file(Part::Journal) {
+            Some(file) => {
+                file.sync_data()?;
+                Ok(())
+            }
+            None => Ok(()),
+        }
+    }
+
     fn stand(&mut self, path: &str) -> Result<Stand, FileFault> {
-        Ok(match self.look(path)? {
+        Ok(match self.look(self.taken(path)?.as_str())? {
             None => Stand::Nothing,
             Some(found) if found.is_dir() => Stand::Folder,
             Some(found) if found.is_file() => Stand::File,
@@ -209,7 +354,8 @@ impl<R: Files<File = File>> System for RealFiles<R> {
     }
 
     fn make_folder(&mut self, path: &str) -> Result<bool, FileFault> {
-        match self.change(Change::MakeFolder(path)) {
+        let by = self.taken(path)?;
+        match self.change(Change::MakeFolder(by.as_str())) {
             Ok(()) => Ok(true),
             Err(error) if error.kind() == ErrorKind::AlreadyExists => {
                 match self.stand(path)? {
@@ -222,78 +368,64 @@ impl<R: Files<File = File>> System for RealFiles<R> {
     }
 
     fn sync_folder(&mut self, path: &str) -> Result<(), FileFault> {
-        let folder = fs::open(&self.rt, path)?;
+        if path == self.held.path.as_str() {
+            if let Some(folder) = self.held.file(Part::Folder) {
+                folder.sync_all()?;
+                return Ok(());
+            }
+        }
+        let by = self.taken(path)?;
+        let folder = fs::open(&self.rt, by.as_str())?;
         folder.sync_all()?;
         Ok(())
     }
 
     fn write_new(&mut self, path: &str, bytes: &[u8]) -> Result<(), FileFault> {
-        let mut file = above_streams(self.create_anew(path)?)?;
+        let by = self.taken(path)?;
+        let mut file = above_streams(self.create_anew(by.as_str())?)?;
         let done = write_synced(&mut file, bytes);
         if done.is_err() {
-            let _ = self.change(Change::RemoveFile(path));
+            let _ = self.change(Change::RemoveFile(by.as_str()));
         }
         done
     }
 
     fn rename(&mut self, from: &str, to: &str) -> Result<bool, FileFault> {
-        self.take(Change::Rename(from, to))
+        let from = self.taken(from)?;
+        let to = self.taken(to)?;
+        self.take(Change::Rename(from.as_str(), to.as_str()))
     }
 
     fn remove_file(&mut self, path: &str) -> Result<(), FileFault> {
-        self.take(Change::RemoveFile(path))?;
+        let by = self.taken(path)?;
+        self.take(Change::RemoveFile(by.as_str()))?;
         Ok(())
     }
 
     fn remove_folder(&mut self, path: &str) -> Result<(), FileFault> {
-        self.take(Change::RemoveFolder(path))?;
+        let by = self.taken(path)?;
+        self.take(Change::RemoveFolder(by.as_str()))?;
         Ok(())
     }
 
     fn names_in(&mut self, alloc: Global, path: &str) -> Result<Option<Vec<String>>, FileFault> {
-        let Some(mut folder) = open_folder(&self.rt, path)? else {
-            return Ok(None);
-        };
-        let mut chunk = [0; CHUNK];
-        let mut names = Vec::new(alloc);
-        for _ in 0..u64::MAX {
-            let count = read_names(&mut folder, &mut chunk)?;
-            if count == 0 {
-                return Ok(Some(names));
-            }
-            push_names(alloc, &mut names, &chunk[..count])?;
+        let by = self.taken(path)?;
+        match open_folder(&self.rt, by.as_str())? {
+            Some(mut folder) => Ok(Some(all_names(alloc, &mut folder)?)),
+            None => Ok(None),
         }
-        Err(FileFault::Device(Cause::Other))
     }
 
     fn read(&mut self, alloc: Global, path: &str) -> Result<Option<Vec<u8>>, FileFault> {
-        let Some(seen) = self.look(path)? else {
+        let by = self.taken(path)?;
+        let Some(seen) = self.look(by.as_str())? else {
             return Ok(None);
         };
         let mut how = OpenOptions::new();
         how.read(true);
-        let mut file = self.open_seen(&how, path, &seen)?;
+        let mut file = self.open_seen(&how, by.as_str(), &seen)?;
         let mut bytes = vec![in alloc; 0u8; seen.len() as usize]?;
         fill(&mut file, &mut bytes)?;
         Ok(Some(bytes))
-    }
-
-    fn open_file(&mut self, path: &str) -> Result<Option<File>, FileFault> {
-        let Some(seen) = self.look(path)? else {
-            return Ok(None);
-        };
-        let mut how = OpenOptions::new();
-        how.read(true).write(true);
-        Ok(Some(above_streams(self.open_seen(&how, path, &seen)?)?))
-    }
-
-    fn make_file(&mut self, path: &str) -> Result<File, FileFault> {
-        match self.create(path) {
-            Err(error) if error.kind() == ErrorKind::AlreadyExists => {
-                Err(FileFault::Device(Cause::InUse))
-            }
-            Err(error) => Err(FileFault::Device(cause_of(&error))),
-            Ok(file) => above_streams(file),
-        }
     }
 }

@@ -1,12 +1,13 @@
 -- Lemmas on the names of files and folders.
-use Rattle.std.proofs.Common.{◌≡◌, ℕ, zero, suc, ◌+◌, ◌-◌, ◌*◌, ◌^◌, ◌<◌, ◌⊎◌, inl, inr, List, [], ◌∷◌, ◌++◌, Bor, length, drop, replicate, map, Bool, true, false, true≢false, not, ◌&&◌, ◌||◌, ◌==◌, if◌then◌else◌, Result, Ok, refl, sym, ap, ◌∙◌, subst, arith, rules, length-append}
+use Rattle.std.proofs.Common.{◌≡◌, ℕ, zero, suc, ◌+◌, ◌-◌, ◌*◌, ◌^◌, ◌<◌, ◌⊎◌, inl, inr, List, [], ◌∷◌, ◌++◌, Bor, length, drop, replicate, map, Bool, true, false, true≢false, not, ◌&&◌, ◌||◌, ◌==◌, if◌then◌else◌, Result, Ok, refl, sym, ap, ◌∙◌, subst, arith, rules, length-append, eqb-true}
+use Rattle.std.specs.Char.{is_ascii_digit}
 use Rattle.std.specs.Fmt.{decimal}
-use Rattle.std.specs.List.{slice_split}
+use Rattle.std.specs.List.{list_all, slice_split}
 use Rattle.std.specs.Str.{all_ascii_digits}
 use Rattle.std.specs.Str.Parse.{ParsesUnsigned}
 use Rattle.std.proofs.lemmas.Fmt.{digits_decimal, digits_value-decimal, decimal_is_IsNumeral}
 use Rattle.std.proofs.lemmas.Str.Parse.{IsNumeralModel, numerals_by_fold, parse_gives}
-use Rattle.hv_paths.specs.Names.{slash, zero_digit, piece_mark, dir_mark, is_marked, has_equals, piece_name, dir_name, padded, bucket_name, pieces_of}
+use Rattle.hv_paths.specs.Names.{slash, zero_digit, piece_mark, dir_mark, is_marked, has_equals, piece_name, dir_name, padded, table_name, is_table, bucket_name, pieces_of}
 
 -- ## Pieces and directories
 
@@ -141,6 +142,30 @@ pub padded_some : (width number : ℕ) → number < 2 ^ 64 → 0 < length (padde
 padded_some width number fits =
     let some = (decimal_is_IsNumeral number fits).0.0
     in omega (arith, some, length-append (replicate (width - length (decimal number)) zero_digit) (decimal number))
+
+all_digits : (name : List ℕ) → all_ascii_digits name ≡ true → list_all is_ascii_digit name ≡ true
+all_digits [] digits = refl
+all_digits (byte ∷ bytes) digits = elim (is_ascii_digit byte) as (λ b. b && all_ascii_digits bytes ≡ true → b && list_all is_ascii_digit bytes ≡ true) [
+  | true ↦ λ rest. all_digits bytes rest
+  | false ↦ λ rest. absurd (true≢false (sym rest))
+] digits
+
+some_digits : (name : List ℕ) → 0 < length name → all_ascii_digits name ≡ true → is_table name ≡ true
+some_digits [] some digits = absurd (omega (arith, some))
+some_digits (byte ∷ bytes) some digits = all_digits (byte ∷ bytes) digits
+
+pub is_table-none : (name : List ℕ) → (length name == 0) ≡ true → false ≡ is_table name
+is_table-none [] none = refl
+is_table-none (byte ∷ bytes) none = absurd (omega (arith, eqb-true (length (byte ∷ bytes)) 0 none))
+
+pub is_table-some : (name : List ℕ) (digits : Bool) → (length name == 0) ≡ false →
+    digits ≡ list_all is_ascii_digit name → digits ≡ is_table name
+is_table-some [] digits some e = absurd (true≢false some)
+is_table-some (byte ∷ bytes) digits some e = e
+
+-- each table's folder has digits alone
+pub table_name-is_table : (table : ℕ) → table < 2 ^ 64 → is_table (table_name table) ≡ true
+table_name-is_table table fits = some_digits (table_name table) (padded_some 7 table fits) (padded_digits 7 table fits)
 
 -- two numbers have two spellings
 pub padded-same : (width number other : ℕ) → number < 2 ^ 64 → other < 2 ^ 64 →

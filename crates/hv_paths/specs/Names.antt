@@ -3,9 +3,10 @@
 -- none, and what isn't so, or would begin with a dot or a mark, has a mark in front.
 -- Source: Hive's layout of partitions; the marks are this project's profile.
 
-use Rattle.std.specs.Prelude.{◌≡◌, ℕ, ◌-◌, List, [], ◌∷◌, ◌++◌, length, replicate, Bool, true, not, ◌&&◌, ◌||◌, ◌==◌, if◌then◌else◌, map, codes}
+use Rattle.std.specs.Prelude.{◌≡◌, ℕ, ◌-◌, List, [], ◌∷◌, ◌++◌, length, replicate, Bool, true, false, not, ◌&&◌, ◌||◌, ◌==◌, if◌then◌else◌, map, codes}
+use Rattle.std.specs.Char.{is_ascii_digit}
 use Rattle.std.specs.Fmt.{decimal}
-use Rattle.std.specs.List.{list_any, slice_split}
+use Rattle.std.specs.List.{list_all, list_any, slice_split}
 use Rattle.hv_paths.specs.declared.names.Entry.{Entry}
 use Rattle.hv_paths.specs.declared.names.Entry.TheVariants.{Piece, Dir, Other}
 
@@ -61,6 +62,11 @@ padded width number =
 -- the folder of a table, as `0000001`
 abbrev pub table_name : ℕ → List ℕ
 table_name table = padded 7 table
+
+-- a name that a table's folder may have: digits alone, and one at least
+abbrev pub is_table : List ℕ → Bool
+is_table [] = false
+is_table (byte ∷ bytes) = is_ascii_digit byte && list_all is_ascii_digit bytes
 
 -- a file, as `bucket_00000`
 abbrev pub bucket_name : ℕ → List ℕ

@@ -1,6 +1,6 @@
 ghost use Rattle.std.specs.Prelude.{◌≡◌, ◌<◌, ◌^◌, ℕ, List, true, false};
 ghost use Rattle.std.specs.List.{list_all};
-ghost use Rattle.hv_paths.specs.Names.{piece_name, dir_name, table_name, bucket_name, folders_of, has_slash, is_name};
+ghost use Rattle.hv_paths.specs.Names.{piece_name, dir_name, table_name, is_table, bucket_name, folders_of, has_slash, is_name};
 
 /// Two pieces, two directories and two files have two names, and no piece has a directory's name.
 pub fn names_differ()
@@ -24,4 +24,9 @@ pub fn names_are_safe()
     ensures folders { (table : ℕ) (partition dir : List ℕ) → table < 2 ^ 64
         → has_slash dir ≡ false → list_all is_name (folders_of table partition dir) ≡ true }
     ensures files { (bucket : ℕ) → bucket < 2 ^ 32 → is_name (bucket_name bucket) ≡ true }
+{}
+
+/// Each table's folder has a name that is known for one.
+pub fn tables_are_known()
+    ensures law { (table : ℕ) → table < 2 ^ 64 → is_table (table_name table) ≡ true }
 {}

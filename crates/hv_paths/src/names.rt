@@ -1,6 +1,8 @@
 ghost use Rattle.std.specs.Prelude.{◌≡◌, ◌<◌, ◌++◌, ◌^◌, ℕ, map, Some, IfOk, IfSome, OnOk, string_bytes};
+ghost use Rattle.std.specs.Char.{is_ascii_digit};
+ghost use Rattle.std.specs.List.{list_all};
 ghost use Rattle.hv_paths.specs.Paths.{outer_folders};
-ghost use Rattle.hv_paths.specs.Names.{is_marked, has_equals, piece_name, dir_name, padded, table_name, bucket_name, Names, folders_of, pieces_of, has_slash};
+ghost use Rattle.hv_paths.specs.Names.{is_marked, has_equals, piece_name, dir_name, padded, table_name, is_table, bucket_name, Names, folders_of, pieces_of, has_slash};
 
 use hv_base::{NoMemory, TableId};
 use std::alloc::Global;
@@ -119,6 +121,23 @@ pub fn table_name(alloc: Global, table: TableId) -> Result<String, NoMemory>
     let mut name = String::new(alloc);
     push_number(alloc, &mut name, 7, table.0)?;
     Ok(name)
+}
+
+fn has_digits_alone(bytes: &[u8]) -> bool
+    ensures { result ≡ list_all is_ascii_digit bytes.now }
+{
+    bytes.iter().all(|byte| byte.is_ascii_digit())
+}
+
+/// Whether a folder of this name, in the folder of all tables, may be a table's.
+pub fn is_table(name: &str) -> bool
+    ensures { result ≡ is_table name.now }
+{
+    if name.is_empty() {
+        false
+    } else {
+        has_digits_alone(name.as_bytes())
+    }
 }
 
 /// The name of a file, as `bucket_00000`.

@@ -2,10 +2,14 @@
 //! otherwise. A row is
 //!     KIND WORD|CALL;ARGUMENT;ARGUMENT..|CALL.. → ANSWER ANSWER..
 //! with as KIND `folder`, and the store at the path WORD is opened for the row; or `memory`, and the store is a new one
-//! that fails at the calls WORD; or `none`, where no store is open. A line that begins with # says what follows.
+//! that fails at the calls WORD; or `none`, where no store is open; or `events`, and the calls are made over files in memory
+//! while the event WORD comes before each call of the system in turn; or `opens`, and what stands in memory is opened. A
+//! line that begins with # says what follows.
 #![tactic(auto)]
 
+mod events;
 mod folders;
+mod memory_files;
 mod rows;
 mod steps;
 mod words;

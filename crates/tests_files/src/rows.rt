@@ -1,3 +1,4 @@
+use crate::events::{events, opens};
 use crate::folders::folder;
 use crate::steps;
 use crate::words::{number, piece};
@@ -5,7 +6,8 @@ use hv_base::NoMemory;
 use hv_files::FileShelf;
 use hv_shelf::{Fail, MemoryShelf, Op, Shelf};
 
-fn step<D: Shelf>(
+/// A call of a store, or of the folder where the program runs.
+pub fn step<D: Shelf>(
     rt: &HostRuntime,
     out: &mut String,
     shelf: &mut D,
@@ -80,6 +82,8 @@ pub fn answer(rt: &HostRuntime, out: &mut String, row: &str) -> Result<(), NoMem
     match kind {
         "memory" => in_memory(rt, out, &calls),
         "folder" => in_folder(rt, out, &calls),
+        "events" => events(rt, out, &calls),
+        "opens" => opens(rt, out, &calls),
         _ => without(rt, out, &calls),
     }
 }

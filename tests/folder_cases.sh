@@ -1,0 +1,318 @@
+#!/bin/bash
+# What happens around a folder, over real files: tests/folder_cases.sh PROGRAM [EVERY]
+#
+# PROGRAM is the built program, as crates/hive/out/hive. A folder that is exchanged under a run, journals that are missing or
+# empty, and limits of the system. Where EVERY is above 0 and strace is there, a run is also stopped at each EVERY-th of its
+# calls of the system (3 if left out), and something is exchanged there before it goes on, or it is killed there; and a
+# folder is exchanged at moments of chance. Each case that isn't so prints a line; the last line says how many are, and the
+# status is 1 where one isn't.
+set -u
+# shellcheck source=tests/cases.sh
+. "$(dirname "$(realpath "$0")")/cases.sh"
+every=${2:-3}
+
+# Each name below a folder, and the sum of each file.
+sums() {
+    (cd "$1" && find . | sort && find . -type f -exec sha256sum {} + | sort)
+}
+
+# rows FOLDER: how many rows its table t has.
+rows() {
+    echo 'SELECT count(*) AS n FROM t;' | "$program" "$1" run 2>/dev/null | tail -n 1
+}
+
+# A store of seven rows.
+store() {
+    {
+        echo 'CREATE TABLE t (a INT);'
+        for n in 1 2 3 4 5 6 7; do echo "INSERT INTO t VALUES (-$n);"; done
+    } | "$program" "$1" run >/dev/null 2>&1
+}
+
+# A script of so many inserts of one row.
+inserts() {
+    echo 'CREATE TABLE IF NOT EXISTS t (a INT);'
+    for n in $(seq "$1"); do echo "INSERT INTO t VALUES ($n);"; done
+}
+
+acknowledged() {
+    grep -c '^OK inserted 1 deleted 0$' out
+}
+
+# has_all FOLDER BEFORE: it has the rows that stood before, the acknowledged ones, and at most one more.
+has_all() {
+    local found known
+    found=$(rows "$1")
+    known=$(($2 + $(acknowledged)))
+    [ "$found" = "$known" ] || [ "$found" = $((known + 1)) ]
+}
+
+# Ends with 5, or with 0 where nothing was left to be done.
+is_stopped() {
+    if is_status 5; then
+        said "it isn't the one that this run has opened"
+    else
+        is_status 0 && [ "$(acknowledged)" = "$1" ]
+    fi
+}
+
+exchange_folder() {
+    mv wh old && mv other wh
+}
+
+exchange_tables() {
+    mv wh/tables wh/kept && mv other/tables wh/tables
+}
+
+take_journal() {
+    mkdir kept && mv wh/journal wh/lock kept/
+}
+
+# holds PROCESS PATH: the process has it open.
+holds() {
+    local open
+    for open in "/proc/$1/fd"/*; do
+        [ "$(readlink "$open")" = "$2" ] && return 0
+    done
+    return 1
+}
+
+# stopped_at NUMBER PART ACTION: a run is stopped at its call of the system of that number, and the action is done. 1 where the
+# run has no such call, 2 where the part of the store wasn't held yet.
+stopped_at() {
+    local tracer pid state turns=0 found=0
+    inserts 3 >script
+    strace -f -qqq -o /dev/null -e inject=all:signal=STOP:when="$1" "$program" wh run <script >out 2>err &
+    tracer=$!
+    while [ $turns -lt 2000 ]; do
+        turns=$((turns + 1))
+        pid=$(pgrep -P $tracer -x "$(basename "$program" | cut -c1-15)" | head -n 1)
+        state=$([ -n "$pid" ] && sed 's/.*) //' "/proc/$pid/stat" 2>/dev/null | cut -c1)
+        if [ "$state" = T ] || [ "$state" = t ]; then
+            if holds "$pid" "$place/$2"; then
+                "$3"
+                found=1
+            fi
+            kill -CONT "$pid"
+            break
+        fi
+        kill -0 $tracer 2>/dev/null || break
+        sleep 0.005
+    done
+    wait $tracer
+    status=$?
+    [ $found = 1 ] && return 0
+    [ "$state" = T ] || [ "$state" = t ] && return 2
+    return 1
+}
+
+# at_each_call PART ACTION CHECK KIND: over the calls after which the part of the store is held, of a store of that kind.
+at_each_call() {
+    local number=1 tried=0 answer
+    while :; do
+        fresh
+        store other
+        [ "$4" = new ] || store wh
+        before=$([ "$4" = new ] && echo 0 || echo 7)
+        sums other >wanted
+        stopped_at $number "$1" "$2"
+        answer=$?
+        [ $answer = 1 ] && break
+        if [ $answer = 0 ]; then
+            tried=$((tried + 1))
+            so "$2 at call $number of a run over a $4 store" "$3"
+        fi
+        number=$((number + every))
+    done
+    so "$2 was tried over a $4 store" [ $tried -gt 5 ]
+    echo "$2, a $4 store: at $tried calls of the system"
+}
+
+folder_is_so() {
+    is_stopped 3 && [ "$(sums wh)" = "$(cat wanted)" ] && { [ ! -e old/journal ] || has_all old "$before"; }
+}
+
+tables_are_so() {
+    local ok=0
+    is_stopped 3 || ok=1
+    mkdir -p other && mv wh/tables other/tables && mv wh/kept wh/tables
+    [ "$(sums other)" = "$(cat wanted)" ] && has_all wh "$before" && [ $ok = 0 ]
+}
+
+journal_is_so() {
+    local ok=0
+    is_stopped 3 || ok=1
+    rm -f wh/journal wh/lock
+    mv kept/journal kept/lock wh/
+    has_all wh "$before" && [ $ok = 0 ]
+}
+
+# exchanged_at_output ACTION: a run waits within a reply of some 200 KB that nobody reads, the action is done, and the run
+# goes on with a statement that changes something.
+exchanged_at_output() {
+    local line text
+    text=$(printf 'x%.0s' $(seq 30000))
+    {
+        echo 'CREATE TABLE IF NOT EXISTS t (a INT);'
+        for n in 1 2 3 4 5 6 7; do echo "INSERT INTO t VALUES ($n);"; done
+        echo "SELECT '$text' AS wide FROM t;"
+        echo 'INSERT INTO t VALUES (8);'
+    } >script
+    rm -f replies && mkfifo replies
+    "$program" wh run <script >replies 2>err &
+    exec 3<replies
+    : >out
+    while read -r line <&3 && [ "$line" != wide ]; do echo "$line" >>out; done
+    "$1"
+    cat <&3 >rest
+    exec 3<&-
+    wait $!
+    status=$?
+}
+
+echo "== exchanged while a reply is printed"
+for kind in standing new; do
+    for case in exchange_folder:folder_is_so exchange_tables:tables_are_so take_journal:journal_is_so; do
+        fresh
+        store other
+        [ $kind = new ] || store wh
+        before=$([ $kind = new ] && echo 0 || echo 7)
+        sums other >wanted
+        exchanged_at_output "${case%%:*}"
+        so "${case%%:*}, a $kind store: the run ends with 5" is_status 5
+        so "${case%%:*}, a $kind store: the seven rows before are acknowledged" [ "$(acknowledged)" = 7 ]
+        so "${case%%:*}, a $kind store: all is as it should be" "${case##*:}"
+    done
+done
+
+# killed_at_each_call: the first run over a folder is killed at its calls, and the next one opens what it left.
+killed_at_each_call() {
+    local number=1
+    while :; do
+        fresh
+        inserts 3 >script
+        strace -f -qqq -o /dev/null -e inject=all:signal=KILL:when=$number "$program" wh run <script >out 2>err
+        status=$?
+        is_status 0 && break
+        cp out first
+        echo 'CREATE TABLE IF NOT EXISTS t (a INT);' >script
+        run wh <script
+        so "the folder opens that a run left which was killed at call $number" is_status 0
+        cp first out
+        so "with each row that was acknowledged at call $number" has_all wh 0
+        number=$((number + every))
+    done
+    so "a first run was killed at some calls" [ $number -gt 50 ]
+    echo "killed at each ${every}th of $number calls of the system"
+}
+
+if [ "$every" -gt 0 ] && command -v strace >/dev/null; then
+    echo "== exchanged at a call of the system"
+    for kind in standing new; do
+        at_each_call wh exchange_folder folder_is_so $kind
+        at_each_call wh/tables exchange_tables tables_are_so $kind
+        at_each_call wh/journal take_journal journal_is_so $kind
+    done
+    echo "== killed at a call of the system"
+    killed_at_each_call
+fi
+
+if [ "$every" -gt 0 ]; then
+    echo "== exchanged in the middle of a run, at moments of chance"
+    for round in $(seq 20); do
+        fresh
+        store other
+        sums other >wanted
+        inserts 400 >script
+        "$program" wh run <script >out 2>err &
+        while [ ! -s out ]; do sleep 0.01; done
+        sleep "0.$((RANDOM % 9))$((RANDOM % 9))"
+        exchange_folder
+        wait $!
+        status=$?
+        so "round $round: the run ends with 5, or was over" is_stopped 400
+        so "round $round: the other folder is as it was" [ "$(sums wh)" = "$(cat wanted)" ]
+        so "round $round: each acknowledged row is there" has_all old 0
+    done
+fi
+
+echo "== a journal that is missing or empty"
+fresh
+store wh
+cp -a wh saved
+for kind in missing empty closed; do
+    rm -rf wh && cp -a saved wh
+    case $kind in
+    missing) rm wh/journal ;;
+    empty) : >wh/journal ;;
+    closed) printf '\0' | dd of=wh/journal conv=notrunc status=none ;;
+    esac
+    sums wh >wanted
+    inserts 1 >script
+    run wh <script
+    so "$kind: the run ends with 5" is_status 5
+    so "$kind: nothing is printed" silent
+    so "$kind: the cause is said" said "the journal that tells of them is missing or empty"
+    so "$kind: nothing is changed" [ "$(sums wh)" = "$(cat wanted)" ]
+done
+rm -rf wh && cp -a saved wh
+so "the journal that is put back tells of all rows" [ "$(rows wh)" = 7 ]
+for kind in none folder lock journal tables readme; do
+    fresh
+    [ $kind = none ] || mkdir wh
+    case $kind in
+    lock) : >wh/lock ;;
+    journal) : >wh/journal ;;
+    tables) mkdir wh/tables ;;
+    readme) mkdir wh/tables && echo x >wh/tables/README ;;
+    esac
+    inserts 1 >script
+    run wh <script
+    so "what a first opening may have left is opened: $kind" is_status 0
+    so "it is said to be new: $kind" said "a new store was made in the folder wh"
+    run wh <script
+    so "the second run is over no new one: $kind" [ ! -s err ]
+done
+
+# limited NUMBER: runs the script with so many descriptors.
+limited() {
+    bash -c 'ulimit -n "$1" && exec "$2" wh run' - "$1" "$program" <script >out 2>err
+    status=$?
+}
+
+echo "== limits of the system"
+for limit in 4 5 6 7; do
+    fresh
+    inserts 1 >script
+    limited $limit
+    so "ulimit -n $limit" is_status 5
+    so "ulimit -n $limit is said" said "too many files are open"
+done
+fresh
+inserts 1 >script
+limited 8
+so "eight descriptors are enough" is_status 0
+fresh
+deep=$(printf 'd%.0s' $(seq 240))
+long=.
+while [ ${#long} -lt 3300 ]; do long=$long/$deep; done
+mkdir -p "$long"
+inserts 1 >script
+run "$long/wh" <script
+so "a path of $((${#long} + 3)) bytes is no matter" is_status 0
+while [ ${#long} -lt 3700 ]; do long=$long/$deep; done
+mkdir -p "$long"
+run "$long/wh" <script
+so "a path of $((${#long} + 3)) bytes is refused" is_status 5
+so "and said to be too long" said "is too long"
+so "nothing stands there" [ "$(find . -name wh | wc -l)" = 1 ]
+while IFS='|' read -r folder want; do
+    run "$folder" <script
+    so "$folder is refused" is_status 5
+    so "$folder has its cause" said "$want"
+done <<'S'
+/proc/self|where a folder is to be stands none
+/proc/self/wh|a folder there is gone, or takes no files
+/proc/self/fd/wh|a folder there is gone, or takes no files
+S
+ended
