@@ -40,7 +40,7 @@ pub(crate) fn add_said(alloc: Global, said: &mut String, answer: Said) -> io::Re
         Said::Refused => add(said, "refused"),
         Said::Of(what, number) => add_number(alloc, said, what, number),
         Said::Begun(txn, place) => {
-            add_numbers(alloc, said, ("transaction ", txn), (" starts at ", place))
+            add_numbers(alloc, said, "transaction ", txn, " starts at ", place)
         }
     }
 }

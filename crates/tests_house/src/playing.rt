@@ -120,10 +120,10 @@ fn say_closed(
         return Err(ErrorKind::Other.into());
     };
     let same = now.journal() == before.journal() && now.files() == before.files();
-    let kept = if same { ", as before" } else { ", changed" };
+    let how = if same { ", as before" } else { ", changed" };
     add(said, word)?;
     add_number(alloc, said, ": full with ", entries)?;
-    say(said, kept)
+    say(said, how)
 }
 
 /// Opens a store once more, behind a file that is laid into it where the line says so. Where there is no room for that, goes on with an

@@ -15,7 +15,7 @@ fn add_given(
     table: TableId,
     write: WriteId,
 ) -> io::Result<()> {
-    add_numbers(alloc, said, ("give ", txn.0), (" ", table.0))?;
+    add_numbers(alloc, said, "give ", txn.0, " ", table.0)?;
     add_number(alloc, said, ".", write.0)
 }
 
@@ -38,13 +38,10 @@ fn add_entry(alloc: Global, said: &mut String, entry: &Entry) -> io::Result<()> 
         Entry::Start { txn, .. } => add_number(alloc, said, "start ", txn.0),
         Entry::Given { txn, table, write } => add_given(alloc, said, *txn, *table, *write),
         Entry::Commit { txn, wrote } => {
-            let count = wrote.len() as u64;
-            add_numbers(alloc, said, ("commit ", txn.0), (" ", count))
+            add_numbers(alloc, said, "commit ", txn.0, " ", wrote.len() as u64)
         }
         Entry::Abort { txn, cause } => add_abort(alloc, said, *txn, cause),
-        Entry::Create { txn, table } => {
-            add_numbers(alloc, said, ("create ", txn.0), (" ", table.0))
-        }
+        Entry::Create { txn, table } => { add_numbers(alloc, said, "create ", txn.0, " ", table.0) }
         _ => add(said, "else"),
     }
 }

@@ -43,11 +43,13 @@ pub(crate) fn add_number(
 pub(crate) fn add_numbers(
     alloc: Global,
     said: &mut String,
-    first: (&str, u64),
-    second: (&str, u64),
+    word: &str,
+    number: u64,
+    next: &str,
+    other: u64,
 ) -> io::Result<()> {
-    add_number(alloc, said, first.0, first.1)?;
-    add_number(alloc, said, second.0, second.1)
+    add_number(alloc, said, word, number)?;
+    add_number(alloc, said, next, other)
 }
 
 /// A line more, of a word and a number.
