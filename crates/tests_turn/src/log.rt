@@ -1,6 +1,7 @@
-ghost use Rattle.std.specs.Prelude.{◌≡◌, ◌≤◌, ◌++◌, ◌∷◌, [], vec_len, OnOk, OnErr, refl};
+ghost use Rattle.std.specs.Prelude.{◌≡◌, ◌+◌, ◌≤◌, ◌++◌, ◌∷◌, [], length, vec_len, OnOk, OnErr, refl};
 ghost use Rattle.std.proofs.Common.{◌∙◌};
 ghost use mathlib.Core.List.{IsPrefix};
+ghost use Rattle.hv_turn.specs.Tokens.{IsSameOrOneMore};
 ghost use Rattle.hv_turn.proofs.Prefixes.{prefix_self, prefix_trans};
 
 use hv_turn::Storied;
@@ -47,6 +48,21 @@ impl Log {
         match self.items.push(item) {
             Ok(()) => Ok(()),
             Err(_) => Err(NotAdded),
+        }
+    }
+
+    /// The same, and how many were added.
+    pub fn count_added(&mut self, item: Item) -> u64
+        requires fits { vec_len self.old.items ≤ self.old.room }
+        ensures history { IsSameOrOneMore self.old.items.items self.new.items.items }
+        ensures count { length self.new.items.items ≡ length self.old.items.items + result }
+        ensures most { result ≤ 1 }
+        ensures room { self.new.room ≡ self.old.room }
+        ensures fits { vec_len self.new.items ≤ self.new.room }
+    {
+        match self.add(item) {
+            Ok(()) => 1,
+            Err(NotAdded) => 0,
         }
     }
 }

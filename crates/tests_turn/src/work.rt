@@ -17,9 +17,9 @@ fn add_one<R: Wait>(rt: &R, turn: &Turn<Log>, seat: &mut Seat<Log>, item: Item) 
     ensures added { result ≤ 1 }
 {
     let mut held = turn.enter(rt, seat);
-    let done = held.value.add(item).is_ok();
+    let added = held.value.count_added(item);
     turn.leave(seat, held);
-    if done { 1 } else { 0 }
+    added
 }
 
 // The same in so many turns.
@@ -48,6 +48,7 @@ fn work<R: Wait>(
 }
 
 // Each of the threads takes a part of the seat, and works by itself.
+#[tactic(auto, using(crate::proofs::Laters::worked_apart))]
 fn spread<R: Threads + Wait + Sync>(
     rt: &R,
     turn: &Turn<Log>,
