@@ -1,17 +1,17 @@
 //! A statement of one's own, over whoever acts on the house.
 ghost use Rattle.std.specs.Prelude.{◌≡◌, IfSome, IfOk, OnOk};
 ghost use Rattle.hv_actor.specs.Acting.{IsLater};
-ghost use Rattle.hv_acts.specs.Told.{seen_in};
-ghost use Rattle.hv_acts.specs.Going.{IsOpenHouse};
+ghost use Rattle.hv_session.specs.hv_acts.specs.Told.{seen_in};
+ghost use Rattle.hv_session.specs.hv_acts.specs.Going.{IsOpenHouse};
 ghost use Rattle.hv_session.specs.Doing.{IsHold, CanFinish, CanFinishTaken};
 ghost use Rattle.tests_house.specs.Keeping.{held_behind, CanTakeUp, CanGoOn};
 
 use crate::desk::{Desk, say_done};
 use crate::words::{cut, say};
 use hv_actor::Actor;
-use hv_acts::ToldHouse;
 use hv_base::{Stage, Text};
 use hv_house::HouseFault;
+use hv_session::hv_acts::ToldHouse;
 use hv_session::{Asking, Done, How, Paused, Taken, finish, take_up, what_is_held_can_be_finished};
 use hv_shelf::Shelf;
 use std::alloc::Global;
