@@ -8,5 +8,5 @@ loop-number-init g c = (later_itself c.args.seat c.requires.free, omega arith)
 pub loop-number-preserved : goal.loop-number-preserved
 loop-number-preserved g c =
     let most = c.loop-number.invariant.1 in
-    let one = c.add_one.ensures.added in
-    (later_then _ _ _ _ _ c.loop-number.invariant.0 c.add_one.ensures.seat, omega (arith, most, one))
+    let one = c.add_one-added.ensures.added in
+    (later_then _ _ _ _ _ c.loop-number.invariant.0 c.add_one-added.ensures.seat, omega (arith, most, one))
