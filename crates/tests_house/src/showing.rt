@@ -61,8 +61,9 @@ pub(crate) fn add_book(alloc: Global, said: &mut String, book: &Book) -> io::Res
 pub(crate) fn add_files(alloc: Global, said: &mut String, store: &MemoryShelf) -> io::Result<()> {
     let mut mark = "";
     for place in store.files().keys() {
+        add(said, mark)?;
         let (table, bucket) = (place.table.0, place.bucket);
-        let text = format!(in alloc; "{mark}{table}/{}/{}/{bucket}", place.partition, place.dir)?;
+        let text = format!(in alloc; "{table}/{}/{}/{bucket}", place.partition, place.dir)?;
         add(said, text.as_str())?;
         mark = ", ";
     }
