@@ -3,17 +3,21 @@
 
 mod advice;
 mod keeping;
+mod owners;
+mod reasons;
 mod refusal;
+mod script_fault;
 mod watching;
 
 use crate::advice::{advise, announce, blame_words};
 use crate::keeping::Keeping;
+use crate::reasons::tell_refusals;
 use crate::refusal::{Refusal, refuse};
-use crate::watching::Watching;
+use crate::script_fault::tell_script_fault;
+use crate::watching::{Reply, Watching};
 use hv_base::NoGate;
 use hv_files::{FileFault, FileShelf};
 use hv_program::hive;
-use hv_reasons::{Reply, tell_refusals, tell_script_fault};
 use hv_streams::{Standard, StdSink, StdSource};
 use std::alloc::Global;
 use std::env;

@@ -1,7 +1,16 @@
 use hv_base::{Failed, NoMemory, Sink};
-use hv_reasons::Reply;
 use std::alloc::Global;
 use std::{mem, str};
+
+/// What a statement or a directive printed.
+#[derive(Drop)]
+pub enum Reply {
+    /// A refusal: the number and the name, with what it names.
+    Refused(String),
+    /// The line of a session.
+    Session,
+    Other,
+}
 
 /// What was noted of the replies.
 #[derive(Drop)]

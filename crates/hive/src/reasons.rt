@@ -1,6 +1,6 @@
 //! Why statements were refused, on standard error: a line for each, with its place in the script.
 use crate::owners::{Owner, owners_of, refusal_of};
-use crate::reply::Reply;
+use crate::watching::Reply;
 use hv_ast::discard;
 use hv_base::{NoMemory, Refusal, Text};
 use hv_reading::read_text;

@@ -1,6 +1,6 @@
 //! Which statement each reply is of. A held statement that was refused before its hold replies where it stands, and
 //! one that was held at its release; where both can be, both are told.
-use crate::reply::Reply;
+use crate::watching::Reply;
 use hv_base::{NoMemory, Refusal, Stage};
 use hv_script::{Action, Statement};
 use std::alloc::Global;
