@@ -269,7 +269,8 @@ for kind in none folder lock journal tables readme; do
     inserts 1 >script
     run wh <script
     so "what a first opening may have left is opened: $kind" is_status 0
-    so "it is said to be new: $kind" said "a new store was made in the folder wh"
+    # Where a journal stands, somebody's store was begun there already.
+    [ $kind = journal ] || so "it is said to be new: $kind" said "a new store was made in the folder wh"
     run wh <script
     so "the second run is over no new one: $kind" [ ! -s err ]
 done

@@ -114,8 +114,8 @@ done <<'S'
 SELECT 1;\n!sesion ada\n|line 2: there is no such directive: !sesion ada
 SELECT 1;\n\n-- \303\n|line 3: byte 14 of the script isn't UTF-8
 !go ada\n|line 1: that session isn't held: !go ada
-!hold read\n!session ada\n|line 2: it stands between a hold and its statement: !session ada
-!hold read\nSELECT 1;\nSELECT 2;\n|line 3: the statement is of a session that is held
+!hold read\n!session ada\nSELECT 1;\n!go main\n|line 2: it stands between a hold and its statement: !session ada
+!hold read\nSELECT 1;\nSELECT 2;\n!go main\n|line 3: the statement is of a session that is held
 \n!hold read\nSELECT 1;\n|line 2: that hold has no '!go'
 S
 {

@@ -59,13 +59,15 @@ pub(crate) fn add_book(alloc: Global, said: &mut String, book: &Book) -> io::Res
 
 /// The places of the files that stand.
 pub(crate) fn add_files(alloc: Global, said: &mut String, store: &MemoryShelf) -> io::Result<()> {
-    let mut mark = "";
+    let mut more = false;
     for place in store.files().keys() {
-        add(said, mark)?;
+        if more {
+            add(said, ", ")?;
+        }
         let (table, bucket) = (place.table.0, place.bucket);
         let text = format!(in alloc; "{table}/{}/{}/{bucket}", place.partition, place.dir)?;
         add(said, text.as_str())?;
-        mark = ", ";
+        more = true;
     }
     Ok(())
 }
