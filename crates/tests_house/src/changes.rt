@@ -70,7 +70,7 @@ fn put_word(
     Ok(())
 }
 
-/// The change of such words. No row is let go of: that would prove the drop of each type in one.
+/// The change of such words. Where memory lacks its rows are left, and not let go of at each exit.
 fn effect_of(alloc: Global, rows: &str) -> Result<Effect, NoMemory> {
     let mut inserts = ManuallyDrop::new(Vec::new(alloc));
     let mut deletes = ManuallyDrop::new(Vec::new(alloc));

@@ -24,7 +24,7 @@ pub(crate) const LIMITS: Limits = Limits { entries: 131_072 };
 /// The most entries that a house takes.
 const MOST: u64 = 9_999_999;
 
-/// Leaves a value to the end of the program. Letting go of it would prove the drop of each type in it.
+/// Leaves a value to the end of the program, so that no exit of a function lets go of it.
 pub(crate) fn leave<T: Drop>(value: T) {
     let _left = ManuallyDrop::new(value);
 }
