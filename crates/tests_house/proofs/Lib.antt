@@ -1,4 +1,0 @@
-pub mod Facts
-pub mod Commits
-pub mod Rooms
-pub mod Goings
