@@ -80,7 +80,7 @@ holds() {
 # stopped_at NUMBER PART ACTION: a run is stopped at its call of the system of that number, and the action is done. 1 where the
 # run has no such call, 2 where the part of the store wasn't held yet.
 stopped_at() {
-    local tracer pid state turns=0 found=0
+    local tracer pid state turns=0 found=0 still=0
     inserts 3 >script
     strace -f -qqq -o /dev/null -e inject=all:signal=STOP:when="$1" "$program" wh run <script >out 2>err &
     tracer=$!
@@ -88,21 +88,29 @@ stopped_at() {
         turns=$((turns + 1))
         pid=$(pgrep -P $tracer -x "$(basename "$program" | cut -c1-15)" | head -n 1)
         state=$([ -n "$pid" ] && sed 's/.*) //' "/proc/$pid/stat" 2>/dev/null | cut -c1)
-        if [ "$state" = T ] || [ "$state" = t ]; then
+        # The tracer stops it for a moment at each call: three looks tell the stop that was asked for.
+        case $state in
+        T | t) still=$((still + 1)) ;;
+        *) still=0 ;;
+        esac
+        if [ $still -ge 3 ]; then
             if holds "$pid" "$place/$2"; then
                 "$3"
                 found=1
             fi
-            kill -CONT "$pid"
             break
         fi
         kill -0 $tracer 2>/dev/null || break
         sleep 0.005
     done
+    while kill -0 $tracer 2>/dev/null; do
+        pkill -CONT -P $tracer
+        sleep 0.01
+    done
     wait $tracer
     status=$?
     [ $found = 1 ] && return 0
-    [ "$state" = T ] || [ "$state" = t ] && return 2
+    [ $still -ge 3 ] && return 2
     return 1
 }
 
