@@ -1,0 +1,4 @@
+pub mod Facts
+pub mod Commits
+pub mod Rooms
+pub mod Goings

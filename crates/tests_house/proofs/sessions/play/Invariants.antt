@@ -1,0 +1,5 @@
+use Rattle.tests_house.specs.Keeping.{IsAtHand}
+use Rattle.tests_house.proofs.sessions.play.Given as goal
+
+abbrev pub invariant-loop-line : goal.invariant-loop-line
+invariant-loop-line g l = IsAtHand g.D.Shelf.told l.desk l.house

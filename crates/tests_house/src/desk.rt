@@ -1,0 +1,69 @@
+//! What is kept between two lines of a case of statements, and what is printed of them.
+ghost use Rattle.std.specs.Prelude.{◌≡◌, None};
+
+use crate::words::{add, add_number, say, say_number};
+use hv_base::Stage;
+use hv_session::{Done, Paused, Reply};
+use std::alloc::Global;
+use std::io;
+use std::mem::ManuallyDrop;
+
+/// What others will do when they come, a line a move; where the next statement is to be held; and one that is held.
+pub(crate) struct Desk {
+    pub(crate) moves: String,
+    pub(crate) hold: Option<Stage>,
+    pub(crate) held: Option<Paused>,
+}
+
+/// Leaves what is held, and will never be finished.
+pub(crate) fn leave_held(desk: &mut Desk)
+    ensures hold { desk.new.hold ≡ desk.old.hold }
+    ensures held { desk.new.held ≡ None }
+{
+    let _left = ManuallyDrop::new(desk.held.take());
+}
+
+/// Lets go of a desk, and leaves what is held.
+pub(crate) fn leave_desk(desk: Desk) {
+    let Desk {
+        moves: _moves,
+        hold: _hold,
+        held,
+    } = desk;
+    let _left = ManuallyDrop::new(held);
+}
+
+/// A reply, and where the statement ended.
+fn say_reply(alloc: Global, said: &mut String, reply: &Reply) -> io::Result<()> {
+    add(
+        said,
+        str::from_utf8(reply.text.as_slice()).unwrap_or("no text\n"),
+    )?;
+    match reply.ended {
+        Some(at) => say_number(alloc, said, "ended at ", at),
+        None => say(said, "never opened"),
+    }
+}
+
+/// How a statement ended, and where.
+pub(crate) fn say_done(alloc: Global, said: &mut String, done: &Done) -> io::Result<()> {
+    match done {
+        Done::Replied(reply) => say_reply(alloc, said, reply),
+        Done::Gone { at } => say_number(alloc, said, "gone at ", *at),
+    }
+}
+
+/// The places of the trail that are one's own: those that are kept, and from where on each is.
+pub(crate) fn say_own(
+    alloc: Global,
+    said: &mut String,
+    kept: &[u64],
+    since: u64,
+) -> io::Result<()> {
+    add(said, "own places")?;
+    for place in kept {
+        add_number(alloc, said, " ", *place)?;
+    }
+    add_number(alloc, said, ", and from ", since)?;
+    say(said, " on")
+}

@@ -1,0 +1,102 @@
+//! Houses over stores: opened, and closed. No house and no store is let go of piece by piece: a house gives its store back, and a store is
+//! left to the end of the program.
+ghost use Rattle.std.specs.Prelude.{◌≡◌, true, IfOk};
+ghost use Rattle.hv_trail.specs.Kept.{trail_of};
+ghost use Rattle.hv_session.specs.hv_acts.specs.hv_telling.specs.Telling.{IsWhole};
+ghost use Rattle.hv_session.specs.hv_acts.specs.Told.{IsWholeOrClosed, trail_in};
+ghost use Rattle.hv_session.specs.hv_acts.specs.Going.{IsOpenHouse};
+ghost use Rattle.hv_session.specs.hv_acts.specs.Reading.{HasPlace};
+ghost use Rattle.tests_house.specs.Asking.{IsOpen};
+
+use hv_base::Limits;
+use hv_house::{BootFault, House};
+use hv_session::hv_acts::ToldHouse;
+use hv_session::hv_acts::hv_telling::opened_is_whole;
+use hv_shelf::Shelf;
+use std::alloc::Global;
+use std::io;
+use std::io::ErrorKind;
+use std::mem::ManuallyDrop;
+
+/// The limits of this project's profile.
+pub(crate) const LIMITS: Limits = Limits { entries: 131_072 };
+
+/// The most entries that a house takes.
+const MOST: u64 = 9_999_999;
+
+/// Leaves a value to the end of the program, so that no exit of a function lets go of it.
+pub(crate) fn leave<T: Drop>(value: T) {
+    let _left = ManuallyDrop::new(value);
+}
+
+/// Opens a store with room for so many entries.
+pub(crate) fn boot<D: Shelf + Drop>(
+    alloc: Global,
+    store: D,
+    limits: Limits,
+) -> Result<House<D>, (BootFault, D)>
+    ensures ready { IfOk result (IsOpen D.told) }
+{
+    if limits.entries > MOST {
+        return Err((BootFault::NoMemory, store));
+    }
+    match House::boot(alloc, store, limits) {
+        Ok(house) => Ok(house),
+        Err(fault) => Err(fault),
+    }
+}
+
+/// Opens a store to a house that is as acts keep it.
+fn opened_whole<D: Shelf + Drop>(alloc: Global, store: D) -> io::Result<House<D>>
+    ensures whole { IfOk result (IsWhole D.told) }
+{
+    opened_is_whole::<D>();
+    match House::boot(alloc, store, LIMITS) {
+        Ok(house) => Ok(house),
+        Err((_, store)) => {
+            leave(store);
+            Err(ErrorKind::Other.into())
+        }
+    }
+}
+
+/// Whether the book of a house has this place.
+#[tactic(auto, using(crate::proofs::Rooms::place_within))]
+fn has_place<D: Shelf>(house: &House<D>, place: u64) -> bool
+    ensures place { result ≡ true → HasPlace (trail_of house.now.trail) place }
+{
+    place <= house.book().entries().len() as u64
+}
+
+/// A house for those who act on it, whose book has this place.
+fn told_at<D: Shelf + Drop>(house: House<D>, place: u64) -> io::Result<ToldHouse<D>>
+    requires whole { IsWhole D.told house }
+    ensures keeps { IfOk result (λ told. IsWholeOrClosed D.told told.house) }
+    ensures running { IfOk result IsOpenHouse }
+    ensures place { IfOk result (λ told. HasPlace (trail_in told) place) }
+{
+    if has_place(&house, place) {
+        Ok(ToldHouse::new(house))
+    } else {
+        leave(house.close());
+        Err(ErrorKind::Other.into())
+    }
+}
+
+/// A house over this store for those who act on it, whose book has this place.
+pub(crate) fn open_told<D: Shelf + Drop>(
+    alloc: Global,
+    store: D,
+    place: u64,
+) -> io::Result<ToldHouse<D>>
+    ensures keeps { IfOk result (λ told. IsWholeOrClosed D.told told.house) }
+    ensures running { IfOk result IsOpenHouse }
+    ensures place { IfOk result (λ told. HasPlace (trail_in told) place) }
+{
+    told_at(opened_whole(alloc, store)?, place)
+}
+
+/// Closes a house, and leaves its store.
+pub(crate) fn close<D: Shelf + Drop>(house: ToldHouse<D>) {
+    leave(house.into_house().close());
+}
