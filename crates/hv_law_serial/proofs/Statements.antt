@@ -29,7 +29,7 @@ use Rattle.hv_law_next.specs.Order.{IsFaultless, AreSteady, AllInOrder}
 use Rattle.hv_law_next.specs.Carrying.{started_of, AreBefore, IsAtHold}
 use Rattle.hv_law_next.proofs.Holding.{stays-at-hold}
 use Rattle.hv_law_next.proofs.Going.{all-before, ended-due, legal-parts, carries-on-by}
-use Rattle.hv_program.specs.hv_session.specs.Ending.{EndsUncommitted}
+use Rattle.hv_program.specs.hv_session.specs.hv_steps.specs.Ending.{EndsUncommitted}
 use Rattle.hv_program.specs.hv_session.specs.Taking.{EndsEarly, EndsBefore, HoldsAt}
 use Rattle.hv_program.specs.Doing.{Waiting, Standing, without, WentOn, RepliesAtOnce, Replies, IsPutOff, GoesOnHeld}
 use Rattle.hv_law_serial.specs.Serial.{tree_runs, text_runs, is_open_one, waits_if, stood, if_room, if_runs, taken_up, released}

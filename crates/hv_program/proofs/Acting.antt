@@ -24,12 +24,12 @@ use Rattle.hv_house.specs.declared.fault.HouseFault.{HouseFault}
 use Rattle.hv_house.specs.declared.fault.HouseFault.TheVariants as fault
 use Rattle.hv_house.specs.declared.house.House.{House}
 use Rattle.hv_house.specs.House.{entries_of, BeginFits, beginning_of, Leaves}
-use Rattle.hv_session.specs.hv_acts.specs.hv_telling.specs.Telling.{IsWhole, IsToldHouse, StillOpens}
-use Rattle.hv_session.specs.hv_acts.specs.hv_telling.proofs.Told.{told-stays}
-use Rattle.hv_session.specs.hv_acts.specs.hv_telling.proofs.Opens.{whole-opens}
-use Rattle.hv_session.specs.Ending.{AddsOf, HasStopped, KeepsCount, IsUndamaged, HasReplied}
-use Rattle.hv_session.specs.declared.ready.Reply.{Reply}
-use Rattle.hv_session.specs.declared.reply.Done.TheVariants as done
+use Rattle.hv_session.specs.hv_steps.specs.hv_acts.specs.hv_telling.specs.Telling.{IsWhole, IsToldHouse, StillOpens}
+use Rattle.hv_session.specs.hv_steps.specs.hv_acts.specs.hv_telling.proofs.Told.{told-stays}
+use Rattle.hv_session.specs.hv_steps.specs.hv_acts.specs.hv_telling.proofs.Opens.{whole-opens}
+use Rattle.hv_session.specs.hv_steps.specs.Ending.{AddsOf, HasStopped, KeepsCount, IsUndamaged, HasReplied}
+use Rattle.hv_session.specs.hv_steps.specs.declared.ready.Reply.{Reply}
+use Rattle.hv_session.specs.hv_steps.specs.declared.reply.Done.TheVariants as done
 use Rattle.hv_session.specs.declared.paused.Paused.{Paused}
 use Rattle.hv_session.specs.declared.paused.Taken.{Taken}
 use Rattle.hv_session.specs.declared.paused.Taken.TheVariants as taken

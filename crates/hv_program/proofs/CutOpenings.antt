@@ -14,9 +14,9 @@ use Rattle.hv_house.specs.declared.boot.BootFault.{BootFault}
 use Rattle.hv_house.specs.declared.boot.BootFault.TheVariants as fault
 use Rattle.hv_house.specs.Booting.{lost_entry, open_numbers, opening_entries, IsCutOpening, LeavesFront, NotesWithRoom}
 use Rattle.hv_house.proofs.Openings.{opened-book}
-use Rattle.hv_session.specs.hv_acts.specs.hv_telling.specs.Telling.{OpensLater}
-use Rattle.hv_session.specs.hv_acts.specs.hv_telling.proofs.Told.{same-faithful}
-use Rattle.hv_session.specs.hv_acts.specs.hv_telling.proofs.Entries.{legal-next}
+use Rattle.hv_session.specs.hv_steps.specs.hv_acts.specs.hv_telling.specs.Telling.{OpensLater}
+use Rattle.hv_session.specs.hv_steps.specs.hv_acts.specs.hv_telling.proofs.Told.{same-faithful}
+use Rattle.hv_session.specs.hv_steps.specs.hv_acts.specs.hv_telling.proofs.Entries.{legal-next}
 
 -- ---- a front of entries
 

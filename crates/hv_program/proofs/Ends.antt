@@ -20,9 +20,9 @@ use Rattle.hv_house.specs.Booting.{opening_of, opening_entries, OpensTo, Opens, 
 use Rattle.hv_recovery.proofs.Books.{is_once as one-journal}
 use Rattle.hv_house.proofs.Boots.{reads-journal}
 use Rattle.hv_recovery.specs.Recovery.{IsJournalOf}
-use Rattle.hv_session.specs.hv_acts.specs.hv_telling.specs.Telling.{IsWhole, IsToldHouse, OpensLater}
-use Rattle.hv_session.specs.hv_acts.specs.hv_telling.proofs.Told.{told-stays, whole-shown, found-some}
-use Rattle.hv_session.specs.hv_acts.specs.hv_telling.proofs.Opening.{opened-is-told}
+use Rattle.hv_session.specs.hv_steps.specs.hv_acts.specs.hv_telling.specs.Telling.{IsWhole, IsToldHouse, OpensLater}
+use Rattle.hv_session.specs.hv_steps.specs.hv_acts.specs.hv_telling.proofs.Told.{told-stays, whole-shown, found-some}
+use Rattle.hv_session.specs.hv_steps.specs.hv_acts.specs.hv_telling.proofs.Opening.{opened-is-told}
 use Rattle.hv_program.specs.declared.stop.Stop.{Stop}
 use Rattle.hv_program.specs.declared.stop.Stop.TheVariants as stop
 use Rattle.hv_program.specs.Stops.{status_of_stop}

@@ -8,10 +8,10 @@ use Rattle.hv_history.specs.declared.entry.Entry.{Entry}
 use Rattle.hv_stands.specs.Running.{Asking, AreOf, AreNotOf, IsOf, IsNotOf, meant}
 use Rattle.hv_stands.specs.Statements.{AllFitting}
 use Rattle.hv_stands.proofs.Others.{others-leave-it}
-use Rattle.hv_session.specs.declared.ready.End.{End}
-use Rattle.hv_session.specs.declared.ready.End.TheVariants as end
-use Rattle.hv_session.specs.Ending.{CanEnd, IsOfChange, EndCanBeNoted}
-use Rattle.hv_session.proofs.Standing.{change-stays}
+use Rattle.hv_session.specs.hv_steps.specs.declared.ready.End.{End}
+use Rattle.hv_session.specs.hv_steps.specs.declared.ready.End.TheVariants as end
+use Rattle.hv_session.specs.hv_steps.specs.Ending.{CanEnd, IsOfChange, EndCanBeNoted}
+use Rattle.hv_session.specs.hv_steps.proofs.Standing.{change-stays}
 use Rattle.hv_session.specs.declared.paused.Point.{Point}
 use Rattle.hv_session.specs.declared.paused.Point.TheVariants as point
 use Rattle.hv_session.specs.declared.paused.Paused.{Paused}

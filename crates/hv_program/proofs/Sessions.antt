@@ -8,18 +8,18 @@ use Rattle.hv_actor.specs.Acting.{IsLater, Nothing, Untouched}
 use Rattle.hv_house.specs.declared.fault.HouseFault.{HouseFault}
 use Rattle.hv_house.specs.declared.house.House.{House}
 use Rattle.hv_house.specs.House.{entries_of}
-use Rattle.hv_session.specs.hv_acts.specs.hv_telling.specs.Telling.{IsWhole}
-use Rattle.hv_session.specs.hv_acts.specs.hv_telling.proofs.Opens.{whole-opens}
-use Rattle.hv_session.specs.hv_acts.specs.declared.told.ToldHouse.{ToldHouse}
-use Rattle.hv_session.specs.hv_acts.specs.Told.{IsWholeOrClosed, seen_in}
-use Rattle.hv_session.specs.declared.reply.Done.{Done}
-use Rattle.hv_session.specs.declared.reply.Done.TheVariants as done
-use Rattle.hv_session.specs.declared.ready.Reply.{Reply}
+use Rattle.hv_session.specs.hv_steps.specs.hv_acts.specs.hv_telling.specs.Telling.{IsWhole}
+use Rattle.hv_session.specs.hv_steps.specs.hv_acts.specs.hv_telling.proofs.Opens.{whole-opens}
+use Rattle.hv_session.specs.hv_steps.specs.hv_acts.specs.declared.told.ToldHouse.{ToldHouse}
+use Rattle.hv_session.specs.hv_steps.specs.hv_acts.specs.Told.{IsWholeOrClosed, seen_in}
+use Rattle.hv_session.specs.hv_steps.specs.declared.reply.Done.{Done}
+use Rattle.hv_session.specs.hv_steps.specs.declared.reply.Done.TheVariants as done
+use Rattle.hv_session.specs.hv_steps.specs.declared.ready.Reply.{Reply}
 use Rattle.hv_session.specs.declared.paused.Paused.{Paused}
 use Rattle.hv_session.specs.declared.paused.Taken.{Taken}
 use Rattle.hv_session.specs.declared.paused.Taken.TheVariants as taken
-use Rattle.hv_session.specs.Ending.{AddsOf}
-use Rattle.hv_session.specs.Going.{GainsSome}
+use Rattle.hv_session.specs.hv_steps.specs.Ending.{AddsOf}
+use Rattle.hv_session.specs.hv_steps.specs.Going.{GainsSome}
 use Rattle.hv_session.specs.Doing.{CanFinish, CanFinishTaken}
 use Rattle.hv_session.specs.Taking.{IsKeptIn, IsFinished}
 use Rattle.hv_session.specs.Ways.{ActsAlone, IsDone, IsTaking, IsOwnEnd, IsFinishedAs}

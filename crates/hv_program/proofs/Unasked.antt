@@ -11,9 +11,9 @@ use Rattle.hv_house.specs.declared.fault.HouseFault.{HouseFault}
 use Rattle.hv_house.specs.declared.fault.HouseFault.TheVariants as fault
 use Rattle.hv_house.specs.declared.house.House.{House}
 use Rattle.hv_house.specs.House.{entries_of}
-use Rattle.hv_session.specs.declared.ready.Reply.{Reply}
-use Rattle.hv_session.specs.Ending.{AddsOf}
-use Rattle.hv_session.specs.declared.reply.Done.TheVariants as done
+use Rattle.hv_session.specs.hv_steps.specs.declared.ready.Reply.{Reply}
+use Rattle.hv_session.specs.hv_steps.specs.Ending.{AddsOf}
+use Rattle.hv_session.specs.hv_steps.specs.declared.reply.Done.TheVariants as done
 use Rattle.hv_session.specs.declared.paused.Taken.TheVariants as taken
 use Rattle.hv_session.specs.Lines.{IsLine}
 use Rattle.hv_session.specs.Taking.{IsTakenAs}

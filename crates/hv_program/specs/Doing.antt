@@ -17,7 +17,7 @@ use Rattle.hv_history.specs.Answers.{line, cause_text}
 use Rattle.hv_stands.specs.Running.{Asking, next_number, opening, AreOf}
 use Rattle.hv_law_next.specs.Order.{AllInOrder}
 use Rattle.hv_law_next.specs.Carrying.{IsAtHold}
-use Rattle.hv_session.specs.Ending.{HasReplied}
+use Rattle.hv_session.specs.hv_steps.specs.Ending.{HasReplied}
 use Rattle.hv_session.specs.Faults.{IsFaultLine}
 use Rattle.hv_house.specs.Asking.{CanBegin}
 use Rattle.hv_session.specs.Taking.{StartsIfItCan, EndsBefore, HoldsAt}

@@ -15,8 +15,8 @@ use Rattle.hv_stands.specs.Running.{next_number, AreOf}
 use Rattle.hv_house.specs.declared.fault.HouseFault.{HouseFault}
 use Rattle.hv_house.specs.declared.fault.HouseFault.TheVariants as fault
 use Rattle.hv_house.specs.House.{BeginFits, beginning_of, IsFaithful, Leaves}
-use Rattle.hv_session.specs.hv_acts.specs.hv_telling.specs.Telling.{OpensLater}
-use Rattle.hv_session.specs.hv_acts.specs.Meant.{IsNoEnd}
+use Rattle.hv_session.specs.hv_steps.specs.hv_acts.specs.hv_telling.specs.Telling.{OpensLater}
+use Rattle.hv_session.specs.hv_steps.specs.hv_acts.specs.Meant.{IsNoEnd}
 use Rattle.hv_session.specs.Doing.{IsHold}
 use Rattle.hv_program.specs.declared.stop.Stop.{Stop}
 use Rattle.hv_program.specs.declared.stop.Stop.TheVariants as stop

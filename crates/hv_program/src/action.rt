@@ -1,13 +1,13 @@
 ghost use Rattle.std.specs.Prelude.{◌≡◌, ◌≤◌, [], None, false, IfOk, IfErr};
 ghost use Rattle.hv_actor.specs.Acting.{IsLater};
-ghost use Rattle.hv_session.specs.hv_acts.specs.Told.{seen_in};
+ghost use Rattle.hv_session.specs.hv_steps.specs.hv_acts.specs.Told.{seen_in};
 ghost use Rattle.hv_script.specs.declared.actions.Action.TheVariants as action;
 ghost use Rattle.hv_house.specs.Faults.{EndsRun, FileCause};
 ghost use Rattle.hv_house.specs.House.{entries_of};
 ghost use Rattle.hv_stands.specs.Running.{next_number};
-ghost use Rattle.hv_session.specs.hv_acts.specs.hv_telling.specs.Telling.{IsWhole, IsToldHouse, StillOpens};
+ghost use Rattle.hv_session.specs.hv_steps.specs.hv_acts.specs.hv_telling.specs.Telling.{IsWhole, IsToldHouse, StillOpens};
 ghost use Rattle.hv_session.specs.Doing.{CanFinishTaken};
-ghost use Rattle.hv_session.specs.Ending.{AddsOf};
+ghost use Rattle.hv_session.specs.hv_steps.specs.Ending.{AddsOf};
 ghost use Rattle.hv_session.specs.Taking.{asked_of, IsKeptIn, IsTakenAs};
 ghost use Rattle.hv_session.specs.Ways.{StopsTaken};
 ghost use Rattle.hv_program.specs.Doing.{asking_of, session_line};
@@ -19,8 +19,9 @@ use crate::held::{Held, keep, let_go};
 use hv_base::{Duplicate, List, NoMemory, Text};
 use hv_house::HouseFault;
 use hv_script::{Action, Session, Statement};
-use hv_session::hv_acts::ToldHouse;
-use hv_session::{Asking, Done, Reply, Taken, memory_reply};
+use hv_session::hv_steps::hv_acts::ToldHouse;
+use hv_session::hv_steps::{Done, Reply};
+use hv_session::{Asking, Taken, memory_reply};
 use hv_shelf::Shelf;
 use std::alloc::Global;
 

@@ -15,7 +15,7 @@ use crate::stop::Stop;
 use hv_base::{Gate, Limits, Sink, Source, write_all};
 use hv_house::{BootFault, House};
 use hv_script::{Action, MAX_SCRIPT, ScriptFault, read_actions, read_run};
-use hv_session::hv_acts::ToldHouse;
+use hv_session::hv_steps::hv_acts::ToldHouse;
 use hv_shelf::Shelf;
 use std::alloc::Global;
 use std::sync::Wait;

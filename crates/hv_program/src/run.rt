@@ -2,7 +2,7 @@ ghost use Rattle.std.specs.Prelude.{◌≡◌, ◌≤◌, [], ◌∷◌, IfOk, I
 ghost use Rattle.std.specs.List.{AllByRecursion};
 ghost use Rattle.hv_base.specs.Told.{StaysTold};
 ghost use Rattle.hv_house.specs.House.{entries_of};
-ghost use Rattle.hv_session.specs.hv_acts.specs.hv_telling.specs.Telling.{IsWhole, IsToldHouse};
+ghost use Rattle.hv_session.specs.hv_steps.specs.hv_acts.specs.hv_telling.specs.Telling.{IsWhole, IsToldHouse};
 ghost use Rattle.hv_program.specs.Refused.{is_one_of};
 ghost use Rattle.hv_program.specs.Running.{Halts, IsFine, PrintsAll};
 ghost use Rattle.hv_program.specs.Stops.{status_of_stop, Blames};
@@ -11,7 +11,7 @@ use crate::action::act;
 use crate::stop::Stop;
 use hv_base::{Sink, write_all};
 use hv_script::Action;
-use hv_session::hv_acts::ToldHouse;
+use hv_session::hv_steps::hv_acts::ToldHouse;
 use hv_shelf::Shelf;
 use std::alloc::Global;
 

@@ -36,29 +36,29 @@ use Rattle.hv_house.specs.declared.fault.HouseFault.TheVariants as fault
 use Rattle.hv_house.specs.House.{entries_of, Leaves, BeginFits, beginning_of}
 use Rattle.hv_house.specs.Asking.{CanBegin, holder_against}
 use Rattle.hv_house.proofs.Beginning.{load-behind-opened, holder-behind-opened}
-use Rattle.hv_telling.proofs.Told.{told-stays}
-use Rattle.hv_acts.specs.declared.told.ToldHouse.{ToldHouse}
-use Rattle.hv_acts.specs.Told.{IsWholeOrClosed, trail_in, book_in}
-use Rattle.hv_acts.specs.Answers.{HasNotEnded}
-use Rattle.hv_acts.specs.Starting.{IsShort, IsInItsWay}
-use Rattle.hv_acts.proofs.Steps.{book-is}
-use Rattle.hv_acts.proofs.RunsOn.{waits-unended}
-use Rattle.hv_session.specs.Ending.{HasStopped, HasReplied, IsUndamaged, aborting}
-use Rattle.hv_session.specs.declared.ready.Reply.{Reply}
-use Rattle.hv_session.specs.declared.ready.Way.{Way}
-use Rattle.hv_session.specs.declared.reply.Done.{Done}
-use Rattle.hv_session.specs.declared.reply.Done.TheVariants as done
-use Rattle.hv_session.specs.declared.reply.Opened.{Opened}
-use Rattle.hv_session.specs.declared.reply.Opened.TheVariants as opened_as
-use Rattle.hv_session.specs.Going.{IsOpenHouse, AddsOwn, IsGone}
-use Rattle.hv_session.specs.Phases.{WasSoBetween, OpensAt, IsHinderedBefore, IsNextAt, BeginsAt, StartsAt, IsStoppedAt, NeverStarts, HasBegun, HasNotBegun, Begins, IsShutBeginning}
+use Rattle.hv_steps.specs.hv_acts.specs.hv_telling.proofs.Told.{told-stays}
+use Rattle.hv_steps.specs.hv_acts.specs.declared.told.ToldHouse.{ToldHouse}
+use Rattle.hv_steps.specs.hv_acts.specs.Told.{IsWholeOrClosed, trail_in, book_in}
+use Rattle.hv_steps.specs.hv_acts.specs.Answers.{HasNotEnded}
+use Rattle.hv_steps.specs.hv_acts.specs.Starting.{IsShort, IsInItsWay}
+use Rattle.hv_steps.specs.hv_acts.proofs.Steps.{book-is}
+use Rattle.hv_steps.specs.hv_acts.proofs.RunsOn.{waits-unended}
+use Rattle.hv_steps.specs.Ending.{HasStopped, HasReplied, IsUndamaged, aborting}
+use Rattle.hv_steps.specs.declared.ready.Reply.{Reply}
+use Rattle.hv_steps.specs.declared.ready.Way.{Way}
+use Rattle.hv_steps.specs.declared.reply.Done.{Done}
+use Rattle.hv_steps.specs.declared.reply.Done.TheVariants as done
+use Rattle.hv_steps.specs.declared.reply.Opened.{Opened}
+use Rattle.hv_steps.specs.declared.reply.Opened.TheVariants as opened_as
+use Rattle.hv_steps.specs.Going.{IsOpenHouse, AddsOwn, IsGone}
+use Rattle.hv_steps.specs.Phases.{WasSoBetween, OpensAt, IsHinderedBefore, IsNextAt, BeginsAt, StartsAt, IsStoppedAt, NeverStarts, HasBegun, HasNotBegun, Begins, IsShutBeginning}
 use Rattle.hv_session.specs.Taking.{IsWhyNot}
 use Rattle.hv_session.specs.Alone.{AddsNothing, HasGained}
 use Rattle.hv_session.specs.Ways.{HasStarted, IsTurnedAway, IsAnswered, BeginsSo, IsPart, IsTaking, BeginsAlone, HaltsAlone}
 use Rattle.hv_session.proofs.AloneBooks.{adds-alone}
 use Rattle.hv_session.proofs.AloneEnds.{of-one}
 use Rattle.hv_session.proofs.AloneStops.{parts-alone}
-use Rattle.hv_session.proofs.Books.{fit-behind}
+use Rattle.hv_steps.proofs.Books.{fit-behind}
 use Rattle.hv_session.proofs.Openings.{no-fewer, way-waits}
 use Rattle.hv_session.proofs.Orders.{opened-in-order, of-waiting, locks-are}
 use Rattle.hv_session.proofs.Passing.{part-taking}

@@ -11,15 +11,15 @@ use Rattle.hv_trail.specs.Trail.{book_of}
 use Rattle.hv_trail.proofs.LastingLaws.{book-append}
 use Rattle.hv_actor.specs.Acting.{Went, Woven, Nothing, items_of}
 use Rattle.hv_house.specs.House.{entries_of}
-use Rattle.hv_acts.specs.Told.{trail_in}
-use Rattle.hv_acts.specs.Meant as acts
-use Rattle.hv_acts.specs.declared.told.ToldHouse.{ToldHouse}
-use Rattle.hv_session.specs.Going.{faults_in, Gains}
-use Rattle.hv_acts.proofs.Steps.{book-is}
-use Rattle.hv_session.specs.Ending.{AddsOf}
-use Rattle.hv_acts.specs.Meant.{IsNoEnd}
+use Rattle.hv_steps.specs.hv_acts.specs.Told.{trail_in}
+use Rattle.hv_steps.specs.hv_acts.specs.Meant as acts
+use Rattle.hv_steps.specs.hv_acts.specs.declared.told.ToldHouse.{ToldHouse}
+use Rattle.hv_steps.specs.Going.{faults_in, Gains}
+use Rattle.hv_steps.specs.hv_acts.proofs.Steps.{book-is}
+use Rattle.hv_steps.specs.Ending.{AddsOf}
+use Rattle.hv_steps.specs.hv_acts.specs.Meant.{IsNoEnd}
 use Rattle.hv_session.specs.Alone.{AddsNothing, AddsAlone, OpenIsWhole}
-use Rattle.hv_session.proofs.Books.{fit-behind}
+use Rattle.hv_steps.proofs.Books.{fit-behind}
 
 -- ---- trails
 

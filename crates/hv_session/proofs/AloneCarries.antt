@@ -22,20 +22,20 @@ use Rattle.hv_house.specs.declared.fault.HouseFault.{HouseFault}
 use Rattle.hv_house.specs.declared.house.House.{House}
 use Rattle.hv_house.specs.House.{entries_of, beginning_of}
 use Rattle.hv_house.specs.Asking.{CanBegin}
-use Rattle.hv_telling.proofs.Told.{told-stays}
-use Rattle.hv_acts.specs.declared.told.ToldHouse.{ToldHouse}
-use Rattle.hv_acts.specs.Told.{IsWholeOrClosed}
+use Rattle.hv_steps.specs.hv_acts.specs.hv_telling.proofs.Told.{told-stays}
+use Rattle.hv_steps.specs.hv_acts.specs.declared.told.ToldHouse.{ToldHouse}
+use Rattle.hv_steps.specs.hv_acts.specs.Told.{IsWholeOrClosed}
 use Rattle.hv_session.proofs.Openings.{begun-under, one-tree}
-use Rattle.hv_session.specs.declared.ready.Way.{Way}
-use Rattle.hv_session.specs.declared.reply.Done.{Done}
-use Rattle.hv_session.specs.declared.reply.Done.TheVariants as done
-use Rattle.hv_session.specs.declared.reply.Opened.TheVariants as opened
+use Rattle.hv_steps.specs.declared.ready.Way.{Way}
+use Rattle.hv_steps.specs.declared.reply.Done.{Done}
+use Rattle.hv_steps.specs.declared.reply.Done.TheVariants as done
+use Rattle.hv_steps.specs.declared.reply.Opened.TheVariants as opened
 use Rattle.hv_session.specs.declared.paused.Paused.{Paused}
 use Rattle.hv_session.specs.declared.paused.Carried.{Carried}
 use Rattle.hv_session.specs.declared.paused.Carried.TheVariants as carried
-use Rattle.hv_session.specs.Ending.{KeepsCount, aborting}
-use Rattle.hv_session.specs.Going.{faults_in, IsOpenHouse, GainsSome}
-use Rattle.hv_session.specs.Phases.{Begins}
+use Rattle.hv_steps.specs.Ending.{KeepsCount, aborting}
+use Rattle.hv_steps.specs.Going.{faults_in, IsOpenHouse, GainsSome}
+use Rattle.hv_steps.specs.Phases.{Begins}
 use Rattle.hv_session.specs.Doing.{IsHold}
 use Rattle.hv_session.specs.Taking.{IsAtPlace, IsTrulyHeld, EndsBefore}
 use Rattle.hv_session.specs.Alone.{HasGained}

@@ -22,28 +22,28 @@ use Rattle.hv_law_next.specs.Next.{needs_id}
 use Rattle.hv_law_next.specs.Order.{AllInOrder}
 use Rattle.hv_house.specs.declared.fault.HouseFault.{HouseFault}
 use Rattle.hv_house.specs.House.{entries_of}
-use Rattle.hv_telling.specs.Telling.{IsToldHouse}
-use Rattle.hv_telling.proofs.Told.{told-stays}
-use Rattle.hv_acts.specs.declared.told.ToldHouse.{ToldHouse}
-use Rattle.hv_acts.specs.Told.{IsWholeOrClosed, book_in}
-use Rattle.hv_acts.proofs.Steps.{book-is}
-use Rattle.hv_session.specs.declared.ready.Way.{Way}
-use Rattle.hv_session.specs.declared.ready.Ready.{Ready}
-use Rattle.hv_session.specs.declared.ready.Reply.{Reply}
-use Rattle.hv_session.specs.declared.reply.Done.{Done}
-use Rattle.hv_session.specs.declared.reply.Done.TheVariants as done
+use Rattle.hv_steps.specs.hv_acts.specs.hv_telling.specs.Telling.{IsToldHouse}
+use Rattle.hv_steps.specs.hv_acts.specs.hv_telling.proofs.Told.{told-stays}
+use Rattle.hv_steps.specs.hv_acts.specs.declared.told.ToldHouse.{ToldHouse}
+use Rattle.hv_steps.specs.hv_acts.specs.Told.{IsWholeOrClosed, book_in}
+use Rattle.hv_steps.specs.hv_acts.proofs.Steps.{book-is}
+use Rattle.hv_steps.specs.declared.ready.Way.{Way}
+use Rattle.hv_steps.specs.declared.ready.Ready.{Ready}
+use Rattle.hv_steps.specs.declared.ready.Reply.{Reply}
+use Rattle.hv_steps.specs.declared.reply.Done.{Done}
+use Rattle.hv_steps.specs.declared.reply.Done.TheVariants as done
 use Rattle.hv_session.specs.declared.paused.Point.{Point}
 use Rattle.hv_session.specs.declared.paused.Point.TheVariants as point
 use Rattle.hv_session.specs.declared.paused.Paused.{Paused}
-use Rattle.hv_session.specs.Ending.{aborting, giving, IsUndamaged, AddsNoneOrId, IsAskedBy, EndIsTrue, HasReplied}
-use Rattle.hv_acts.specs.Meant.{IsNoEnd}
-use Rattle.hv_session.specs.Going.{faults_in, IsOpenHouse, AddsOwn, Gains, Goes}
-use Rattle.hv_session.specs.Phases.{EndsBehind, IsAbortFor, AbortsFor, IsUntoldDamage, PreparesTo, EndsEarlyFor, IsWriteFault, GivesId, ConcludesSo, Concludes, AnswersTruly}
+use Rattle.hv_steps.specs.Ending.{aborting, giving, IsUndamaged, AddsNoneOrId, IsAskedBy, EndIsTrue, HasReplied}
+use Rattle.hv_steps.specs.hv_acts.specs.Meant.{IsNoEnd}
+use Rattle.hv_steps.specs.Going.{faults_in, IsOpenHouse, AddsOwn, Gains, Goes}
+use Rattle.hv_steps.specs.Phases.{EndsBehind, IsAbortFor, AbortsFor, IsUntoldDamage, PreparesTo, EndsEarlyFor, IsWriteFault, GivesId, ConcludesSo, Concludes, AnswersTruly}
 use Rattle.hv_session.specs.Doing.{EndsFrom, EndsAs, EndsFromPoint, Finishes}
 use Rattle.hv_session.specs.Taking.{HasNone, PointIsTrue, IsHeld, IsHeldBySome, IsTrulyHeld}
 use Rattle.hv_session.specs.Alone.{AddsNothing, HasGained}
 use Rattle.hv_session.specs.Ways.{ActsAlone, IsOnWay, IsOnWayAs, IsOwnEnd, IsFinishedAs, EndsAlone}
-use Rattle.hv_session.proofs.Books.{state-behind}
+use Rattle.hv_steps.proofs.Books.{state-behind}
 use Rattle.hv_session.proofs.Orders.{order-behind, aborted-in-order, ended-in-order, prepared-in-order, cut-in-order, true-to-commit, needs-no-id}
 use Rattle.hv_session.proofs.Takings.{prepares-unended}
 use Rattle.hv_session.proofs.AloneBooks.{adds-alone}

@@ -16,26 +16,26 @@ use Rattle.hv_stands.specs.Running.{Asking, starting, meant, IsUnderWay}
 use Rattle.hv_trail.specs.declared.trail.TrailItem.{TrailItem}
 use Rattle.hv_house.specs.declared.fault.HouseFault.{HouseFault}
 use Rattle.hv_house.specs.House.{entries_of}
-use Rattle.hv_telling.specs.Telling.{IsToldHouse}
-use Rattle.hv_telling.proofs.Told.{told-stays}
-use Rattle.hv_acts.specs.declared.told.ToldHouse.{ToldHouse}
-use Rattle.hv_acts.specs.Told.{IsWholeOrClosed, trail_in}
-use Rattle.hv_session.specs.declared.ready.Way.{Way}
-use Rattle.hv_session.specs.declared.ready.Ready.{Ready}
-use Rattle.hv_session.specs.declared.reply.Done.{Done}
-use Rattle.hv_session.specs.declared.reply.Done.TheVariants as done
-use Rattle.hv_session.specs.declared.reply.Outcome.{Outcome}
-use Rattle.hv_session.specs.declared.reply.Outcome.TheVariants as outcome
-use Rattle.hv_session.specs.declared.reply.Prepared.{Prepared}
-use Rattle.hv_session.specs.declared.reply.Prepared.TheVariants as prepared
+use Rattle.hv_steps.specs.hv_acts.specs.hv_telling.specs.Telling.{IsToldHouse}
+use Rattle.hv_steps.specs.hv_acts.specs.hv_telling.proofs.Told.{told-stays}
+use Rattle.hv_steps.specs.hv_acts.specs.declared.told.ToldHouse.{ToldHouse}
+use Rattle.hv_steps.specs.hv_acts.specs.Told.{IsWholeOrClosed, trail_in}
+use Rattle.hv_steps.specs.declared.ready.Way.{Way}
+use Rattle.hv_steps.specs.declared.ready.Ready.{Ready}
+use Rattle.hv_steps.specs.declared.reply.Done.{Done}
+use Rattle.hv_steps.specs.declared.reply.Done.TheVariants as done
+use Rattle.hv_steps.specs.declared.reply.Outcome.{Outcome}
+use Rattle.hv_steps.specs.declared.reply.Outcome.TheVariants as outcome
+use Rattle.hv_steps.specs.declared.reply.Prepared.{Prepared}
+use Rattle.hv_steps.specs.declared.reply.Prepared.TheVariants as prepared
 use Rattle.hv_session.specs.declared.paused.Point.{Point}
 use Rattle.hv_session.specs.declared.paused.Point.TheVariants as point
 use Rattle.hv_session.specs.declared.paused.Paused.{Paused}
 use Rattle.hv_session.specs.declared.paused.Carried.{Carried}
 use Rattle.hv_session.specs.declared.paused.Carried.TheVariants as carried
-use Rattle.hv_session.specs.Ending.{AddsNoneOrId, EndsUncommitted, IsUndamaged, CanEnd, IsReadyToEnd, IsTrulyReady, aborting}
-use Rattle.hv_session.specs.Going.{faults_in, IsOpenHouse, Goes, WasOnWay}
-use Rattle.hv_session.specs.Phases.{AbortsFor, PreparesTo, EndsEarlyFor, IsWriteFault, GivesId, Prepares, IsUntoldDamage, Sees}
+use Rattle.hv_steps.specs.Ending.{AddsNoneOrId, EndsUncommitted, IsUndamaged, CanEnd, IsReadyToEnd, IsTrulyReady, aborting}
+use Rattle.hv_steps.specs.Going.{faults_in, IsOpenHouse, Goes, WasOnWay}
+use Rattle.hv_steps.specs.Phases.{AbortsFor, PreparesTo, EndsEarlyFor, IsWriteFault, GivesId, Prepares, IsUntoldDamage, Sees}
 use Rattle.hv_session.specs.Doing.{EndsFrom, IsUnrefused, StandsAt, carried_of, is_refused, GoesOnTo, GoesToHold}
 use Rattle.hv_session.specs.Doing as doing
 use Rattle.hv_session.specs.Taking.{EndsEarly, AbortedAtOnce, AbortedGiven, EndsBefore, HoldsAt, IsAtPlace, IsHeld, IsTrulyHeld}

@@ -20,21 +20,21 @@ use Rattle.hv_stands.specs.Statements.{AllFitting}
 use Rattle.hv_stands.proofs.Begun.{ids-given}
 use Rattle.hv_trail.specs.declared.trail.TrailItem.{TrailItem}
 use Rattle.hv_house.specs.House.{entries_of}
-use Rattle.hv_acts.specs.declared.told.ToldHouse.{ToldHouse}
-use Rattle.hv_acts.specs.Told.{IsWholeOrClosed}
-use Rattle.hv_acts.proofs.Steps.{book-is}
-use Rattle.hv_session.specs.Ending.{IsUndamaged, HasEndedAt, HasReplied, EndsUncommitted, AddsNoneOrId, IsAskedBy, CanEnd, aborting, giving, idle_end}
-use Rattle.hv_acts.specs.Meant.{IsNoEnd}
-use Rattle.hv_session.specs.declared.ready.Way.{Way}
-use Rattle.hv_session.specs.declared.ready.Ready.{Ready}
-use Rattle.hv_session.specs.declared.ready.End.TheVariants as end
-use Rattle.hv_session.specs.declared.reply.Done.{Done}
-use Rattle.hv_session.specs.declared.reply.Done.TheVariants as done
-use Rattle.hv_session.specs.declared.reply.Prepared.TheVariants as prepared
-use Rattle.hv_session.specs.Going.{faults_in, IsOpenHouse, AddsOwn, Gains}
-use Rattle.hv_session.specs.Phases.{PreparesTo, IsReadyAs, EndsEarlyFor, IsWriteFault, GivesId, AbortsFor, IsAbortFor}
+use Rattle.hv_steps.specs.hv_acts.specs.declared.told.ToldHouse.{ToldHouse}
+use Rattle.hv_steps.specs.hv_acts.specs.Told.{IsWholeOrClosed}
+use Rattle.hv_steps.specs.hv_acts.proofs.Steps.{book-is}
+use Rattle.hv_steps.specs.Ending.{IsUndamaged, HasEndedAt, HasReplied, EndsUncommitted, AddsNoneOrId, IsAskedBy, CanEnd, aborting, giving, idle_end}
+use Rattle.hv_steps.specs.hv_acts.specs.Meant.{IsNoEnd}
+use Rattle.hv_steps.specs.declared.ready.Way.{Way}
+use Rattle.hv_steps.specs.declared.ready.Ready.{Ready}
+use Rattle.hv_steps.specs.declared.ready.End.TheVariants as end
+use Rattle.hv_steps.specs.declared.reply.Done.{Done}
+use Rattle.hv_steps.specs.declared.reply.Done.TheVariants as done
+use Rattle.hv_steps.specs.declared.reply.Prepared.TheVariants as prepared
+use Rattle.hv_steps.specs.Going.{faults_in, IsOpenHouse, AddsOwn, Gains}
+use Rattle.hv_steps.specs.Phases.{PreparesTo, IsReadyAs, EndsEarlyFor, IsWriteFault, GivesId, AbortsFor, IsAbortFor}
 use Rattle.hv_session.specs.Alone.{AddsNothing, HasGained, IsPreparedAlone, PreparesAlone}
-use Rattle.hv_session.proofs.Touched.{touches-none}
+use Rattle.hv_steps.proofs.Touched.{touches-none}
 use Rattle.hv_session.proofs.AloneBooks.{adds-alone}
 use Rattle.hv_session.proofs.AloneEnds.{way-runs, runs-open, never-gone, last-named}
 use Rattle.hv_session.proofs.AloneReady.{plain-ready, idle-ready, change-ready}

@@ -15,18 +15,18 @@ use Rattle.hv_stands.specs.Running.{Asking, meant, IsUnderWay}
 use Rattle.hv_stands.specs.Statements.{AllFitting}
 use Rattle.hv_stands.proofs.Begun.{ids-given}
 use Rattle.hv_house.specs.House.{entries_of}
-use Rattle.hv_acts.specs.declared.told.ToldHouse.{ToldHouse}
-use Rattle.hv_session.specs.declared.ready.Way.{Way}
-use Rattle.hv_session.specs.declared.ready.Ready.{Ready}
+use Rattle.hv_steps.specs.hv_acts.specs.declared.told.ToldHouse.{ToldHouse}
+use Rattle.hv_steps.specs.declared.ready.Way.{Way}
+use Rattle.hv_steps.specs.declared.ready.Ready.{Ready}
 use Rattle.hv_shelf.specs.declared.place.Place.{Place}
-use Rattle.hv_session.specs.declared.ready.End.{End}
-use Rattle.hv_session.specs.declared.reply.Prepared.TheVariants as prepared
-use Rattle.hv_session.specs.Ending.{EndCanBeNoted, EndIsTrue, IsReadyToEnd, CanChange, giving, idle_end}
-use Rattle.hv_session.specs.Phases.{IsChangeReady}
+use Rattle.hv_steps.specs.declared.ready.End.{End}
+use Rattle.hv_steps.specs.declared.reply.Prepared.TheVariants as prepared
+use Rattle.hv_steps.specs.Ending.{EndCanBeNoted, EndIsTrue, IsReadyToEnd, CanChange, giving, idle_end}
+use Rattle.hv_steps.specs.Phases.{IsChangeReady}
 use Rattle.hv_session.specs.Alone.{IsPreparedAlone}
-use Rattle.hv_session.proofs.Shorts.{short_idle, short_change}
-use Rattle.hv_session.proofs.Standing.{means-still, change-stays}
-use Rattle.hv_session.proofs.Touched.{nothing-touched, well-touched}
+use Rattle.hv_steps.proofs.Shorts.{short_idle, short_change}
+use Rattle.hv_steps.proofs.Standing.{means-still, change-stays}
+use Rattle.hv_steps.proofs.Touched.{nothing-touched, well-touched}
 
 module _ {D : Type 0} (faults : D → ℕ) (asking : Asking) (said : Stmt) (way : Way) (before now : ToldHouse D)
     (under : IsUnderWay (entries_of before.house) asking way.txn.0 way.place said []) (ready : Ready) where

@@ -11,13 +11,13 @@ use Rattle.hv_house.specs.declared.fault.HouseFault.{HouseFault}
 use Rattle.hv_house.specs.declared.fault.HouseFault.TheVariants as fault
 use Rattle.hv_house.specs.Faults.{EndsRun, HasRisen}
 use Rattle.hv_house.specs.House.{entries_of, Leaves}
-use Rattle.hv_telling.specs.Telling.{IsWhole}
-use Rattle.hv_telling.proofs.Told.{told-stays}
-use Rattle.hv_acts.specs.declared.told.ToldHouse.{ToldHouse}
-use Rattle.hv_acts.specs.Told.{IsWholeOrClosed, book_in}
-use Rattle.hv_acts.proofs.Steps.{book-is}
-use Rattle.hv_session.specs.Ending.{HasStopped}
-use Rattle.hv_session.specs.Going.{faults_in, IsOpenHouse, IsShutHouse, IsShutBetween, IsShutNow, HaltsFor, Halts, Goes}
+use Rattle.hv_steps.specs.hv_acts.specs.hv_telling.specs.Telling.{IsWhole}
+use Rattle.hv_steps.specs.hv_acts.specs.hv_telling.proofs.Told.{told-stays}
+use Rattle.hv_steps.specs.hv_acts.specs.declared.told.ToldHouse.{ToldHouse}
+use Rattle.hv_steps.specs.hv_acts.specs.Told.{IsWholeOrClosed, book_in}
+use Rattle.hv_steps.specs.hv_acts.proofs.Steps.{book-is}
+use Rattle.hv_steps.specs.Ending.{HasStopped}
+use Rattle.hv_steps.specs.Going.{faults_in, IsOpenHouse, IsShutHouse, IsShutBetween, IsShutNow, HaltsFor, Halts, Goes}
 use Rattle.hv_session.specs.Alone.{AddsNothing, HasGained, StopsAlone, OpensAlone}
 use Rattle.hv_session.specs.Ways.{IsPart, Anyhow, PartsAlone}
 use Rattle.hv_session.proofs.AloneBooks.{adds-alone, gains-of, legal-behind}

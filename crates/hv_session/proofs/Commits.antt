@@ -28,33 +28,33 @@ use Rattle.hv_trail.specs.Steps.{Note, MayEnd}
 use Rattle.hv_actor.specs.Acting.{IsLater, AreRows}
 use Rattle.hv_house.specs.declared.fault.HouseFault.{HouseFault}
 use Rattle.hv_house.specs.declared.fault.HouseFault.TheVariants as fault
-use Rattle.hv_acts.specs.declared.told.ToldHouse.{ToldHouse}
-use Rattle.hv_acts.specs.declared.aborted.Aborted.{Aborted}
-use Rattle.hv_acts.specs.declared.committing.Committed.{Committed}
-use Rattle.hv_acts.specs.declared.committing.Committed.TheVariants as committed
-use Rattle.hv_acts.specs.declared.fault.ActFault.{ActFault}
-use Rattle.hv_acts.specs.declared.fault.ActFault.TheVariants as act
-use Rattle.hv_acts.specs.declared.making.Made.{Made}
-use Rattle.hv_acts.specs.Told.{IsWholeOrClosed, seen_in, trail_in, book_in}
-use Rattle.hv_acts.specs.Answers.{NoTest, FilesTest, Answers, AnswerLeaves, EntryFits, answer_call, answer_outcome, next_table}
-use Rattle.hv_acts.specs.Committing.{call_to_commit, adds_commit, CommitAnswers, HasConflicted}
-use Rattle.hv_acts.specs.Making.{MakeFits, IsMadeAt}
-use Rattle.hv_acts.specs.Meant.{HasMeant, IsCommitDue}
-use Rattle.hv_acts.proofs.Steps.{book-is}
-use Rattle.hv_acts.proofs.Meant.{on-way}
-use Rattle.hv_session.specs.Ending.{KeepsCount, committing, creating, aborting, HasReplied}
-use Rattle.hv_session.specs.declared.ready.Ready.{Ready}
-use Rattle.hv_session.specs.declared.ready.End.TheVariants as last
-use Rattle.hv_session.proofs.Replied.{commit-replies, abort-replies}
-use Rattle.hv_session.proofs.Touched.{touch-of-table}
-use Rattle.hv_session.specs.declared.reply.Done.{Done}
-use Rattle.hv_session.specs.declared.reply.Done.TheVariants as done
+use Rattle.hv_steps.specs.hv_acts.specs.declared.told.ToldHouse.{ToldHouse}
+use Rattle.hv_steps.specs.hv_acts.specs.declared.aborted.Aborted.{Aborted}
+use Rattle.hv_steps.specs.hv_acts.specs.declared.committing.Committed.{Committed}
+use Rattle.hv_steps.specs.hv_acts.specs.declared.committing.Committed.TheVariants as committed
+use Rattle.hv_steps.specs.hv_acts.specs.declared.fault.ActFault.{ActFault}
+use Rattle.hv_steps.specs.hv_acts.specs.declared.fault.ActFault.TheVariants as act
+use Rattle.hv_steps.specs.hv_acts.specs.declared.making.Made.{Made}
+use Rattle.hv_steps.specs.hv_acts.specs.Told.{IsWholeOrClosed, seen_in, trail_in, book_in}
+use Rattle.hv_steps.specs.hv_acts.specs.Answers.{NoTest, FilesTest, Answers, AnswerLeaves, EntryFits, answer_call, answer_outcome, next_table}
+use Rattle.hv_steps.specs.hv_acts.specs.Committing.{call_to_commit, adds_commit, CommitAnswers, HasConflicted}
+use Rattle.hv_steps.specs.hv_acts.specs.Making.{MakeFits, IsMadeAt}
+use Rattle.hv_steps.specs.hv_acts.specs.Meant.{HasMeant, IsCommitDue}
+use Rattle.hv_steps.specs.hv_acts.proofs.Steps.{book-is}
+use Rattle.hv_steps.specs.hv_acts.proofs.Meant.{on-way}
+use Rattle.hv_steps.specs.Ending.{KeepsCount, committing, creating, aborting, HasReplied}
+use Rattle.hv_steps.specs.declared.ready.Ready.{Ready}
+use Rattle.hv_steps.specs.declared.ready.End.TheVariants as last
+use Rattle.hv_steps.proofs.Replied.{commit-replies, abort-replies}
+use Rattle.hv_steps.proofs.Touched.{touch-of-table}
+use Rattle.hv_steps.specs.declared.reply.Done.{Done}
+use Rattle.hv_steps.specs.declared.reply.Done.TheVariants as done
 use Rattle.hv_session.specs.Ends.{commit_adds, IsCommitEnd, IsCommitAnswered, committed_reply, create_adds}
-use Rattle.hv_session.specs.Going.{faults_in, IsOpenHouse, AddsOwn, Goes}
-use Rattle.hv_session.specs.Leaving.{EndsAct}
-use Rattle.hv_session.specs.Phases.{IsDueSo, NoCause, AbortsFor, Concludes, AnswersTruly}
-use Rattle.hv_session.proofs.Joining.{front-more, HeldBy, NamesEnd, why-names, goes-on, held-front}
-use Rattle.hv_session.proofs.Ends.{open-here, replied-now, ended-now, create-replies}
+use Rattle.hv_steps.specs.Going.{faults_in, IsOpenHouse, AddsOwn, Goes}
+use Rattle.hv_steps.specs.Leaving.{EndsAct}
+use Rattle.hv_steps.specs.Phases.{IsDueSo, NoCause, AbortsFor, Concludes, AnswersTruly}
+use Rattle.hv_steps.proofs.Joining.{front-more, HeldBy, NamesEnd, why-names, goes-on, held-front}
+use Rattle.hv_steps.proofs.Ends.{open-here, replied-now, ended-now, create-replies}
 
 -- ---- what it means
 

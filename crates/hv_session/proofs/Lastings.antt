@@ -19,22 +19,22 @@ use Rattle.hv_stands.specs.Running.{Asking, meant}
 use Rattle.hv_trail.specs.Trail.{book_of}
 use Rattle.hv_trail.proofs.LastingLaws.{goes-on-front}
 use Rattle.hv_actor.specs.Acting.{IsLater}
-use Rattle.hv_telling.specs.Telling.{IsTold, IsToldHouse}
-use Rattle.hv_acts.specs.declared.told.ToldHouse.{ToldHouse}
-use Rattle.hv_acts.specs.Told.{seen_in, trail_in, book_in}
-use Rattle.hv_acts.proofs.Lasting.{put-lasts, make-lasts}
-use Rattle.hv_session.specs.Ending.{CanChange, CanEnd}
-use Rattle.hv_session.specs.declared.ready.Way.{Way}
-use Rattle.hv_session.specs.declared.ready.End.{End}
-use Rattle.hv_session.specs.declared.ready.End.TheVariants as end
+use Rattle.hv_steps.specs.hv_acts.specs.hv_telling.specs.Telling.{IsTold, IsToldHouse}
+use Rattle.hv_steps.specs.hv_acts.specs.declared.told.ToldHouse.{ToldHouse}
+use Rattle.hv_steps.specs.hv_acts.specs.Told.{seen_in, trail_in, book_in}
+use Rattle.hv_steps.specs.hv_acts.proofs.Lasting.{put-lasts, make-lasts}
+use Rattle.hv_steps.specs.Ending.{CanChange, CanEnd}
+use Rattle.hv_steps.specs.declared.ready.Way.{Way}
+use Rattle.hv_steps.specs.declared.ready.End.{End}
+use Rattle.hv_steps.specs.declared.ready.End.TheVariants as end
 use Rattle.hv_session.specs.declared.paused.Point.{Point}
 use Rattle.hv_session.specs.declared.paused.Point.TheVariants as point
 use Rattle.hv_session.specs.declared.paused.Paused.{Paused}
-use Rattle.hv_session.specs.Going.{WasOnWay}
-use Rattle.hv_session.specs.Phases.{ComesTo, IsDueSo, CanConclude}
+use Rattle.hv_steps.specs.Going.{WasOnWay}
+use Rattle.hv_steps.specs.Phases.{ComesTo, IsDueSo, CanConclude}
 use Rattle.hv_session.specs.Doing.{CanGoOn, CanFinish}
-use Rattle.hv_session.proofs.Joining.{book-front, way-lasts, opened-lasts}
-use Rattle.hv_session.proofs.Ids.{meant-lasts}
+use Rattle.hv_steps.proofs.Joining.{book-front, way-lasts, opened-lasts}
+use Rattle.hv_steps.proofs.Ids.{meant-lasts}
 
 module _ {D : Type 0} (told : D → Option Store) (before now : ToldHouse D) (front : IsFront (trail_in before) (trail_in now))
     (earlier : IsToldHouse told now.house → IsToldHouse told before.house) where

@@ -28,33 +28,33 @@ use Rattle.hv_actor.specs.Acting.{IsLater, Held, Went, AreRows}
 use Rattle.hv_house.specs.declared.fault.HouseFault.{HouseFault}
 use Rattle.hv_house.specs.declared.fault.HouseFault.TheVariants as fault
 use Rattle.hv_house.specs.Faults.{EndsRun}
-use Rattle.hv_acts.specs.declared.told.ToldHouse.{ToldHouse}
-use Rattle.hv_acts.specs.declared.opening.Begun.{Begun}
-use Rattle.hv_acts.specs.declared.starting.Started.{Started}
-use Rattle.hv_acts.specs.declared.starting.Started.TheVariants as started
-use Rattle.hv_acts.specs.declared.aborted.Aborted.{Aborted}
-use Rattle.hv_acts.specs.declared.fault.BeginFault.{BeginFault}
-use Rattle.hv_acts.specs.declared.fault.BeginFault.TheVariants as hindered_by
-use Rattle.hv_acts.specs.declared.fault.ActFault.{ActFault}
-use Rattle.hv_acts.specs.declared.fault.ActFault.TheVariants as act
-use Rattle.hv_acts.specs.Told.{seen_in, trail_in, book_in}
-use Rattle.hv_acts.specs.Answers.{NoTest, answer_call, answer_outcome, adds_entry, AnswerLeaves}
-use Rattle.hv_acts.specs.Beginning.{begin_call, begin_outcome, adds_beginning, BeginAnswers, BeginLeaves, IsBeginningCut}
-use Rattle.hv_acts.specs.Starting.{to_start, call_to_start, adds_started, IsShort, IsInItsWay, StartOrAbortAnswers}
-use Rattle.hv_acts.specs.Waiting.{next_opened, OpenAnswers}
-use Rattle.hv_acts.proofs.Leaves.{answer-rises, begin-rises}
-use Rattle.hv_session.specs.Ending.{aborting, KeepsCount, HasReplied}
-use Rattle.hv_acts.specs.Meant.{IsNoEnd}
-use Rattle.hv_session.proofs.Replied.{waiting-abort-replies}
-use Rattle.hv_session.specs.declared.reply.Done.{Done}
-use Rattle.hv_session.specs.declared.reply.Done.TheVariants as done
-use Rattle.hv_session.specs.declared.reply.Opened.{Opened}
-use Rattle.hv_session.specs.declared.reply.Opened.TheVariants as opened
-use Rattle.hv_session.specs.Going.{faults_in, IsOpenHouse, IsShutHouse, IsShutBetween, AddsOwn, Gains, GainsSome, Halts}
-use Rattle.hv_session.specs.Phases.{WasSoBetween, OpensAt, IsHinderedAt, IsHinderedBefore, IsNextAt, BeginsAt, StartsAt, IsStoppedAt, AbortsFor, NoCause, Begins, HaltsBeginning}
-use Rattle.hv_session.specs.Leaving.{IsLeftFor, EndsAct}
+use Rattle.hv_steps.specs.hv_acts.specs.declared.told.ToldHouse.{ToldHouse}
+use Rattle.hv_steps.specs.hv_acts.specs.declared.opening.Begun.{Begun}
+use Rattle.hv_steps.specs.hv_acts.specs.declared.starting.Started.{Started}
+use Rattle.hv_steps.specs.hv_acts.specs.declared.starting.Started.TheVariants as started
+use Rattle.hv_steps.specs.hv_acts.specs.declared.aborted.Aborted.{Aborted}
+use Rattle.hv_steps.specs.hv_acts.specs.declared.fault.BeginFault.{BeginFault}
+use Rattle.hv_steps.specs.hv_acts.specs.declared.fault.BeginFault.TheVariants as hindered_by
+use Rattle.hv_steps.specs.hv_acts.specs.declared.fault.ActFault.{ActFault}
+use Rattle.hv_steps.specs.hv_acts.specs.declared.fault.ActFault.TheVariants as act
+use Rattle.hv_steps.specs.hv_acts.specs.Told.{seen_in, trail_in, book_in}
+use Rattle.hv_steps.specs.hv_acts.specs.Answers.{NoTest, answer_call, answer_outcome, adds_entry, AnswerLeaves}
+use Rattle.hv_steps.specs.hv_acts.specs.Beginning.{begin_call, begin_outcome, adds_beginning, BeginAnswers, BeginLeaves, IsBeginningCut}
+use Rattle.hv_steps.specs.hv_acts.specs.Starting.{to_start, call_to_start, adds_started, IsShort, IsInItsWay, StartOrAbortAnswers}
+use Rattle.hv_steps.specs.hv_acts.specs.Waiting.{next_opened, OpenAnswers}
+use Rattle.hv_steps.specs.hv_acts.proofs.Leaves.{answer-rises, begin-rises}
+use Rattle.hv_steps.specs.Ending.{aborting, KeepsCount, HasReplied}
+use Rattle.hv_steps.specs.hv_acts.specs.Meant.{IsNoEnd}
+use Rattle.hv_steps.proofs.Replied.{waiting-abort-replies}
+use Rattle.hv_steps.specs.declared.reply.Done.{Done}
+use Rattle.hv_steps.specs.declared.reply.Done.TheVariants as done
+use Rattle.hv_steps.specs.declared.reply.Opened.{Opened}
+use Rattle.hv_steps.specs.declared.reply.Opened.TheVariants as opened
+use Rattle.hv_steps.specs.Going.{faults_in, IsOpenHouse, IsShutHouse, IsShutBetween, AddsOwn, Gains, GainsSome, Halts}
+use Rattle.hv_steps.specs.Phases.{WasSoBetween, OpensAt, IsHinderedAt, IsHinderedBefore, IsNextAt, BeginsAt, StartsAt, IsStoppedAt, AbortsFor, NoCause, Begins, HaltsBeginning}
+use Rattle.hv_steps.specs.Leaving.{IsLeftFor, EndsAct}
 use Rattle.hv_session.specs.Beginnings.{GoesBeginning, WasHindered, way_of, BeginsAtOnce, IsLeftRunning, OpenedFirst, OpensSo, WaitsIn, reply_of, started_as, StartsSo}
-use Rattle.hv_session.proofs.Joining.{HeldBy, FoundOpen, RisesBy, held-front, held-adds, shut-found, fault-left, test-left, act-left, why-names, note-ends, ends-rise, front-went, so-now, waited-lasts, adds-none, adds-more, adds-front, gains-behind, halts-behind, halts-none}
+use Rattle.hv_steps.proofs.Joining.{HeldBy, FoundOpen, RisesBy, held-front, held-adds, shut-found, fault-left, test-left, act-left, why-names, note-ends, ends-rise, front-went, so-now, waited-lasts, adds-none, adds-more, adds-front, gains-behind, halts-behind, halts-none}
 use Rattle.hv_session.proofs.Waits.{waits-at, open-fits}
 
 -- ---- what was so between

@@ -30,16 +30,16 @@ use Rattle.hv_stands.proofs.Behind.{one-behind}
 use Rattle.hv_law_next.specs.Next.{needs_id}
 use Rattle.hv_law_next.specs.Order.{IsOfTable, AsksForId, CauseInOrder, IsInOrder, AllInOrder}
 use Rattle.hv_law_next.specs.Carrying.{IsUnrefused as IsUnrefusedMeaning, IsToCommit, IsAtHold}
-use Rattle.hv_session.specs.declared.ready.End.{End}
-use Rattle.hv_session.specs.declared.ready.End.TheVariants as end
-use Rattle.hv_session.specs.Ending.{aborting, giving, IsOneEnd, EndsUncommitted, AddsNoneOrId, AddsAbort, IsOfRows, IsAskedBy, AddsAsked, IsChangeReady, EndIsTrue}
-use Rattle.hv_acts.specs.Meant.{IsNoEnd}
-use Rattle.hv_session.proofs.Touched.{some-touched}
+use Rattle.hv_steps.specs.declared.ready.End.{End}
+use Rattle.hv_steps.specs.declared.ready.End.TheVariants as end
+use Rattle.hv_steps.specs.Ending.{aborting, giving, IsOneEnd, EndsUncommitted, AddsNoneOrId, AddsAbort, IsOfRows, IsAskedBy, AddsAsked, IsChangeReady, EndIsTrue}
+use Rattle.hv_steps.specs.hv_acts.specs.Meant.{IsNoEnd}
+use Rattle.hv_steps.proofs.Touched.{some-touched}
 use Rattle.hv_session.specs.declared.paused.Point.{Point}
 use Rattle.hv_session.specs.declared.paused.Point.TheVariants as point
 use Rattle.hv_session.specs.Doing.{IsUnrefused}
 use Rattle.hv_session.specs.Taking.{EndsEarly, WaitsUnrefused, IsAtPlace, PointIsTrue}
-use Rattle.hv_session.proofs.Books.{state-behind}
+use Rattle.hv_steps.proofs.Books.{state-behind}
 
 -- ---- entries behind others
 

@@ -13,12 +13,12 @@ use Rattle.hv_house.specs.declared.fault.HouseFault.TheVariants as fault
 use Rattle.hv_house.specs.declared.house.House.{House}
 use Rattle.hv_house.specs.Faults.{FileCause, HasRisen}
 use Rattle.hv_house.specs.House.{entries_of}
-use Rattle.hv_telling.specs.Telling.{IsWhole}
-use Rattle.hv_telling.proofs.Told.{told-stays}
-use Rattle.hv_session.specs.Ending.{KeepsCount, HasStopped}
-use Rattle.hv_acts.specs.Meant.{IsNoEnd}
+use Rattle.hv_steps.specs.hv_acts.specs.hv_telling.specs.Telling.{IsWhole}
+use Rattle.hv_steps.specs.hv_acts.specs.hv_telling.proofs.Told.{told-stays}
+use Rattle.hv_steps.specs.Ending.{KeepsCount, HasStopped}
+use Rattle.hv_steps.specs.hv_acts.specs.Meant.{IsNoEnd}
 use Rattle.hv_session.specs.Ways.{IsDone, IsPart, IsTaking}
-use Rattle.hv_session.proofs.Books.{all-append, all-map, IsBegun, begun-counts, begun-unended, begun-legal, counts-from, legal-from, state-behind}
+use Rattle.hv_steps.proofs.Books.{all-append, all-map, IsBegun, begun-counts, begun-unended, begun-legal, counts-from, legal-from, state-behind}
 
 -- ---- counts of faults
 

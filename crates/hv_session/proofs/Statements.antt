@@ -15,24 +15,24 @@ use Rattle.hv_house.specs.declared.fault.HouseFault.{HouseFault}
 use Rattle.hv_house.specs.declared.fault.HouseFault.TheVariants as fault
 use Rattle.hv_house.specs.declared.house.House.{House}
 use Rattle.hv_house.specs.House.{entries_of}
-use Rattle.hv_telling.specs.Telling.{IsWhole}
-use Rattle.hv_telling.proofs.Told.{told-stays}
-use Rattle.hv_telling.proofs.Opens.{whole-opens}
-use Rattle.hv_acts.specs.declared.told.ToldHouse.{ToldHouse}
-use Rattle.hv_acts.specs.Told.{trail_in, book_in}
-use Rattle.hv_session.specs.declared.ready.Reply.{Reply}
-use Rattle.hv_session.specs.declared.reply.Done.TheVariants as done
+use Rattle.hv_steps.specs.hv_acts.specs.hv_telling.specs.Telling.{IsWhole}
+use Rattle.hv_steps.specs.hv_acts.specs.hv_telling.proofs.Told.{told-stays}
+use Rattle.hv_steps.specs.hv_acts.specs.hv_telling.proofs.Opens.{whole-opens}
+use Rattle.hv_steps.specs.hv_acts.specs.declared.told.ToldHouse.{ToldHouse}
+use Rattle.hv_steps.specs.hv_acts.specs.Told.{trail_in, book_in}
+use Rattle.hv_steps.specs.declared.ready.Reply.{Reply}
+use Rattle.hv_steps.specs.declared.reply.Done.TheVariants as done
 use Rattle.hv_session.specs.declared.paused.Carried.{Carried}
 use Rattle.hv_session.specs.declared.paused.Carried.TheVariants as carried
 use Rattle.hv_session.specs.declared.paused.Taken.{Taken}
 use Rattle.hv_session.specs.declared.paused.Taken.TheVariants as taken
 use Rattle.hv_session.specs.Lines.{IsLine, IsTextLine, IsFullLine}
-use Rattle.hv_session.specs.Going.{faults_in, IsOpenHouse, AddsOwn, GainsSome}
-use Rattle.hv_session.specs.Phases.{HaltsBeginning}
+use Rattle.hv_steps.specs.Going.{faults_in, IsOpenHouse, AddsOwn, GainsSome}
+use Rattle.hv_steps.specs.Phases.{HaltsBeginning}
 use Rattle.hv_session.specs.Doing.{Takes, TakesText, IsSaidFor, WasNeverOpened, CanFinishSome, CanFinishTaken}
 use Rattle.hv_session.specs.Taking.{IsReplied, IsKeptIn, IsTakenAs}
 use Rattle.hv_session.specs.Ways.{IsUnopened, IsCarriedIn, IsCarriedAs, CarriesAlone, TakesAlone}
-use Rattle.hv_session.proofs.Joining.{adds-none, gains-as}
+use Rattle.hv_steps.proofs.Joining.{adds-none, gains-as}
 use Rattle.hv_session.proofs.Passing.{still-part, part-taking, taking-ok}
 
 -- what is so of a call that failed for want of memory is so of what is handed on

@@ -16,26 +16,26 @@ use Rattle.hv_trail.specs.declared.trail.TrailItem.{TrailItem}
 use Rattle.hv_trail.specs.Trail.{book_of}
 use Rattle.hv_actor.specs.Acting.{AreRows}
 use Rattle.hv_house.specs.declared.fault.HouseFault.{HouseFault}
-use Rattle.hv_telling.specs.Telling.{IsToldHouse}
-use Rattle.hv_acts.specs.declared.told.ToldHouse.{ToldHouse}
-use Rattle.hv_acts.specs.Told.{trail_in}
-use Rattle.hv_acts.specs.Meant.{IsNoEnd}
-use Rattle.hv_session.specs.declared.ready.Way.{Way}
-use Rattle.hv_session.specs.declared.ready.Ready.{Ready}
-use Rattle.hv_session.specs.declared.reply.Done.{Done}
-use Rattle.hv_session.specs.declared.reply.Done.TheVariants as done
-use Rattle.hv_session.specs.declared.reply.Opened.{Opened}
-use Rattle.hv_session.specs.declared.reply.Opened.TheVariants as opened
-use Rattle.hv_session.specs.declared.reply.Outcome.TheVariants as outcome
-use Rattle.hv_session.specs.declared.reply.Prepared.TheVariants as prepared
+use Rattle.hv_steps.specs.hv_acts.specs.hv_telling.specs.Telling.{IsToldHouse}
+use Rattle.hv_steps.specs.hv_acts.specs.declared.told.ToldHouse.{ToldHouse}
+use Rattle.hv_steps.specs.hv_acts.specs.Told.{trail_in}
+use Rattle.hv_steps.specs.hv_acts.specs.Meant.{IsNoEnd}
+use Rattle.hv_steps.specs.declared.ready.Way.{Way}
+use Rattle.hv_steps.specs.declared.ready.Ready.{Ready}
+use Rattle.hv_steps.specs.declared.reply.Done.{Done}
+use Rattle.hv_steps.specs.declared.reply.Done.TheVariants as done
+use Rattle.hv_steps.specs.declared.reply.Opened.{Opened}
+use Rattle.hv_steps.specs.declared.reply.Opened.TheVariants as opened
+use Rattle.hv_steps.specs.declared.reply.Outcome.TheVariants as outcome
+use Rattle.hv_steps.specs.declared.reply.Prepared.TheVariants as prepared
 use Rattle.hv_session.specs.declared.paused.Point.{Point}
 use Rattle.hv_session.specs.declared.paused.Point.TheVariants as point
 use Rattle.hv_session.specs.declared.paused.Carried.{Carried}
 use Rattle.hv_session.specs.declared.paused.Carried.TheVariants as carried
-use Rattle.hv_session.specs.Going.{faults_in, IsOpenHouse, AddsOwn, GainsSome, Goes, WasOnWay}
-use Rattle.hv_session.specs.Phases.{EndsBehind, AbortsFor, OpensAt, IsHinderedBefore, IsNextAt, BeginsAt, StartsAt, WasSoBetween, HasBegun, Begins, ComesTo, Prepares, PreparesTo, CanConclude, ConcludesSo, Concludes, AnswersTruly, IsUntoldDamage, Sees}
+use Rattle.hv_steps.specs.Going.{faults_in, IsOpenHouse, AddsOwn, GainsSome, Goes, WasOnWay}
+use Rattle.hv_steps.specs.Phases.{EndsBehind, AbortsFor, OpensAt, IsHinderedBefore, IsNextAt, BeginsAt, StartsAt, WasSoBetween, HasBegun, Begins, ComesTo, Prepares, PreparesTo, CanConclude, ConcludesSo, Concludes, AnswersTruly, IsUntoldDamage, Sees}
 use Rattle.hv_session.specs.Doing.{EndsFrom, EndsAs, IsUnrefused, StandsAt, CanGoOn, CanFinishSome, carried_of, is_refused, GoesOnTo, CarriedTruly, GoesToHold, Takes, GoesTaking, WasStarted}
-use Rattle.hv_session.proofs.Joining.{way-lasts, on-way-opened, adds-none, adds-front, told-later, told-earlier, gains-behind, gains-as, halts-behind, goes-behind, goes-on}
+use Rattle.hv_steps.proofs.Joining.{way-lasts, on-way-opened, adds-none, adds-front, told-later, told-earlier, gains-behind, gains-as, halts-behind, goes-behind, goes-on}
 use Rattle.hv_session.proofs.Lastings.{comes-lasts}
 use Rattle.hv_session.proofs.Openings.{between-more, next-opened}
 

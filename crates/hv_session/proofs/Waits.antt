@@ -23,9 +23,9 @@ use Rattle.hv_trail.specs.Trail.{book_of, state_at}
 use Rattle.hv_trail.proofs.LastingLaws.{book-append}
 use Rattle.hv_trail.proofs.KeptLaws.{trail-book}
 use Rattle.hv_shelf.specs.Disk.{Store}
-use Rattle.hv_acts.specs.declared.told.ToldHouse.{ToldHouse}
-use Rattle.hv_acts.specs.Told.{IsWholeOrClosed, book_in}
-use Rattle.hv_session.specs.Going.{IsOpenHouse, HasWaited}
+use Rattle.hv_steps.specs.hv_acts.specs.declared.told.ToldHouse.{ToldHouse}
+use Rattle.hv_steps.specs.hv_acts.specs.Told.{IsWholeOrClosed, book_in}
+use Rattle.hv_steps.specs.Going.{IsOpenHouse, HasWaited}
 
 some-first : (o : Option Snapshot) (s : Snapshot) → first_of o s ≡ None → ⊥
 some-first None s e = let never : Some s ≡ None = e in cc

@@ -10,23 +10,23 @@ use Rattle.hv_trail.specs.declared.trail.TrailItem.{TrailItem}
 use Rattle.hv_house.specs.declared.fault.HouseFault.{HouseFault}
 use Rattle.hv_house.specs.declared.fault.HouseFault.TheVariants as fault
 use Rattle.hv_house.specs.Faults.{EndsRun}
-use Rattle.hv_acts.specs.declared.told.ToldHouse.{ToldHouse}
-use Rattle.hv_acts.specs.declared.opening.Begun.{Begun}
-use Rattle.hv_acts.specs.declared.starting.Started.{Started}
-use Rattle.hv_acts.specs.declared.starting.Started.TheVariants as started
-use Rattle.hv_acts.specs.declared.aborted.Aborted.{Aborted}
-use Rattle.hv_acts.specs.declared.fault.BeginFault.{BeginFault}
-use Rattle.hv_acts.specs.declared.fault.BeginFault.TheVariants as hindered_by
-use Rattle.hv_acts.specs.declared.fault.ActFault.{ActFault}
-use Rattle.hv_acts.specs.declared.fault.ActFault.TheVariants as act
-use Rattle.hv_acts.specs.Told.{trail_in}
-use Rattle.hv_session.specs.declared.ready.Reply.{Reply}
-use Rattle.hv_session.specs.declared.ready.Way.{Way}
-use Rattle.hv_session.specs.declared.reply.Done.TheVariants as done
-use Rattle.hv_session.specs.declared.reply.Opened.{Opened}
-use Rattle.hv_session.specs.declared.reply.Opened.TheVariants as opened
-use Rattle.hv_session.specs.Going.{IsOpenHouse, faults_in, AddsOwn, GainsSome, HasWaited}
-use Rattle.hv_session.specs.Phases.{WasSoBetween, OpensAt, IsHinderedAt, IsHinderedBefore, Begins, HaltsBeginning}
+use Rattle.hv_steps.specs.hv_acts.specs.declared.told.ToldHouse.{ToldHouse}
+use Rattle.hv_steps.specs.hv_acts.specs.declared.opening.Begun.{Begun}
+use Rattle.hv_steps.specs.hv_acts.specs.declared.starting.Started.{Started}
+use Rattle.hv_steps.specs.hv_acts.specs.declared.starting.Started.TheVariants as started
+use Rattle.hv_steps.specs.hv_acts.specs.declared.aborted.Aborted.{Aborted}
+use Rattle.hv_steps.specs.hv_acts.specs.declared.fault.BeginFault.{BeginFault}
+use Rattle.hv_steps.specs.hv_acts.specs.declared.fault.BeginFault.TheVariants as hindered_by
+use Rattle.hv_steps.specs.hv_acts.specs.declared.fault.ActFault.{ActFault}
+use Rattle.hv_steps.specs.hv_acts.specs.declared.fault.ActFault.TheVariants as act
+use Rattle.hv_steps.specs.hv_acts.specs.Told.{trail_in}
+use Rattle.hv_steps.specs.declared.ready.Reply.{Reply}
+use Rattle.hv_steps.specs.declared.ready.Way.{Way}
+use Rattle.hv_steps.specs.declared.reply.Done.TheVariants as done
+use Rattle.hv_steps.specs.declared.reply.Opened.{Opened}
+use Rattle.hv_steps.specs.declared.reply.Opened.TheVariants as opened
+use Rattle.hv_steps.specs.Going.{IsOpenHouse, faults_in, AddsOwn, GainsSome, HasWaited}
+use Rattle.hv_steps.specs.Phases.{WasSoBetween, OpensAt, IsHinderedAt, IsHinderedBefore, Begins, HaltsBeginning}
 
 -- all that is promised of a statement that is opened
 pub record GoesBeginning {D : Type 0} (told : D → Option Store) (faults : D → ℕ) (between : List TrailItem → Type 0) (meanwhile : ToldHouse D → ToldHouse D → Type 0)

@@ -16,17 +16,17 @@ use Rattle.hv_history.specs.Legal.{HasRoom, profile}
 use Rattle.hv_stands.specs.Running.{Asking}
 use Rattle.hv_trail.specs.declared.trail.TrailItem.{TrailItem}
 use Rattle.hv_house.specs.declared.fault.HouseFault.{HouseFault}
-use Rattle.hv_acts.specs.declared.told.ToldHouse.{ToldHouse}
-use Rattle.hv_acts.specs.Told.{trail_in, book_in}
-use Rattle.hv_session.specs.declared.ready.Way.{Way}
-use Rattle.hv_session.specs.declared.ready.Ready.{Ready}
-use Rattle.hv_telling.specs.Telling.{IsToldHouse}
-use Rattle.hv_session.specs.declared.ready.Reply.{Reply}
-use Rattle.hv_session.specs.declared.reply.Done.{Done}
-use Rattle.hv_session.specs.declared.reply.Done.TheVariants as done
-use Rattle.hv_session.specs.declared.reply.Opened.{Opened}
-use Rattle.hv_session.specs.declared.reply.Opened.TheVariants as opened
-use Rattle.hv_session.specs.declared.reply.Prepared.TheVariants as prepared
+use Rattle.hv_steps.specs.hv_acts.specs.declared.told.ToldHouse.{ToldHouse}
+use Rattle.hv_steps.specs.hv_acts.specs.Told.{trail_in, book_in}
+use Rattle.hv_steps.specs.declared.ready.Way.{Way}
+use Rattle.hv_steps.specs.declared.ready.Ready.{Ready}
+use Rattle.hv_steps.specs.hv_acts.specs.hv_telling.specs.Telling.{IsToldHouse}
+use Rattle.hv_steps.specs.declared.ready.Reply.{Reply}
+use Rattle.hv_steps.specs.declared.reply.Done.{Done}
+use Rattle.hv_steps.specs.declared.reply.Done.TheVariants as done
+use Rattle.hv_steps.specs.declared.reply.Opened.{Opened}
+use Rattle.hv_steps.specs.declared.reply.Opened.TheVariants as opened
+use Rattle.hv_steps.specs.declared.reply.Prepared.TheVariants as prepared
 use Rattle.hv_session.specs.declared.paused.Point.{Point}
 use Rattle.hv_session.specs.declared.paused.Point.TheVariants as point
 use Rattle.hv_session.specs.declared.paused.Paused.{Paused}
@@ -35,8 +35,8 @@ use Rattle.hv_session.specs.declared.paused.Carried.TheVariants as carried
 use Rattle.hv_session.specs.declared.paused.Taken.{Taken}
 use Rattle.hv_session.specs.declared.paused.Taken.TheVariants as taken
 use Rattle.hv_session.specs.Lines.{IsLine, IsTextLine, IsFullLine}
-use Rattle.hv_session.specs.Going.{faults_in, Goes, GainsSome, WasOnWay, WasOpened}
-use Rattle.hv_session.specs.Phases.{HasBegun, HasNotBegun, AbortsFor, EndsBehind, IsUntoldDamage, ComesTo, Prepares, PreparesTo, CanConclude, ConcludesSo, Concludes, AnswersTruly, HaltsBeginning}
+use Rattle.hv_steps.specs.Going.{faults_in, Goes, GainsSome, WasOnWay, WasOpened}
+use Rattle.hv_steps.specs.Phases.{HasBegun, HasNotBegun, AbortsFor, EndsBehind, IsUntoldDamage, ComesTo, Prepares, PreparesTo, CanConclude, ConcludesSo, Concludes, AnswersTruly, HaltsBeginning}
 
 -- ---- how a started statement ends
 

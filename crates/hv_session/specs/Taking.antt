@@ -20,12 +20,12 @@ use Rattle.hv_history.specs.Answers.{cause_text}
 use Rattle.hv_stands.specs.Running.{Asking, next_number, opening, starting, AreOf, meant, IsUnderWay}
 use Rattle.hv_law_next.specs.Order.{AllInOrder}
 use Rattle.hv_law_next.specs.Carrying.{IsAtHold}
-use Rattle.hv_session.specs.Ending.{IsUndamaged, EndsUncommitted, CanEnd, EndCanBeNoted, EndIsTrue, aborting, HasReplied}
+use Rattle.hv_steps.specs.Ending.{IsUndamaged, EndsUncommitted, CanEnd, EndCanBeNoted, EndIsTrue, aborting, HasReplied}
 use Rattle.hv_house.specs.Asking.{holder_against, CanBegin}
 use Rattle.hv_session.specs.Doing.{IsUnrefused}
 use Rattle.hv_session.specs.Faults.{IsFaultLine}
 use Rattle.hv_session.specs.declared.asking.Asking.{Asking as Handed}
-use Rattle.hv_session.specs.declared.reply.Done.TheVariants as done
+use Rattle.hv_steps.specs.declared.reply.Done.TheVariants as done
 use Rattle.hv_session.specs.declared.paused.Point.{Point}
 use Rattle.hv_session.specs.declared.paused.Point.TheVariants as point
 use Rattle.hv_session.specs.declared.paused.Paused.{Paused}

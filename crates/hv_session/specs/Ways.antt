@@ -18,21 +18,21 @@ use Rattle.hv_house.specs.declared.house.House.{House}
 use Rattle.hv_house.specs.Faults.{FileCause, EndsRun}
 use Rattle.hv_house.specs.House.{entries_of, Leaves, BeginFits, beginning_of}
 use Rattle.hv_house.specs.Asking.{CanBegin}
-use Rattle.hv_telling.specs.Telling.{IsWhole, IsToldHouse, StillOpens}
-use Rattle.hv_acts.specs.declared.told.ToldHouse.{ToldHouse}
-use Rattle.hv_acts.specs.Told.{IsWholeOrClosed}
-use Rattle.hv_session.specs.declared.ready.Way.{Way}
-use Rattle.hv_session.specs.declared.reply.Done.{Done}
-use Rattle.hv_session.specs.declared.reply.Done.TheVariants as done
-use Rattle.hv_session.specs.declared.reply.Opened.{Opened}
-use Rattle.hv_session.specs.declared.reply.Opened.TheVariants as opened
+use Rattle.hv_steps.specs.hv_acts.specs.hv_telling.specs.Telling.{IsWhole, IsToldHouse, StillOpens}
+use Rattle.hv_steps.specs.hv_acts.specs.declared.told.ToldHouse.{ToldHouse}
+use Rattle.hv_steps.specs.hv_acts.specs.Told.{IsWholeOrClosed}
+use Rattle.hv_steps.specs.declared.ready.Way.{Way}
+use Rattle.hv_steps.specs.declared.reply.Done.{Done}
+use Rattle.hv_steps.specs.declared.reply.Done.TheVariants as done
+use Rattle.hv_steps.specs.declared.reply.Opened.{Opened}
+use Rattle.hv_steps.specs.declared.reply.Opened.TheVariants as opened
 use Rattle.hv_session.specs.declared.paused.Carried.{Carried}
 use Rattle.hv_session.specs.declared.paused.Carried.TheVariants as carried
 use Rattle.hv_session.specs.declared.paused.Taken.{Taken}
-use Rattle.hv_session.specs.Ending.{AddsOf, HasStopped, HasReplied, IsUndamaged, aborting}
+use Rattle.hv_steps.specs.Ending.{AddsOf, HasStopped, HasReplied, IsUndamaged, aborting}
 use Rattle.hv_session.specs.Alone.{AddsNothing}
-use Rattle.hv_session.specs.Going.{IsOpenHouse, faults_in, Goes, GainsSome}
-use Rattle.hv_session.specs.Phases.{Begins, HaltsBeginning}
+use Rattle.hv_steps.specs.Going.{IsOpenHouse, faults_in, Goes, GainsSome}
+use Rattle.hv_steps.specs.Phases.{Begins, HaltsBeginning}
 use Rattle.hv_session.specs.Taking.{EndsBefore, HoldsAt, IsAtPlace, IsHeld, IsTrulyHeld, WentThrough, IsKept, IsKeptIn, IsTakenAs, IsFinished, IsWhyNot}
 
 -- nobody else acts on the house: others add nothing to its trail, and do nothing to it

@@ -3,26 +3,24 @@ ghost use Rattle.std.specs.Prelude.{◌≡◌, ℕ, List, false, Some, [], IfOk,
 ghost use Rattle.hv_history.specs.Answers.{ok_line};
 ghost use Rattle.hv_house.specs.Faults.{EndsRun};
 ghost use Rattle.hv_house.specs.House.{IsSmall};
-ghost use Rattle.hv_telling.specs.Telling.{IsToldHouse};
-ghost use Rattle.hv_acts.specs.Told.{trail_in, book_in};
-ghost use Rattle.hv_acts.specs.Meant.{IsCommitDue, IsMakeMeant};
-ghost use Rattle.hv_acts.specs.Committing.{CanBePut};
-ghost use Rattle.hv_session.specs.declared.ready.End.TheVariants as last;
-ghost use Rattle.hv_session.specs.Ending.{committing, HasReplied};
-ghost use Rattle.hv_session.specs.declared.reply.Done.TheVariants as done;
+ghost use Rattle.hv_steps.specs.hv_acts.specs.hv_telling.specs.Telling.{IsToldHouse};
+ghost use Rattle.hv_steps.specs.hv_acts.specs.Told.{trail_in, book_in};
+ghost use Rattle.hv_steps.specs.hv_acts.specs.Meant.{IsCommitDue, IsMakeMeant};
+ghost use Rattle.hv_steps.specs.hv_acts.specs.Committing.{CanBePut};
+ghost use Rattle.hv_steps.specs.declared.ready.End.TheVariants as last;
+ghost use Rattle.hv_steps.specs.Ending.{committing, HasReplied};
+ghost use Rattle.hv_steps.specs.declared.reply.Done.TheVariants as done;
 ghost use Rattle.hv_session.specs.Ends.{commit_adds, IsCommitEnd, IsCommitAnswered, committed_reply, create_adds};
-ghost use Rattle.hv_session.specs.Going.{faults_in, IsOpenHouse, AddsOwn, Goes, WasOpened};
-ghost use Rattle.hv_session.specs.Leaving.{IsLeft, EndsAct, added_by};
-ghost use Rattle.hv_session.specs.Phases.{IsDueSo, CanConclude, Concludes, AnswersTruly};
+ghost use Rattle.hv_steps.specs.Going.{faults_in, IsOpenHouse, AddsOwn, Goes, WasOpened};
+ghost use Rattle.hv_steps.specs.Leaving.{IsLeft, EndsAct, added_by};
+ghost use Rattle.hv_steps.specs.Phases.{IsDueSo, CanConclude, Concludes, AnswersTruly};
 
-use crate::ready::{End, Ready, Reply, Way};
-use crate::refusing::end_without;
-use crate::reply::Done;
 use hv_actor::Actor;
-use hv_acts::{Aborted, ActFault, CommitWrites, Committed, Made, MakeTable, ToldHouse};
 use hv_base::{List, Text, Touch, TxnId};
 use hv_house::HouseFault;
 use hv_shelf::{Place, Shelf};
+use hv_steps::hv_acts::{Aborted, ActFault, CommitWrites, Committed, Made, MakeTable, ToldHouse};
+use hv_steps::{Done, End, Ready, Reply, Way, end_without};
 use std::alloc::Global;
 
 /// Commits a transaction, or aborts it for a conflict, where that fits.

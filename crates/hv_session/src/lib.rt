@@ -2,9 +2,8 @@
 //! the house between.
 #![tactic(auto)]
 
-pub use hv_acts;
+pub use hv_steps;
 
-mod acting;
 mod alone;
 mod asking;
 mod concluding;
@@ -12,15 +11,7 @@ mod laws;
 mod lines;
 mod opening;
 mod paused;
-mod preparing;
-mod putting;
-mod reading;
-mod ready;
-mod refusing;
-mod reply;
-mod seeing;
 mod statement;
-mod tables;
 mod taking;
 
 pub use alone::{
@@ -31,8 +22,5 @@ pub use asking::{Asking, How};
 pub use laws::what_is_held_can_be_finished;
 pub use lines::memory_reply;
 pub use paused::{Paused, Point, Taken};
-pub use ready::{End, Ready, Reply, Way};
-pub use reply::Done;
 pub use statement::take_up;
-pub use tables::see_table;
 pub use taking::finish;

@@ -7,10 +7,10 @@ ghost use Rattle.hv_reading.specs.Faults.{IsRefusalOf};
 ghost use Rattle.hv_session.specs.Faults.{IsFaultLine, placed_line};
 ghost use Rattle.hv_session.specs.Lines.{IsLine, IsTextLine, IsFullLine};
 
-use crate::ready::Reply;
 use hv_base::{List, NoMemory, Refusal};
 use hv_history::{Cause, cause_text};
 use hv_reading::TextFault;
+use hv_steps::Reply;
 use std::alloc::Global;
 
 /// The line of a refusal of this number, and what it names.

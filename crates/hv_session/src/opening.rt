@@ -4,25 +4,23 @@ ghost use Rattle.hv_ast.specs.declared.statement.Stmt.{Stmt as Tree};
 ghost use Rattle.hv_built.specs.Running.{Runs};
 ghost use Rattle.hv_stands.specs.Running.{Asking};
 ghost use Rattle.hv_house.specs.Faults.{EndsRun};
-ghost use Rattle.hv_acts.specs.declared.told.ToldHouse.{ToldHouse as House};
-ghost use Rattle.hv_acts.specs.Told.{trail_in};
-ghost use Rattle.hv_session.specs.Going.{IsOpenHouse, faults_in, GainsSome, WasOpened};
-ghost use Rattle.hv_session.specs.Leaving.{IsLeftFor, EndsAct};
-ghost use Rattle.hv_session.specs.Phases.{Begins, HaltsBeginning};
+ghost use Rattle.hv_steps.specs.hv_acts.specs.declared.told.ToldHouse.{ToldHouse as House};
+ghost use Rattle.hv_steps.specs.hv_acts.specs.Told.{trail_in};
+ghost use Rattle.hv_steps.specs.Going.{IsOpenHouse, faults_in, GainsSome, WasOpened};
+ghost use Rattle.hv_steps.specs.Leaving.{IsLeftFor, EndsAct};
+ghost use Rattle.hv_steps.specs.Phases.{Begins, HaltsBeginning};
 ghost use Rattle.hv_session.specs.Beginnings.{GoesBeginning, lacking, WasHindered, BeginsAtOnce, IsLeftRunning, OpenedFirst, unopened, OpensSo, WaitsIn, reply_of, started_as, StartsSo};
 
-use crate::ready::{Reply, Way};
-use crate::refusing::end_without;
-use crate::reply::{Done, Opened};
 use hv_actor::Actor;
-use hv_acts::{
-    Aborted, ActFault, Begin, BeginFault, Begun, OpenTransaction, StartOrAbort, Started, ToldHouse,
-};
 use hv_ast::{Stmt, discard};
 use hv_base::{Duplicate, NoMemory, Text, TxnId};
 use hv_house::HouseFault;
 use hv_reading::read_statement;
 use hv_shelf::Shelf;
+use hv_steps::hv_acts::{
+    Aborted, ActFault, Begin, BeginFault, Begun, OpenTransaction, StartOrAbort, Started, ToldHouse,
+};
+use hv_steps::{Done, Opened, Reply, Way, end_without};
 use std::alloc::Global;
 
 /// The session and the text of a statement once more.

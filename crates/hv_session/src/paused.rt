@@ -1,7 +1,6 @@
-use crate::ready::{Ready, Way};
-use crate::reply::Done;
 use hv_ast::Stmt;
 use hv_effect::Touching;
+use hv_steps::{Done, Ready, Way};
 
 /// How far a held statement has come.
 #[derive(Drop)]

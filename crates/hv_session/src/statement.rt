@@ -2,8 +2,8 @@
 ghost use Rattle.std.specs.Prelude.{◌≡◌, ◌≤◌, false, length, IfOk, IfErr};
 ghost use Rattle.hv_built.specs.Running.{Runs};
 ghost use Rattle.hv_house.specs.Faults.{EndsRun};
-ghost use Rattle.hv_session.specs.Going.{IsOpenHouse, faults_in, GainsSome};
-ghost use Rattle.hv_session.specs.Phases.{HaltsBeginning};
+ghost use Rattle.hv_steps.specs.Going.{IsOpenHouse, faults_in, GainsSome};
+ghost use Rattle.hv_steps.specs.Phases.{HaltsBeginning};
 ghost use Rattle.hv_session.specs.Doing.{IsHold, IsSaidFor, WasNeverOpened, TakesText, CanFinishTaken};
 ghost use Rattle.hv_session.specs.Taking.{asked_of};
 ghost use Rattle.hv_session.specs.Ways.{ActsAlone, TakesAlone};
@@ -11,15 +11,15 @@ ghost use Rattle.hv_session.specs.Ways.{ActsAlone, TakesAlone};
 use crate::asking::{Asking, How};
 use crate::lines::{full_reply, memory_reply, text_reply};
 use crate::paused::{Carried, Taken};
-use crate::reply::Done;
 use crate::taking::carry;
 use hv_actor::Actor;
-use hv_acts::ToldHouse;
 use hv_ast::{Stmt, discard};
 use hv_base::NoMemory;
 use hv_house::HouseFault;
 use hv_reading::read_statement;
 use hv_shelf::Shelf;
+use hv_steps::Done;
+use hv_steps::hv_acts::ToldHouse;
 use std::alloc::Global;
 
 /// What is replied to a statement that was carried so far. Only memory may lack for it, where it was never opened.

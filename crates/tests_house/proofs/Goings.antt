@@ -3,8 +3,8 @@ use Rattle.std.proofs.Common.{ℕ, Option, Some, None, Result, Ok, Err}
 use Rattle.std.specs.Prelude.{IfSome, OnOk}
 use Rattle.hv_shelf.specs.Disk.{Store}
 use Rattle.hv_actor.specs.Acting.{IsLater}
-use Rattle.hv_session.specs.hv_acts.specs.declared.told.ToldHouse.{ToldHouse}
-use Rattle.hv_session.specs.hv_acts.specs.Told.{seen_in}
+use Rattle.hv_session.specs.hv_steps.specs.hv_acts.specs.declared.told.ToldHouse.{ToldHouse}
+use Rattle.hv_session.specs.hv_steps.specs.hv_acts.specs.Told.{seen_in}
 use Rattle.hv_session.specs.declared.paused.Paused.{Paused}
 use Rattle.hv_session.specs.declared.paused.Taken.{Taken}
 use Rattle.hv_session.specs.declared.paused.Taken.TheVariants as taken

@@ -17,8 +17,8 @@ use Rattle.hv_house.specs.declared.calls.EntryFault.{EntryFault}
 use Rattle.hv_house.specs.declared.calls.EntryFault.TheVariants as fault
 use Rattle.hv_house.specs.Calls.{CanBeGiven, CanStart, IfOpen, StaysOpenWithin}
 use Rattle.hv_trail.specs.Kept.{trail_of}
-use Rattle.hv_session.specs.hv_acts.specs.Reading.{HasPlace}
-use Rattle.hv_session.specs.hv_acts.proofs.Steps.{book-is}
+use Rattle.hv_session.specs.hv_steps.specs.hv_acts.specs.Reading.{HasPlace}
+use Rattle.hv_session.specs.hv_steps.specs.hv_acts.proofs.Steps.{book-is}
 use Rattle.tests_house.specs.Asking.{IsOpen, StaysOpen, IsRefusal}
 
 of_open : (P : Transaction → Type 0) (o : Option Transaction) → IsSomeAnd o P → IsSomeAnd o (λ t. IsTrue (is_open t) → P t)

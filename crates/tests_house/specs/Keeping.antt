@@ -1,9 +1,9 @@
 -- What holds between two lines of a case.
 use Rattle.std.specs.Prelude.{◌≤◌, Option, Some, None, List, IfSome, length}
 use Rattle.hv_shelf.specs.Disk.{Store}
-use Rattle.hv_session.specs.hv_acts.specs.declared.told.ToldHouse.{ToldHouse}
-use Rattle.hv_session.specs.hv_acts.specs.Told.{IsWholeOrClosed}
-use Rattle.hv_session.specs.Going.{IsOpenHouse}
+use Rattle.hv_session.specs.hv_steps.specs.hv_acts.specs.declared.told.ToldHouse.{ToldHouse}
+use Rattle.hv_session.specs.hv_steps.specs.hv_acts.specs.Told.{IsWholeOrClosed}
+use Rattle.hv_session.specs.hv_steps.specs.Going.{IsOpenHouse}
 use Rattle.hv_session.specs.declared.asking.Asking.{Asking}
 use Rattle.hv_session.specs.declared.paused.Paused.{Paused}
 use Rattle.hv_session.specs.declared.paused.Taken.{Taken}

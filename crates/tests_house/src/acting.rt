@@ -1,8 +1,8 @@
 //! A statement of one's own, over whoever acts on the house.
 ghost use Rattle.std.specs.Prelude.{◌≡◌, IfSome, IfOk, OnOk};
 ghost use Rattle.hv_actor.specs.Acting.{IsLater};
-ghost use Rattle.hv_session.specs.hv_acts.specs.Told.{seen_in};
-ghost use Rattle.hv_session.specs.hv_acts.specs.Going.{IsOpenHouse};
+ghost use Rattle.hv_session.specs.hv_steps.specs.hv_acts.specs.Told.{seen_in};
+ghost use Rattle.hv_session.specs.hv_steps.specs.hv_acts.specs.Going.{IsOpenHouse};
 ghost use Rattle.hv_session.specs.Doing.{IsHold, CanFinish, CanFinishTaken};
 ghost use Rattle.tests_house.specs.Keeping.{held_behind, CanTakeUp, CanGoOn};
 
@@ -11,8 +11,9 @@ use crate::words::{cut, say};
 use hv_actor::Actor;
 use hv_base::{Stage, Text};
 use hv_house::HouseFault;
-use hv_session::hv_acts::ToldHouse;
-use hv_session::{Asking, Done, How, Paused, Taken, finish, take_up, what_is_held_can_be_finished};
+use hv_session::hv_steps::Done;
+use hv_session::hv_steps::hv_acts::ToldHouse;
+use hv_session::{Asking, How, Paused, Taken, finish, take_up, what_is_held_can_be_finished};
 use hv_shelf::Shelf;
 use std::alloc::Global;
 use std::io;

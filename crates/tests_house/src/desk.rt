@@ -3,7 +3,8 @@ ghost use Rattle.std.specs.Prelude.{◌≡◌, None};
 
 use crate::words::{add, add_number, say, say_number};
 use hv_base::Stage;
-use hv_session::{Done, Paused, Reply};
+use hv_session::Paused;
+use hv_session::hv_steps::{Done, Reply};
 use std::alloc::Global;
 use std::io;
 use std::mem::ManuallyDrop;

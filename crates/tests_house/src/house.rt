@@ -2,16 +2,16 @@
 //! left to the end of the program.
 ghost use Rattle.std.specs.Prelude.{◌≡◌, true, IfOk};
 ghost use Rattle.hv_trail.specs.Kept.{trail_of};
-ghost use Rattle.hv_session.specs.hv_acts.specs.hv_telling.specs.Telling.{IsWhole};
-ghost use Rattle.hv_session.specs.hv_acts.specs.Told.{IsWholeOrClosed, trail_in};
-ghost use Rattle.hv_session.specs.hv_acts.specs.Going.{IsOpenHouse};
-ghost use Rattle.hv_session.specs.hv_acts.specs.Reading.{HasPlace};
+ghost use Rattle.hv_session.specs.hv_steps.specs.hv_acts.specs.hv_telling.specs.Telling.{IsWhole};
+ghost use Rattle.hv_session.specs.hv_steps.specs.hv_acts.specs.Told.{IsWholeOrClosed, trail_in};
+ghost use Rattle.hv_session.specs.hv_steps.specs.hv_acts.specs.Going.{IsOpenHouse};
+ghost use Rattle.hv_session.specs.hv_steps.specs.hv_acts.specs.Reading.{HasPlace};
 ghost use Rattle.tests_house.specs.Asking.{IsOpen};
 
 use hv_base::Limits;
 use hv_house::{BootFault, House};
-use hv_session::hv_acts::ToldHouse;
-use hv_session::hv_acts::hv_telling::opened_is_whole;
+use hv_session::hv_steps::hv_acts::ToldHouse;
+use hv_session::hv_steps::hv_acts::hv_telling::opened_is_whole;
 use hv_shelf::Shelf;
 use std::alloc::Global;
 use std::io;

@@ -1,8 +1,8 @@
 //! Others, who do what they were told to do when.
 ghost use Rattle.std.specs.Prelude.{◌≡◌, false};
 ghost use Rattle.hv_actor.specs.Acting.{IsLater};
-ghost use Rattle.hv_session.specs.hv_acts.specs.Told.{IsWholeOrClosed, seen_in};
-ghost use Rattle.hv_session.specs.hv_acts.specs.Going.{IsOpenHouse};
+ghost use Rattle.hv_session.specs.hv_steps.specs.hv_acts.specs.Told.{IsWholeOrClosed, seen_in};
+ghost use Rattle.hv_session.specs.hv_steps.specs.hv_acts.specs.Going.{IsOpenHouse};
 
 use crate::acting::{asking, take_one};
 use crate::desk::say_done;
@@ -11,7 +11,7 @@ use hv_actor::{Actor, Others};
 use hv_base::TxnId;
 use hv_history::Cause;
 use hv_session::Taken;
-use hv_session::hv_acts::{AbortFor, ActFault, ToldHouse};
+use hv_session::hv_steps::hv_acts::{AbortFor, ActFault, ToldHouse};
 use hv_shelf::Shelf;
 use std::alloc::Global;
 use std::io;

@@ -8,7 +8,7 @@ use hv_history::FilePlace;
 use hv_house::{House, RowFault};
 use hv_logic::{Found, Seen};
 use hv_meta::note_of;
-use hv_session::see_table;
+use hv_session::hv_steps::see_table;
 use hv_shelf::MemoryShelf;
 use hv_value::Value;
 use std::alloc::Global;

@@ -1,4 +1,4 @@
-use Rattle.hv_session.specs.Going.{faults_in}
+use Rattle.hv_session.specs.hv_steps.specs.Going.{faults_in}
 use Rattle.hv_session.specs.Doing.{TakesText}
 use Rattle.hv_session.specs.Taking.{asked_of}
 use Rattle.hv_program.proofs.Sessions.{acts-alone, whole-keeps, taking-whole, taking-added, taking-later}

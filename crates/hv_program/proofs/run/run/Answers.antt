@@ -1,7 +1,7 @@
 use Rattle.std.proofs.Common.{arith, ◌∙◌}
 use Rattle.std.proofs.lemmas.List.{take_all}
 use Rattle.hv_base.proofs.ToldLemmas.{stays_stays, stays_by}
-use Rattle.hv_session.specs.hv_acts.specs.hv_telling.proofs.Told.{told-stays}
+use Rattle.hv_session.specs.hv_steps.specs.hv_acts.specs.hv_telling.proofs.Told.{told-stays}
 use Rattle.hv_program.specs.Keeping.{standing_of}
 use Rattle.hv_program.proofs.Turns.{Prints-next, Prints-all, Halts-stopped, Halts-cut}
 use Rattle.hv_program.proofs.run.run.Goals as goal

@@ -1,6 +1,6 @@
-use Rattle.hv_acts.specs.Told.{trail_in}
-use Rattle.hv_acts.proofs.Lasting.{put-lasts, commit-lasts}
-use Rattle.hv_session.proofs.Joining.{reached-front, found-told, held-adds, act-left, act-risen, ends-rise}
+use Rattle.hv_steps.specs.hv_acts.specs.Told.{trail_in}
+use Rattle.hv_steps.specs.hv_acts.proofs.Lasting.{put-lasts, commit-lasts}
+use Rattle.hv_steps.proofs.Joining.{reached-front, found-told, held-adds, act-left, act-risen, ends-rise}
 use Rattle.hv_session.proofs.Commits.{commit-ends, commit-book, commit-names, commit-ended, commit-answered}
 use Rattle.hv_session.proofs.concluding.commit.Goals as goal
 

@@ -1,9 +1,9 @@
-use Rattle.hv_acts.specs.Told.{trail_in}
-use Rattle.hv_acts.specs.Answers.{NoTest}
-use Rattle.hv_acts.specs.Making.{MakeFits, create_of}
-use Rattle.hv_acts.proofs.Lasting.{make-lasts}
-use Rattle.hv_session.proofs.Joining.{reached-front, found-told, held-adds, act-left, act-risen, answers-name, note-ends, ends-rise}
-use Rattle.hv_session.proofs.Aborts.{book-added}
+use Rattle.hv_steps.specs.hv_acts.specs.Told.{trail_in}
+use Rattle.hv_steps.specs.hv_acts.specs.Answers.{NoTest}
+use Rattle.hv_steps.specs.hv_acts.specs.Making.{MakeFits, create_of}
+use Rattle.hv_steps.specs.hv_acts.proofs.Lasting.{make-lasts}
+use Rattle.hv_steps.proofs.Joining.{reached-front, found-told, held-adds, act-left, act-risen, answers-name, note-ends, ends-rise}
+use Rattle.hv_steps.proofs.Aborts.{book-added}
 use Rattle.hv_session.proofs.Commits.{make-replied}
 use Rattle.hv_session.proofs.concluding.make.Goals as goal
 

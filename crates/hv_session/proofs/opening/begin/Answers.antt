@@ -1,9 +1,9 @@
 use Rattle.std.proofs.Common.{subst}
 use Rattle.std.specs.Prelude.{IfOk}
 use Rattle.hv_ast.specs.declared.statement.Stmt.{Stmt}
-use Rattle.hv_session.specs.declared.reply.Opened.{Opened}
-use Rattle.hv_session.specs.Going.{faults_in, GainsSome}
-use Rattle.hv_session.specs.Phases.{Begins}
+use Rattle.hv_steps.specs.declared.reply.Opened.{Opened}
+use Rattle.hv_steps.specs.Going.{faults_in, GainsSome}
+use Rattle.hv_steps.specs.Phases.{Begins}
 use Rattle.hv_session.proofs.Openings.{one-tree, nothing-gained}
 use Rattle.hv_session.proofs.opening.begin.Goals as goal
 

@@ -1,5 +1,5 @@
 use Rattle.std.proofs.Common.{ℕ, ◌≤◌, List, length, sym, subst}
-use Rattle.hv_session.specs.declared.reply.Opened.TheVariants as opened
+use Rattle.hv_steps.specs.declared.reply.Opened.TheVariants as opened
 use Rattle.hv_session.specs.Beginnings.{way_of}
 use Rattle.hv_session.proofs.Openings.{gone-goes, left-running, asked-again}
 use Rattle.hv_session.proofs.opening.begin_or_open.Goals as goal

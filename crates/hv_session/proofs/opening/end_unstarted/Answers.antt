@@ -1,4 +1,4 @@
-use Rattle.hv_session.specs.Going.{faults_in}
+use Rattle.hv_steps.specs.Going.{faults_in}
 use Rattle.hv_session.proofs.Openings.{lacks-gained, lacks-halted}
 use Rattle.hv_session.proofs.opening.end_unstarted.Goals as goal
 

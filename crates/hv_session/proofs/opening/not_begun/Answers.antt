@@ -1,7 +1,7 @@
 use Rattle.std.proofs.Common.{sym, subst, Result, Err}
 use Rattle.hv_house.specs.declared.fault.HouseFault.{HouseFault}
-use Rattle.hv_acts.specs.declared.fault.BeginFault.{BeginFault}
-use Rattle.hv_session.specs.declared.reply.Opened.{Opened}
+use Rattle.hv_steps.specs.hv_acts.specs.declared.fault.BeginFault.{BeginFault}
+use Rattle.hv_steps.specs.declared.reply.Opened.{Opened}
 use Rattle.hv_session.specs.Beginnings.{GoesBeginning, BeginsAtOnce, IsLeftRunning}
 use Rattle.hv_session.proofs.opening.not_begun.Goals as goal
 

@@ -1,10 +1,10 @@
 use Rattle.std.proofs.Common.{subst, inr}
-use Rattle.hv_acts.specs.Told.{trail_in}
-use Rattle.hv_session.specs.declared.reply.Opened.{Opened}
-use Rattle.hv_session.specs.declared.reply.Opened.TheVariants as opened
+use Rattle.hv_steps.specs.hv_acts.specs.Told.{trail_in}
+use Rattle.hv_steps.specs.declared.reply.Opened.{Opened}
+use Rattle.hv_steps.specs.declared.reply.Opened.TheVariants as opened
 use Rattle.hv_session.specs.declared.paused.Carried.TheVariants as carried
-use Rattle.hv_session.specs.Going.{faults_in, GainsSome}
-use Rattle.hv_session.specs.Phases.{Begins}
+use Rattle.hv_steps.specs.Going.{faults_in, GainsSome}
+use Rattle.hv_steps.specs.Phases.{Begins}
 use Rattle.hv_session.specs.Doing.{WasStarted}
 use Rattle.hv_session.proofs.Takings.{started-takes, never-takes}
 use Rattle.hv_session.proofs.AloneBegins.{begins-alone}

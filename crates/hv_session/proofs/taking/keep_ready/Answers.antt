@@ -1,6 +1,6 @@
 use Rattle.std.proofs.Common.{Some, subst}
 use Rattle.hv_base.specs.declared.gate.Stage.TheVariants as stage
-use Rattle.hv_session.specs.Phases.{Prepares, CanConcludeIn}
+use Rattle.hv_steps.specs.Phases.{Prepares, CanConcludeIn}
 use Rattle.hv_session.proofs.Takings.{goes-said, ready-holds, early-holds, halts-holds}
 use Rattle.hv_session.proofs.AloneHolds.{ready-goes, broken-goes, halted-goes}
 use Rattle.hv_session.proofs.taking.keep_ready.Goals as goal

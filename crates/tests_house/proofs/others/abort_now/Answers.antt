@@ -2,9 +2,9 @@ use Rattle.hv_history.specs.declared.entry.Entry.TheVariants as entry
 use Rattle.hv_history.specs.declared.entry.Cause.TheVariants as cause
 use Rattle.hv_actor.specs.Acting.{Untouched}
 use Rattle.hv_actor.specs.Rows.{untouched_goes_on}
-use Rattle.hv_session.specs.hv_acts.specs.Told.{seen_in}
-use Rattle.hv_session.proofs.Shorts.{short_memory}
-use Rattle.hv_session.proofs.Joining.{held-later, note-ends, ends-rise, act-risen}
+use Rattle.hv_session.specs.hv_steps.specs.hv_acts.specs.Told.{seen_in}
+use Rattle.hv_session.specs.hv_steps.proofs.Shorts.{short_memory}
+use Rattle.hv_session.specs.hv_steps.proofs.Joining.{held-later, note-ends, ends-rise, act-risen}
 use Rattle.tests_house.proofs.others.abort_now.Goals as goal
 
 pub hold-requires-clause-can : goal.hold-requires-clause-can

@@ -1,5 +1,5 @@
 use Rattle.hv_actor.specs.Acting.{IsLater}
-use Rattle.hv_session.specs.hv_acts.specs.Told.{IsWholeOrClosed, seen_in}
+use Rattle.hv_session.specs.hv_steps.specs.hv_acts.specs.Told.{IsWholeOrClosed, seen_in}
 use Rattle.tests_house.proofs.others.come.Given as goal
 
 abbrev pub invariant-loop-next : goal.invariant-loop-next

@@ -1,9 +1,0 @@
-use Rattle.std.proofs.Common.{take}
-use Rattle.hv_session.proofs.FileActs.{PutsUpTo}
-use Rattle.hv_session.proofs.putting.put_each.Given as goal
-
-abbrev pub invariant-loop-file : goal.invariant-loop-file
-invariant-loop-file g l =
-    g.W.Actor.keeps l.actor
-    × PutsUpTo g.D.Shelf.faults g.W.Actor.between (g.W.Actor.own l.fn.actor) (g.W.Actor.own l.actor) (g.W.Actor.house l.fn.actor) (g.W.Actor.house l.actor)
-    l.table.0 l.write.0 (take l.file-index l.files) l.places.items

@@ -1,0 +1,232 @@
+-- What acts that read leave of a house, and what is seen of a table by then, as it stood at a place of the book.
+use Rattle.std.proofs.Common.{◌≡◌, ℕ, ◌+◌, ◌<◌, ◌≤◌, Bool, true, false, cond, Option, Some, None, List, [], ◌∷◌, ◌++◌, length, take, get_or, refl, sym, ap, ◌∙◌, subst, arith, Ok, Err, Result}
+use Rattle.std.specs.Prelude.{IfOk, IfErr, IsErrAnd}
+use Rattle.std.specs.Option.{option_map, option_to_list}
+use Rattle.std.proofs.lemmas.List.{take-append-le, take_more}
+use Rattle.std.proofs.Math.Seq.{take-append_seam}
+use Rattle.hv_base.specs.declared.ids.TxnId.{TxnId}
+use Rattle.hv_locks.specs.declared.table.Lock.{Lock}
+use Rattle.hv_shelf.specs.Disk.{Store}
+use Rattle.hv_dirs.specs.Names.{write_end}
+use Rattle.hv_logic.specs.declared.effect.Found.{Found}
+use Rattle.hv_logic.specs.declared.seen.Seen.{Seen}
+use Rattle.hv_meaning.specs.Meaning.{info_of}
+use Rattle.hv_history.specs.declared.entry.Entry.{Entry}
+use Rattle.hv_history.specs.declared.state.Table.{Table}
+use Rattle.hv_history.specs.State.{State, state_of, content_of}
+use Rattle.hv_stands.specs.Files.{Stands}
+use Rattle.hv_stands.specs.Reading.{table_of_name}
+use Rattle.hv_stands.specs.Statements.{AllFitting}
+use Rattle.hv_stands.proofs.Fitting.{fronts-fit}
+use Rattle.hv_trail.specs.declared.trail.TrailItem.{TrailItem}
+use Rattle.hv_actor.specs.Acting.{AreRows}
+use Rattle.hv_house.specs.declared.fault.HouseFault.TheVariants as fault
+use Rattle.hv_house.specs.declared.fault.RowFault.{RowFault}
+use Rattle.hv_house.specs.declared.fault.RowFault.TheVariants as row_fault
+use Rattle.hv_house.specs.Faults.{IsShortDamage, IsDamage}
+use Rattle.hv_house.specs.Listing.{info_in}
+use Rattle.hv_house.specs.Seeing.{SeesRows, IsSeenOf}
+use Rattle.hv_house.proofs.Seen.{rows-content}
+use Rattle.hv_acts.specs.hv_telling.specs.Telling.{IsTold, IsToldHouse}
+use Rattle.hv_acts.specs.hv_telling.proofs.Told.{house-book}
+use Rattle.hv_acts.specs.declared.told.ToldHouse.{ToldHouse}
+use Rattle.hv_acts.specs.Told.{IsWholeOrClosed, trail_in, book_in}
+use Rattle.hv_acts.specs.Reading.{HasPlace, state_then}
+use Rattle.hv_acts.specs.Going.{faults_in, IsOpenHouse, AddsOwn}
+use Rattle.hv_steps.specs.Tables.{LeavesSeeing, IsMarkedIn, RisesTo, IsSeenIn}
+use Rattle.hv_steps.specs.Seeing.{tables_then, seen_with, IsSeenAs, AreSeenAs, AddsSeen, IsUnseen, Looks, SeesUpTo}
+use Rattle.hv_acts.proofs.Readings.{place-lasts, then-same}
+use Rattle.hv_steps.proofs.Joining.{adds-none, adds-more, adds-front}
+use Rattle.hv_steps.proofs.SeenNames.{seen-none, seen-more}
+
+-- ---- of a book whose files stand in a store
+
+rows-by : (b : Bool) (rows content : List Found) → (b ≡ true → rows ≡ content) → (b ≡ false → rows ≡ []) → rows ≡ cond b content []
+rows-by true rows content all none = all refl
+rows-by false rows content all none = none refl
+
+module _ (book : List Entry) (place : ℕ) (store : Store) (reads : Bool) (fit : AllFitting book) (few : length book < write_end)
+    (stands : Stands (state_of book) store.tree) where
+  abbrev then_state : State
+  then_state = state_of (take place book)
+
+  seen-rows : (name : List ℕ) (o : Option Table) (found : Option Seen) → table_of_name name then_state.tables ≡ o → IsSeenOf (Some store) reads then_state o found
+      → found ≡ option_map (seen_with reads) o
+  seen-rows name None found at is = is
+  seen-rows name (Some table) found at is =
+      let sees : SeesRows (Some store) reads then_state table is.0 = is.2 in
+      let rows : is.0 ≡ cond reads (content_of table.writes) [] =
+      rows-by reads is.0 (content_of table.writes) (λ so. rows-content book place store.tree name table is.0 fit few stands at (sees.read so)) sees.none in
+      is.1 ∙ ap (λ (rows : List Found). Some (record { info = table.info; rows = rows })) rows
+
+seen-info : (told : Option Store) (reads : Bool) (s : State) (o : Option Table) (found : Option Seen) → IsSeenOf told reads s o found
+    → option_map info_of found ≡ option_map info_in o
+seen-info told reads s None found is = ap (option_map info_of) is
+seen-info told reads s (Some table) found is = ap (option_map info_of) is.1
+
+-- ---- what is seen of a name, said of another house
+
+seen-as : (T U : Type 0) (reads : Bool) (name : List ℕ) (tables others : List Table) (found : Option Seen) → (U → T) → tables ≡ others
+    → IsSeenAs T reads (table_of_name name tables) found → IsSeenAs U reads (table_of_name name others) found
+seen-as T U reads name tables others found f same is =
+    subst (λ (ts : List Table). IsSeenAs U reads (table_of_name name ts) found) same (record { info = is.info; truly = λ so. is.truly (f so) })
+
+are-seen-as : (T U : Type 0) (reads : Bool) (locks : List Lock) (tables others : List Table) (seen : List Seen) → (U → T) → tables ≡ others
+    → AreSeenAs T reads tables locks seen → AreSeenAs U reads others locks seen
+are-seen-as T U reads locks tables others seen f same are =
+    subst (λ (ts : List Table). AreSeenAs U reads ts locks seen) same (record { infos = are.infos; truly = λ so. are.truly (f so) })
+
+-- ---- of a house
+
+rises-from : (low low' high : ℕ) → low ≤ low' → (why : RowFault) → RisesTo low' high why → RisesTo low high why
+rises-from low low' high down (row_fault.House (fault.Failed count)) rises = (omega (arith, down, rises.0), rises.1)
+rises-from low low' high down (row_fault.House fault.Store) rises = tt
+rises-from low low' high down (row_fault.House fault.NoMemory) rises = tt
+rises-from low low' high down (row_fault.Damaged place) rises = tt
+
+module _ {D : Type 0} (told : D → Option Store) where
+  -- all that the book of one that is open has fits
+  pub house-fits : (now : ToldHouse D) → IsWholeOrClosed told now.house → IsOpenHouse now → AllFitting (book_in now)
+  house-fits now keeps running = subst AllFitting (sym (house-book now.house)) (keeps.whole running).ready.fit
+
+  seen-now : (now : ToldHouse D) (place : ℕ) (reads : Bool) (name : List ℕ) (found : Option Seen) → AllFitting (book_in now)
+      → IsSeenIn told now place reads name found → IsSeenAs (IsToldHouse told now.house) reads (table_of_name name (tables_then now place)) found
+  seen-now now place reads name found fit sees = record {
+    info = seen-info None reads (state_then (trail_in now) place) (table_of_name name (tables_then now place)) found sees.untold;
+    truly = λ so.
+        let seen = sees.truly so in
+        let front = seen.moment.front in
+        let fits : AllFitting seen.book =
+        subst AllFitting (ap (take (length seen.book)) front.is ∙ take-append_seam seen.book front.more) (fronts-fit (book_in now) (length seen.book) fit) in
+        let same : take place (book_in now) ≡ take place seen.book = ap (take place) front.is ∙ take-append-le place seen.book front.more seen.moment.has in
+        subst (λ (b : List Entry). found ≡ option_map (seen_with reads) (table_of_name name (state_of b).tables)) (sym same)
+        (seen-rows seen.book place seen.store reads fits seen.moment.few seen.moment.faithful.stands name (table_of_name name (state_of (take place seen.book)).tables) found refl seen.seen);
+  }
+
+  module _ (faults : D → ℕ) (B : List TrailItem → Type 0) (rows : AreRows B) where
+    -- a place of the book is one of what it grows to, with the same tables
+    pub place-later : (own own' : List ℕ) (before now : ToldHouse D) (place : ℕ) → AddsOwn faults B own own' before now [] → HasPlace (trail_in before) place
+        → HasPlace (trail_in now) place
+    place-later own own' before now place adds has =
+        place-lasts (trail_in before) (trail_in now) (adds-front faults B rows own own' before now [] adds) place has
+
+    tables-same : (own own' : List ℕ) (before now : ToldHouse D) (place : ℕ) → AddsOwn faults B own own' before now [] → HasPlace (trail_in before) place
+        → tables_then now place ≡ tables_then before place
+    tables-same own own' before now place adds has =
+        ap (λ (s : State). s.tables) (then-same (trail_in before) (trail_in now) (adds-front faults B rows own own' before now [] adds) place has)
+
+    pub seen-before : (own own' : List ℕ) (before now : ToldHouse D) (place : ℕ) (reads : Bool) (name : List ℕ) (found : Option Seen)
+        → AddsOwn faults B own own' before now [] → HasPlace (trail_in before) place → AllFitting (book_in now) → IsSeenIn told now place reads name found
+        → IsSeenAs (IsToldHouse told before.house) reads (table_of_name name (tables_then before place)) found
+    seen-before own own' before now place reads name found adds has fit sees =
+        seen-as (IsToldHouse told now.house) (IsToldHouse told before.house) reads name (tables_then now place) (tables_then before place) found
+        (subst (IsTold told) (sym adds.start)) (tables-same own own' before now place adds has) (seen-now now place reads name found fit sees)
+
+    pub looks-seen : (own own' : List ℕ) (before now : ToldHouse D) (place : ℕ) (reads : Bool) (name : List ℕ) (result : Result (Option Seen) RowFault)
+        → AddsOwn faults B own own' before now [] → HasPlace (trail_in before) place → IsWholeOrClosed told now.house → IfOk result (λ _. IsOpenHouse now)
+        → IfOk result (IsSeenIn told now place reads name)
+        → IfOk result (IsSeenAs (IsToldHouse told before.house) reads (table_of_name name (tables_then before place)))
+    looks-seen own own' before now place reads name (Ok found) adds has keeps running sees =
+        seen-before own own' before now place reads name found adds has (house-fits now keeps running) sees
+    looks-seen own own' before now place reads name (Err why) adds has keeps running sees = tt
+
+    -- ---- what acts leave
+
+    module _ (meanwhile : ToldHouse D → ToldHouse D → Type 0) (by : TxnId) where
+      unseen-of : (now : ToldHouse D) (why : RowFault) → LeavesSeeing told meanwhile by.0 now why → IsMarkedIn (trail_in now) by why → IsShortDamage why
+          → (IsToldHouse told now.house → IsDamage why → ⊥) → IsUnseen told meanwhile by now why
+      unseen-of now (row_fault.Damaged place) leaves marked short undamaged = (leaves, short, λ so. undamaged so tt)
+      unseen-of now (row_fault.House fault.Store) leaves marked short undamaged = leaves
+      unseen-of now (row_fault.House fault.NoMemory) leaves marked short undamaged = leaves
+      unseen-of now (row_fault.House (fault.Failed count)) leaves marked short undamaged = (leaves, marked)
+
+      -- the acts by which a table is seen
+      pub looks-at : {T : Type 0} (own own' : List ℕ) (before now : ToldHouse D) (result : Result T RowFault) → AddsOwn faults B own own' before now []
+          → IfOk result (λ _. IsOpenHouse now) → IfErr result (LeavesSeeing told meanwhile by.0 now) → IfErr result (IsMarkedIn (trail_in now) by)
+          → IfErr result (RisesTo (faults_in faults before) (faults_in faults now)) → IfErr result IsShortDamage
+          → (IsToldHouse told before.house → IfErr result (λ why. IsDamage why → ⊥)) → Looks told faults B meanwhile by own own' before now result
+      looks-at own own' before now (Ok x) adds running leaves marked counts short undamaged =
+          record { adds = adds; running = running; unseen = tt; counts = tt }
+      looks-at own own' before now (Err why) adds running leaves marked counts short undamaged = record {
+        adds = adds;
+        running = tt;
+        unseen = unseen-of now why leaves marked short (λ so. undamaged (subst (IsTold told) adds.start so));
+        counts = counts;
+      }
+
+      -- none of them failed
+      pub looks-done : {T : Type 0} (own own' : List ℕ) (before now : ToldHouse D) (x : T) → AddsOwn faults B own own' before now [] → IsOpenHouse now
+          → Looks told faults B meanwhile by own own' before now (Ok x)
+      looks-done own own' before now x adds running = record { adds = adds; running = running; unseen = tt; counts = tt }
+
+      -- nothing was done
+      pub looks-none : {T : Type 0} (own : List ℕ) (house : ToldHouse D) (x : T) → IsOpenHouse house → Looks told faults B meanwhile by own own house house (Ok x)
+      looks-none own house x running = looks-done own own house house x (adds-none faults B rows own house) running
+
+      -- memory lacked behind them
+      pub looks-lack : {T : Type 0} (own own' : List ℕ) (before now : ToldHouse D) (r : Result T RowFault) → IsErrAnd r (λ y. y ≡ row_fault.House fault.NoMemory)
+          → AddsOwn faults B own own' before now [] → IsOpenHouse now → Looks told faults B meanwhile by own own' before now r
+      looks-lack {T = T} own own' before now (Ok x) lacks adds running = absurd lacks
+      looks-lack {T = T} own own' before now (Err why) lacks adds running =
+          subst (λ (y : RowFault). Looks {T = T} told faults B meanwhile by own own' before now (Err y)) (sym lacks)
+          (record { adds = adds; running = tt; unseen = running; counts = tt })
+
+      -- what failed is handed on
+      pub looks-failed : {T U : Type 0} (own own' : List ℕ) (before now : ToldHouse D) (why : RowFault) (r : Result U RowFault) → IsErrAnd r (λ y. y ≡ why)
+          → Looks {T = T} told faults B meanwhile by own own' before now (Err why) → Looks told faults B meanwhile by own own' before now r
+      looks-failed {T = T} {U = U} own own' before now why (Ok x) left looks = absurd left
+      looks-failed {T = T} {U = U} own own' before now why (Err y) left looks =
+          subst (λ (e : RowFault). Looks {T = U} told faults B meanwhile by own own' before now (Err e)) (sym left)
+          (record { adds = looks.adds; running = tt; unseen = looks.unseen; counts = looks.counts })
+
+      -- behind some that didn't fail
+      pub looks-behind : {T : Type 0} (own own' own'' : List ℕ) (first before now : ToldHouse D) (result : Result T RowFault) → AddsOwn faults B own own' first before []
+          → Looks told faults B meanwhile by own' own'' before now result → Looks told faults B meanwhile by own own'' first now result
+      looks-behind own own' own'' first before now (Ok x) adds looks = record {
+        adds = adds-more faults B rows own own' own'' first before now [] [] adds looks.adds;
+        running = looks.running;
+        unseen = tt;
+        counts = tt;
+      }
+      looks-behind own own' own'' first before now (Err why) adds looks = record {
+        adds = adds-more faults B rows own own' own'' first before now [] [] adds looks.adds;
+        running = tt;
+        unseen = looks.unseen;
+        counts = rises-from (faults_in faults first) (faults_in faults before) (faults_in faults now) adds.count why looks.counts;
+      }
+
+    -- ---- name by name
+
+    module _ (own : List ℕ) (first : ToldHouse D) (place : ℕ) (reads : Bool) (locks : List Lock) (has : HasPlace (trail_in first) place) where
+      pub sees-none : (seen : List Seen) → seen ≡ [] → IsOpenHouse first → SeesUpTo told faults B own own first first place reads locks 0 seen
+      sees-none seen none running = record {
+        adds = adds-none faults B rows own first;
+        running = running;
+        sees = subst (λ (xs : List Seen). AreSeenAs (IsToldHouse told first.house) reads (tables_then first place) [] xs) (sym none)
+            (seen-none (tables_then first place) (IsToldHouse told first.house) reads);
+      }
+
+      -- what was seen, said of the house as it is
+      pub sees-some : (own' : List ℕ) (now : ToldHouse D) (i : ℕ) (seen : List Seen) → SeesUpTo told faults B own own' first now place reads locks i seen
+          → AreSeenAs (IsToldHouse told now.house) reads (tables_then now place) (take i locks) seen
+      sees-some own' now i seen sees =
+          are-seen-as (IsToldHouse told first.house) (IsToldHouse told now.house) reads (take i locks) (tables_then first place) (tables_then now place) seen
+          (subst (IsTold told) sees.adds.start) (sym (tables-same own own' first now place sees.adds has)) sees.sees
+
+      pub sees-next : (own' own'' : List ℕ) (before now : ToldHouse D) (i : ℕ) (lock : Lock) (seen next : List Seen)
+          → SeesUpTo told faults B own own' first before place reads locks i seen → i < length locks → get_or locks i lock ≡ lock
+          → AddsOwn faults B own' own'' before now [] → IsOpenHouse now
+          → AddsSeen (IsToldHouse told before.house) reads (tables_then before place) lock.name seen next
+          → SeesUpTo told faults B own own'' first now place reads locks (i + 1) next
+      sees-next own' own'' before now i lock seen next sees within here adds running one =
+          let more : take (i + 1) locks ≡ take i locks ++ lock ∷ [] = take_more locks i lock within ∙ ap (λ (l : Lock). take i locks ++ l ∷ []) here in
+          let sees_it : IsSeenAs (IsToldHouse told first.house) reads (table_of_name lock.name (tables_then first place)) one.first =
+          seen-as (IsToldHouse told before.house) (IsToldHouse told first.house) reads lock.name (tables_then before place) (tables_then first place) one.first
+          (subst (IsTold told) (sym sees.adds.start)) (tables-same own own' first before place sees.adds has) one.sees in
+          record {
+            adds = adds-more faults B rows own own' own'' first before now [] [] sees.adds adds;
+            running = running;
+            sees = subst (λ (xs : List Seen). AreSeenAs (IsToldHouse told first.house) reads (tables_then first place) (take (i + 1) locks) xs) (sym one.now_is)
+                (subst (λ (ls : List Lock). AreSeenAs (IsToldHouse told first.house) reads (tables_then first place) ls (seen ++ option_to_list one.first)) (sym more)
+                (seen-more (tables_then first place) (IsToldHouse told first.house) reads (take i locks) lock seen one.first sees.sees sees_it));
+          }

@@ -1,0 +1,18 @@
+use Rattle.std.proofs.Common.{◌≡◌, false, take, Option}
+use Rattle.hv_shelf.specs.Disk.{Store}
+use Rattle.hv_route.specs.Partitions.{partition_values}
+use Rattle.hv_table_rows.specs.Reading.{left_in}
+use Rattle.hv_acts.specs.Told.{seen_in}
+use Rattle.hv_steps.specs.Tables.{HasLookedOver}
+use Rattle.hv_steps.specs.Steady.{AreSteady}
+use Rattle.hv_steps.proofs.Files.{ReadsUpTo}
+use Rattle.hv_steps.proofs.reading.read_left.Given as goal
+
+abbrev pub invariant-loop-file : goal.invariant-loop-file
+invariant-loop-file g l =
+    (l.partition.values ≡ partition_values l.info.shape.parts l.partition.text)
+    × g.W.Actor.keeps l.actor
+    × HasLookedOver g.D.Shelf.told g.D.Shelf.faults g.W.Actor.between g.W.Actor.meanwhile l.fn.by (g.W.Actor.own l.fn.actor) (g.W.Actor.own l.actor)
+    (g.W.Actor.house l.fn.actor) (g.W.Actor.house l.actor)
+    × ((o : Option Store) → AreSteady g.D.Shelf.told o (seen_in (g.W.Actor.house l.fn.actor)) l.taken
+    → ReadsUpTo o false (take l.file-index l.taken) (left_in l.list l.gone l.info.shape) l.rows.items l.counts.items)

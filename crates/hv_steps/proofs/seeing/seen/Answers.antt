@@ -1,0 +1,60 @@
+use Rattle.std.proofs.Common.{sym, arith, rules}
+use Rattle.hv_steps.proofs.Joining.{adds-none}
+use Rattle.hv_steps.proofs.Looks.{place-later, sees-none, sees-some, sees-next, looks-lack, looks-failed, looks-behind}
+use Rattle.hv_steps.proofs.seeing.seen.Goals as goal
+
+pub loop-i-init : goal.loop-i-init
+loop-i-init g c = (
+  c.requires.keeps,
+  sees-none g.D.Shelf.told g.D.Shelf.faults g.W.Actor.between g.met.W.Actor.rows (g.W.Actor.own c.args.actor.now) (g.W.Actor.house c.args.actor.now) c.args.way.place
+      c.reads_rows-reads.result c.in_ok-names.names.items c.requires.place c.new-seen.result.items (search rules) c.requires.running,
+)
+
+pub see_next-requires : goal.see_next-requires
+see_next-requires g c =
+    let own = g.W.Actor.own c.args.actor.now in
+    let first = g.W.Actor.house c.args.actor.now in
+    let own' = g.W.Actor.own c.loop-i.actor in
+    let now = g.W.Actor.house c.loop-i.actor in
+    let sees = c.loop-i.invariant.1 in
+    record {
+      keeps = c.loop-i.invariant.0;
+      running = sees.running;
+      place = place-later g.D.Shelf.told g.D.Shelf.faults g.W.Actor.between g.met.W.Actor.rows own own' first now c.args.way.place sees.adds c.requires.place;
+      seen = (
+        _,
+        sees-some g.D.Shelf.told g.D.Shelf.faults g.W.Actor.between g.met.W.Actor.rows own first c.args.way.place c.reads_rows-reads.result c.in_ok-names.names.items
+            c.requires.place own' now c.loop-i.i c.loop-i.seen.items sees,
+      );
+    }
+
+pub loop-i-preserved : goal.loop-i-preserved
+loop-i-preserved g c = (
+  c.in_ok-see_next.ensures.keeps,
+  sees-next g.D.Shelf.told g.D.Shelf.faults g.W.Actor.between g.met.W.Actor.rows (g.W.Actor.own c.args.actor.now) (g.W.Actor.house c.args.actor.now) c.args.way.place
+      c.reads_rows-reads.result c.in_ok-names.names.items c.requires.place
+      (g.W.Actor.own c.loop-i.actor) (g.W.Actor.own c.see_next.new.actor) (g.W.Actor.house c.loop-i.actor) (g.W.Actor.house c.see_next.new.actor)
+      c.loop-i.i c.index.result.now c.loop-i.seen.items c.see_next.new.seen.items
+      c.loop-i.invariant.1 (omega (arith, c.loop-i-test.true, c.len-i-end.ensures)) (sym c.index.ensures)
+      c.in_ok-see_next.ensures.looks.adds c.in_ok-see_next.ensures.looks.running c.in_ok-see_next.ensures.seen,
+)
+
+pub returns-in_err-names-clause-looks : goal.returns-in_err-names-clause-looks
+returns-in_err-names-clause-looks g c =
+    let own = g.W.Actor.own c.args.actor.now in
+    let house = g.W.Actor.house c.args.actor.now in
+    looks-lack g.D.Shelf.told g.D.Shelf.faults g.W.Actor.between g.met.W.Actor.rows g.W.Actor.meanwhile c.args.way.txn own own house house
+    c.from_residual.result c.from_residual.ensures.1 (adds-none g.D.Shelf.faults g.W.Actor.between g.met.W.Actor.rows own house) c.requires.running
+
+pub returns-in_err-see_next-clause-looks : goal.returns-in_err-see_next-clause-looks
+returns-in_err-see_next-clause-looks g c =
+    let own = g.W.Actor.own c.args.actor.now in
+    let own' = g.W.Actor.own c.loop-i.actor in
+    let own'' = g.W.Actor.own c.see_next.new.actor in
+    let first = g.W.Actor.house c.args.actor.now in
+    let before = g.W.Actor.house c.loop-i.actor in
+    let now = g.W.Actor.house c.see_next.new.actor in
+    looks-behind g.D.Shelf.told g.D.Shelf.faults g.W.Actor.between g.met.W.Actor.rows g.W.Actor.meanwhile c.args.way.txn own own' own'' first before now _
+    c.loop-i.invariant.1.adds
+    (looks-failed g.D.Shelf.told g.D.Shelf.faults g.W.Actor.between g.met.W.Actor.rows g.W.Actor.meanwhile c.args.way.txn own' own'' before now
+    c.in_err-see_next.field-0.0 c.from_residual-in_err-see_next.result c.from_residual-in_err-see_next.ensures.1 c.in_err-see_next.ensures.looks)

@@ -1,0 +1,116 @@
+-- What a started statement sees of the tables that it names, each as it stood at its snapshot, at whatever moment it was looked at.
+use Rattle.std.specs.Prelude.{◌≡◌, ◌⊎◌, ℕ, ◌<◌, ◌≤◌, Bool, if◌then◌else◌, Option, List, [], ◌∷◌, ◌++◌, length, take, map, Result, IfOk, IfErr}
+use Rattle.std.specs.List.{flat_map}
+use Rattle.std.specs.Option.{option_map, option_to_list}
+use Rattle.hv_base.specs.declared.ids.TxnId.{TxnId}
+use Rattle.hv_shelf.specs.Disk.{Store}
+use Rattle.hv_locks.specs.declared.table.Lock.{Lock}
+use Rattle.hv_ast.specs.declared.statement.Stmt.{Stmt}
+use Rattle.hv_logic.specs.Names.{names_in}
+use Rattle.hv_logic.specs.declared.meaning.Meaning.{Meaning}
+use Rattle.hv_logic.specs.declared.meaning.Meaning.TheVariants.{Change}
+use Rattle.hv_logic.specs.declared.seen.Seen.{Seen}
+use Rattle.hv_typing.specs.Columns.{columns_of}
+use Rattle.hv_meaning.specs.Meaning.{info_of}
+use Rattle.hv_meaning.specs.Laws.{reads_rows}
+use Rattle.hv_history.specs.declared.entry.Entry.{Entry}
+use Rattle.hv_history.specs.declared.entry.Cause.{Cause}
+use Rattle.hv_history.specs.declared.entry.Cause.TheVariants as cause
+use Rattle.hv_history.specs.declared.state.Table.{Table}
+use Rattle.hv_history.specs.State.{content_of}
+use Rattle.hv_stands.specs.Reading.{table_of_name, named_in}
+use Rattle.hv_trail.specs.declared.trail.TrailItem.{TrailItem}
+use Rattle.hv_house.specs.declared.fault.HouseFault.TheVariants as fault
+use Rattle.hv_house.specs.declared.fault.RowFault.{RowFault}
+use Rattle.hv_house.specs.declared.fault.RowFault.TheVariants as row_fault
+use Rattle.hv_house.specs.Faults.{IsShortDamage}
+use Rattle.hv_house.specs.Listing.{info_in}
+use Rattle.hv_acts.specs.hv_telling.specs.Telling.{IsToldHouse}
+use Rattle.hv_acts.specs.declared.told.ToldHouse.{ToldHouse}
+use Rattle.hv_acts.specs.Told.{trail_in}
+use Rattle.hv_acts.specs.Answers.{HasItsMark}
+use Rattle.hv_acts.specs.Reading.{state_then}
+use Rattle.hv_steps.specs.declared.reply.Outcome.{Outcome}
+use Rattle.hv_steps.specs.declared.reply.Outcome.TheVariants as outcome
+use Rattle.hv_acts.specs.Going.{faults_in, IsOpenHouse, IsShutBetween, IsShutNow, AddsOwn}
+use Rattle.hv_steps.specs.Tables.{RisesTo}
+use Rattle.hv_steps.specs.Phases.{AbortsFor, IsUntoldDamage}
+
+-- ---- what is seen of a table
+
+-- the tables at a place of the book
+abbrev pub tables_then : {D : Type 0} → ToldHouse D → ℕ → List Table
+tables_then now place = (state_then (trail_in now) place).tables
+
+-- a table with the rows that stood in it, where they are read
+abbrev pub seen_with : Bool → Table → Seen
+seen_with reads table = record { info = table.info; rows = if reads then content_of table.writes else [] }
+
+-- its description is the table's; where the house is told, so are its rows
+pub record IsSeenAs (is_told : Type 0) (reads : Bool) (table : Option Table) (found : Option Seen) : Type 0 where
+  pub info : option_map info_of found ≡ option_map info_in table
+  pub truly : is_told → found ≡ option_map (seen_with reads) table
+
+-- of these names each one's table, where there is one
+pub record AreSeenAs (is_told : Type 0) (reads : Bool) (tables : List Table) (locks : List Lock) (seen : List Seen) : Type 0 where
+  pub infos : map info_of seen ≡ map info_in (flat_map (named_in tables) locks)
+  pub truly : is_told → seen ≡ map (seen_with reads) (flat_map (named_in tables) locks)
+
+-- they are seen of some names
+abbrev pub AreSeenOfSome : Type 0 → Bool → List Table → List Seen → Type 0
+AreSeenOfSome is_told reads tables seen = (locks : List Lock) × AreSeenAs is_told reads tables locks seen
+
+-- one name more
+pub record AddsSeen (is_told : Type 0) (reads : Bool) (tables : List Table) (name : List ℕ) (before now : List Seen) : Type 0 where
+  pub first : Option Seen
+  pub sees : IsSeenAs is_told reads (table_of_name name tables) first
+  pub now_is : now ≡ before ++ option_to_list first
+
+-- of all that a statement names
+abbrev pub IsSeen : {D : Type 0} → (D → Option Store) → ToldHouse D → ℕ → Stmt → List Seen → Type 0
+IsSeen told now place said seen = AreSeenAs (IsToldHouse told now.house) (reads_rows said) (tables_then now place) (names_in said) seen
+
+-- ---- what reading leaves
+
+-- A table can't be seen: others have closed the house, or its journal failed; a read failed, which has its mark; memory lacks; or a file is
+-- damaged, of a house that isn't told.
+abbrev pub IsUnseen : {D : Type 0} → (D → Option Store) → (ToldHouse D → ToldHouse D → Type 0) → TxnId → ToldHouse D → RowFault → Type 0
+IsUnseen told meanwhile by now (row_fault.Damaged place) =
+    IsOpenHouse now × IsShortDamage (row_fault.Damaged place) × (IsToldHouse told now.house → ⊥)
+IsUnseen told meanwhile by now (row_fault.House fault.Store) = IsShutBetween meanwhile ⊎ IsShutNow told by.0 now
+IsUnseen told meanwhile by now (row_fault.House fault.NoMemory) = IsOpenHouse now
+IsUnseen told meanwhile by now (row_fault.House (fault.Failed count)) = IsOpenHouse now × HasItsMark (trail_in now) by (cause.ReadFault count)
+
+-- all that is promised of what reads: nothing is noted
+pub record Looks {D T : Type 0} (told : D → Option Store) (faults : D → ℕ) (between : List TrailItem → Type 0) (meanwhile : ToldHouse D → ToldHouse D → Type 0)
+    (by : TxnId) (own own' : List ℕ) (before now : ToldHouse D) (result : Result T RowFault) : Type 0 where
+  pub adds : AddsOwn faults between own own' before now []
+  pub running : IfOk result (λ _. IsOpenHouse now)
+  pub unseen : IfErr result (IsUnseen told meanwhile by now)
+  pub counts : IfErr result (RisesTo (faults_in faults before) (faults_in faults now))
+
+-- of the names the first ones were looked at
+pub record SeesUpTo {D : Type 0} (told : D → Option Store) (faults : D → ℕ) (between : List TrailItem → Type 0) (own own' : List ℕ) (first now : ToldHouse D)
+    (place : ℕ) (reads : Bool) (locks : List Lock) (i : ℕ) (seen : List Seen) : Type 0 where
+  pub adds : AddsOwn faults between own own' first now []
+  pub running : IsOpenHouse now
+  pub sees : AreSeenAs (IsToldHouse told first.house) reads (tables_then first place) (take i locks) seen
+
+-- ---- what it means
+
+-- a row file counts the columns of the table that is changed
+abbrev pub IsNarrow : Meaning → Type 0
+IsNarrow (Change info effect) = length (columns_of info.shape) ≤ 65535
+IsNarrow meaning = Unit {0}
+
+-- ---- where it can't be seen
+
+-- it ended: it was aborted for this cause
+abbrev pub EndsFor : {D : Type 0} → ℕ → ToldHouse D → Cause → Outcome → List Entry → Type 0
+EndsFor txn now why (outcome.Means meaning) added = ⊥
+EndsFor txn now why (outcome.Ended found) added = AbortsFor txn now [] (λ of. of ≡ why) found added
+
+-- for a fault by which its tables couldn't be seen
+abbrev pub EndsUnseen : {D : Type 0} → (D → Option Store) → ToldHouse D → ℕ → Outcome → List Entry → Type 0
+EndsUnseen told now txn (outcome.Means meaning) added = ⊥
+EndsUnseen told now txn (outcome.Ended found) added = AbortsFor txn now [] (IsUntoldDamage told now) found added

@@ -1,0 +1,22 @@
+//! What a started statement does before its end is noted, over whoever acts on the house: it sees its tables, comes to what it means,
+//! prepares that, and is refused or aborted where that is due.
+#![tactic(auto)]
+
+pub use hv_acts;
+
+mod acting;
+mod preparing;
+mod putting;
+mod reading;
+mod ready;
+mod refusing;
+mod reply;
+mod seeing;
+mod tables;
+
+pub use preparing::prepare;
+pub use ready::{End, Ready, Reply, Way};
+pub use refusing::end_without;
+pub use reply::{Done, Opened, Outcome, Prepared};
+pub use seeing::see;
+pub use tables::see_table;
