@@ -1,33 +1,41 @@
 //! What is held open of a store on the machine.
+use crate::asked::Part;
 use crate::fault::{Cause, FileFault, cause_of};
-use crate::system::Part;
-use hv_base::NoMemory;
-use std::alloc::Global;
+use std::alloc::{AllocError, Global};
 use std::fs::{File, Metadata, TryLockError};
 use std::io::ErrorKind;
+use std::os::fd::AsRawFd;
 use std::os::unix::fs::MetadataExt;
+
+/// How a path goes on from a store's folder to the folder of all tables.
+const TABLES: &str = "/tables";
+
+/// The largest number of a standard stream.
+const LAST_STREAM: i32 = 2;
 
 /// What is held open of a store. The system's locks on two of the files go with them.
 #[derive(Drop)]
 pub struct Held {
+    pub alloc: Global,
     folder: Option<File>,
     tables: Option<File>,
     lock: Option<File>,
     journal: Option<File>,
-    /// The path at which the folder was opened, and one by which the system finds it whatever its name is.
+    /// The path at which the folder was opened, and whether the system finds what is open by its number.
     pub path: String,
-    pub number: Option<String>,
+    pub finds: bool,
 }
 
 impl Held {
     pub fn new(alloc: Global) -> Held {
         Held {
+            alloc,
             folder: None,
             tables: None,
             lock: None,
             journal: None,
             path: String::new(alloc),
-            number: None,
+            finds: false,
         }
     }
 
@@ -49,16 +57,18 @@ impl Held {
         }
     }
 
-    /// The path by which the system is asked for this one: one that leads through the folder that is held
-    /// begins at that very folder.
-    pub fn taken(&self, alloc: Global, path: &str) -> Result<String, NoMemory> {
-        let (begin, rest) = match (&self.number, path.strip_prefix(self.path.as_str())) {
-            (Some(number), Some(rest)) if rest.starts_with('/') => (number.as_str(), rest),
-            _ => ("", path),
+    /// The path by which the system is asked for this one: one that leads through the folder of all tables
+    /// that is held, or else through the folder that is held, begins there, whatever its name is by then.
+    pub fn taken(&self, path: &str) -> Result<String, AllocError> {
+        let below = path.strip_prefix(self.path.as_str()).unwrap_or("");
+        let inside = below.strip_prefix(TABLES).unwrap_or("");
+        let (file, rest) = match (&self.tables, &self.folder) {
+            (Some(tables), _) if self.finds && inside.starts_with('/') => (tables, inside),
+            (_, Some(folder)) if self.finds && below.starts_with('/') => (folder, below),
+            _ => return String::from_str(self.alloc, path),
         };
-        let mut by = String::from_str(alloc, begin)?;
-        by.push_str(rest)?;
-        Ok(by)
+        let number = file.as_raw_fd();
+        format!(in self.alloc; "/proc/self/fd/{number}{rest}")
     }
 }
 
@@ -77,6 +87,15 @@ pub fn held_metadata(file: &File) -> Result<Metadata, FileFault> {
 /// Whether both are said of one file or folder. Of what is held open no other has the number.
 pub fn is_same(one: &Metadata, other: &Metadata) -> bool {
     one.dev() == other.dev() && one.ino() == other.ino()
+}
+
+/// The file, where it doesn't stand in the place of a standard stream that is closed.
+pub fn above_streams(file: File) -> Result<File, FileFault> {
+    if file.as_raw_fd() > LAST_STREAM {
+        Ok(file)
+    } else {
+        Err(FileFault::Device(Cause::ClosedStream))
+    }
 }
 
 /// Locks a file for as long as it is open.

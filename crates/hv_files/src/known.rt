@@ -3,6 +3,7 @@ ghost use Rattle.std.specs.Prelude.{◌≡◌, OnOk, string_bytes};
 ghost use Rattle.hv_files.specs.Acts.{Keeps};
 ghost use Rattle.hv_files.specs.Acts.Act.{SyncsFolder};
 
+use crate::asked::Change;
 use crate::fault::{Cause, FileFault};
 use crate::system::{Stand, System};
 use hv_paths::path_in;
@@ -13,7 +14,7 @@ use std::collections::BTreeSet;
 #[derive(Drop)]
 pub struct Known {
     /// No sync has failed.
-    sound: bool,
+    pub sound: bool,
     /// The folders that were seen to be folders, and no links.
     real: BTreeSet<String>,
     /// The folders whose names survive a stop.
@@ -26,15 +27,6 @@ impl Known {
             sound: true,
             real: BTreeSet::new(alloc),
             synced: BTreeSet::new(alloc),
-        }
-    }
-
-    /// Fails where a sync has failed.
-    pub fn test(&self) -> Result<(), FileFault> {
-        if self.sound {
-            Ok(())
-        } else {
-            Err(FileFault::Device(Cause::Unsynced))
         }
     }
 
@@ -109,7 +101,11 @@ impl Known {
         if self.synced.contains(path) {
             return Ok(());
         }
-        system.make_folder(path.as_str())?;
+        if !system.change(Change::MakeFolder, path.as_str(), "")? {
+            if !matches!(system.stand(path.as_str())?, Stand::Folder) {
+                return Err(FileFault::Device(Cause::NotAFolder));
+            }
+        }
         self.sync(system, outer)?;
         self.real.insert(path.clone()?)?;
         self.synced.insert(path.clone()?)?;
@@ -159,21 +155,10 @@ impl Known {
                 Ok(names)
             }
             Ok(None) => Ok(Vec::new(alloc)),
-            Err(fault) => {
-                if is_foreign(fault) && !ours {
-                    Ok(Vec::new(alloc))
-                } else {
-                    Err(fault)
-                }
+            Err(FileFault::Device(Cause::NotAFolder | Cause::NotPermitted)) if !ours => {
+                Ok(Vec::new(alloc))
             }
+            Err(fault) => Err(fault),
         }
     }
-}
-
-/// Whether what stands at a path isn't a folder that can be read.
-fn is_foreign(fault: FileFault) -> bool {
-    matches!(
-        fault,
-        FileFault::Device(Cause::NotAFolder | Cause::NotPermitted)
-    )
 }

@@ -5,9 +5,10 @@ ghost use Rattle.hv_files.specs.Acts.{Keeps, Puts};
 ghost use Rattle.hv_files.specs.Acts.Act.{Gives, Writes, Moves, TakesFolder};
 ghost use Rattle.hv_paths.specs.Paths.{file_path, working_path, path_of_dir, dir_path};
 
+use crate::asked::Change;
 use crate::fault::{Cause, FileFault};
 use crate::known::Known;
-use crate::paths::{dir_path, file_path, path_of_dir, working_path};
+use crate::paths::{dir_path, file_path, working_path};
 use crate::system::{Stand, System};
 use hv_base::{NoMemory, TableId, Text};
 use hv_paths::{
@@ -18,13 +19,13 @@ use hv_shelf::{DirAt, Place};
 use std::alloc::Global;
 use std::collections::BTreeSet;
 
-/// The files of all tables, below one folder. After a sync that failed no change is Ok again, since
-/// the system may then have dropped what it couldn't write.
+/// The files of all tables, below one folder. A change is asked for only while no sync of its folders has
+/// failed, since the system may then have dropped what it couldn't write.
 #[derive(Drop)]
 pub struct Tree {
     alloc: Global,
     pub root: String,
-    known: Known,
+    pub known: Known,
 }
 
 /// A folder in which pieces of a partition's text and directories of files may stand.
@@ -62,7 +63,6 @@ impl Tree {
             bytes.now) }
         ensures root { self.new.root ≡ self.old.root }
     {
-        self.known.test()?;
         let (alloc, root) = (self.alloc, self.root.as_str());
         let folder = dir_path(alloc, root, place.table, &place.partition, &place.dir)?;
         let beside = working_path(alloc, root, place)?;
@@ -108,9 +108,8 @@ impl Tree {
             (S.did system.new (TakesFolder (path_of_dir (string_bytes self.old.root) dir.now))) }
         ensures root { self.new.root ≡ self.old.root }
     {
-        self.known.test()?;
         let (alloc, root) = (self.alloc, self.root.as_str());
-        let folder = path_of_dir(alloc, root, dir)?;
+        let folder = dir_path(alloc, root, dir.table, &dir.partition, &dir.dir)?;
         let outer = partition_path(alloc, root, dir.table, &dir.partition)?;
         let names = outer_folders(alloc, dir.table, dir.partition.as_str())?;
         if self
@@ -119,7 +118,7 @@ impl Tree {
         {
             empty(system, alloc, &mut self.known, folder.as_str())?;
         }
-        system.remove_folder(folder.as_str())?;
+        system.change(Change::RemoveFolder, folder.as_str(), "")?;
         self.known.forget(&folder);
         self.known.sync_real(system, &outer)
     }
@@ -138,16 +137,15 @@ impl Tree {
             (dir_path (string_bytes self.old.root) from.now.table.0 from.now.partition to.now))) }
         ensures root { self.new.root ≡ self.old.root }
     {
-        self.known.test()?;
         let (alloc, root) = (self.alloc, self.root.as_str());
-        let old = path_of_dir(alloc, root, from)?;
+        let old = dir_path(alloc, root, from.table, &from.partition, &from.dir)?;
         let new = dir_path(alloc, root, from.table, &from.partition, to)?;
         let outer = partition_path(alloc, root, from.table, &from.partition)?;
         let (partition, dir) = (from.partition.as_str(), from.dir.as_str());
         let names = folders_of(alloc, from.table, partition, dir)?;
         self.known
             .is_reached(system, alloc, root, names.as_slice())?;
-        system.rename(old.as_str(), new.as_str())?;
+        system.change(Change::Rename, old.as_str(), new.as_str())?;
         self.known.forget(&old);
         self.known.sync_real(system, &outer)
     }
@@ -202,7 +200,7 @@ fn replace<S: System>(
         _ => return Err(FileFault::Device(Cause::NotAFile)),
     }
     system.write_new(beside, bytes)?;
-    if system.rename(beside, file)? {
+    if system.change(Change::Rename, beside, file)? {
         Ok(())
     } else {
         Err(FileFault::Device(Cause::Other))
@@ -226,7 +224,7 @@ fn empty<S: System>(
         let file = name.strip_prefix('.').unwrap_or(name.as_str());
         if read_bucket(alloc, file)?.is_some() {
             let path = path_in(alloc, folder, name.as_str())?;
-            system.remove_file(path.as_str())?;
+            system.change(Change::RemoveFile, path.as_str(), "")?;
         }
     }
     known.sync(system, folder)

@@ -13,6 +13,13 @@ fn is_empty(rt: &HostRuntime, path: &str) -> bool {
     }
 }
 
+fn is_file(rt: &HostRuntime, path: &str) -> bool {
+    match fs::metadata(rt, path) {
+        Ok(found) => found.is_file(),
+        Err(_) => false,
+    }
+}
+
 /// Whether nothing is written behind the last place of a journal that there is, which counts as a hard fault.
 fn is_limited(rt: &HostRuntime, path: &str) -> bool {
     match FileShelf::at(rt.alloc(), *rt, path) {
@@ -29,9 +36,7 @@ pub fn folder(rt: &HostRuntime, out: &mut String, words: &[&str]) -> Result<(), 
     let path = piece(words, 1);
     let is_so = match piece(words, 0) {
         "exists" => fs::exists(rt, path).unwrap_or(false),
-        "is_file" => fs::metadata(rt, path)
-            .map(|found| found.is_file())
-            .unwrap_or(false),
+        "is_file" => is_file(rt, path),
         "is_empty" => is_empty(rt, path),
         "is_refused" => FileShelf::at(rt.alloc(), *rt, path).is_err(),
         "is_limited" => is_limited(rt, path),

@@ -11,14 +11,15 @@ pub fn step<D: Shelf>(
     rt: &HostRuntime,
     out: &mut String,
     shelf: &mut D,
-    words: &[&str],
+    call: &str,
 ) -> Result<(), NoMemory> {
     let alloc = rt.alloc();
-    match piece(words, 0) {
-        "put" | "get" => steps::file(alloc, out, shelf, words),
-        "list" | "rename" | "remove" => steps::dir(alloc, out, shelf, words),
-        "length" | "read" | "write" | "sync" | "counts" => Ok(steps::journal(out, shelf, words)?),
-        _ => Ok(folder(rt, out, words)?),
+    let words: Vec<&str> = call.split(';').collect(alloc)?;
+    match piece(&words, 0) {
+        "put" | "get" => steps::file(alloc, out, shelf, &words),
+        "list" | "rename" | "remove" => steps::dir(alloc, out, shelf, &words),
+        "length" | "read" | "write" | "sync" | "counts" => Ok(steps::journal(out, shelf, &words)?),
+        _ => Ok(folder(rt, out, &words)?),
     }
 }
 
@@ -29,28 +30,36 @@ fn all_steps<D: Shelf>(
     calls: &[&str],
 ) -> Result<(), NoMemory> {
     for call in calls.iter().skip(1) {
-        let words: Vec<&str> = call.split(';').collect(rt.alloc())?;
-        step(rt, out, shelf, &words)?;
+        step(rt, out, shelf, *call)?;
     }
     Ok(())
 }
 
+/// The calls of a store.
+static CALLS: [(&str, Op); 9] = [
+    ("length", Op::JournalLen),
+    ("read", Op::JournalRead),
+    ("write", Op::JournalWrite),
+    ("sync", Op::JournalSync),
+    ("list", Op::List),
+    ("get", Op::Get),
+    ("put", Op::Put),
+    ("rename", Op::Rename),
+    ("remove", Op::Remove),
+];
+
 /// The kind of call of that name.
 fn op_of(name: &str) -> Op {
-    match name {
-        "length" => Op::JournalLen,
-        "read" => Op::JournalRead,
-        "write" => Op::JournalWrite,
-        "sync" => Op::JournalSync,
-        "list" => Op::List,
-        "get" => Op::Get,
-        "put" => Op::Put,
-        "rename" => Op::Rename,
-        _ => Op::Remove,
+    for (called, op) in &CALLS {
+        if *called == name {
+            return *op;
+        }
     }
+    Op::Remove
 }
 
-/// With a store in memory that fails at a call of the kind and number that the first word has.
+/// With a store in memory that fails at a call of the kind and number that the first word has, and is asked nothing where
+/// the calls are those of the folder.
 fn in_memory(rt: &HostRuntime, out: &mut String, calls: &[&str]) -> Result<(), NoMemory> {
     let words: Vec<&str> = piece(calls, 0).split(';').collect(rt.alloc())?;
     let fail = Fail {
@@ -68,22 +77,13 @@ fn in_folder(rt: &HostRuntime, out: &mut String, calls: &[&str]) -> Result<(), N
     }
 }
 
-fn without(rt: &HostRuntime, out: &mut String, calls: &[&str]) -> Result<(), NoMemory> {
-    for call in calls.iter().skip(1) {
-        let words: Vec<&str> = call.split(';').collect(rt.alloc())?;
-        folder(rt, out, &words)?;
-    }
-    Ok(())
-}
-
 pub fn answer(rt: &HostRuntime, out: &mut String, row: &str) -> Result<(), NoMemory> {
     let (kind, rest) = row.split_once(' ').unwrap_or((row, ""));
     let calls: Vec<&str> = rest.split('|').collect(rt.alloc())?;
     match kind {
-        "memory" => in_memory(rt, out, &calls),
         "folder" => in_folder(rt, out, &calls),
         "events" => events(rt, out, &calls),
         "opens" => opens(rt, out, &calls),
-        _ => without(rt, out, &calls),
+        _ => in_memory(rt, out, &calls),
     }
 }
