@@ -162,17 +162,17 @@ impl Tree {
         ensures keeps { Keeps (S.did system.old) (S.did system.new) }
         ensures root { self.new.root ≡ self.old.root }
     {
-        let mut found = BTreeSet::new(self.alloc);
-        let mut left = Vec::new(self.alloc);
-        if self
+        let is_there = self
             .known
-            .is_reached(system, self.alloc, self.root.as_str(), &[])?
-        {
+            .is_reached(system, self.alloc, self.root.as_str(), &[])?;
+        let mut left = Vec::new(self.alloc);
+        if is_there {
             left.push(Inside {
                 path: table_path(self.alloc, self.root.as_str(), table)?,
                 partition: None,
             })?;
         }
+        let mut found = BTreeSet::new(self.alloc);
         for _ in 0..u64::MAX {
             let Some(folder) = left.pop() else {
                 return Ok(listing_of(alloc, table, found)?);
