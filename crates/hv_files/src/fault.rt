@@ -55,6 +55,8 @@ pub fn cause_of(error: &io::Error) -> Cause {
         ErrorKind::StorageFull | ErrorKind::QuotaExceeded => Cause::Full,
         ErrorKind::InvalidFilename => Cause::LongPath,
         ErrorKind::NotFound => Cause::Gone,
+        // A file that is to be new was made by another run meanwhile.
+        ErrorKind::AlreadyExists => Cause::InUse,
         _ => match error.raw_os_error() {
             // The numbers that Linux gives where the machine, or the program, has too many files open.
             Some(23 | 24) => Cause::TooManyOpen,

@@ -40,11 +40,11 @@ impl Known {
     }
 
     /// Syncs a folder that stands.
-    pub fn sync_real<S: System>(&mut self, system: &mut S, folder: &String) -> Result<(), FileFault>
+    pub fn sync_real<S: System>(&mut self, system: &mut S, folder: &str) -> Result<(), FileFault>
         ensures keeps { Keeps (S.did system.old) (S.did system.new) }
     {
         if self.real.contains(folder) {
-            self.sync(system, folder.as_str())
+            self.sync(system, folder)
         } else {
             Ok(())
         }
@@ -60,7 +60,7 @@ impl Known {
         match system.stand(path.as_str())? {
             Stand::Nothing => Ok(false),
             Stand::Folder => {
-                self.real.insert(path.clone()?)?;
+                remember(&mut self.real, path)?;
                 Ok(true)
             }
             _ => Err(FileFault::Device(Cause::NotAFolder)),
@@ -107,9 +107,8 @@ impl Known {
             }
         }
         self.sync(system, outer)?;
-        self.real.insert(path.clone()?)?;
-        self.synced.insert(path.clone()?)?;
-        Ok(())
+        remember(&mut self.real, path)?;
+        remember(&mut self.synced, path)
     }
 
     /// Makes the folders of these names, each in the one before, the first in `root`.
@@ -151,7 +150,7 @@ impl Known {
     {
         match system.names_in(alloc, path.as_str()) {
             Ok(Some(names)) => {
-                self.real.insert(path.clone()?)?;
+                remember(&mut self.real, path)?;
                 Ok(names)
             }
             Ok(None) => Ok(Vec::new(alloc)),
@@ -161,4 +160,10 @@ impl Known {
             Err(fault) => Err(fault),
         }
     }
+}
+
+/// Notes a path among others.
+fn remember(paths: &mut BTreeSet<String>, path: &String) -> Result<(), FileFault> {
+    paths.insert(path.clone()?)?;
+    Ok(())
 }

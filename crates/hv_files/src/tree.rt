@@ -11,10 +11,7 @@ use crate::known::Known;
 use crate::paths::{dir_path, file_path, working_path};
 use crate::system::{Stand, System};
 use hv_base::{NoMemory, TableId, Text};
-use hv_paths::{
-    Entry, entry_of, folders_of, is_ours, outer_folders, partition_path, path_in, read_bucket,
-    table_path,
-};
+use hv_paths::{Entry, entry_of, folders_of, is_ours, path_in, read_bucket, table_path};
 use hv_shelf::{DirAt, Place};
 use std::alloc::Global;
 use std::collections::BTreeSet;
@@ -87,18 +84,29 @@ impl Tree {
             S.did system.new (Gives (file_path (string_bytes self.old.root) place.now) bytes.items))) }
         ensures root { self.new.root ≡ self.old.root }
     {
-        let root = self.root.as_str();
-        let path = file_path(self.alloc, root, place)?;
-        let (partition, dir) = (place.partition.as_str(), place.dir.as_str());
-        let names = folders_of(self.alloc, place.table, partition, dir)?;
-        if self
-            .known
-            .is_reached(system, self.alloc, root, names.as_slice())?
-        {
+        let path = file_path(self.alloc, self.root.as_str(), place)?;
+        if self.reach(system, place.table, &place.partition, &place.dir)? {
             system.read(alloc, path.as_str())
         } else {
             Ok(None)
         }
+    }
+
+    /// Whether the folders of a directory of files stand, from the folder of all tables on. None of them is a
+    /// link.
+    fn reach<S: System>(
+        &mut self,
+        system: &mut S,
+        table: TableId,
+        partition: &Text,
+        dir: &Text,
+    ) -> Result<bool, FileFault>
+        ensures keeps { Keeps (S.did system.old) (S.did system.new) }
+        ensures root { self.new.root ≡ self.old.root }
+    {
+        let names = folders_of(self.alloc, table, partition.as_str(), dir.as_str())?;
+        self.known
+            .is_reached(system, self.alloc, self.root.as_str(), names.as_slice())
     }
 
     /// Takes away all files of `dir`, and the folder. It fails where something else is left in it.
@@ -110,17 +118,12 @@ impl Tree {
     {
         let (alloc, root) = (self.alloc, self.root.as_str());
         let folder = dir_path(alloc, root, dir.table, &dir.partition, &dir.dir)?;
-        let outer = partition_path(alloc, root, dir.table, &dir.partition)?;
-        let names = outer_folders(alloc, dir.table, dir.partition.as_str())?;
-        if self
-            .known
-            .is_reached(system, alloc, root, names.as_slice())?
-        {
+        if self.reach(system, dir.table, &dir.partition, &dir.dir)? {
             empty(system, alloc, &mut self.known, folder.as_str())?;
         }
         system.change(Change::RemoveFolder, folder.as_str(), "")?;
         self.known.forget(&folder);
-        self.known.sync_real(system, &outer)
+        self.known.sync_real(system, outer_of(folder.as_str()))
     }
 
     /// Moves all files of `from` to the directory's name `to` in the same partition. It fails where a
@@ -140,14 +143,10 @@ impl Tree {
         let (alloc, root) = (self.alloc, self.root.as_str());
         let old = dir_path(alloc, root, from.table, &from.partition, &from.dir)?;
         let new = dir_path(alloc, root, from.table, &from.partition, to)?;
-        let outer = partition_path(alloc, root, from.table, &from.partition)?;
-        let (partition, dir) = (from.partition.as_str(), from.dir.as_str());
-        let names = folders_of(alloc, from.table, partition, dir)?;
-        self.known
-            .is_reached(system, alloc, root, names.as_slice())?;
+        self.reach(system, from.table, &from.partition, &from.dir)?;
         system.change(Change::Rename, old.as_str(), new.as_str())?;
         self.known.forget(&old);
-        self.known.sync_real(system, &outer)
+        self.known.sync_real(system, outer_of(old.as_str()))
     }
 
     /// The places of one table, rising.
@@ -181,6 +180,14 @@ impl Tree {
                 .look_into(system, self.alloc, table, &folder, &mut left, &mut found)?;
         }
         Err(FileFault::Device(Cause::Other))
+    }
+}
+
+/// The folder in which the last name of a path stands.
+fn outer_of(path: &str) -> &str {
+    match path.rsplit_once('/') {
+        Some((outer, _)) => outer,
+        None => path,
     }
 }
 
