@@ -1,5 +1,5 @@
 use crate::events::{events, opens};
-use crate::folders::folder;
+use crate::folders::is_so;
 use crate::steps;
 use crate::words::{number, piece};
 use hv_base::NoMemory;
@@ -17,9 +17,10 @@ pub fn step<D: Shelf>(
     let words: Vec<&str> = call.split(';').collect(alloc)?;
     match piece(&words, 0) {
         "put" | "get" => steps::file(alloc, out, shelf, &words),
-        "list" | "rename" | "remove" => steps::dir(alloc, out, shelf, &words),
+        "rename" | "remove" => steps::dir(alloc, out, shelf, &words),
+        "list" => Ok(steps::list(alloc, out, shelf)?),
         "length" | "read" | "write" | "sync" | "counts" => Ok(steps::journal(out, shelf, &words)?),
-        _ => Ok(folder(rt, out, &words)?),
+        _ => steps::say(out, is_so(rt, &words)),
     }
 }
 

@@ -25,6 +25,11 @@ fn read<D: Shelf>(out: &mut String, shelf: &mut D, at: u64) -> Result<(), AllocE
     }
 }
 
+/// Says whether something is so.
+pub fn say(out: &mut String, so: bool) -> Result<(), NoMemory> {
+    Ok(write!(out, "{so} ")?)
+}
+
 pub fn journal<D: Shelf>(
     out: &mut String,
     shelf: &mut D,
@@ -33,15 +38,15 @@ pub fn journal<D: Shelf>(
     let at = number(words, 1);
     match piece(words, 0) {
         "length" => write!(out, "{:?} ", shelf.journal_len()),
-        "write" => write!(out, "{} ", writes(shelf, at, piece(words, 2))),
         "sync" => write!(out, "{:?} ", shelf.journal_sync()),
         "read" => read(out, shelf, at),
+        "write" => write!(out, "{} ", writes(shelf, at, piece(words, 2))),
         _ => write!(out, "{} {} ", shelf.fault_count(), shelf.hard_count()),
     }
 }
 
 /// The places of a table's files.
-fn list<D: Shelf>(alloc: Global, out: &mut String, shelf: &mut D) -> Result<(), AllocError> {
+pub fn list<D: Shelf>(alloc: Global, out: &mut String, shelf: &mut D) -> Result<(), AllocError> {
     let Ok(places) = shelf.list(alloc, TableId(1)) else {
         return out.push_str("failed ");
     };
@@ -70,6 +75,17 @@ fn get<D: Shelf>(
     }
 }
 
+/// The directory `PARTITION;DIRECTORY`.
+fn dir_of(alloc: Global, words: &[&str]) -> Result<DirAt, NoMemory> {
+    let partition = Text::of(alloc, piece(words, 1))?;
+    let dir = Text::of(alloc, piece(words, 2))?;
+    Ok(DirAt {
+        table: TableId(1),
+        partition,
+        dir,
+    })
+}
+
 /// A call at `PARTITION;DIRECTORY;BUCKET`.
 pub fn file<D: Shelf>(
     alloc: Global,
@@ -77,19 +93,21 @@ pub fn file<D: Shelf>(
     shelf: &mut D,
     words: &[&str],
 ) -> Result<(), NoMemory> {
+    let DirAt {
+        table,
+        partition,
+        dir,
+    } = dir_of(alloc, words)?;
     let place = Place {
-        table: TableId(1),
-        partition: Text::of(alloc, piece(words, 1))?,
-        dir: Text::of(alloc, piece(words, 2))?,
+        table,
+        partition,
+        dir,
         bucket: piece(words, 3).parse::<u32>().unwrap_or(0),
     };
-    let done = if piece(words, 0) == "put" {
-        let is_put = shelf.put(&place, piece(words, 4).as_bytes()).is_ok();
-        write!(out, "{is_put} ")
-    } else {
-        get(alloc, out, shelf, &place)
-    };
-    Ok(done?)
+    if piece(words, 0) == "put" {
+        return say(out, shelf.put(&place, piece(words, 4).as_bytes()).is_ok());
+    }
+    Ok(get(alloc, out, shelf, &place)?)
 }
 
 /// A call at `PARTITION;DIRECTORY`, with the name that a directory gets.
@@ -99,16 +117,10 @@ pub fn dir<D: Shelf>(
     shelf: &mut D,
     words: &[&str],
 ) -> Result<(), NoMemory> {
-    let dir = DirAt {
-        table: TableId(1),
-        partition: Text::of(alloc, piece(words, 1))?,
-        dir: Text::of(alloc, piece(words, 2))?,
-    };
+    let dir = dir_of(alloc, words)?;
+    if piece(words, 0) == "remove" {
+        return say(out, shelf.remove(&dir).is_ok());
+    }
     let to = Text::of(alloc, piece(words, 3))?;
-    let done = match piece(words, 0) {
-        "rename" => write!(out, "{} ", shelf.rename(&dir, &to).is_ok()),
-        "remove" => write!(out, "{} ", shelf.remove(&dir).is_ok()),
-        _ => list(alloc, out, shelf),
-    };
-    Ok(done?)
+    say(out, shelf.rename(&dir, &to).is_ok())
 }
