@@ -8,9 +8,26 @@ use hv_files::{Cause, FileFault, FileShelf};
 /// How many calls of the system a row makes at most.
 const MOST: u64 = 1_000;
 
-/// Another store beside the one that is asked.
+/// Another store beside the one that is asked, and its tables, as they are printed.
 const OTHER: &str =
-    "/ /journal=theirs /lock= /tables/ /tables/0000001/ /tables/0000001/a/ /tables/0000001/a/bucket_00000=theirs";
+    "/ /journal=theirs /lock= /tables/ /tables/0000001/ /tables/0000001/a/ /tables/0000001/a/bucket_00000=theirs ";
+
+const OTHER_TABLES: &str = "/ /0000001/ /0000001/a/ /0000001/a/bucket_00000=theirs ";
+
+/// Files in memory, of which some get other names before the call of that number: the other store, and those that a text
+/// names behind these words.
+fn filled<'a>(
+    rt: &HostRuntime,
+    moves: &'a str,
+    due: u64,
+    begin: &str,
+    text: &str,
+) -> Result<MemoryFiles<'a>, NoMemory> {
+    let mut files = MemoryFiles::new(rt.alloc(), moves, due);
+    files.fill("other", OTHER)?;
+    files.fill(begin, text)?;
+    Ok(files)
+}
 
 /// Whether each call after the event has failed, and each before it was done.
 fn calls_are_so(
@@ -29,12 +46,9 @@ fn calls_are_so(
     Ok(so)
 }
 
-/// What comes of opening the folder `wh` where these stand, each behind these words.
-fn opening(rt: &HostRuntime, begin: &str, texts: &[&str]) -> Result<&'static str, NoMemory> {
-    let mut files = MemoryFiles::new(rt.alloc(), "", u64::MAX);
-    for text in texts {
-        files.fill(begin, *text)?;
-    }
+/// What comes of opening the folder `wh` where a text names what stands, behind these words.
+fn opening(rt: &HostRuntime, begin: &str, text: &str) -> Result<&'static str, NoMemory> {
+    let files = filled(rt, "", u64::MAX, begin, text)?;
     Ok(match FileShelf::over(rt.alloc(), files, "wh") {
         Ok(_) => "opens",
         Err(FileFault::Device(Cause::NoJournal)) => "NoJournal",
@@ -44,36 +58,53 @@ fn opening(rt: &HostRuntime, begin: &str, texts: &[&str]) -> Result<&'static str
     })
 }
 
-/// Whether it went as it is to where the event came before the call of that number; None where it didn't come any more.
+/// Whether what isn't to be touched is as it was.
+fn is_kept(rt: &HostRuntime, files: &MemoryFiles<'_>, place: &str) -> Result<bool, NoMemory> {
+    let mut found = String::new(rt.alloc());
+    files.print(&mut found, place)?;
+    let is_tables = place.ends_with("/tables");
+    Ok(found.as_str() == if is_tables { OTHER_TABLES } else { OTHER })
+}
+
+/// Whether what a run has left is opened.
+fn is_left(rt: &HostRuntime, files: &MemoryFiles<'_>) -> Result<bool, NoMemory> {
+    let mut left = String::new(rt.alloc());
+    files.print(&mut left, "wh")?;
+    Ok(opening(rt, "wh", left.as_str())? == "opens")
+}
+
+/// Whether it goes as it is to; None where the event doesn't come any more.
+fn goes(
+    rt: &HostRuntime,
+    shelf: &mut FileShelf<MemoryFiles<'_>>,
+    words: &[&str],
+    calls: &[&str],
+) -> Result<Option<bool>, NoMemory> {
+    let (before, after) = (piece(words, 1), piece(words, 2));
+    if shelf.system().reached && after != "wh" {
+        // What comes before a part was opened is as if it had come before the store was.
+        return Ok(Some(true));
+    }
+    let so = calls_are_so(rt, shelf, calls)?;
+    let files = shelf.system();
+    let kept = is_kept(rt, files, if files.happened { after } else { before })?;
+    let left = is_left(rt, files)? || !piece(words, 0).is_empty();
+    let so = so && kept && left;
+    Ok(if so && !files.reached { None } else { Some(so) })
+}
+
+/// How it goes where the event comes before the call of that number.
 fn tried(
     rt: &HostRuntime,
     words: &[&str],
     due: u64,
     calls: &[&str],
 ) -> Result<Option<bool>, NoMemory> {
-    let (moves, before, after) = (piece(words, 0), piece(words, 1), piece(words, 2));
-    let mut files = MemoryFiles::new(rt.alloc(), moves, due);
-    files.fill("other", OTHER)?;
-    files.fill("wh", piece(words, 3))?;
-    let mut wanted = String::new(rt.alloc());
-    files.print(&mut wanted, before)?;
-    let Ok(mut shelf) = FileShelf::over(rt.alloc(), files, "wh") else {
-        return Ok(Some(true));
-    };
-    if shelf.system().reached && after != "wh" {
-        // What comes before a part was opened is as if it had come before the store was.
-        return Ok(Some(true));
+    let files = filled(rt, piece(words, 0), due, "wh", piece(words, 3))?;
+    match FileShelf::over(rt.alloc(), files, "wh") {
+        Ok(mut shelf) => goes(rt, &mut shelf, words, calls),
+        Err(_) => Ok(Some(true)),
     }
-    let so = calls_are_so(rt, &mut shelf, calls)?;
-    let files = shelf.system();
-    let mut found = String::new(rt.alloc());
-    files.print(&mut found, if files.happened { after } else { before })?;
-    let mut left = String::new(rt.alloc());
-    files.print(&mut left, "wh")?;
-    // What a killed run has left is opened.
-    let opens = opening(rt, "wh", &[left.as_str()])? == "opens" || !moves.is_empty();
-    let so = so && opens && found == wanted;
-    Ok(if so && !files.reached { None } else { Some(so) })
 }
 
 /// Lets the event come before each call of the system in turn.
@@ -94,7 +125,7 @@ pub fn events(rt: &HostRuntime, out: &mut String, calls: &[&str]) -> Result<(), 
 }
 
 /// Opens the folder `wh` where these stand.
-pub fn opens(rt: &HostRuntime, out: &mut String, texts: &[&str]) -> Result<(), NoMemory> {
-    let found = opening(rt, "", texts)?;
+pub fn opens(rt: &HostRuntime, out: &mut String, text: &str) -> Result<(), NoMemory> {
+    let found = opening(rt, "", text)?;
     Ok(write!(out, "{found} ")?)
 }

@@ -84,7 +84,7 @@ pub fn answer(rt: &HostRuntime, out: &mut String, row: &str) -> Result<(), NoMem
     match kind {
         "folder" => in_folder(rt, out, &calls),
         "events" => events(rt, out, &calls),
-        "opens" => opens(rt, out, &calls),
+        "opens" => opens(rt, out, rest),
         _ => in_memory(rt, out, &calls),
     }
 }
