@@ -33,13 +33,13 @@ fn filled<'a>(
 fn calls_are_so(
     rt: &HostRuntime,
     shelf: &mut FileShelf<MemoryFiles<'_>>,
-    calls: &[&str],
+    calls: &str,
 ) -> Result<bool, NoMemory> {
     let mut so = true;
-    for call in calls.iter().skip(1) {
+    for call in calls.split('|') {
         let happened = shelf.system().happened;
         let mut out = String::new(rt.alloc());
-        step(rt, &mut out, shelf, *call)?;
+        step(rt, &mut out, shelf, call)?;
         let during = shelf.system().happened != happened;
         so &= during || out.as_str() == if happened { "false " } else { "true " };
     }
@@ -78,7 +78,7 @@ fn goes(
     rt: &HostRuntime,
     shelf: &mut FileShelf<MemoryFiles<'_>>,
     words: &[&str],
-    calls: &[&str],
+    calls: &str,
 ) -> Result<Option<bool>, NoMemory> {
     let (before, after) = (piece(words, 1), piece(words, 2));
     if shelf.system().reached && after != "wh" {
@@ -98,7 +98,7 @@ fn tried(
     rt: &HostRuntime,
     words: &[&str],
     due: u64,
-    calls: &[&str],
+    calls: &str,
 ) -> Result<Option<bool>, NoMemory> {
     let files = filled(rt, piece(words, 0), due, "wh", piece(words, 3))?;
     match FileShelf::over(rt.alloc(), files, "wh") {
@@ -108,8 +108,13 @@ fn tried(
 }
 
 /// Lets the event come before each call of the system in turn.
-pub fn events(rt: &HostRuntime, out: &mut String, calls: &[&str]) -> Result<(), NoMemory> {
-    let words: Vec<&str> = piece(calls, 0).split(';').collect(rt.alloc())?;
+pub fn events(
+    rt: &HostRuntime,
+    out: &mut String,
+    event: &str,
+    calls: &str,
+) -> Result<(), NoMemory> {
+    let words: Vec<&str> = event.split(';').collect(rt.alloc())?;
     for due in 0..MOST {
         let went = tried(rt, &words, due, calls)?;
         if !matches!(went, Some(true)) {
