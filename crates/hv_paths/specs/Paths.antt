@@ -27,7 +27,10 @@ table_path tables table = path_in tables (table_name table)
 abbrev pub outer_folders : (table : ℕ) (partition : List ℕ) → List (List ℕ)
 outer_folders table partition = table_name table ∷ map piece_name (pieces_of partition)
 
--- the folder of a directory of files
+-- the folder of a partition, and of a directory of files
+abbrev pub partition_path : (tables : List ℕ) (table : ℕ) (partition : List ℕ) → List ℕ
+partition_path tables table partition = path_below tables (outer_folders table partition)
+
 abbrev pub dir_path : (tables : List ℕ) (table : ℕ) (partition dir : List ℕ) → List ℕ
 dir_path tables table partition dir = path_below tables (folders_of table partition dir)
 

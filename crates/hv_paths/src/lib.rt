@@ -11,7 +11,9 @@ mod paths;
 
 pub use laws::{folders_differ, names_are_safe, names_differ, tables_are_known};
 pub use names::{
-    Entry, bucket_name, dir_name, entry_of, folders_of, has_slash, is_ours, is_table, read_bucket,
-    table_name,
+    Entry, bucket_name, dir_name, entry_of, folders_of, has_slash, is_ours, is_table,
+    outer_folders, read_bucket, table_name,
 };
-pub use paths::{journal_path, lock_path, path_below, path_in, table_path, tables_path};
+pub use paths::{
+    journal_path, lock_path, partition_path, path_below, path_in, table_path, tables_path,
+};

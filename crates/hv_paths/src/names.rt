@@ -170,7 +170,11 @@ pub fn read_bucket(alloc: Global, name: &str) -> Result<Option<u32>, NoMemory>
 }
 
 /// The names of the folders from the folder of all tables down to a partition's.
-fn outer_folders(alloc: Global, table: TableId, partition: &str) -> Result<Vec<String>, NoMemory>
+pub fn outer_folders(
+    alloc: Global,
+    table: TableId,
+    partition: &str,
+) -> Result<Vec<String>, NoMemory>
     ensures { IfOk result
         (λ names. map string_bytes names.items ≡ outer_folders table.0 partition.now) }
 {

@@ -1,10 +1,10 @@
 //! Where everything of a store stands: one function a kind of path.
 ghost use Rattle.std.specs.Prelude.{◌≡◌, map, IfOk, string_bytes};
 ghost use Rattle.hv_paths.specs.Names.{path_below};
-ghost use Rattle.hv_paths.specs.Paths.{path_in, journal_path, lock_path, tables_path, table_path};
+ghost use Rattle.hv_paths.specs.Paths.{path_in, journal_path, lock_path, tables_path, table_path, partition_path};
 
-use crate::names::table_name;
-use hv_base::{NoMemory, TableId};
+use crate::names::{outer_folders, table_name};
+use hv_base::{NoMemory, TableId, Text};
 use std::alloc::Global;
 
 /// The path of a name in a folder.
@@ -55,4 +55,18 @@ pub fn path_below(alloc: Global, from: &str, names: &[String]) -> Result<String,
         path = path_in(alloc, path.as_str(), name.as_str())?;
     }
     Ok(path)
+}
+
+/// The folder of a partition.
+pub fn partition_path(
+    alloc: Global,
+    tables: &str,
+    table: TableId,
+    partition: &Text,
+) -> Result<String, NoMemory>
+    ensures { IfOk result
+        (λ path. string_bytes path ≡ partition_path tables.now table.0 partition.now) }
+{
+    let names = outer_folders(alloc, table, partition.as_str())?;
+    path_below(alloc, tables, names.as_slice())
 }
