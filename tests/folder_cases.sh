@@ -216,9 +216,9 @@ killed_at_each_call() {
 
 if [ "$every" -gt 0 ] && command -v strace >/dev/null; then
     echo "== exchanged at a call of the system"
-    # Not `tables`: what is put within the very call in which they are exchanged may land in the others.
     for kind in standing new; do
         at_each_call wh exchange_folder folder_is_so $kind
+        at_each_call wh/tables exchange_tables tables_are_so $kind
         at_each_call wh/journal take_journal journal_is_so $kind
     done
     echo "== killed at a call of the system"

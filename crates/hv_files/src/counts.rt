@@ -2,7 +2,7 @@ ghost use Rattle.std.specs.Prelude.{◌≡◌, IsErr, IsErrOf};
 ghost use Rattle.hv_shelf.specs.Causes.{SoftCause, HardCause};
 ghost use Rattle.hv_files.specs.Answers.{counted_soft, counted_hard, answer_of, device_answer_of};
 
-use crate::fault::{Cause, FileFault};
+use crate::fault::FileFault;
 use hv_base::{Failed, raise};
 use hv_shelf::ShelfFault;
 
@@ -11,8 +11,8 @@ use hv_shelf::ShelfFault;
 pub struct Counts {
     pub faults: u64,
     pub hard: u64,
-    /// The cause of the last failure, if it was the system's.
-    pub cause: Option<Cause>,
+    /// The last failure, of which want of memory is one where a call has no other answer for that.
+    pub last: Option<FileFault>,
 }
 
 impl Counts {
@@ -24,7 +24,7 @@ impl Counts {
         Counts {
             faults: 0,
             hard: 0,
-            cause: None,
+            last: None,
         }
     }
 
@@ -61,7 +61,7 @@ impl Counts {
             Ok(value) => Ok(value),
             Err(FileFault::NoMemory) => Err(ShelfFault::NoMemory),
             Err(FileFault::Device(cause)) => {
-                self.cause = Some(cause);
+                self.last = Some(FileFault::Device(cause));
                 self.raise_soft();
                 Err(ShelfFault::Failed)
             }
@@ -79,7 +79,7 @@ impl Counts {
             Ok(value) => Ok(value),
             Err(FileFault::NoMemory) => Err(ShelfFault::NoMemory),
             Err(FileFault::Device(cause)) => {
-                self.cause = Some(cause);
+                self.last = Some(FileFault::Device(cause));
                 self.raise_hard();
                 Err(ShelfFault::Failed)
             }
@@ -96,7 +96,7 @@ impl Counts {
         match done {
             Ok(value) => Ok(value),
             Err(fault) => {
-                self.cause = device_cause(fault);
+                self.last = Some(fault);
                 self.raise_soft();
                 Err(Failed)
             }
@@ -113,17 +113,10 @@ impl Counts {
         match done {
             Ok(value) => Ok(value),
             Err(fault) => {
-                self.cause = device_cause(fault);
+                self.last = Some(fault);
                 self.raise_hard();
                 Err(Failed)
             }
         }
-    }
-}
-
-fn device_cause(fault: FileFault) -> Option<Cause> {
-    match fault {
-        FileFault::Device(cause) => Some(cause),
-        FileFault::NoMemory => None,
     }
 }

@@ -46,9 +46,6 @@ pub enum FileFault {
     NoMemory,
 }
 
-/// The numbers that Linux gives where the machine, or the program, has too many files open.
-const TOO_MANY_OPEN: [i32; 2] = [23, 24];
-
 /// The cause of an error of the system.
 pub fn cause_of(error: &io::Error) -> Cause {
     match error.kind() {
@@ -58,15 +55,13 @@ pub fn cause_of(error: &io::Error) -> Cause {
         ErrorKind::StorageFull | ErrorKind::QuotaExceeded => Cause::Full,
         ErrorKind::InvalidFilename => Cause::LongPath,
         ErrorKind::NotFound => Cause::Gone,
-        _ => cause_of_number(error.raw_os_error()),
-    }
-}
-
-/// The cause of an error that std has no kind for.
-fn cause_of_number(number: Option<i32>) -> Cause {
-    match number {
-        Some(number) if TOO_MANY_OPEN.contains(&number) => Cause::TooManyOpen,
-        _ => Cause::Other,
+        // A file that is to be new was made by another run meanwhile.
+        ErrorKind::AlreadyExists => Cause::InUse,
+        _ => match error.raw_os_error() {
+            // The numbers that Linux gives where the machine, or the program, has too many files open.
+            Some(23 | 24) => Cause::TooManyOpen,
+            _ => Cause::Other,
+        },
     }
 }
 

@@ -1,14 +1,13 @@
 ghost use Rattle.std.specs.Prelude.{◌≡◌, None, IfOk, IfSome, OnOk, IsErr, IsErrOf, string_bytes};
 ghost use Rattle.hv_shelf.specs.Causes.{SoftCause, HardCause};
 ghost use Rattle.hv_shelf.specs.Places.{dir_named};
-ghost use Rattle.hv_files.specs.Acts.{Keeps, Puts, Stands};
+ghost use Rattle.hv_files.specs.Acts.{Puts, Stands};
 ghost use Rattle.hv_files.specs.Acts.Act.{Gives, Moves, TakesFolder, WritesJournal};
 ghost use Rattle.hv_paths.specs.Paths.{tables_path, file_path, working_path, path_of_dir, dir_of};
 
 use crate::counts::Counts;
 use crate::fault::{Cause, FileFault};
 use crate::home::Home;
-use crate::journal::Journal;
 use crate::real::RealFiles;
 use crate::system::System;
 use crate::tree::Tree;
@@ -29,7 +28,9 @@ pub struct FileShelf<S> {
     system: S,
     home: Home,
     tree: Tree,
-    journal: Journal,
+    /// No sync of the journal has failed: behind one that did none is Ok again, since the system may then
+    /// have dropped what it couldn't write.
+    sound: bool,
     counts: Counts,
 }
 
@@ -59,14 +60,17 @@ impl<S: System + Drop> FileShelf<S> {
             system,
             home,
             tree: Tree::new(alloc, root),
-            journal: Journal::new(),
+            sound: true,
             counts: Counts::new(),
         })
     }
 
     /// The cause of the last failure.
     pub fn last_cause(&self) -> Option<Cause> {
-        self.counts.cause
+        match self.counts.last {
+            Some(FileFault::Device(cause)) => Some(cause),
+            _ => None,
+        }
     }
 
     /// Whether this run has made the store, which had no journal before.
@@ -77,78 +81,6 @@ impl<S: System + Drop> FileShelf<S> {
     /// The system over whose files the store stands.
     pub fn system(&self) -> &S {
         &self.system
-    }
-
-    /// Looks whether what is held stands in its place, and makes what isn't there yet.
-    #[tactic(auto, using(crate::proofs::ActLemmas::stands_on))]
-    fn begin(&mut self) -> Result<(), FileFault>
-        ensures stood { OnOk result (Stands (S.changes self.old.system) (S.did self.new.system)
-            (string_bytes self.old.home.folder)) }
-        ensures root { self.new.tree.root ≡ self.old.tree.root }
-        ensures folder { self.new.home.folder ≡ self.old.home.folder }
-        ensures counts { self.new.counts ≡ self.old.counts }
-    {
-        self.home.test(&mut self.system)?;
-        self.home.make(&mut self.system)
-    }
-
-    #[tactic(auto, using(crate::proofs::ActLemmas::stands_on))]
-    fn write(&mut self, at: u64, bytes: &[u8]) -> Result<(), FileFault>
-        ensures stood { OnOk result (Stands (S.changes self.old.system) (S.did self.new.system)
-            (string_bytes self.old.home.folder)) }
-        ensures acts { OnOk result (S.did self.new.system (WritesJournal at bytes.now)) }
-        ensures root { self.new.tree.root ≡ self.old.tree.root }
-        ensures folder { self.new.home.folder ≡ self.old.home.folder }
-        ensures counts { self.new.counts ≡ self.old.counts }
-    {
-        self.begin()?;
-        self.system.journal_write(at, bytes)
-    }
-
-    #[tactic(auto, using(crate::proofs::ActLemmas::stands_on))]
-    fn put_file(&mut self, place: &Place, bytes: &[u8]) -> Result<(), FileFault>
-        ensures stood { OnOk result (Stands (S.changes self.old.system) (S.did self.new.system)
-            (string_bytes self.old.home.folder)) }
-        ensures acts { OnOk result (Puts (S.did self.new.system)
-            (working_path (string_bytes self.old.tree.root) place.now)
-            (file_path (string_bytes self.old.tree.root) place.now)
-            (path_of_dir (string_bytes self.old.tree.root) (dir_of place.now))
-            bytes.now) }
-        ensures root { self.new.tree.root ≡ self.old.tree.root }
-        ensures folder { self.new.home.folder ≡ self.old.home.folder }
-        ensures counts { self.new.counts ≡ self.old.counts }
-    {
-        self.begin()?;
-        self.tree.put(&mut self.system, place, bytes)
-    }
-
-    #[tactic(auto, using(crate::proofs::ActLemmas::stands_on))]
-    fn rename_dir(&mut self, from: &DirAt, to: &Text) -> Result<(), FileFault>
-        ensures stood { OnOk result (Stands (S.changes self.old.system) (S.did self.new.system)
-            (string_bytes self.old.home.folder)) }
-        ensures acts { OnOk result (S.did self.new.system
-            (Moves (path_of_dir (string_bytes self.old.tree.root) from.now)
-            (path_of_dir (string_bytes self.old.tree.root) (dir_named from.now to.now)))) }
-        ensures root { self.new.tree.root ≡ self.old.tree.root }
-        ensures folder { self.new.home.folder ≡ self.old.home.folder }
-        ensures counts { self.new.counts ≡ self.old.counts }
-    {
-        self.home.test(&mut self.system)?;
-        self.tree.rename(&mut self.system, from, to)
-    }
-
-    #[tactic(auto, using(crate::proofs::ActLemmas::stands_on))]
-    fn remove_dir(&mut self, dir: &DirAt) -> Result<(), FileFault>
-        ensures stood { OnOk result (Stands (S.changes self.old.system) (S.did self.new.system)
-            (string_bytes self.old.home.folder)) }
-        ensures acts { OnOk result (S.did self.new.system
-            (TakesFolder (path_of_dir (string_bytes self.old.tree.root) dir.now))) }
-        ensures root { self.new.tree.root ≡ self.old.tree.root }
-        ensures folder { self.new.home.folder ≡ self.old.home.folder }
-        ensures counts { self.new.counts ≡ self.old.counts }
-    {
-        self.home.test(&mut self.system)?;
-        self.tree.remove(&mut self.system, dir)
     }
 }
 
@@ -167,10 +99,11 @@ impl<S: System + Drop> Shelf for FileShelf<S> {
     }
 
     fn journal_read(&mut self, at: u64, out: &mut [u8]) -> Result<usize, Failed> {
-        let done = self.journal.read(&mut self.system, at, out);
+        let done = self.system.journal_read(at, out);
         self.counts.hard_device(done)
     }
 
+    #[tactic(auto, using(crate::proofs::ActLemmas::stands_on))]
     fn journal_write(&mut self, at: u64, bytes: &[u8]) -> Result<(), ShelfFault>
         ensures cause { HardCause (IsErrOf result ShelfFault.Failed) self.old.counts.faults
             self.new.counts.faults self.old.counts.hard self.new.counts.hard }
@@ -181,12 +114,22 @@ impl<S: System + Drop> Shelf for FileShelf<S> {
         ensures acts { OnOk result (S.did self.new.system (WritesJournal at bytes.now)) }
         ensures folder { self.new.home.folder ≡ self.old.home.folder }
     {
-        let done = self.write(at, bytes);
-        self.counts.hard(done)
+        match self.home.begin(&mut self.system, true) {
+            Ok(()) => {
+                let done = self.system.journal_write(at, bytes);
+                self.counts.hard(done)
+            }
+            Err(fault) => self.counts.hard(Err(fault)),
+        }
     }
 
     fn journal_sync(&mut self) -> Result<(), Failed> {
-        let done = self.journal.sync(&mut self.system);
+        let done = if self.sound {
+            self.system.journal_sync()
+        } else {
+            Err(FileFault::Device(Cause::Unsynced))
+        };
+        self.sound = done.is_ok();
         self.counts.hard_device(done)
     }
 
@@ -208,6 +151,7 @@ impl<S: System + Drop> Shelf for FileShelf<S> {
         self.counts.soft(done)
     }
 
+    #[tactic(auto, using(crate::proofs::ActLemmas::stands_on))]
     fn put(&mut self, place: &Place, bytes: &[u8]) -> Result<(), ShelfFault>
         ensures cause { SoftCause (IsErrOf result ShelfFault.Failed) self.old.counts.faults
             self.new.counts.faults self.old.counts.hard self.new.counts.hard }
@@ -223,10 +167,16 @@ impl<S: System + Drop> Shelf for FileShelf<S> {
         ensures root { self.new.tree.root ≡ self.old.tree.root }
         ensures folder { self.new.home.folder ≡ self.old.home.folder }
     {
-        let done = self.put_file(place, bytes);
-        self.counts.soft(done)
+        match self.home.begin(&mut self.system, self.tree.known.sound) {
+            Ok(()) => {
+                let done = self.tree.put(&mut self.system, place, bytes);
+                self.counts.soft(done)
+            }
+            Err(fault) => self.counts.soft(Err(fault)),
+        }
     }
 
+    #[tactic(auto, using(crate::proofs::ActLemmas::stands_on))]
     fn rename(&mut self, from: &DirAt, to: &Text) -> Result<(), ShelfFault>
         ensures cause { HardCause (IsErrOf result ShelfFault.Failed) self.old.counts.faults
             self.new.counts.faults self.old.counts.hard self.new.counts.hard }
@@ -240,11 +190,17 @@ impl<S: System + Drop> Shelf for FileShelf<S> {
         ensures root { self.new.tree.root ≡ self.old.tree.root }
         ensures folder { self.new.home.folder ≡ self.old.home.folder }
     {
-        let done = self.rename_dir(from, to);
-        self.counts.hard(done)
+        match self.home.begin(&mut self.system, self.tree.known.sound) {
+            Ok(()) => {
+                let done = self.tree.rename(&mut self.system, from, to);
+                self.counts.hard(done)
+            }
+            Err(fault) => self.counts.hard(Err(fault)),
+        }
     }
 
     /// Where memory runs out this fails, since it has no other answer for that.
+    #[tactic(auto, using(crate::proofs::ActLemmas::stands_on))]
     fn remove(&mut self, dir: &DirAt) -> Result<(), Failed>
         ensures cause { SoftCause (IsErr result) self.old.counts.faults
             self.new.counts.faults self.old.counts.hard self.new.counts.hard }
@@ -257,8 +213,13 @@ impl<S: System + Drop> Shelf for FileShelf<S> {
         ensures root { self.new.tree.root ≡ self.old.tree.root }
         ensures folder { self.new.home.folder ≡ self.old.home.folder }
     {
-        let done = self.remove_dir(dir);
-        self.counts.soft_device(done)
+        match self.home.begin(&mut self.system, self.tree.known.sound) {
+            Ok(()) => {
+                let done = self.tree.remove(&mut self.system, dir);
+                self.counts.soft_device(done)
+            }
+            Err(fault) => self.counts.soft_device(Err(fault)),
+        }
     }
 
     fn fault_count(&self) -> u64 {

@@ -4,10 +4,11 @@ ghost use Rattle.hv_files.specs.Acts.{Keeps, Stands};
 ghost use Rattle.hv_files.specs.Acts.Act.{Finds};
 ghost use Rattle.hv_files.specs.Parts.{part_path};
 
+use crate::asked::{Change, Part};
 use crate::fault::{Cause, FileFault};
-use crate::system::{Part, System};
+use crate::system::{Stand, System};
 use hv_base::NoMemory;
-use hv_paths::{is_table, journal_path, lock_path, tables_path};
+use hv_paths::{is_table, journal_path, lock_path, path_in, tables_path};
 use std::alloc::Global;
 use std::path::Path;
 
@@ -15,24 +16,17 @@ use std::path::Path;
 /// below the folder.
 pub const LONGEST_FOLDER: usize = 3_583;
 
-/// How far the folder of a store was made.
-#[derive(Clone, Copy)]
-enum Made {
-    /// Nothing was asked of it but to look at it.
-    NotYet,
-    Whole,
-    /// Making it failed, perhaps at a sync.
-    Failed,
-}
-
 /// The folder of a store.
 #[derive(Drop)]
 pub struct Home {
     alloc: Global,
     pub folder: String,
-    made: Made,
     /// There was no journal when it was opened.
     is_new: bool,
+    /// All that belongs into it was made, and is held.
+    whole: bool,
+    /// Making it failed, perhaps at a sync.
+    failed: bool,
 }
 
 /// The path of the folder above, which for a lone name is the working folder.
@@ -43,26 +37,16 @@ fn above(path: &str) -> &str {
     }
 }
 
-/// Looks at the folder in which a store's folder is to be made.
-fn look_above<S: System>(system: &mut S, folder: &str) -> Result<(), FileFault> {
-    if system.is_folder(above(folder))? {
-        Ok(())
-    } else {
-        Err(FileFault::Device(Cause::NoParent))
+/// Looks at the folder in which a store's folder is to be made, which a link may lead to.
+fn look_above<S: System>(alloc: Global, system: &mut S, folder: &str) -> Result<(), FileFault> {
+    let inside = path_in(alloc, above(folder), ".")?;
+    match system.stand(inside.as_str()) {
+        Ok(Stand::Folder) => Ok(()),
+        Ok(_) | Err(FileFault::Device(Cause::NotAFolder)) => {
+            Err(FileFault::Device(Cause::NoParent))
+        }
+        Err(fault) => Err(fault),
     }
-}
-
-/// Whether the journal that is held tells of nothing: it has no byte, or its first gate is closed.
-fn tells_nothing<S: System>(system: &mut S) -> Result<bool, FileFault> {
-    let mut gate = [0];
-    let count = system.journal_read(0, &mut gate)?;
-    Ok(count == 0 || gate[0] == 0)
-}
-
-/// Whether a table's folder stands in the folder of all tables.
-fn has_tables<S: System>(alloc: Global, system: &mut S, tables: &str) -> Result<bool, FileFault> {
-    let names = system.names_in(alloc, tables)?.unwrap_or(Vec::new(alloc));
-    Ok(names.iter().any(|name| is_table(name.as_str())))
 }
 
 impl Home {
@@ -79,23 +63,24 @@ impl Home {
         if system.open(Part::Folder, path)? {
             open_parts(alloc, system, path)?;
         } else {
-            look_above(system, path)?;
+            look_above(alloc, system, path)?;
         }
         Ok(Home {
             alloc,
             folder: String::from_str(alloc, path)?,
-            made: Made::NotYet,
             is_new: !system.holds(Part::Journal),
+            whole: false,
+            failed: false,
         })
     }
 
     /// Whether this run has made the store.
     pub fn is_made(&self) -> bool {
-        self.is_new && matches!(self.made, Made::Whole)
+        self.is_new && self.whole
     }
 
     /// Fails where the folder, its journal or its tables isn't the one that is held.
-    pub fn test<S: System>(&self, system: &mut S) -> Result<(), FileFault>
+    fn test<S: System>(&self, system: &mut S) -> Result<(), FileFault>
         ensures keeps { Keeps (S.did system.old) (S.did system.new) }
         ensures stood { OnOk result
             (Stands (S.changes system.old) (S.did system.new) (string_bytes self.now.folder)) }
@@ -106,24 +91,25 @@ impl Home {
         test_part(self.alloc, system, Part::Tables, folder)
     }
 
-    /// Makes the folder and what belongs into it, before the first change.
-    pub fn make<S: System>(&mut self, system: &mut S) -> Result<(), FileFault>
-        ensures keeps { Keeps (S.did system.old) (S.did system.new) }
+    /// Looks whether what is held stands in its place, and makes what isn't there yet, before a change. It
+    /// fails too where making it has failed, or a sync of the tables (`sound`).
+    #[tactic(auto, using(crate::proofs::ActLemmas::stands_on))]
+    pub fn begin<S: System>(&mut self, system: &mut S, sound: bool) -> Result<(), FileFault>
+        ensures stood { OnOk result (Stands (S.changes system.old) (S.did system.new)
+            (string_bytes self.old.folder)) }
         ensures folder { self.new.folder ≡ self.old.folder }
     {
-        match self.made {
-            Made::Whole => Ok(()),
-            Made::Failed => Err(FileFault::Device(Cause::Unsynced)),
-            Made::NotYet => {
-                let done = make_parts(self.alloc, system, self.folder.as_str());
-                self.made = match done {
-                    Ok(()) => Made::Whole,
-                    Err(FileFault::NoMemory) => Made::NotYet,
-                    Err(FileFault::Device(_)) => Made::Failed,
-                };
-                done
-            }
+        self.test(system)?;
+        if self.failed || !sound {
+            return Err(FileFault::Device(Cause::Unsynced));
         }
+        if self.whole {
+            return Ok(());
+        }
+        let done = make_parts(self.alloc, system, self.folder.as_str());
+        self.whole = done.is_ok();
+        self.failed = matches!(done, Err(FileFault::Device(_)));
+        done
     }
 }
 
@@ -139,7 +125,7 @@ fn part_path(alloc: Global, folder: &str, part: Part) -> Result<String, NoMemory
     }
 }
 
-/// Holds a part, if something stands at its path; whether it does.
+/// Holds a part, if something stands at its path.
 fn open_part<S: System>(
     alloc: Global,
     system: &mut S,
@@ -154,24 +140,30 @@ fn open_part<S: System>(
 
 /// Holds what stands in the folder.
 fn open_parts<S: System>(alloc: Global, system: &mut S, folder: &str) -> Result<(), FileFault> {
-    let tables = open_part(alloc, system, Part::Tables, folder)?;
+    open_part(alloc, system, Part::Tables, folder)?;
     open_part(alloc, system, Part::Lock, folder)?;
     open_part(alloc, system, Part::Journal, folder)?;
-    if tables && tells_nothing(system)? {
-        test_tables(alloc, system, folder)
-    } else {
-        Ok(())
-    }
+    test_journal(alloc, system, folder)
 }
 
-/// Fails where a table's folder stands there.
-fn test_tables<S: System>(alloc: Global, system: &mut S, folder: &str) -> Result<(), FileFault> {
-    let tables = tables_path(alloc, folder)?;
-    if has_tables(alloc, system, tables.as_str())? {
-        Err(FileFault::Device(Cause::NoJournal))
-    } else {
-        Ok(())
+/// Fails where the journal tells of nothing, since it isn't there, has no byte or begins with a closed
+/// gate, and a table's folder stands in the folder of all tables.
+fn test_journal<S: System>(alloc: Global, system: &mut S, folder: &str) -> Result<(), FileFault> {
+    let mut gate = [0];
+    let count = system.journal_read(0, &mut gate)?;
+    if count > 0 && gate[0] != 0 {
+        return Ok(());
     }
+    let tables = tables_path(alloc, folder)?;
+    let Some(names) = system.names_in(alloc, tables.as_str())? else {
+        return Ok(());
+    };
+    for name in &names {
+        if is_table(name.as_str()) {
+            return Err(FileFault::Device(Cause::NoJournal));
+        }
+    }
+    Ok(())
 }
 
 /// Fails where what is held of a part isn't what stands at its path.
@@ -193,26 +185,26 @@ fn test_part<S: System>(
     }
 }
 
-/// Makes what isn't held yet.
+/// Makes what isn't held yet. The folder's name is to survive a stop: one that stands without a journal
+/// may be what a stopped run left, so the folder above is synced then too, if this run may read it.
 #[tactic(auto, using(crate::proofs::ActLemmas::keeps_on))]
 fn make_parts<S: System>(alloc: Global, system: &mut S, folder: &str) -> Result<(), FileFault>
     ensures keeps { Keeps (S.did system.old) (S.did system.new) }
 {
-    make_folder(alloc, system, folder)?;
-    make_file(alloc, system, Part::Lock, folder)?;
-    make_file(alloc, system, Part::Journal, folder)?;
-    make_tables(alloc, system, folder)?;
+    make_outer(alloc, system, folder)?;
+    make_part(alloc, system, Part::Lock, folder)?;
+    make_part(alloc, system, Part::Journal, folder)?;
+    make_part(alloc, system, Part::Tables, folder)?;
     system.sync_folder(folder)
 }
 
-/// Makes the store's own folder, whose name is to survive a stop. One that stands may be what a stopped
-/// run left: the folder above is synced then too, if this run may read it.
 #[tactic(auto, using(crate::proofs::ActLemmas::keeps_on))]
-fn make_folder<S: System>(alloc: Global, system: &mut S, folder: &str) -> Result<(), FileFault>
+fn make_outer<S: System>(alloc: Global, system: &mut S, folder: &str) -> Result<(), FileFault>
     ensures keeps { Keeps (S.did system.old) (S.did system.new) }
 {
     if !system.holds(Part::Folder) {
-        return make_new(alloc, system, folder);
+        make_part(alloc, system, Part::Folder, folder)?;
+        return system.sync_folder(above(folder));
     }
     if !system.holds(Part::Journal) {
         let _ = system.sync_folder(above(folder));
@@ -220,37 +212,8 @@ fn make_folder<S: System>(alloc: Global, system: &mut S, folder: &str) -> Result
     Ok(())
 }
 
-/// Makes the folder where nothing stood when the store was opened.
-#[tactic(auto, using(crate::proofs::ActLemmas::keeps_on))]
-fn make_new<S: System>(alloc: Global, system: &mut S, folder: &str) -> Result<(), FileFault>
-    ensures keeps { Keeps (S.did system.old) (S.did system.new) }
-{
-    if !system.make_folder(folder)? {
-        return Err(FileFault::Device(Cause::InUse));
-    }
-    system.sync_folder(above(folder))?;
-    hold_made(alloc, system, Part::Folder, folder)
-}
-
-/// Holds a folder that this run has made: nothing stands in it yet.
-#[tactic(auto, using(crate::proofs::ActLemmas::keeps_on))]
-fn hold_made<S: System>(
-    alloc: Global,
-    system: &mut S,
-    part: Part,
-    path: &str,
-) -> Result<(), FileFault>
-    ensures keeps { Keeps (S.did system.old) (S.did system.new) }
-{
-    let is_there = system.open(part, path)?;
-    match system.names_in(alloc, path)? {
-        Some(names) if is_there && names.is_empty() => Ok(()),
-        _ => Err(FileFault::Device(Cause::Exchanged)),
-    }
-}
-
-/// Makes a file that isn't held yet.
-fn make_file<S: System>(
+/// Makes a part that isn't held yet, and holds it.
+fn make_part<S: System>(
     alloc: Global,
     system: &mut S,
     part: Part,
@@ -262,20 +225,28 @@ fn make_file<S: System>(
         return Ok(());
     }
     let path = part_path(alloc, folder, part)?;
-    system.make_file(part, path.as_str())
+    match part {
+        Part::Folder | Part::Tables => make_folder(alloc, system, part, path.as_str()),
+        Part::Lock | Part::Journal => system.make_file(part, path.as_str()),
+    }
 }
 
-/// Makes the folder of all tables, if it isn't held yet.
+/// Makes a folder where nothing stood when the store was opened, and holds it: nothing stands in it yet.
 #[tactic(auto, using(crate::proofs::ActLemmas::keeps_on))]
-fn make_tables<S: System>(alloc: Global, system: &mut S, folder: &str) -> Result<(), FileFault>
+fn make_folder<S: System>(
+    alloc: Global,
+    system: &mut S,
+    part: Part,
+    path: &str,
+) -> Result<(), FileFault>
     ensures keeps { Keeps (S.did system.old) (S.did system.new) }
 {
-    if system.holds(Part::Tables) {
-        return Ok(());
-    }
-    let tables = tables_path(alloc, folder)?;
-    if !system.make_folder(tables.as_str())? {
+    if !system.change(Change::MakeFolder, path, "")? {
         return Err(FileFault::Device(Cause::InUse));
     }
-    hold_made(alloc, system, Part::Tables, tables.as_str())
+    let is_there = system.open(part, path)?;
+    match system.names_in(alloc, path)? {
+        Some(names) if is_there && names.is_empty() => Ok(()),
+        _ => Err(FileFault::Device(Cause::Exchanged)),
+    }
 }

@@ -3,6 +3,7 @@ ghost use Rattle.std.specs.Prelude.{◌≡◌, OnOk, string_bytes};
 ghost use Rattle.hv_files.specs.Acts.{Keeps};
 ghost use Rattle.hv_files.specs.Acts.Act.{SyncsFolder};
 
+use crate::asked::Change;
 use crate::fault::{Cause, FileFault};
 use crate::system::{Stand, System};
 use hv_paths::path_in;
@@ -13,7 +14,7 @@ use std::collections::BTreeSet;
 #[derive(Drop)]
 pub struct Known {
     /// No sync has failed.
-    sound: bool,
+    pub sound: bool,
     /// The folders that were seen to be folders, and no links.
     real: BTreeSet<String>,
     /// The folders whose names survive a stop.
@@ -29,15 +30,6 @@ impl Known {
         }
     }
 
-    /// Fails where a sync has failed.
-    pub fn test(&self) -> Result<(), FileFault> {
-        if self.sound {
-            Ok(())
-        } else {
-            Err(FileFault::Device(Cause::Unsynced))
-        }
-    }
-
     pub fn sync<S: System>(&mut self, system: &mut S, folder: &str) -> Result<(), FileFault>
         ensures keeps { Keeps (S.did system.old) (S.did system.new) }
         ensures done { OnOk result (S.did system.new (SyncsFolder folder.now)) }
@@ -48,11 +40,11 @@ impl Known {
     }
 
     /// Syncs a folder that stands.
-    pub fn sync_real<S: System>(&mut self, system: &mut S, folder: &String) -> Result<(), FileFault>
+    pub fn sync_real<S: System>(&mut self, system: &mut S, folder: &str) -> Result<(), FileFault>
         ensures keeps { Keeps (S.did system.old) (S.did system.new) }
     {
         if self.real.contains(folder) {
-            self.sync(system, folder.as_str())
+            self.sync(system, folder)
         } else {
             Ok(())
         }
@@ -68,7 +60,7 @@ impl Known {
         match system.stand(path.as_str())? {
             Stand::Nothing => Ok(false),
             Stand::Folder => {
-                self.real.insert(path.clone()?)?;
+                remember(&mut self.real, path)?;
                 Ok(true)
             }
             _ => Err(FileFault::Device(Cause::NotAFolder)),
@@ -109,11 +101,14 @@ impl Known {
         if self.synced.contains(path) {
             return Ok(());
         }
-        system.make_folder(path.as_str())?;
+        if !system.change(Change::MakeFolder, path.as_str(), "")? {
+            if !matches!(system.stand(path.as_str())?, Stand::Folder) {
+                return Err(FileFault::Device(Cause::NotAFolder));
+            }
+        }
         self.sync(system, outer)?;
-        self.real.insert(path.clone()?)?;
-        self.synced.insert(path.clone()?)?;
-        Ok(())
+        remember(&mut self.real, path)?;
+        remember(&mut self.synced, path)
     }
 
     /// Makes the folders of these names, each in the one before, the first in `root`.
@@ -155,25 +150,20 @@ impl Known {
     {
         match system.names_in(alloc, path.as_str()) {
             Ok(Some(names)) => {
-                self.real.insert(path.clone()?)?;
+                remember(&mut self.real, path)?;
                 Ok(names)
             }
             Ok(None) => Ok(Vec::new(alloc)),
-            Err(fault) => {
-                if is_foreign(fault) && !ours {
-                    Ok(Vec::new(alloc))
-                } else {
-                    Err(fault)
-                }
+            Err(FileFault::Device(Cause::NotAFolder | Cause::NotPermitted)) if !ours => {
+                Ok(Vec::new(alloc))
             }
+            Err(fault) => Err(fault),
         }
     }
 }
 
-/// Whether what stands at a path isn't a folder that can be read.
-fn is_foreign(fault: FileFault) -> bool {
-    matches!(
-        fault,
-        FileFault::Device(Cause::NotAFolder | Cause::NotPermitted)
-    )
+/// Notes a path among others.
+fn remember(paths: &mut BTreeSet<String>, path: &String) -> Result<(), FileFault> {
+    paths.insert(path.clone()?)?;
+    Ok(())
 }

@@ -5,19 +5,20 @@
 //! and in these the directories with their files, as `delta_0000001_0000001_0000/bucket_00000`.
 #![tactic(auto)]
 
+mod asked;
 mod counts;
 mod fault;
 mod file_shelf;
 mod held;
 mod home;
-mod journal;
 mod known;
 mod paths;
 mod real;
 mod system;
 mod tree;
 
+pub use asked::{Change, Part};
 pub use fault::{Cause, FileFault};
 pub use file_shelf::FileShelf;
 pub use real::RealFiles;
-pub use system::{Part, Stand, System};
+pub use system::{Stand, System};

@@ -1,12 +1,12 @@
 //! Where the files of a directory stand: one function a kind of path.
 ghost use Rattle.std.specs.Prelude.{◌≡◌, false, map, IfOk, OnOk, string_bytes};
 ghost use Rattle.hv_paths.specs.Names.{has_slash};
-ghost use Rattle.hv_paths.specs.Paths.{dir_path, path_of_dir, file_path, working_path};
+ghost use Rattle.hv_paths.specs.Paths.{dir_path, file_path, working_path};
 
 use crate::fault::{Cause, FileFault};
 use hv_base::{TableId, Text};
 use hv_paths::{bucket_name, folders_of, has_slash, path_below, path_in};
-use hv_shelf::{DirAt, Place};
+use hv_shelf::Place;
 use std::alloc::Global;
 
 /// The folder of a directory of files. A name with a slash has none.
@@ -26,13 +26,6 @@ pub fn dir_path(
     }
     let names = folders_of(alloc, table, partition.as_str(), dir.as_str())?;
     Ok(path_below(alloc, tables, names.as_slice())?)
-}
-
-/// The folder of a directory of files.
-pub fn path_of_dir(alloc: Global, tables: &str, dir: &DirAt) -> Result<String, FileFault>
-    ensures { IfOk result (λ path. string_bytes path ≡ path_of_dir tables.now dir.now) }
-{
-    dir_path(alloc, tables, dir.table, &dir.partition, &dir.dir)
 }
 
 /// A file.

@@ -1,8 +1,10 @@
 //! What a store asks of the system, by paths.
 ghost use Rattle.std.specs.Prelude.{◌≡◌, ℕ, ◌≤◌, length, IfOk, IfSome, IsTrue, OnOk};
 ghost use Rattle.hv_files.specs.Acts.{Act, Keeps};
-ghost use Rattle.hv_files.specs.Acts.Act.{MakesFolder, SyncsFolder, Writes, Moves, TakesFile, TakesFolder, Gives, Finds, WritesJournal};
+ghost use Rattle.hv_files.specs.Acts.Act.{SyncsFolder, Writes, Gives, Finds, WritesJournal};
+ghost use Rattle.hv_files.specs.Parts.{act_of};
 
+use crate::asked::{Change, Part};
 use crate::fault::FileFault;
 use std::alloc::Global;
 
@@ -14,19 +16,6 @@ pub enum Stand {
     File,
     /// A link, a device, or another thing that a store has no use for.
     Other,
-}
-
-/// What a store holds open for as long as it is there.
-#[derive(Clone, Copy)]
-pub enum Part {
-    /// The store's folder.
-    Folder,
-    /// The folder of all tables.
-    Tables,
-    /// The file that no two stores hold at once.
-    Lock,
-    /// The journal, which no two stores hold at once either.
-    Journal,
 }
 
 /// The calls on files that a store makes. `did` tells some of those that succeeded, by the paths that
@@ -77,14 +66,12 @@ pub trait System {
     fn stand(&mut self, path: &str) -> Result<Stand, FileFault>
         ensures keeps { Keeps (did self.old) (did self.new) };
 
-    /// Whether a folder stands at a path, or a link to one.
-    fn is_folder(&mut self, path: &str) -> Result<bool, FileFault>
-        ensures keeps { Keeps (did self.old) (did self.new) };
-
-    /// Makes a folder where nothing stands. Whether it was made, or a folder stood there.
-    fn make_folder(&mut self, path: &str) -> Result<bool, FileFault>
+    /// Makes a folder, takes a file or an empty folder away, or moves either from a path to another. Whether
+    /// it was done: no folder is made where something stands, and nothing is taken or moved where nothing
+    /// does.
+    fn change(&mut self, kind: Change, path: &str, to: &str) -> Result<bool, FileFault>
         ensures keeps { Keeps (did self.old) (did self.new) }
-        ensures done { OnOk result (did self.new (MakesFolder path.now)) };
+        ensures done { OnOk result (did self.new (act_of kind path.now to.now)) };
 
     /// Makes the names in a folder survive a stop.
     fn sync_folder(&mut self, path: &str) -> Result<(), FileFault>
@@ -96,21 +83,6 @@ pub trait System {
     fn write_new(&mut self, path: &str, bytes: &[u8]) -> Result<(), FileFault>
         ensures keeps { Keeps (did self.old) (did self.new) }
         ensures done { OnOk result (did self.new (Writes path.now bytes.now)) };
-
-    /// Moves a file or a folder. Whether there was one.
-    fn rename(&mut self, from: &str, to: &str) -> Result<bool, FileFault>
-        ensures keeps { Keeps (did self.old) (did self.new) }
-        ensures done { OnOk result (did self.new (Moves from.now to.now)) };
-
-    /// Takes a file away, if there is one.
-    fn remove_file(&mut self, path: &str) -> Result<(), FileFault>
-        ensures keeps { Keeps (did self.old) (did self.new) }
-        ensures done { OnOk result (did self.new (TakesFile path.now)) };
-
-    /// Takes an empty folder away, if there is one.
-    fn remove_folder(&mut self, path: &str) -> Result<(), FileFault>
-        ensures keeps { Keeps (did self.old) (did self.new) }
-        ensures done { OnOk result (did self.new (TakesFolder path.now)) };
 
     /// The names in a folder that are texts, None where nothing stands at the path.
     fn names_in(&mut self, alloc: Global, path: &str) -> Result<Option<Vec<String>>, FileFault>

@@ -5,26 +5,24 @@ ghost use Rattle.hv_files.specs.Acts.{Keeps, Puts};
 ghost use Rattle.hv_files.specs.Acts.Act.{Gives, Writes, Moves, TakesFolder};
 ghost use Rattle.hv_paths.specs.Paths.{file_path, working_path, path_of_dir, dir_path};
 
+use crate::asked::Change;
 use crate::fault::{Cause, FileFault};
 use crate::known::Known;
-use crate::paths::{dir_path, file_path, path_of_dir, working_path};
+use crate::paths::{dir_path, file_path, working_path};
 use crate::system::{Stand, System};
 use hv_base::{NoMemory, TableId, Text};
-use hv_paths::{
-    Entry, entry_of, folders_of, is_ours, outer_folders, partition_path, path_in, read_bucket,
-    table_path,
-};
+use hv_paths::{Entry, entry_of, folders_of, is_ours, path_in, read_bucket, table_path};
 use hv_shelf::{DirAt, Place};
 use std::alloc::Global;
 use std::collections::BTreeSet;
 
-/// The files of all tables, below one folder. After a sync that failed no change is Ok again, since
-/// the system may then have dropped what it couldn't write.
+/// The files of all tables, below one folder. A change is asked for only while no sync of its folders has
+/// failed, since the system may then have dropped what it couldn't write.
 #[derive(Drop)]
 pub struct Tree {
     alloc: Global,
     pub root: String,
-    known: Known,
+    pub known: Known,
 }
 
 /// A folder in which pieces of a partition's text and directories of files may stand.
@@ -62,7 +60,6 @@ impl Tree {
             bytes.now) }
         ensures root { self.new.root ≡ self.old.root }
     {
-        self.known.test()?;
         let (alloc, root) = (self.alloc, self.root.as_str());
         let folder = dir_path(alloc, root, place.table, &place.partition, &place.dir)?;
         let beside = working_path(alloc, root, place)?;
@@ -87,18 +84,29 @@ impl Tree {
             S.did system.new (Gives (file_path (string_bytes self.old.root) place.now) bytes.items))) }
         ensures root { self.new.root ≡ self.old.root }
     {
-        let root = self.root.as_str();
-        let path = file_path(self.alloc, root, place)?;
-        let (partition, dir) = (place.partition.as_str(), place.dir.as_str());
-        let names = folders_of(self.alloc, place.table, partition, dir)?;
-        if self
-            .known
-            .is_reached(system, self.alloc, root, names.as_slice())?
-        {
+        let path = file_path(self.alloc, self.root.as_str(), place)?;
+        if self.reach(system, place.table, &place.partition, &place.dir)? {
             system.read(alloc, path.as_str())
         } else {
             Ok(None)
         }
+    }
+
+    /// Whether the folders of a directory of files stand, from the folder of all tables on. None of them is a
+    /// link.
+    fn reach<S: System>(
+        &mut self,
+        system: &mut S,
+        table: TableId,
+        partition: &Text,
+        dir: &Text,
+    ) -> Result<bool, FileFault>
+        ensures keeps { Keeps (S.did system.old) (S.did system.new) }
+        ensures root { self.new.root ≡ self.old.root }
+    {
+        let names = folders_of(self.alloc, table, partition.as_str(), dir.as_str())?;
+        self.known
+            .is_reached(system, self.alloc, self.root.as_str(), names.as_slice())
     }
 
     /// Takes away all files of `dir`, and the folder. It fails where something else is left in it.
@@ -108,20 +116,14 @@ impl Tree {
             (S.did system.new (TakesFolder (path_of_dir (string_bytes self.old.root) dir.now))) }
         ensures root { self.new.root ≡ self.old.root }
     {
-        self.known.test()?;
         let (alloc, root) = (self.alloc, self.root.as_str());
-        let folder = path_of_dir(alloc, root, dir)?;
-        let outer = partition_path(alloc, root, dir.table, &dir.partition)?;
-        let names = outer_folders(alloc, dir.table, dir.partition.as_str())?;
-        if self
-            .known
-            .is_reached(system, alloc, root, names.as_slice())?
-        {
+        let folder = dir_path(alloc, root, dir.table, &dir.partition, &dir.dir)?;
+        if self.reach(system, dir.table, &dir.partition, &dir.dir)? {
             empty(system, alloc, &mut self.known, folder.as_str())?;
         }
-        system.remove_folder(folder.as_str())?;
+        system.change(Change::RemoveFolder, folder.as_str(), "")?;
         self.known.forget(&folder);
-        self.known.sync_real(system, &outer)
+        self.known.sync_real(system, outer_of(folder.as_str()))
     }
 
     /// Moves all files of `from` to the directory's name `to` in the same partition. It fails where a
@@ -138,18 +140,13 @@ impl Tree {
             (dir_path (string_bytes self.old.root) from.now.table.0 from.now.partition to.now))) }
         ensures root { self.new.root ≡ self.old.root }
     {
-        self.known.test()?;
         let (alloc, root) = (self.alloc, self.root.as_str());
-        let old = path_of_dir(alloc, root, from)?;
+        let old = dir_path(alloc, root, from.table, &from.partition, &from.dir)?;
         let new = dir_path(alloc, root, from.table, &from.partition, to)?;
-        let outer = partition_path(alloc, root, from.table, &from.partition)?;
-        let (partition, dir) = (from.partition.as_str(), from.dir.as_str());
-        let names = folders_of(alloc, from.table, partition, dir)?;
-        self.known
-            .is_reached(system, alloc, root, names.as_slice())?;
-        system.rename(old.as_str(), new.as_str())?;
+        self.reach(system, from.table, &from.partition, &from.dir)?;
+        system.change(Change::Rename, old.as_str(), new.as_str())?;
         self.known.forget(&old);
-        self.known.sync_real(system, &outer)
+        self.known.sync_real(system, outer_of(old.as_str()))
     }
 
     /// The places of one table, rising.
@@ -164,17 +161,17 @@ impl Tree {
         ensures keeps { Keeps (S.did system.old) (S.did system.new) }
         ensures root { self.new.root ≡ self.old.root }
     {
-        let mut found = BTreeSet::new(self.alloc);
-        let mut left = Vec::new(self.alloc);
-        if self
+        let is_there = self
             .known
-            .is_reached(system, self.alloc, self.root.as_str(), &[])?
-        {
+            .is_reached(system, self.alloc, self.root.as_str(), &[])?;
+        let mut left = Vec::new(self.alloc);
+        if is_there {
             left.push(Inside {
                 path: table_path(self.alloc, self.root.as_str(), table)?,
                 partition: None,
             })?;
         }
+        let mut found = BTreeSet::new(self.alloc);
         for _ in 0..u64::MAX {
             let Some(folder) = left.pop() else {
                 return Ok(listing_of(alloc, table, found)?);
@@ -183,6 +180,14 @@ impl Tree {
                 .look_into(system, self.alloc, table, &folder, &mut left, &mut found)?;
         }
         Err(FileFault::Device(Cause::Other))
+    }
+}
+
+/// The folder in which the last name of a path stands.
+fn outer_of(path: &str) -> &str {
+    match path.rsplit_once('/') {
+        Some((outer, _)) => outer,
+        None => path,
     }
 }
 
@@ -202,7 +207,7 @@ fn replace<S: System>(
         _ => return Err(FileFault::Device(Cause::NotAFile)),
     }
     system.write_new(beside, bytes)?;
-    if system.rename(beside, file)? {
+    if system.change(Change::Rename, beside, file)? {
         Ok(())
     } else {
         Err(FileFault::Device(Cause::Other))
@@ -226,7 +231,7 @@ fn empty<S: System>(
         let file = name.strip_prefix('.').unwrap_or(name.as_str());
         if read_bucket(alloc, file)?.is_some() {
             let path = path_in(alloc, folder, name.as_str())?;
-            system.remove_file(path.as_str())?;
+            system.change(Change::RemoveFile, path.as_str(), "")?;
         }
     }
     known.sync(system, folder)

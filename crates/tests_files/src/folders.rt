@@ -2,13 +2,19 @@
 use crate::words::piece;
 use hv_files::FileShelf;
 use hv_shelf::Shelf;
-use std::alloc::AllocError;
-use std::fs;
 use std::os::unix::fs::symlink;
+use std::{fs, io};
 
 fn is_empty(rt: &HostRuntime, path: &str) -> bool {
     match fs::read_dir(rt, path) {
         Ok(mut names) => names.next().is_none(),
+        Err(_) => false,
+    }
+}
+
+fn is_file(rt: &HostRuntime, path: &str) -> bool {
+    match fs::metadata(rt, path) {
+        Ok(found) => found.is_file(),
         Err(_) => false,
     }
 }
@@ -24,25 +30,28 @@ fn is_limited(rt: &HostRuntime, path: &str) -> bool {
     }
 }
 
-/// Whether a call of the system succeeds, or what it asks is so.
-pub fn folder(rt: &HostRuntime, out: &mut String, words: &[&str]) -> Result<(), AllocError> {
+/// A call of the system at a path, with another path, or a text, behind it.
+fn call(rt: &HostRuntime, words: &[&str]) -> io::Result<()> {
+    let (path, other) = (piece(words, 1), piece(words, 2));
+    match piece(words, 0) {
+        "create" => fs::create_dir_all(rt, path),
+        "link" => symlink(rt, other, path),
+        "move" => fs::rename(rt, path, other),
+        "text" => fs::write(rt, path, other),
+        "unlink" => fs::remove_file(rt, path),
+        _ => fs::remove_dir_all(rt, path),
+    }
+}
+
+/// Whether what a call of the system asks is so, or it succeeds.
+pub fn is_so(rt: &HostRuntime, words: &[&str]) -> bool {
     let path = piece(words, 1);
-    let is_so = match piece(words, 0) {
+    match piece(words, 0) {
         "exists" => fs::exists(rt, path).unwrap_or(false),
-        "is_file" => fs::metadata(rt, path)
-            .map(|found| found.is_file())
-            .unwrap_or(false),
+        "is_file" => is_file(rt, path),
         "is_empty" => is_empty(rt, path),
         "is_refused" => FileShelf::at(rt.alloc(), *rt, path).is_err(),
         "is_limited" => is_limited(rt, path),
-        "create" => fs::create_dir_all(rt, path).is_ok(),
-        "link" => symlink(rt, piece(words, 2), path).is_ok(),
-        "move" => fs::rename(rt, path, piece(words, 2)).is_ok(),
-        "empty" => fs::write(rt, path, "").is_ok(),
-        "text" => fs::write(rt, path, "not ours").is_ok(),
-        "unlink" => fs::remove_file(rt, path).is_ok(),
-        "delete" => fs::remove_dir_all(rt, path).is_ok(),
-        _ => false,
-    };
-    write!(out, "{is_so} ")
+        _ => call(rt, words).is_ok(),
+    }
 }

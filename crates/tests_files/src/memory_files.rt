@@ -1,53 +1,41 @@
-//! Files in memory, of which something is exchanged, or taken away, at a call of a number.
+//! Files in memory, of which something gets another's name, or is taken away, at a call of a number.
 ghost use Rattle.std.specs.Prelude.{◌≡◌, ◌<◌, ◌≤◌, length, IfOk};
 
 use hv_base::NoMemory;
-use hv_files::{Cause, FileFault, Part, Stand, System};
+use hv_files::{Cause, Change, FileFault, Part, Stand, System};
 use std::alloc::Global;
+use std::mem;
 
-/// What a name stands for. It is known by its place among all that were ever made.
-#[derive(Drop)]
-enum Node {
-    Folder,
-    File(Vec<u8>),
-}
+/// The name of what was taken away, which nobody asks for.
+const GONE: &str = "gone";
 
-/// A path that stands, and the place of what stands there.
+/// What stands, or stood, at a path: a folder, or a file of these bytes. It is known by its place among
+/// all that were ever made.
 #[derive(Drop)]
-struct Name {
+struct Node {
     path: String,
-    node: usize,
-}
-
-/// What happens between two calls of a store.
-#[derive(Clone, Copy)]
-pub enum Event {
-    /// The folder `wh` gets the name `old`, and `other` the name `wh`.
-    Folder,
-    /// The same of the folder of all tables, within `wh`.
-    Tables,
-    /// The journal and the lock of `wh` are taken away.
-    Journal,
-    /// The run is killed: no later call changes anything.
-    Stop,
+    is_folder: bool,
+    bytes: Vec<u8>,
 }
 
 #[derive(Drop)]
-pub struct MemoryFiles {
+pub struct MemoryFiles<'a> {
     alloc: Global,
     nodes: Vec<Node>,
-    names: Vec<Name>,
     held: [Option<usize>; 4],
-    /// The path of the folder that is held.
-    root: String,
-    event: Event,
-    /// Before which call it happens, counted from the first after the first opening.
+    /// The path that was asked for last, by its names then, and what stood there.
+    by: String,
+    found: Option<usize>,
+    /// Which names others get, as `FROM>TO,FROM>TO`; where there are none, the run is killed: no later call
+    /// does anything.
+    moves: &'a str,
+    /// Before which call that happens, counted from the first after the first opening.
     due: u64,
     calls: u64,
     begun: bool,
-    reached: bool,
-    happened: bool,
-    stopped: bool,
+    /// Whether that call was reached, and whether something happened there.
+    pub reached: bool,
+    pub happened: bool,
 }
 
 fn number(part: Part) -> usize
@@ -61,12 +49,6 @@ fn number(part: Part) -> usize
     }
 }
 
-fn joined(alloc: Global, begin: &str, rest: &str) -> Result<String, NoMemory> {
-    let mut path = String::from_str(alloc, begin)?;
-    path.push_str(rest)?;
-    Ok(path)
-}
-
 /// What of a path stands behind a folder's, with the slash; nothing where it is the folder's own.
 fn behind<'a>(path: &'a str, folder: &str) -> Option<&'a str> {
     match path.strip_prefix(folder) {
@@ -75,253 +57,169 @@ fn behind<'a>(path: &'a str, folder: &str) -> Option<&'a str> {
     }
 }
 
-impl MemoryFiles {
-    /// Nothing stands, and the event comes before the call of that number.
-    pub fn new(alloc: Global, event: Event, due: u64) -> MemoryFiles {
+/// Gives what stands at a path, and all below it, another name. Whether anything stood there.
+fn rename(alloc: Global, nodes: &mut Vec<Node>, from: &str, to: &str) -> Result<bool, NoMemory> {
+    let mut found = false;
+    for node in nodes.iter_mut() {
+        if let Some(rest) = behind(node.path.as_str(), from) {
+            let path = format!(in alloc; "{to}{rest}")?;
+            node.path = path;
+            found = true;
+        }
+    }
+    Ok(found)
+}
+
+impl<'a> MemoryFiles<'a> {
+    /// Nothing stands, and these moves come before the call of that number.
+    pub fn new(alloc: Global, moves: &'a str, due: u64) -> MemoryFiles<'a> {
         MemoryFiles {
             alloc,
             nodes: Vec::new(alloc),
-            names: Vec::new(alloc),
             held: [None; 4],
-            root: String::new(alloc),
-            event,
+            by: String::new(alloc),
+            found: None,
+            moves,
             due,
             calls: 0,
             begun: false,
             reached: false,
             happened: false,
-            stopped: false,
         }
     }
 
-    /// What a run that is gone has left, with no event to come.
-    pub fn left(&self) -> Result<MemoryFiles, NoMemory> {
-        let mut files = MemoryFiles::new(self.alloc, Event::Stop, u64::MAX);
-        for name in &self.names {
-            match self.nodes.get(name.node) {
-                Some(Node::File(bytes)) => files.put(name.path.as_str(), bytes.as_slice())?,
-                _ => files.add(name.path.as_str(), Node::Folder)?,
+    /// Makes what a text names, each behind these words: `FOLDER/`, or `FILE=BYTES`, of which `~` is one
+    /// byte 0.
+    pub fn fill(&mut self, begin: &str, text: &str) -> Result<(), NoMemory> {
+        for name in text.split(' ') {
+            let (path, bytes) = match (name.strip_suffix('/'), name.rsplit_once('=')) {
+                (Some(folder), _) => (folder, None),
+                (None, Some((file, "~"))) => (file, Some("\0")),
+                (None, Some((file, bytes))) => (file, Some(bytes)),
+                (None, None) => continue,
             };
+            self.by = format!(in self.alloc; "{begin}{path}")?;
+            self.add(bytes.is_none(), bytes.unwrap_or("").as_bytes())?;
         }
-        Ok(files)
-    }
-
-    /// Whether the call was reached before which the event is to come.
-    pub fn is_reached(&self) -> bool {
-        self.reached
-    }
-
-    /// Whether the event has happened: a journal that doesn't stand isn't taken away.
-    pub fn has_happened(&self) -> bool {
-        self.happened
-    }
-
-    /// Makes a folder, and nothing above it.
-    pub fn folder(&mut self, path: &str) -> Result<(), NoMemory> {
-        self.add(path, Node::Folder)?;
         Ok(())
     }
 
-    /// Makes a file.
-    pub fn file(&mut self, path: &str, bytes: &[u8]) -> Result<(), NoMemory> {
-        self.put(path, bytes)?;
-        Ok(())
-    }
-
-    /// All that stands below a folder, with the bytes of each file.
+    /// All that stands below a folder, as `fill` reads it.
     pub fn print(&self, out: &mut String, folder: &str) -> Result<(), NoMemory> {
-        for name in &self.names {
-            let Some(rest) = behind(name.path.as_str(), folder) else {
-                continue;
-            };
-            match self.nodes.get(name.node) {
-                Some(Node::File(bytes)) => {
-                    write!(out, "{rest}={} ", str::from_utf8(bytes).unwrap_or("bytes"))?
-                }
-                _ => write!(out, "{rest}/ ")?,
+        for node in &self.nodes {
+            if let Some(rest) = behind(node.path.as_str(), folder) {
+                let mark = if node.is_folder { "/" } else { "=" };
+                let bytes = str::from_utf8(&node.bytes).unwrap_or("bytes");
+                write!(out, "{rest}{mark}{bytes} ")?;
             }
         }
         Ok(())
     }
 
-    fn add(&mut self, path: &str, node: Node) -> Result<usize, NoMemory> {
+    /// Makes a folder, or a file, at the path that was asked for last. Its place.
+    fn add(&mut self, is_folder: bool, bytes: &[u8]) -> Result<usize, NoMemory> {
+        let bytes = Vec::from_slice(self.alloc, bytes)?;
+        let path = mem::replace(&mut self.by, String::new(self.alloc));
         let place = self.nodes.len();
-        let path = String::from_str(self.alloc, path)?;
-        self.nodes.push(node)?;
-        self.names.push(Name { path, node: place })?;
+        self.nodes.push(Node {
+            path,
+            is_folder,
+            bytes,
+        })?;
         Ok(place)
     }
 
-    fn put(&mut self, path: &str, bytes: &[u8]) -> Result<usize, NoMemory> {
-        let bytes = Vec::from_slice(self.alloc, bytes)?;
-        self.add(path, Node::File(bytes))
-    }
-
-    fn at(&self, path: &str) -> Option<usize> {
-        for name in &self.names {
-            if name.path.as_str() == path {
-                return Some(name.node);
-            }
+    fn bytes(&self, place: Option<usize>) -> &[u8] {
+        match self.nodes.get(place.unwrap_or(usize::MAX)) {
+            Some(node) => node.bytes.as_slice(),
+            None => &[],
         }
-        None
     }
 
-    /// The path of the folder that is held, by its name now.
-    fn root_now(&self) -> Option<&str> {
-        let held = self.held[0]?;
-        for name in &self.names {
-            if name.node == held {
-                return Some(name.path.as_str());
-            }
-        }
-        Some("taken away")
+    /// The path of what is held, by its names now.
+    fn held_path(&self, part: Part) -> Option<&str> {
+        let node = self.nodes.get(self.held[number(part)]?)?;
+        Some(node.path.as_str())
     }
 
-    /// The path by its names now: one that leads through the folder that is held begins there.
+    /// The path by its names now: one that leads through a folder that is held begins there.
     fn taken(&self, path: &str) -> Result<String, NoMemory> {
-        match (self.root_now(), behind(path, self.root.as_str())) {
-            (Some(root), Some(rest)) if !rest.is_empty() => joined(self.alloc, root, rest),
-            _ => Ok(String::from_str(self.alloc, path)?),
-        }
-    }
-
-    fn node(&self, path: &str) -> Option<&Node> {
-        self.nodes.get(self.at(path)?)
-    }
-
-    fn is_file(&self, path: &str) -> bool {
-        matches!(self.node(path), Some(Node::File(_)))
-    }
-
-    fn has_parent(&self, path: &str) -> bool {
-        match path.rsplit_once('/') {
-            Some((parent, _)) => matches!(self.node(parent), Some(Node::Folder)),
-            None => true,
-        }
-    }
-
-    fn has_below(&self, folder: &str) -> bool {
-        for name in &self.names {
-            if matches!(behind(name.path.as_str(), folder), Some(rest) if !rest.is_empty()) {
-                return true;
-            }
-        }
-        false
-    }
-
-    fn forget(&mut self, path: &str) {
-        self.names.retain(|name| name.path.as_str() != path);
-    }
-
-    /// Gives what stands at a path, and all below it, another name.
-    fn moves(&mut self, from: &str, to: &str) -> Result<(), NoMemory> {
-        let mut names = Vec::new(self.alloc);
-        for name in &self.names {
-            let path = match behind(name.path.as_str(), from) {
-                Some(rest) => joined(self.alloc, to, rest)?,
-                None => String::from_str(self.alloc, name.path.as_str())?,
-            };
-            names.push(Name {
-                path,
-                node: name.node,
-            })?;
-        }
-        self.names = names;
-        Ok(())
+        let tables = (self.held_path(Part::Tables), behind(path, "wh/tables"));
+        let folder = (self.held_path(Part::Folder), behind(path, "wh"));
+        let (begin, rest) = match (tables, folder) {
+            ((Some(begin), Some(rest)), _) if !rest.is_empty() => (begin, rest),
+            (_, (Some(begin), Some(rest))) if !rest.is_empty() => (begin, rest),
+            _ => ("", path),
+        };
+        Ok(format!(in self.alloc; "{begin}{rest}")?)
     }
 
     fn happen(&mut self) -> Result<(), NoMemory> {
         self.reached = true;
-        self.happened = !matches!(self.event, Event::Journal) || self.at("wh/journal").is_some();
-        match self.event {
-            Event::Folder => {
-                self.moves("wh", "old")?;
-                self.moves("other", "wh")
-            }
-            Event::Tables => {
-                self.moves("wh/tables", "wh/old")?;
-                self.moves("other/tables", "wh/tables")
-            }
-            Event::Journal => {
-                self.forget("wh/journal");
-                self.forget("wh/lock");
-                Ok(())
-            }
-            Event::Stop => {
-                self.stopped = true;
-                Ok(())
+        self.happened = self.moves.is_empty();
+        for pair in self.moves.split(',') {
+            if let Some((from, to)) = pair.split_once('>') {
+                self.happened = rename(self.alloc, &mut self.nodes, from, to)?;
             }
         }
+        Ok(())
     }
 
-    /// Counts a call.
-    fn call(&mut self) -> Result<(), FileFault> {
-        if self.begun && self.calls == self.due {
-            self.happen()?;
-        }
+    /// Counts a call, before which something may happen, and says what stands at its path.
+    fn call(&mut self, path: &str) -> Result<Stand, FileFault> {
         if self.begun {
+            if self.calls == self.due {
+                self.happen()?;
+            }
             self.calls = self.calls.saturating_add(1);
         }
-        if self.stopped {
-            Err(FileFault::Device(Cause::Other))
-        } else {
-            Ok(())
+        if self.reached && self.moves.is_empty() {
+            return Err(FileFault::Device(Cause::Other));
         }
-    }
-
-    fn journal(&self) -> Option<&Vec<u8>> {
-        match self.nodes.get(self.held[3]?) {
-            Some(Node::File(bytes)) => Some(bytes),
-            _ => None,
+        self.by = self.taken(path)?;
+        self.found = None;
+        for (place, node) in self.nodes.iter().enumerate() {
+            if node.path.as_str() == self.by.as_str() {
+                self.found = Some(place);
+                return Ok(if node.is_folder {
+                    Stand::Folder
+                } else {
+                    Stand::File
+                });
+            }
         }
+        Ok(Stand::Nothing)
     }
 }
 
-/// The bytes, with others over them from a place on.
-fn written(alloc: Global, bytes: &[u8], at: usize, over: &[u8]) -> Result<Vec<u8>, NoMemory> {
-    let front = bytes.get(..at).unwrap_or(bytes);
-    let mut all = Vec::from_slice(alloc, front)?;
-    all.extend_from_slice(over)?;
-    let end = all.len();
-    all.extend_from_slice(bytes.get(end..).unwrap_or(&[]))?;
-    Ok(all)
-}
-
-impl System for MemoryFiles {
+impl System for MemoryFiles<'_> {
     ghost did = { λ _ _. Unit {0} };
 
     ghost changes = { λ _. 0 };
 
     fn open(&mut self, part: Part, path: &str) -> Result<bool, FileFault> {
-        self.call()?;
-        let by = self.taken(path)?;
-        let found = self.at(by.as_str());
+        let found = self.call(path)?;
         if matches!(part, Part::Folder) {
             self.begun = true;
         }
-        let Some(place) = found else {
-            return Ok(false);
-        };
-        match (part, self.is_file(by.as_str())) {
-            (Part::Folder | Part::Tables, true) => return Err(FileFault::Device(Cause::NotAFolder)),
-            (Part::Lock | Part::Journal, false) => return Err(FileFault::Device(Cause::NotAFile)),
-            (Part::Folder, false) => self.root = String::from_str(self.alloc, path)?,
-            _ => {}
+        match (part, found) {
+            (_, Stand::Nothing) => Ok(false),
+            (Part::Folder | Part::Tables, Stand::Folder)
+            | (Part::Lock | Part::Journal, Stand::File) => {
+                self.held[number(part)] = self.found;
+                Ok(true)
+            }
+            (Part::Folder | Part::Tables, _) => Err(FileFault::Device(Cause::NotAFolder)),
+            _ => Err(FileFault::Device(Cause::NotAFile)),
         }
-        self.held[number(part)] = Some(place);
-        Ok(true)
     }
 
     fn make_file(&mut self, part: Part, path: &str) -> Result<(), FileFault> {
-        self.call()?;
-        let by = self.taken(path)?;
-        if self.at(by.as_str()).is_some() {
+        if !matches!(self.call(path)?, Stand::Nothing) {
             return Err(FileFault::Device(Cause::InUse));
         }
-        if !self.has_parent(by.as_str()) {
-            return Err(FileFault::Device(Cause::Gone));
-        }
-        self.held[number(part)] = Some(self.put(by.as_str(), &[])?);
+        let place = self.add(false, &[])?;
+        self.held[number(part)] = Some(place);
         Ok(())
     }
 
@@ -330,144 +228,100 @@ impl System for MemoryFiles {
     }
 
     fn is_at(&mut self, part: Part, path: &str) -> Result<bool, FileFault> {
-        self.call()?;
-        let by = self.taken(path)?;
-        Ok(self.at(by.as_str()) == self.held[number(part)])
+        self.call(path)?;
+        Ok(self.found == self.held[number(part)])
     }
 
     fn journal_len(&mut self) -> Result<u64, FileFault> {
-        self.call()?;
-        Ok(self.journal().map_or(0, |bytes| bytes.len() as u64))
+        self.call("")?;
+        Ok(self.bytes(self.held[3]).len() as u64)
     }
 
     fn journal_read(&mut self, at: u64, out: &mut [u8]) -> Result<usize, FileFault> {
-        self.call()?;
-        let Some(bytes) = self.journal() else {
-            return Ok(0);
-        };
-        let rest = bytes.get(at as usize..).unwrap_or(&[]);
+        self.call("")?;
+        let rest = self.bytes(self.held[3]).get(at as usize..).unwrap_or(&[]);
         let count = rest.len().min(out.len());
         out[..count].copy_from_slice(&rest[..count]);
         Ok(count)
     }
 
     fn journal_write(&mut self, at: u64, bytes: &[u8]) -> Result<(), FileFault> {
-        self.call()?;
-        let Some(before) = self.journal() else {
+        self.call("")?;
+        let place = self.held[3].unwrap_or(usize::MAX);
+        let Some(node) = self.nodes.get_mut(place) else {
             return Err(FileFault::Device(Cause::Other));
         };
-        let now = written(self.alloc, before.as_slice(), at as usize, bytes)?;
-        let place = self.held[3].unwrap_or(usize::MAX);
-        if let Some(node) = self.nodes.get_mut(place) {
-            *node = Node::File(now);
-        }
+        node.bytes.truncate(at as usize);
+        node.bytes.extend_from_slice(bytes)?;
         Ok(())
     }
 
     fn journal_sync(&mut self) -> Result<(), FileFault> {
-        self.call()
+        self.call("").and(Ok(()))
     }
 
     fn stand(&mut self, path: &str) -> Result<Stand, FileFault> {
-        self.call()?;
-        let by = self.taken(path)?;
-        Ok(match self.node(by.as_str()) {
-            None => Stand::Nothing,
-            Some(Node::Folder) => Stand::Folder,
-            Some(Node::File(_)) => Stand::File,
-        })
+        let found = self.call(path)?;
+        // The folder in which all this stands.
+        Ok(if path == "./." { Stand::Folder } else { found })
     }
 
-    fn is_folder(&mut self, path: &str) -> Result<bool, FileFault> {
-        self.call()?;
-        Ok(path == "." || matches!(self.node(path), Some(Node::Folder)))
-    }
-
-    fn make_folder(&mut self, path: &str) -> Result<bool, FileFault> {
-        self.call()?;
-        let by = self.taken(path)?;
-        if self.at(by.as_str()).is_some() {
-            return Ok(false);
+    fn change(&mut self, kind: Change, path: &str, to: &str) -> Result<bool, FileFault> {
+        let found = self.call(path)?;
+        let is_there = !matches!(found, Stand::Nothing);
+        if matches!(kind, Change::MakeFolder) {
+            if !is_there {
+                self.add(true, &[])?;
+            }
+            return Ok(!is_there);
         }
-        if !self.has_parent(by.as_str()) {
-            return Err(FileFault::Device(Cause::Gone));
+        let to = self.taken(if matches!(kind, Change::Rename) {
+            to
+        } else {
+            GONE
+        })?;
+        if is_there {
+            rename(self.alloc, &mut self.nodes, to.as_str(), GONE)?;
+            rename(self.alloc, &mut self.nodes, self.by.as_str(), to.as_str())?;
         }
-        self.add(by.as_str(), Node::Folder)?;
-        Ok(true)
+        Ok(is_there)
     }
 
-    fn sync_folder(&mut self, _path: &str) -> Result<(), FileFault> {
-        self.call()
+    fn sync_folder(&mut self, path: &str) -> Result<(), FileFault> {
+        self.call(path).and(Ok(()))
     }
 
     fn write_new(&mut self, path: &str, bytes: &[u8]) -> Result<(), FileFault> {
-        self.call()?;
-        let by = self.taken(path)?;
-        if !self.has_parent(by.as_str()) {
-            return Err(FileFault::Device(Cause::Gone));
-        }
-        self.forget(by.as_str());
-        self.put(by.as_str(), bytes)?;
-        Ok(())
-    }
-
-    fn rename(&mut self, from: &str, to: &str) -> Result<bool, FileFault> {
-        self.call()?;
-        let (from, to) = (self.taken(from)?, self.taken(to)?);
-        if self.at(from.as_str()).is_none() {
-            return Ok(false);
-        }
-        if self.has_below(to.as_str()) {
-            return Err(FileFault::Device(Cause::Other));
-        }
-        self.forget(to.as_str());
-        self.moves(from.as_str(), to.as_str())?;
-        Ok(true)
-    }
-
-    fn remove_file(&mut self, path: &str) -> Result<(), FileFault> {
-        self.call()?;
-        let by = self.taken(path)?;
-        self.forget(by.as_str());
-        Ok(())
-    }
-
-    fn remove_folder(&mut self, path: &str) -> Result<(), FileFault> {
-        self.call()?;
-        let by = self.taken(path)?;
-        if self.has_below(by.as_str()) {
-            return Err(FileFault::Device(Cause::Other));
-        }
-        self.forget(by.as_str());
+        self.call(path)?;
+        rename(self.alloc, &mut self.nodes, self.by.as_str(), GONE)?;
+        self.add(false, bytes)?;
         Ok(())
     }
 
     fn names_in(&mut self, alloc: Global, path: &str) -> Result<Option<Vec<String>>, FileFault> {
-        self.call()?;
-        let by = self.taken(path)?;
-        match self.node(by.as_str()) {
-            None => return Ok(None),
-            Some(Node::File(_)) => return Err(FileFault::Device(Cause::NotAFolder)),
-            Some(Node::Folder) => {}
+        match self.call(path)? {
+            Stand::Nothing => return Ok(None),
+            Stand::Folder => {}
+            _ => return Err(FileFault::Device(Cause::NotAFolder)),
         }
         let mut names = Vec::new(alloc);
-        for name in &self.names {
-            if let Some((folder, last)) = name.path.rsplit_once('/') {
-                if folder == by.as_str() {
-                    names.push(String::from_str(alloc, last)?)?;
+        for node in &self.nodes {
+            match node.path.rsplit_once('/') {
+                Some((folder, name)) if folder == self.by.as_str() => {
+                    names.push(String::from_str(alloc, name)?)?
                 }
+                _ => {}
             }
         }
         Ok(Some(names))
     }
 
     fn read(&mut self, alloc: Global, path: &str) -> Result<Option<Vec<u8>>, FileFault> {
-        self.call()?;
-        let by = self.taken(path)?;
-        match self.node(by.as_str()) {
-            Some(Node::File(bytes)) => Ok(Some(Vec::from_slice(alloc, bytes.as_slice())?)),
-            Some(Node::Folder) => Err(FileFault::Device(Cause::NotAFile)),
-            None => Ok(None),
+        match self.call(path)? {
+            Stand::Nothing => return Ok(None),
+            Stand::File => {}
+            _ => return Err(FileFault::Device(Cause::NotAFile)),
         }
+        Ok(Some(Vec::from_slice(alloc, self.bytes(self.found))?))
     }
 }

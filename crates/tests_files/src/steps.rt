@@ -1,49 +1,58 @@
 //! Calls of either store.
-use crate::words::{number, piece};
+use crate::words::piece;
 use hv_base::{NoMemory, TableId, Text};
 use hv_shelf::{DirAt, Place, Shelf};
-use std::alloc::{AllocError, Global};
+use std::alloc::Global;
 use std::str;
 
+/// Says whether something is so.
+pub fn say(out: &mut String, so: bool) -> Result<(), NoMemory> {
+    Ok(write!(out, "{so} ")?)
+}
+
+fn say_word(out: &mut String, word: &str) -> Result<(), NoMemory> {
+    Ok(write!(out, "{word} ")?)
+}
+
+/// Says what was read.
+fn say_bytes(out: &mut String, bytes: &[u8]) -> Result<(), NoMemory> {
+    Ok(write!(out, "[{}] ", str::from_utf8(bytes).unwrap_or("bytes"))?)
+}
+
 /// Writes where the journal reaches.
-fn writes(shelf: &mut impl Shelf, at: u64, text: &str) -> bool {
+pub fn writes(shelf: &mut impl Shelf, at: u64, text: &str) -> bool {
     match shelf.journal_len() {
         Ok(length) => at <= length && shelf.journal_write(at, text.as_bytes()).is_ok(),
         Err(_) => false,
     }
 }
 
-/// What a read of four bytes gives from a place on.
-fn read<D: Shelf>(out: &mut String, shelf: &mut D, at: u64) -> Result<(), AllocError> {
-    let mut bytes = [0; 4];
-    match shelf.journal_read(at, &mut bytes) {
-        Ok(count) => {
-            let front = bytes.get(..count).unwrap_or(&[]);
-            write!(out, "[{}] ", str::from_utf8(front).unwrap_or("bytes"))
-        }
-        Err(_) => out.push_str("failed "),
+/// The number of the journal's bytes.
+pub fn journal_length<D: Shelf>(out: &mut String, shelf: &mut D) -> Result<(), NoMemory> {
+    match shelf.journal_len() {
+        Ok(length) => Ok(write!(out, "{length} ")?),
+        Err(_) => say_word(out, "failed"),
     }
 }
 
-pub fn journal<D: Shelf>(
-    out: &mut String,
-    shelf: &mut D,
-    words: &[&str],
-) -> Result<(), AllocError> {
-    let at = number(words, 1);
-    match piece(words, 0) {
-        "length" => write!(out, "{:?} ", shelf.journal_len()),
-        "write" => write!(out, "{} ", writes(shelf, at, piece(words, 2))),
-        "sync" => write!(out, "{:?} ", shelf.journal_sync()),
-        "read" => read(out, shelf, at),
-        _ => write!(out, "{} {} ", shelf.fault_count(), shelf.hard_count()),
+/// What a read of four bytes gives from a place on.
+pub fn read<D: Shelf>(out: &mut String, shelf: &mut D, at: u64) -> Result<(), NoMemory> {
+    let mut bytes = [0; 4];
+    match shelf.journal_read(at, &mut bytes) {
+        Ok(count) => say_bytes(out, bytes.get(..count).unwrap_or(&[])),
+        Err(_) => say_word(out, "failed"),
     }
+}
+
+/// How many calls have failed, and how many for good.
+pub fn counts<D: Shelf>(out: &mut String, shelf: &mut D) -> Result<(), NoMemory> {
+    Ok(write!(out, "{} {} ", shelf.fault_count(), shelf.hard_count())?)
 }
 
 /// The places of a table's files.
-fn list<D: Shelf>(alloc: Global, out: &mut String, shelf: &mut D) -> Result<(), AllocError> {
+pub fn list<D: Shelf>(alloc: Global, out: &mut String, shelf: &mut D) -> Result<(), NoMemory> {
     let Ok(places) = shelf.list(alloc, TableId(1)) else {
-        return out.push_str("failed ");
+        return say_word(out, "failed");
     };
     for place in &places {
         let Place {
@@ -54,7 +63,7 @@ fn list<D: Shelf>(alloc: Global, out: &mut String, shelf: &mut D) -> Result<(), 
         } = place;
         write!(out, "{partition};{dir};{bucket} ")?;
     }
-    out.push_str("are all ")
+    say_word(out, "are all")
 }
 
 fn get<D: Shelf>(
@@ -62,12 +71,23 @@ fn get<D: Shelf>(
     out: &mut String,
     shelf: &mut D,
     place: &Place,
-) -> Result<(), AllocError> {
+) -> Result<(), NoMemory> {
     match shelf.get(alloc, place) {
-        Ok(Some(bytes)) => write!(out, "[{}] ", str::from_utf8(&bytes).unwrap_or("bytes")),
-        Ok(None) => out.push_str("none "),
-        Err(_) => out.push_str("failed "),
+        Ok(Some(bytes)) => say_bytes(out, &bytes),
+        Ok(None) => say_word(out, "none"),
+        Err(_) => say_word(out, "failed"),
     }
+}
+
+/// The directory `PARTITION;DIRECTORY`.
+fn dir_of(alloc: Global, words: &[&str]) -> Result<DirAt, NoMemory> {
+    let partition = Text::of(alloc, piece(words, 1))?;
+    let dir = Text::of(alloc, piece(words, 2))?;
+    Ok(DirAt {
+        table: TableId(1),
+        partition,
+        dir,
+    })
 }
 
 /// A call at `PARTITION;DIRECTORY;BUCKET`.
@@ -77,19 +97,21 @@ pub fn file<D: Shelf>(
     shelf: &mut D,
     words: &[&str],
 ) -> Result<(), NoMemory> {
+    let DirAt {
+        table,
+        partition,
+        dir,
+    } = dir_of(alloc, words)?;
     let place = Place {
-        table: TableId(1),
-        partition: Text::of(alloc, piece(words, 1))?,
-        dir: Text::of(alloc, piece(words, 2))?,
+        table,
+        partition,
+        dir,
         bucket: piece(words, 3).parse::<u32>().unwrap_or(0),
     };
-    let done = if piece(words, 0) == "put" {
-        let is_put = shelf.put(&place, piece(words, 4).as_bytes()).is_ok();
-        write!(out, "{is_put} ")
-    } else {
-        get(alloc, out, shelf, &place)
-    };
-    Ok(done?)
+    if piece(words, 0) == "put" {
+        return say(out, shelf.put(&place, piece(words, 4).as_bytes()).is_ok());
+    }
+    get(alloc, out, shelf, &place)
 }
 
 /// A call at `PARTITION;DIRECTORY`, with the name that a directory gets.
@@ -99,16 +121,10 @@ pub fn dir<D: Shelf>(
     shelf: &mut D,
     words: &[&str],
 ) -> Result<(), NoMemory> {
-    let dir = DirAt {
-        table: TableId(1),
-        partition: Text::of(alloc, piece(words, 1))?,
-        dir: Text::of(alloc, piece(words, 2))?,
-    };
+    let dir = dir_of(alloc, words)?;
+    if piece(words, 0) == "remove" {
+        return say(out, shelf.remove(&dir).is_ok());
+    }
     let to = Text::of(alloc, piece(words, 3))?;
-    let done = match piece(words, 0) {
-        "rename" => write!(out, "{} ", shelf.rename(&dir, &to).is_ok()),
-        "remove" => write!(out, "{} ", shelf.remove(&dir).is_ok()),
-        _ => list(alloc, out, shelf),
-    };
-    Ok(done?)
+    say(out, shelf.rename(&dir, &to).is_ok())
 }
