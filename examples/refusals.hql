@@ -1,4 +1,4 @@
--- Every refusal that a script can bring about by itself, and statements that go on rightly after them. It ends with status 1.
+-- Every refusal that a script can bring about by itself but 36 MergeTwice (merge.hql), and statements that go on rightly after them. It ends with status 1.
 CREATE TABLE t (a INT, s STRING);
 --   OK
 CREATE TABLE p (a INT) PARTITIONED BY (k STRING);
@@ -14,7 +14,7 @@ EXPLAIN FORMATTED SELECT a FROM t;
 --   FAILED 4 Syntax
 SELECT (((((((((((((((((((((((((((((((((((((((((((((((((((((((((((((((((1)))))))))))))))))))))))))))))))))))))))))))))))))))))))))))))))));
 --   FAILED 5 Nesting at 71
--- Names, types and numbers of values.
+-- Names, types, numbers of values and clauses.
 SELECT * FROM nobody;
 --   FAILED 10 NoTable
 SELECT b FROM t;
@@ -29,6 +29,8 @@ SELECT s, count(*) FROM t GROUP BY a;
 --   FAILED 15 NotGrouped
 UPDATE p SET k = 'x';
 --   FAILED 16 FixedColumn
+MERGE INTO t USING p ON t.a = p.a WHEN NOT MATCHED THEN INSERT VALUES (p.a, p.k) WHEN MATCHED THEN DELETE;
+--   FAILED 17 MergeClauses
 CREATE TABLE T (b INT);
 --   FAILED 18 TableExists
 CREATE TABLE c (a INT) CLUSTERED BY (a) INTO 0 BUCKETS;
@@ -63,9 +65,9 @@ DELETE FROM p WHERE k = '1-1';
 DELETE FROM p WHERE k < '1-2';
 --   OK inserted 0 deleted 1
 CREATE TABLE p (b INT);
---   FAILED 37 Blocked by 20
+--   FAILED 37 Blocked by 21
 !go ada
---   FAILED 30 Conflict with 21 on p k=1-1
+--   FAILED 30 Conflict with 22 on p k=1-1
 -- A string that isn't closed takes the rest of the script.
 SELECT 'x FROM t;
 --   FAILED 2 OpenString at 7

@@ -43,10 +43,13 @@ fn advice(refusal: Refusal) -> &'static str {
         Refusal::BadCount => "give each column one value",
         Refusal::NotGrouped => "put the column into GROUP BY or into an aggregate",
         Refusal::FixedColumn => "delete the rows and insert them again",
+        Refusal::MergeClauses =>
+            "one UPDATE, one DELETE and, last, one INSERT at most; of two WHEN MATCHED the first has AND",
         Refusal::TableExists => "choose another name, or write IF NOT EXISTS",
         Refusal::Limit => "make fewer, or leave the property out",
         Refusal::Conflict | Refusal::Aborted => "do the statement again",
         Refusal::JournalFull => "go on in a new folder",
+        Refusal::MergeTwice => "let one source row match each row of the target",
         Refusal::Blocked => "do it again when that transaction has ended",
         Refusal::ReadFault | Refusal::WriteFault => "do it again; if it stays, look at the disk",
         Refusal::NoMemory => "write a smaller statement",

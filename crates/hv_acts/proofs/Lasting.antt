@@ -8,7 +8,7 @@ use Rattle.hv_base.specs.declared.ids.Touch.{Touch}
 use Rattle.hv_shelf.specs.declared.place.Place.{Place}
 use Rattle.hv_logic.specs.declared.catalog.TableInfo.{TableInfo}
 use Rattle.hv_logic.specs.declared.meaning.Meaning.{Meaning}
-use Rattle.hv_logic.specs.declared.meaning.Meaning.TheVariants.{Change, Make, Refused, RowLimit, PartitionLimit}
+use Rattle.hv_logic.specs.declared.meaning.Meaning.TheVariants.{Change, Make, Refused, Twice, RowLimit, PartitionLimit}
 use Rattle.hv_route.specs.declared.files.OutFile.{OutFile}
 use Rattle.hv_history.specs.declared.entry.Cause.{Cause}
 use Rattle.hv_history.specs.declared.entry.Cause.TheVariants as cause
@@ -141,6 +141,6 @@ module _ (before now : List TrailItem) (front : IsFront before now) where
   abort-lasts txn (cause.Conflict by table partition) is = absurd is
   abort-lasts txn (cause.Request by) is = absurd is
   abort-lasts txn cause.Full is = absurd is
-  abort-lasts txn (cause.Twice partition row) is = absurd is
+  abort-lasts txn (cause.Twice partition row) is = meant-lasts txn [] (Twice partition row) is
   abort-lasts txn (cause.Blocked holder) is = absurd is
   abort-lasts txn cause.Lost is = absurd is

@@ -8,7 +8,7 @@ use Rattle.hv_base.specs.declared.ids.TableId.{TableId}
 use Rattle.hv_base.specs.declared.ids.Touch.{Touch}
 use Rattle.hv_shelf.specs.declared.place.Place.{Place}
 use Rattle.hv_logic.specs.declared.meaning.Meaning.{Meaning}
-use Rattle.hv_logic.specs.declared.meaning.Meaning.TheVariants.{Change, Make, Refused, RowLimit, PartitionLimit}
+use Rattle.hv_logic.specs.declared.meaning.Meaning.TheVariants.{Change, Make, Refused, Twice, RowLimit, PartitionLimit}
 use Rattle.hv_route.specs.declared.files.OutFile.{OutFile}
 use Rattle.hv_route.specs.Routes.{files_of}
 use Rattle.hv_route.specs.Touching.{touches_of}
@@ -219,7 +219,7 @@ abort-true trail txn (cause.Damaged place) fits is = fits-here (numbered (state_
 abort-true trail txn (cause.Conflict by table partition) fits is = absurd is
 abort-true trail txn (cause.Request by) fits is = absurd is
 abort-true trail txn cause.Full fits is = absurd is
-abort-true trail txn (cause.Twice partition row) fits is = absurd is
+abort-true trail txn (cause.Twice partition row) fits is = meant-here trail txn (Twice partition row) (λ m. m ≡ Some (Twice partition row)) fits is refl
 abort-true trail txn (cause.Blocked holder) fits is = absurd is
 abort-true trail txn cause.Lost fits is = absurd is
 

@@ -13,7 +13,7 @@ use Rattle.hv_logic.specs.declared.catalog.Shape.{Shape}
 use Rattle.hv_logic.specs.declared.catalog.TableInfo.{TableInfo}
 use Rattle.hv_logic.specs.declared.effect.Effect.{Effect}
 use Rattle.hv_logic.specs.declared.meaning.Meaning.{Meaning}
-use Rattle.hv_logic.specs.declared.meaning.Meaning.TheVariants.{Change, Make, Refused, RowLimit, PartitionLimit}
+use Rattle.hv_logic.specs.declared.meaning.Meaning.TheVariants.{Change, Make, Refused, Twice, RowLimit, PartitionLimit}
 use Rattle.hv_route.specs.Back.{AreHeld}
 use Rattle.hv_route.specs.Routes.{files_of}
 use Rattle.hv_route.specs.Touching.{touches_of}
@@ -109,6 +109,7 @@ pub record IsMakeMeant (trail : List TrailItem) (txn : TxnId) : Type 0 where
 -- a conflict is tested in one hold, and isn't asked for.
 abbrev pub IsAbortDue : List TrailItem → TxnId → Cause → Type 0
 IsAbortDue trail txn (cause.Refused number) = (why : Refusal) × (number ≡ refusals.number why) × HasMeant trail txn [] (Refused why)
+IsAbortDue trail txn (cause.Twice partition row) = HasMeant trail txn [] (Twice partition row)
 IsAbortDue trail txn cause.RowLimit = HasMeant trail txn [] RowLimit
 IsAbortDue trail txn cause.PartitionLimit = HasMeant trail txn [] PartitionLimit
 IsAbortDue trail txn cause.Memory = Unit {0}

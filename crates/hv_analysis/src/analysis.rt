@@ -2,12 +2,15 @@
 
 ghost use Rattle.std.specs.Prelude.{◌≡◌};
 ghost use Rattle.hv_typing.specs.Faults.{Types};
-ghost use Rattle.hv_typing.specs.Analysis.{query_analysed, change_analysed, form_analysed, analysed};
+ghost use Rattle.hv_typing.specs.Analysis.{query_analysed, change_analysed, merge_analysed, form_analysed, analysed};
 
 use crate::changes::change_of;
 use crate::creates::created;
+use crate::descriptions::described;
+use crate::merges::merged;
 use crate::queries::selected;
-use hv_ast::{Query, Stmt};
+use crate::settings::set_analysed;
+use hv_ast::{Merge, Query, Stmt};
 use hv_base::{Refusal, Text};
 use hv_built::is_built;
 use hv_logic::TableInfo;
@@ -34,6 +37,12 @@ fn change_analysed(
     Ok(Logic::Change(change_of(alloc, tables, name, stmt)?))
 }
 
+fn merge_analysed(alloc: Global, tables: &[TableInfo], merge: &Merge) -> Result<Logic, TypeFault>
+    ensures { Types result (merge_analysed tables.now merge.now) }
+{
+    Ok(Logic::Merge(merged(alloc, tables, merge)?))
+}
+
 #[tactic(auto, unfolding(hv_typing::specs::Analysis::form_analysed))]
 fn form_analysed(alloc: Global, tables: &[TableInfo], stmt: &Stmt) -> Result<Logic, TypeFault>
     ensures { Types result (form_analysed tables.now stmt.now) }
@@ -43,8 +52,11 @@ fn form_analysed(alloc: Global, tables: &[TableInfo], stmt: &Stmt) -> Result<Log
         Stmt::Insert(insert) => change_analysed(alloc, tables, &insert.table, stmt),
         Stmt::Update(update) => change_analysed(alloc, tables, &update.table, stmt),
         Stmt::Delete(delete) => change_analysed(alloc, tables, &delete.table, stmt),
+        Stmt::Merge(merge) => merge_analysed(alloc, tables, merge),
         Stmt::Truncate(truncate) => change_analysed(alloc, tables, &truncate.table, stmt),
         Stmt::CreateTable(create) => created(alloc, tables, create),
+        Stmt::Describe(table) => described(alloc, tables, table),
+        Stmt::Set(setting) => set_analysed(setting),
         _ => Err(SYNTAX),
     }
 }

@@ -4,6 +4,9 @@
 mod analysis;
 mod changes;
 mod creates;
+mod descriptions;
+mod merges;
 mod queries;
+mod settings;
 
 pub use analysis::analyse;

@@ -76,9 +76,10 @@ fn table_named(
     }
 }
 
+/// What stands in FROM or behind USING, and the columns that it has, or its first fault.
 #[cycle(queries)]
 #[tactic(auto, using(hv_typing::proofs::Layers::sources))]
-fn brought(
+pub(crate) fn brought(
     alloc: Global,
     source: &Source,
     tables: &[TableInfo],

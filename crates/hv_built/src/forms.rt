@@ -1,7 +1,7 @@
 ghost use Rattle.std.specs.Prelude.{◌≡◌};
 ghost use Rattle.hv_typing.specs.Analysis.{are_windowless, is_form};
 
-use crate::windows::is_windowless;
+use crate::windows::{is_windowless, is_windowless_source};
 use hv_ast::{Rows, Stmt};
 
 fn are_windowless(rows: &Rows) -> bool
@@ -23,8 +23,11 @@ pub(crate) fn is_form(stmt: &Stmt) -> bool
         Stmt::Insert(insert) => are_windowless(&insert.rows),
         Stmt::Update(_) => true,
         Stmt::Delete(_) => true,
+        Stmt::Merge(merge) => is_windowless_source(&merge.source),
         Stmt::Truncate(_) => true,
         Stmt::CreateTable(_) => true,
+        Stmt::Describe(_) => true,
+        Stmt::Set(_) => true,
         _ => false,
     }
 }

@@ -26,9 +26,10 @@ fn any_windows(items: &[Item]) -> bool
     false
 }
 
+/// Whether what stands behind USING, or in FROM, has none.
 #[cycle(windows)]
 #[tactic(auto, using(hv_typing::proofs::Layers::windowless))]
-fn is_windowless_source(source: &Source) -> bool
+pub(crate) fn is_windowless_source(source: &Source) -> bool
     ensures { result ≡ is_windowless_source source.now }
 {
     match source {

@@ -1,4 +1,5 @@
-//! The parts of a change of a table: INSERT with its PARTITION, its columns and its source, UPDATE, DELETE, TRUNCATE.
+//! The parts of a change of a table: INSERT with its PARTITION, its columns and its source, UPDATE, DELETE, TRUNCATE, and MERGE over what
+//! stands behind its USING.
 //!
 //! The target is found, and a query as a source is taken, by the crate above.
 #![tactic(auto)]
@@ -6,6 +7,7 @@
 mod columns;
 mod inserts;
 mod laws;
+mod merges;
 mod partitions;
 mod queries;
 mod targets;
@@ -15,5 +17,6 @@ mod values;
 pub use columns::{columns_of, fields_named};
 pub use inserts::{query_inserted, rows_inserted};
 pub use laws::parts_meet_alike;
+pub use merges::merge_over;
 pub use targets::targets_of;
 pub use updates::{deleted, truncated, updated};

@@ -3,6 +3,8 @@
 
 mod changes;
 mod deletes;
+mod describing;
+mod merging;
 mod rows;
 mod statement;
 mod touching;

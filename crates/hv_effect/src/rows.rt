@@ -2,28 +2,30 @@
 
 ghost use Rattle.std.specs.Prelude.{◌≡◌, IfOk, [], drop, map};
 ghost use Rattle.hv_expr.specs.Evaluation.{values_of};
+ghost use Rattle.hv_eval.specs.Frames.{frame_values};
 ghost use Rattle.hv_meaning.specs.Meaning.{values_alone, frame_of, found_frame, first_value, stored_values, stored_row};
 
 use hv_base::{List, NoMemory};
-use hv_eval::eval;
+use hv_eval::{Frame, Scope, eval, eval_at};
 use hv_expr::TypedExpr;
 use hv_logic::{Column, Found};
 use hv_value::{Row, Value, convert};
 use std::alloc::Global;
 
 // The first value as the column has it.
-fn first_value(
+#[tactic(auto, unfolding(hv_expr::specs::Evaluation::value_of))]
+fn first_value<'a>(
     alloc: Global,
     column: &Column,
-    exprs: &[TypedExpr],
-    frame: &Row,
+    exprs: &'a [TypedExpr],
+    frame: &Frame<'a>,
 ) -> Result<Value, NoMemory>
-    ensures { IfOk result (λ value. value ≡ first_value column.now exprs.now frame.now.values) }
+    ensures { IfOk result (λ value. value ≡ first_value column.now exprs.now (frame_values frame.now)) }
 {
     match exprs {
         [] => Ok(Value::Null),
         [expr, ..] => {
-            let value = eval(alloc, expr, frame)?;
+            let value = eval_at(alloc, expr, &Scope::alone(*frame))?;
             convert(alloc, &value, &column.kind)
         }
     }
@@ -38,13 +40,13 @@ fn behind_first(exprs: &[TypedExpr]) -> &[TypedExpr]
     }
 }
 
-fn stored_values(
+fn stored_values<'a>(
     alloc: Global,
     columns: &[Column],
-    exprs: &[TypedExpr],
-    frame: &Row,
+    exprs: &'a [TypedExpr],
+    frame: &Frame<'a>,
 ) -> Result<List<Value>, NoMemory>
-    ensures { IfOk result (λ values. values ≡ stored_values columns.now exprs.now frame.now.values) }
+    ensures { IfOk result (λ values. values ≡ stored_values columns.now exprs.now (frame_values frame.now)) }
 {
     let mut rest = exprs;
     let mut values = Vec::with_capacity(alloc, columns.len())?;
@@ -56,17 +58,29 @@ fn stored_values(
 }
 
 /// A row of these columns, each value over the row that it is made from.
-pub(crate) fn stored_row(
+pub(crate) fn stored_row<'a>(
     alloc: Global,
     columns: &[Column],
-    exprs: &[TypedExpr],
-    frame: &Row,
+    exprs: &'a [TypedExpr],
+    frame: &Frame<'a>,
 ) -> Result<Row, NoMemory>
-    ensures { IfOk result (λ row. row ≡ stored_row columns.now exprs.now frame.now.values) }
+    ensures { IfOk result (λ row. row ≡ stored_row columns.now exprs.now (frame_values frame.now)) }
 {
     Ok(Row {
         values: stored_values(alloc, columns, exprs, frame)?,
     })
+}
+
+// Of a row of one source.
+fn made_of<'a>(
+    alloc: Global,
+    columns: &[Column],
+    exprs: &'a [TypedExpr],
+    row: &'a Row,
+) -> Result<Row, NoMemory>
+    ensures { IfOk result (λ made. made ≡ stored_row columns.now exprs.now row.now.values) }
+{
+    stored_row(alloc, columns, exprs, &Frame::of(row.values.as_slice()))
 }
 
 // The values of a row of VALUES, over no row.
@@ -94,7 +108,7 @@ fn alone_stored(
     ensures { IfOk result (λ made. made ≡ stored_row columns.now exprs.now (values_alone row.now)) }
 {
     let frame = row_alone(alloc, row, none)?;
-    stored_row(alloc, columns, exprs, &frame)
+    made_of(alloc, columns, exprs, &frame)
 }
 
 /// Of rows of VALUES.
@@ -127,7 +141,7 @@ pub(crate) fn rows_selected(
 {
     let mut made = Vec::with_capacity(alloc, rows.len())?;
     for row in rows {
-        made.push(stored_row(alloc, columns, exprs, row)?)?;
+        made.push(made_of(alloc, columns, exprs, row)?)?;
     }
     Ok(List::from_vec(made))
 }
@@ -143,7 +157,7 @@ pub(crate) fn rows_updated(
 {
     let mut made = Vec::with_capacity(alloc, found.len())?;
     for one in found {
-        made.push(stored_row(alloc, columns, exprs, &one.row)?)?;
+        made.push(made_of(alloc, columns, exprs, &one.row)?)?;
     }
     Ok(List::from_vec(made))
 }

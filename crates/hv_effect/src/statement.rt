@@ -4,7 +4,8 @@ ghost use Rattle.hv_typing.specs.Analysis.{analysed};
 ghost use Rattle.hv_meaning.specs.Meaning.{info_of, found_in, tables_of, column_name, listed, refused_for, meant, meaning_over, meaning_in};
 ghost use Rattle.hv_effect.specs.Tables.{found_of};
 
-use crate::changes::{changed_in, query_rows};
+use crate::changes::{changed_in, merged_in, query_rows};
+use crate::describing::described;
 use crate::touching::{Touching, untouched};
 use hv_analysis::analyse;
 use hv_ast::Stmt;
@@ -75,8 +76,10 @@ fn meant(
     match logic {
         Logic::Query(query) => Ok(Some(listed(alloc, &query, rows)?)),
         Logic::Change(change) => changed_in(alloc, infos, rows, &change),
+        Logic::Merge(merge) => merged_in(alloc, infos, rows, &merge),
         Logic::Make(shape) => Ok(Some(untouched(alloc, Meaning::Make(shape)))),
         Logic::Nothing => Ok(Some(untouched(alloc, Meaning::Plain))),
+        Logic::Describe(columns) => Ok(Some(described(alloc, columns.as_slice())?)),
     }
 }
 

@@ -11,4 +11,4 @@ mod tables;
 mod unions;
 mod wanted;
 
-pub use queries::run;
+pub use queries::{rows_of_source, run};

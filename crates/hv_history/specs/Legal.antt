@@ -19,7 +19,7 @@ use Rattle.hv_ast.specs.declared.statement.Stmt.TheVariants as stmt
 use Rattle.hv_built.specs.Running.{Runs}
 use Rattle.hv_grammar.specs.Texts.{tree_of}
 use Rattle.hv_logic.specs.declared.meaning.Meaning.{Meaning}
-use Rattle.hv_logic.specs.declared.meaning.Meaning.TheVariants.{Refused, Listing, Change, Make, Plain, RowLimit, PartitionLimit}
+use Rattle.hv_logic.specs.declared.meaning.Meaning.TheVariants.{Refused, Listing, Change, Make, Plain, Twice, RowLimit, PartitionLimit}
 use Rattle.hv_logic.specs.Names.{names_in}
 use Rattle.hv_meaning.specs.hv_route.specs.Back.{AreFlat}
 use Rattle.hv_meaning.specs.hv_route.specs.Touching.{touches_of}
@@ -322,7 +322,7 @@ abbrev pub CauseIsTrue : State → Cause → Transaction → Type 0
 CauseIsTrue state (cause.Refused number) transaction = IsRefusedAs number (meaning transaction)
 CauseIsTrue state (cause.Conflict by table partition) transaction = ConflictIsTrue state by.0 table.0 partition transaction (meaning transaction)
 CauseIsTrue state cause.Full transaction = IsFalse (is_started transaction) ⊎ NeedsId transaction.given (meaning transaction)
-CauseIsTrue state (cause.Twice partition row) transaction = ⊥
+CauseIsTrue state (cause.Twice partition row) transaction = meaning transaction ≡ Some (Twice partition row)
 CauseIsTrue state cause.RowLimit transaction = meaning transaction ≡ Some RowLimit
 CauseIsTrue state cause.PartitionLimit transaction = meaning transaction ≡ Some PartitionLimit
 CauseIsTrue state _ transaction = Unit {0}

@@ -8,4 +8,4 @@ mod joins;
 
 pub use chain::{Chain, Chains, build};
 pub use grouping::{GroupFold, Groups, Parts, enter_with, fold_groups, parts_are_the_whole};
-pub use joins::{Joining, alone, inner, left_outer, semi};
+pub use joins::{Joining, alone, first_matches, inner, left_outer, semi};

@@ -15,7 +15,7 @@ use Rattle.hv_typing.specs.Analysis.{is_form}
 use Rattle.hv_logic.specs.declared.catalog.TableInfo.{TableInfo}
 use Rattle.hv_logic.specs.declared.effect.Effect.{Effect}
 use Rattle.hv_logic.specs.declared.meaning.Meaning.{Meaning}
-use Rattle.hv_logic.specs.declared.meaning.Meaning.TheVariants.{Refused, Listing, Change, Make, Plain, RowLimit, PartitionLimit}
+use Rattle.hv_logic.specs.declared.meaning.Meaning.TheVariants.{Refused, Listing, Change, Make, Plain, Twice, RowLimit, PartitionLimit}
 use Rattle.hv_route.specs.Touching.{touches_of}
 use Rattle.hv_route.proofs.StandingLemmas.{touches-are-of-rows}
 use Rattle.hv_history.specs.declared.entry.Entry.{Entry}
@@ -77,6 +77,7 @@ needs-true [] (Some (Refused why)) needs = absurd needs
 needs-true [] (Some (Listing names rows)) needs = absurd needs
 needs-true [] (Some (Make shape)) needs = absurd needs
 needs-true [] (Some Plain) needs = absurd needs
+needs-true [] (Some (Twice region row)) needs = absurd needs
 needs-true [] (Some RowLimit) needs = absurd needs
 needs-true [] (Some PartitionLimit) needs = absurd needs
 needs-true (x ∷ given) o needs = absurd needs
@@ -203,6 +204,7 @@ module _ (book : List Entry) (txn : ℕ) (t : Transaction) (at : numbered (state
       by (Some (Listing names rows)) is needs its = absurd (subst (IsOfTable table) is its)
       by (Some (Make shape)) is needs its = absurd (subst (IsOfTable table) is its)
       by (Some Plain) is needs its = absurd (subst (IsOfTable table) is its)
+      by (Some (Twice region row)) is needs its = absurd (subst (IsOfTable table) is its)
       by (Some RowLimit) is needs its = absurd (subst (IsOfTable table) is its)
       by (Some PartitionLimit) is needs its = absurd (subst (IsOfTable table) is its)
 
@@ -228,6 +230,7 @@ module _ (book : List Entry) (txn : ℕ) (t : Transaction) (at : numbered (state
       by None is truth = absurd (subst (TouchesAreMeant wrote) is truth)
       by (Some (Refused why)) is truth = absurd (subst (TouchesAreMeant wrote) is truth)
       by (Some (Make shape)) is truth = absurd (subst (TouchesAreMeant wrote) is truth)
+      by (Some (Twice region row)) is truth = absurd (subst (TouchesAreMeant wrote) is truth)
       by (Some RowLimit) is truth = absurd (subst (TouchesAreMeant wrote) is truth)
       by (Some PartitionLimit) is truth = absurd (subst (TouchesAreMeant wrote) is truth)
 
@@ -243,6 +246,7 @@ module _ (book : List Entry) (txn : ℕ) (t : Transaction) (at : numbered (state
       by (Some (Refused why)) is truth = absurd (subst IsMake is truth)
       by (Some (Listing names rows)) is truth = absurd (subst IsMake is truth)
       by (Some Plain) is truth = absurd (subst IsMake is truth)
+      by (Some (Twice region row)) is truth = absurd (subst IsMake is truth)
       by (Some RowLimit) is truth = absurd (subst IsMake is truth)
       by (Some PartitionLimit) is truth = absurd (subst IsMake is truth)
 
@@ -258,6 +262,7 @@ module _ (book : List Entry) (txn : ℕ) (t : Transaction) (at : numbered (state
       by (Some (Listing names rows)) is truth = absurd (subst (IsRefusedAs number) is truth)
       by (Some (Make shape)) is truth = absurd (subst (IsRefusedAs number) is truth)
       by (Some Plain) is truth = absurd (subst (IsRefusedAs number) is truth)
+      by (Some (Twice region row)) is truth = absurd (subst (IsRefusedAs number) is truth)
       by (Some RowLimit) is truth = absurd (subst (IsRefusedAs number) is truth)
       by (Some PartitionLimit) is truth = absurd (subst (IsRefusedAs number) is truth)
 
@@ -283,6 +288,7 @@ module _ (book : List Entry) (txn : ℕ) (t : Transaction) (at : numbered (state
       by (Some (Listing names rows)) is truth = absurd (subst (ConflictIsTrue s other.0 table.0 partition t) is truth)
       by (Some (Make shape)) is truth = absurd (subst (ConflictIsTrue s other.0 table.0 partition t) is truth)
       by (Some Plain) is truth = absurd (subst (ConflictIsTrue s other.0 table.0 partition t) is truth)
+      by (Some (Twice region row)) is truth = absurd (subst (ConflictIsTrue s other.0 table.0 partition t) is truth)
       by (Some RowLimit) is truth = absurd (subst (ConflictIsTrue s other.0 table.0 partition t) is truth)
       by (Some PartitionLimit) is truth = absurd (subst (ConflictIsTrue s other.0 table.0 partition t) is truth)
 
@@ -309,6 +315,7 @@ module _ (book : List Entry) (txn : ℕ) (t : Transaction) (at : numbered (state
       by (Some (Listing names rows)) is asks = absurd (other-needs t.given (Some (Listing names rows)) (subst (NeedsId t.given) is needs) tt)
       by (Some (Make shape)) is asks = absurd (other-needs t.given (Some (Make shape)) (subst (NeedsId t.given) is needs) tt)
       by (Some Plain) is asks = absurd (other-needs t.given (Some Plain) (subst (NeedsId t.given) is needs) tt)
+      by (Some (Twice region row)) is asks = absurd (other-needs t.given (Some (Twice region row)) (subst (NeedsId t.given) is needs) tt)
       by (Some RowLimit) is asks = absurd (other-needs t.given (Some RowLimit) (subst (NeedsId t.given) is needs) tt)
       by (Some PartitionLimit) is asks = absurd (other-needs t.given (Some PartitionLimit) (subst (NeedsId t.given) is needs) tt)
 
@@ -325,7 +332,8 @@ module _ (book : List Entry) (txn : ℕ) (t : Transaction) (at : numbered (state
       by false is either = full-unstarted fits order is
       by true is (inl unstarted) = absurd (never (is_started t) unstarted is)
       by true is (inr needs) = full-asked fits needs is
-  abort-next (cause.Twice partition row) sound running fits truth steady order = absurd truth
+  abort-next (cause.Twice partition row) sound running fits truth steady order =
+      means (abort txn (cause.Twice partition row)) fits (Some (Twice partition row)) truth refl
   abort-next (cause.Blocked holder) sound running fits truth steady order =
       opens (still-open t fits.waiting.unended) false fits.waiting.unstarted
       ∙ ap (λ o. Some (starting s txn o)) fits.held

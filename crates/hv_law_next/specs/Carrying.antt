@@ -3,7 +3,7 @@ use Rattle.std.specs.Prelude.{◌≡◌, ℕ, Bool, true, false, Option, Some, N
 use Rattle.hv_base.specs.declared.gate.Stage.{Stage}
 use Rattle.hv_base.specs.declared.gate.Stage.TheVariants as stage
 use Rattle.hv_logic.specs.declared.meaning.Meaning.{Meaning}
-use Rattle.hv_logic.specs.declared.meaning.Meaning.TheVariants.{Refused, Change, RowLimit, PartitionLimit}
+use Rattle.hv_logic.specs.declared.meaning.Meaning.TheVariants.{Refused, Change, Twice, RowLimit, PartitionLimit}
 use Rattle.hv_history.specs.declared.entry.Entry.{Entry}
 use Rattle.hv_history.specs.declared.state.Transaction.{Transaction}
 use Rattle.hv_history.specs.State.{State, numbered, meaning, state_of}
@@ -50,6 +50,7 @@ IsUnrefused meaning = Unit {0}
 -- nothing is left of it but its end at the commit
 abbrev pub IsToCommit : List (ℕ × ℕ) → Option Meaning → Type 0
 IsToCommit given (Some (Refused why)) = ⊥
+IsToCommit given (Some (Twice region row)) = ⊥
 IsToCommit given (Some RowLimit) = ⊥
 IsToCommit given (Some PartitionLimit) = ⊥
 IsToCommit given (Some (Change info effect)) = needs_id given (Some (Change info effect)) ≡ false

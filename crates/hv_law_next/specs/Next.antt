@@ -9,7 +9,7 @@ use Rattle.hv_base.specs.declared.ids.Touch.{Touch}
 use Rattle.hv_logic.specs.declared.catalog.TableInfo.{TableInfo}
 use Rattle.hv_logic.specs.declared.effect.Effect.{Effect}
 use Rattle.hv_logic.specs.declared.meaning.Meaning.{Meaning}
-use Rattle.hv_logic.specs.declared.meaning.Meaning.TheVariants.{Refused, Listing, Change, Make, Plain, RowLimit, PartitionLimit}
+use Rattle.hv_logic.specs.declared.meaning.Meaning.TheVariants.{Refused, Listing, Change, Make, Plain, Twice, RowLimit, PartitionLimit}
 use Rattle.hv_route.specs.Touching.{touches_of}
 use Rattle.hv_history.specs.declared.entry.Entry.{Entry}
 use Rattle.hv_history.specs.declared.entry.Entry.TheVariants as entry
@@ -97,6 +97,7 @@ changing state txn transaction info effect false =
 
 abbrev pub by_meaning : State → ℕ → Transaction → Option Meaning → Option Entry
 by_meaning state txn transaction (Some (Refused why)) = Some (abort txn (cause.Refused (refusals.number why)))
+by_meaning state txn transaction (Some (Twice region row)) = Some (abort txn (cause.Twice region row))
 by_meaning state txn transaction (Some RowLimit) = Some (abort txn cause.RowLimit)
 by_meaning state txn transaction (Some PartitionLimit) = Some (abort txn cause.PartitionLimit)
 by_meaning state txn transaction (Some (Listing names rows)) = Some (commit txn [])

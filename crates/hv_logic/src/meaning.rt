@@ -1,6 +1,6 @@
 use crate::catalog::{Shape, TableInfo};
 use crate::effect::Effect;
-use hv_base::{List, Refusal, Text};
+use hv_base::{List, Refusal, RowId, Text};
 use hv_value::Row;
 
 /// What a statement comes to over the tables that it sees.
@@ -16,6 +16,9 @@ pub enum Meaning {
     Make(Shape),
     /// Nothing that the book keeps.
     Plain,
+    /// A MERGE whose clauses are of matched rows, where two source rows match one row of the target: the least such row, by its
+    /// partition and its identifier.
+    Twice(Text, RowId),
     /// An inserted row is too large.
     RowLimit,
     /// A partition's text is too long, or the change touches too many partitions.

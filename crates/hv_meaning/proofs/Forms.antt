@@ -7,11 +7,16 @@ use Rattle.hv_base.specs.declared.refusal.Refusal.TheVariants as refusal
 use Rattle.hv_ast.specs.declared.expr.Expr.{Expr}
 use Rattle.hv_ast.specs.declared.change.Assignment.{Assignment}
 use Rattle.hv_ast.specs.declared.change.Insert.{Insert}
+use Rattle.hv_ast.specs.declared.change.Merge.{Merge}
+use Rattle.hv_ast.specs.declared.change.MergeAction.{MergeAction}
+use Rattle.hv_ast.specs.declared.change.MergeAction.TheVariants as written
+use Rattle.hv_ast.specs.declared.change.MergeClause.{MergeClause}
 use Rattle.hv_ast.specs.declared.change.PartitionItem.{PartitionItem}
 use Rattle.hv_ast.specs.declared.change.Rows.{Rows}
 use Rattle.hv_ast.specs.declared.change.Rows.TheVariants as source_rows
 use Rattle.hv_ast.specs.declared.query.Query.{Query}
 use Rattle.hv_ast.specs.declared.query.Source.{Source}
+use Rattle.hv_ast.specs.declared.statement.Setting.{Setting}
 use Rattle.hv_ast.specs.declared.statement.Stmt.{Stmt}
 use Rattle.hv_ast.specs.declared.statement.Stmt.TheVariants as stmt
 use Rattle.hv_ast.specs.declared.table.CreateTable.{CreateTable}
@@ -27,7 +32,14 @@ use Rattle.hv_typing.specs.declared.scope.Field.{Field}
 use Rattle.hv_typing.specs.declared.scope.Over.TheVariants as over
 use Rattle.hv_typing.specs.Faults.{and_then}
 use Rattle.hv_typing.specs.Kinds.{kind_of}
-use Rattle.hv_typing.specs.Typing.{typed}
+use Rattle.hv_typing.specs.declared.merge.TypedClauses.{TypedClauses}
+use Rattle.hv_typing.specs.declared.merge.TypedMerge.{TypedMerge}
+use Rattle.hv_typing.specs.declared.opened.Brought.{Brought}
+use Rattle.hv_typing.specs.declared.places.Place.TheVariants as asked
+use Rattle.hv_typing.specs.Scopes.{same_name}
+use Rattle.hv_typing.specs.Merges.{value_over, row_over, new_row, no_clauses, action_onto, clause_onto, clauses_typed, clauses_clash, target_alias, target_fields, merge_typed, merge_over, merged_table, merged_at, merged}
+use Rattle.hv_typing.specs.Subqueries.{brought}
+use Rattle.hv_typing.specs.Typing.{typed, condition_of}
 use Rattle.hv_typing.specs.Sources.{filter_typed}
 use Rattle.hv_typing.specs.declared.change.Origin.{Origin}
 use Rattle.hv_typing.specs.declared.change.Origin.TheVariants as origin
@@ -39,15 +51,18 @@ use Rattle.hv_typing.specs.Targets.{value_typed, column_named, if_new, static_of
 use Rattle.hv_typing.specs.Updates.{is_fixed, is_set, if_free, place_set, value_set, kept, one_set, all_set, sets_of, updated, deleted, partitions_met, truncated}
 use Rattle.hv_typing.specs.declared.logic.Logic.{Logic}
 use Rattle.hv_typing.specs.declared.logic.Logic.TheVariants as logic
-use Rattle.hv_typing.specs.Analysis.{is_windowless, are_windowless, is_form, query_analysed, change_analysed, form_analysed, analysed}
+use Rattle.hv_typing.specs.Analysis.{is_windowless, is_windowless_source, are_windowless, is_form, query_analysed, change_analysed, merge_analysed, form_analysed, analysed}
 use Rattle.hv_typing.specs.Changes.{source_inserted, inserted, changing, changing_table, changing_at, change_of}
 use Rattle.hv_typing.specs.Creates.{place_of, created, made, fault_of, unless_fault, names_repeat, is_bucket_column, arrays_route, numbers_fit, is_unkept}
+use Rattle.hv_typing.specs.Descriptions.{described, described_as, described_at}
+use Rattle.hv_typing.specs.Settings.{set_analysed, takes_value}
 use Rattle.hv_typing.specs.Subqueries.{selected}
-use Rattle.hv_meaning.specs.Meaning.{its_tables, info_of, found_in, tables_of, changed_in, refused_for, meant, meaning_in}
+use Rattle.hv_meaning.specs.Meaning.{its_tables, info_of, found_in, tables_of, changed_in, merged_in, refused_for, meant, meaning_in}
 use Rattle.hv_meaning.specs.Laws.{MeansSomething, FormsMean, OtherFormsMeanNothing}
-use Rattle.hv_meaning.proofs.Outcomes.{OnOk, on_ok, then-ok, IsChangeOf, changes-are, creates-are}
-use Rattle.hv_meaning.proofs.Queries.{free-filter, free-selected}
-use Rattle.hv_meaning.proofs.Typed.{IsOther, Free, free-then, free-if, free-front, free-each, typed-free}
+use Rattle.hv_meaning.proofs.Outcomes.{OnOk, on_ok, then-ok, IsChangeOf, changes-are, creates-are, describes-are, settings-are}
+use Rattle.hv_meaning.proofs.Queries.{free-filter, free-selected, free-brought}
+use Rattle.hv_meaning.proofs.Merges.{IsMergeOf, merges-are}
+use Rattle.hv_meaning.proofs.Typed.{IsOther, Free, free-then, free-if, free-front, free-each, free-placed, typed-free}
 
 -- ---- analysis of these forms doesn't refuse them as Syntax
 
@@ -199,6 +214,53 @@ module _ (shape : Shape) (columns : List Column) (fields : List Field) (kinds : 
   free-sets before values (a ∷ rest) =
       free-then (one_set shape columns fields kinds before values a) _ (free-set before values a) (λ values. free-sets (before ++ a ∷ []) values rest)
 
+free-newcomer : (columns : List Column) (fields : List Field) (exprs : List Expr) → Free (new_row columns fields exprs)
+unfolding new_row row_over
+free-newcomer columns fields exprs =
+    free-then (row_over fields exprs) _ (free-each (value_over fields) exprs (λ x. typed-free fields x over.Row)) (λ row.
+    free-if (has_count (length columns) row) _ _ (free-if (converts columns row) _ _ tt tt) tt)
+
+module _ (shape : Shape) (columns : List Column) (both alone : List Field) where
+  free-action : (done : TypedClauses) (condition : Option Expr) (act : MergeAction) → Free (action_onto shape columns both alone done condition act)
+  free-action done condition (written.Update sets) =
+      free-then (filter_typed both condition) _ (free-filter both condition) (λ met.
+      free-then (all_set shape columns both (kinds_of columns) [] (kept 0 (kinds_of columns)) sets) _
+      (free-sets shape columns both (kinds_of columns) [] (kept 0 (kinds_of columns)) sets) (λ values. tt))
+  free-action done condition written.Delete = free-then (filter_typed both condition) _ (free-filter both condition) (λ met. tt)
+  free-action done condition (written.Insert exprs) =
+      free-then (filter_typed alone condition) _ (free-filter alone condition) (λ met.
+      free-then (new_row columns alone exprs) _ (free-newcomer columns alone exprs) (λ values. tt))
+
+  free-clauses : (done : TypedClauses) (clauses : List MergeClause) → Free (clauses_typed shape columns both alone done clauses)
+  unfolding clauses_typed clause_onto
+  free-clauses done [] = tt
+  free-clauses done (clause ∷ clauses) =
+      free-then (clause_onto shape columns both alone done clause) _ (free-action done clause.condition clause.action) (λ done. free-clauses done clauses)
+
+free-merge : (place : ℕ) (shape : Shape) (merge : Merge) (source : Brought) → Free (merge_over place shape merge source)
+unfolding merge_over merge_typed
+free-merge place shape merge source =
+    let both = target_fields shape merge ++ source.fields in
+    free-if (same_name source.alias (target_alias merge)) _ _ tt
+    (free-if (clauses_clash merge.clauses) _ _ tt
+    (free-then (condition_of both merge.on over.Row) _
+    (free-then (typed both merge.on over.Row) _ (typed-free both merge.on over.Row) (λ x. free-placed asked.Truth x)) (λ on.
+    free-then (clauses_typed shape (columns_of shape) both source.fields no_clauses merge.clauses) _
+    (free-clauses shape (columns_of shape) both source.fields no_clauses merge.clauses) (λ clauses. tt))))
+
+free-merged : (tables : List TableInfo) (merge : Merge) → is_windowless_source merge.source ≡ true → Free (merge_analysed tables merge)
+unfolding merged
+free-merged tables merge e = free-then (merged tables merge) _ (at (place_of merge.table tables)) (λ typed. tt)
+  where
+    into : (place : ℕ) (info : Option TableInfo) → Free (merged_table tables merge place info)
+    into place None = tt
+    into place (Some info) =
+        free-then (brought tables merge.source) _ (free-brought tables merge.source e) (λ source. free-merge place info.shape merge source)
+
+    at : (place : Option ℕ) → Free (merged_at tables merge place)
+    at None = tt
+    at (Some place) = into place (slice_get tables place)
+
 free-changing : (tables : List TableInfo) (place : ℕ) (shape : Shape) (tree : Stmt) → is_change tree ≡ true → is_form tree ≡ true → Free (changing tables place shape tree)
 unfolding changing inserted updated deleted truncated is_form
 free-changing tables place shape (stmt.Insert insert) c e =
@@ -253,6 +315,22 @@ free-created tables create =
     let exists = is_some (place_of create.table tables) in
     free-made (fault_of exists create) (made exists create) (free-faults exists create)
 
+free-described : (tables : List TableInfo) (name : List ℕ) → Free (described tables name)
+unfolding described
+free-described tables name = at (place_of name tables)
+  where
+    told : (info : Option TableInfo) → Free (described_as info)
+    told None = tt
+    told (Some info) = tt
+
+    at : (place : Option ℕ) → Free (described_at tables place)
+    at None = tt
+    at (Some place) = told (slice_get tables place)
+
+free-setting : (setting : Setting) → Free (set_analysed setting)
+unfolding set_analysed
+free-setting setting = free-if (takes_value setting) _ _ tt tt
+
 -- ---- what isn't refused as Syntax means something
 
 some-other : (why : Refusal) → IsOther why → MeansSomething (refused_for why)
@@ -279,6 +357,19 @@ change-mean infos found name tree c e =
     (then-ok (Means infos found) (change_of infos name tree) _ (λ change is.
     change-means infos found name tree change (on_ok (IsChangeOf infos name tree) (change_of infos name tree) change (changes-are infos name tree) is)))
 
+merge-means : (infos : List TableInfo) (found : List (List Found)) (merge : Merge) (typed : TypedMerge) → IsMergeOf infos merge.table typed
+    → Means infos found (logic.Merge typed)
+merge-means infos found merge typed is =
+    subst (λ (o : Option TableInfo). MeansSomething (merged_in o (slice_get found typed.table) (tables_of found) typed))
+    (sym (ap (slice_get infos) is.table ∙ is.here)) tt
+
+merges-mean : (infos : List TableInfo) (found : List (List Found)) (merge : Merge) → is_windowless_source merge.source ≡ true
+    → MeansSomething (meant infos found (merge_analysed infos merge))
+merges-mean infos found merge e =
+    free-means infos found (merge_analysed infos merge) (free-merged infos merge e)
+    (then-ok (Means infos found) (merged infos merge) _ (λ typed is.
+    merge-means infos found merge typed (on_ok (IsMergeOf infos merge.table) (merged infos merge) typed (merges-are infos merge) is)))
+
 means-form : (tree : Stmt) (infos : List TableInfo) (found : List (List Found)) → is_form tree ≡ true → MeansSomething (meant infos found (form_analysed infos tree))
 unfolding form_analysed is_form
 means-form (stmt.Query query) infos found e =
@@ -286,9 +377,14 @@ means-form (stmt.Query query) infos found e =
 means-form (stmt.Insert insert) infos found e = change-mean infos found insert.table (stmt.Insert insert) refl e
 means-form (stmt.Update update) infos found e = change-mean infos found update.table (stmt.Update update) refl e
 means-form (stmt.Delete delete) infos found e = change-mean infos found delete.table (stmt.Delete delete) refl e
+means-form (stmt.Merge merge) infos found e = merges-mean infos found merge e
 means-form (stmt.Truncate truncate) infos found e = change-mean infos found truncate.table (stmt.Truncate truncate) refl e
 means-form (stmt.CreateTable create) infos found e =
     free-means infos found (created infos create) (free-created infos create) (creates-are (Means infos found) infos create tt tt)
+means-form (stmt.Describe table) infos found e =
+    free-means infos found (described infos table) (free-described infos table) (describes-are (Means infos found) infos table (λ columns. tt))
+means-form (stmt.Set setting) infos found e =
+    free-means infos found (set_analysed setting) (free-setting setting) (settings-are (Means infos found) setting tt)
 means-form other infos found e = cc
 
 pub forms-mean : FormsMean

@@ -1,6 +1,8 @@
 pub mod Outcomes
 mod Stored
 mod Limits
+mod Merges
+mod Twice
 mod Typed
 mod Queries
 pub mod Meanings

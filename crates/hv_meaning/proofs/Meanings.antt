@@ -11,8 +11,10 @@ use Rattle.hv_base.specs.declared.ids.Touch.{Touch}
 use Rattle.hv_base.specs.declared.refusal.Refusal.{Refusal}
 use Rattle.hv_base.specs.declared.refusal.Refusal.TheVariants as refusal
 use Rattle.hv_ast.specs.declared.change.Insert.{Insert}
+use Rattle.hv_ast.specs.declared.change.Merge.{Merge}
 use Rattle.hv_ast.specs.declared.query.Query.{Query}
 use Rattle.hv_ast.specs.declared.query.Source.{Source}
+use Rattle.hv_ast.specs.declared.statement.Setting.{Setting}
 use Rattle.hv_ast.specs.declared.statement.Stmt.{Stmt}
 use Rattle.hv_ast.specs.declared.statement.Stmt.TheVariants as stmt
 use Rattle.hv_ast.specs.declared.table.CreateTable.{CreateTable}
@@ -33,30 +35,40 @@ use Rattle.hv_logic.specs.declared.catalog.TableInfo.{TableInfo}
 use Rattle.hv_logic.specs.declared.effect.Effect.{Effect}
 use Rattle.hv_logic.specs.declared.effect.Found.{Found}
 use Rattle.hv_logic.specs.declared.meaning.Meaning.{Meaning}
-use Rattle.hv_logic.specs.declared.meaning.Meaning.TheVariants.{Refused, Listing, Change, Make}
+use Rattle.hv_logic.specs.declared.meaning.Meaning.TheVariants.{Refused, Listing, Change, Make, Plain}
 use Rattle.hv_logic.specs.declared.seen.Seen.{Seen}
 use Rattle.hv_logic.specs.Tables.{named}
 use Rattle.hv_logic.specs.Shapes.{column_of, shape_of, bucket_names}
 use Rattle.hv_locks.specs.declared.table.Lock.{Lock}
-use Rattle.hv_logic.specs.Names.{shared, rows_names}
+use Rattle.hv_logic.specs.Names.{shared, rows_names, source_names}
 use Rattle.hv_route.specs.Back.{AreFlat}
 use Rattle.hv_route.specs.Touching.{touched}
-use Rattle.hv_typing.specs.Rows.{Frame, Tables}
+use Rattle.hv_typing.specs.Rows.{Frame, Tables, is_met, source_frames}
+use Rattle.hv_typing.specs.declared.merge.MatchedAction.{MatchedAction}
+use Rattle.hv_typing.specs.declared.merge.MatchedAction.TheVariants as action
+use Rattle.hv_typing.specs.declared.merge.TypedMatched.{TypedMatched}
+use Rattle.hv_typing.specs.declared.merge.TypedMerge.{TypedMerge}
+use Rattle.hv_typing.specs.declared.merge.TypedNewcomers.{TypedNewcomers}
+use Rattle.hv_typing.specs.Merges.{merged}
+use Rattle.hv_meaning.specs.Merging.{Match, target_frame, its_match, twice_found, acting, is_taken, renewed_by, renewed_from, renewed, new_rows, unmatched, merge_effect}
 use Rattle.hv_typing.specs.declared.change.Deletes.{Deletes}
 use Rattle.hv_typing.specs.declared.change.Deletes.TheVariants as deletes
 use Rattle.hv_typing.specs.declared.change.TypedChange.{TypedChange}
 use Rattle.hv_typing.specs.Columns.{columns_of}
 use Rattle.hv_typing.specs.declared.logic.Logic.{Logic}
 use Rattle.hv_typing.specs.declared.logic.Logic.TheVariants as logic
-use Rattle.hv_typing.specs.Analysis.{analysed, form_analysed, is_form, query_analysed, change_analysed}
+use Rattle.hv_typing.specs.Analysis.{analysed, form_analysed, is_form, query_analysed, change_analysed, merge_analysed}
 use Rattle.hv_typing.specs.Creates.{created, created_beside, place_of, is_table, fault_of, names_repeat, is_bucket_column, has_array, is_array_named, arrays_route, numbers_fit}
 use Rattle.hv_typing.specs.Changes.{changing, change_of}
+use Rattle.hv_typing.specs.Descriptions.{described}
+use Rattle.hv_typing.specs.Settings.{set_analysed}
 use Rattle.hv_typing.specs.Subqueries.{selected}
-use Rattle.hv_meaning.specs.Meaning.{its_tables, named_by, info_of, found_in, tables_of, is_matched, matched, frames_from, first_value, stored_values, stored_row, is_received, deleted, change_effect, within_limits, or_none, changed_in, refused_for, meant, meaning_in, meaning_of}
+use Rattle.hv_meaning.specs.Meaning.{its_tables, named_by, info_of, found_in, tables_of, is_matched, matched, frames_from, first_value, stored_values, stored_row, is_received, deleted, change_effect, within_limits, or_none, changed_in, merge_of, merged_in, refused_for, meant, meaning_in, meaning_of}
 use Rattle.hv_meaning.specs.Laws.{MakesNew, TablesAreNew, AreOf, IsRowOf, AreOfRows, change_name, ChangesNamed, ChangesAreNamed, ChangesSeen, ChangesAreSeen, only_inserts, InsertsDeleteNothing}
-use Rattle.hv_meaning.proofs.Outcomes.{OnOk, on_ok, then-ok, IsGone, IsChangeOf, inserts-are, changes-are, creates-are, makes}
+use Rattle.hv_meaning.proofs.Outcomes.{OnOk, on_ok, then-ok, IsGone, IsChangeOf, inserts-are, changes-are, creates-are, describes-are, settings-are, makes}
 use Rattle.hv_meaning.proofs.Stored.{both}
 use Rattle.hv_meaning.proofs.Limits.{neither, limits-come, fits-table, flat-columns}
+use Rattle.hv_meaning.proofs.Merges.{IsMergeOf, merges-are, merges-come, all-both, all-made}
 
 -- ---- a fact of what a statement comes to
 
@@ -85,6 +97,14 @@ module _ (P : Option Meaning → Type 0) (unbuilt : P None) (refused : (why : Re
       → P (meant infos found (query_analysed infos query))
   queries-come infos found query listing =
       meant-is infos found (query_analysed infos query) (then-ok (Comes infos found) (selected infos query) _ (λ typed e. listing _ _))
+
+  pub describes-come : (infos : List TableInfo) (found : List (List Found)) (name : List ℕ) → ((names : List (List ℕ)) (rows : List Row) → P (Some (Listing names rows)))
+      → P (meant infos found (described infos name))
+  describes-come infos found name listing =
+      meant-is infos found (described infos name) (describes-are (Comes infos found) infos name (λ columns. listing _ _))
+
+  pub settings-come : (infos : List TableInfo) (found : List (List Found)) (setting : Setting) → P (Some Plain) → P (meant infos found (set_analysed setting))
+  settings-come infos found setting plain = meant-is infos found (set_analysed setting) (settings-are (Comes infos found) setting plain)
 
 -- ---- places of names
 
@@ -223,6 +243,31 @@ rows-of : (columns : List Column) (xs : List TypedExpr) (frames : List Frame) �
 rows-of columns xs [] = tt
 rows-of columns xs (frame ∷ frames) = (row-of columns xs frame, rows-of columns xs frames)
 
+-- those of a MERGE
+
+renewed-of : (columns : List Column) (frame : Frame) (act : Option MatchedAction) → AllByRecursion (IsRowOf columns) (renewed_by (stored_row columns) frame act)
+renewed-of columns frame None = tt
+renewed-of columns frame (Some (action.Update values)) = (row-of columns values frame, tt)
+renewed-of columns frame (Some action.Delete) = tt
+
+renewed-rows : (columns : List Column) (clauses : List TypedMatched) (found : Found) (match : Match)
+    → AllByRecursion (IsRowOf columns) (renewed_from (stored_row columns) clauses found match)
+renewed-rows columns clauses found None = tt
+renewed-rows columns clauses found (Some pair) = renewed-of columns (target_frame found ++ pair.0) (acting clauses (target_frame found ++ pair.0))
+
+newcomers-of : (columns : List Column) (newcomers : Option TypedNewcomers) (frames : List Frame)
+    → AllByRecursion (IsRowOf columns) (new_rows (stored_row columns) newcomers frames)
+newcomers-of columns None frames = tt
+newcomers-of columns (Some newcomers) frames = rows-of columns newcomers.values (filter (is_met newcomers.condition) frames)
+
+merged-rows : (columns : List Column) (merge : TypedMerge) (sources : List Frame) (rows : List Found)
+    → AllByRecursion (IsRowOf columns) (merge_effect (stored_row columns) merge sources rows).inserts
+merged-rows columns merge sources rows =
+    all-both (IsRowOf columns) (flat_map (renewed (stored_row columns) merge sources) rows)
+    (new_rows (stored_row columns) merge.clauses.newcomers (unmatched merge.on sources rows))
+    (all-made (IsRowOf columns) (renewed (stored_row columns) merge sources) rows (λ found. renewed-rows columns merge.clauses.matched found (its_match merge.on sources found)))
+    (newcomers-of columns merge.clauses.newcomers (unmatched merge.on sources rows))
+
 -- ---- rows that stand
 
 abbrev never : Found → Bool
@@ -272,6 +317,22 @@ effect-named tree tables name all_rows names info rows change aim =
       fits = fits-table info effect touches is all;
     })
 
+merge-is : (tree : Stmt) (tables : List Seen) (name : List ℕ) (sources : List Frame) → change_name tree ≡ Some name
+    → (info : TableInfo) (rows : List Found) (merge : TypedMerge) → IsTarget name tables info rows
+    → Named tree tables (Some (merge_of info rows sources merge))
+merge-is tree tables name sources names info rows merge aim =
+    let columns = columns_of info.shape in
+    let effect = merge_effect (stored_row columns) merge sources rows in
+    merges-come (Named tree tables) (λ partition id. tt) tt tt info (twice_found merge sources rows) effect (λ touches is. record {
+      seen = aim.seen;
+      name = name;
+      name_is = names;
+      here = aim.here;
+      info_is = aim.info_is;
+      stand = subst (λ (found : List Found). AreOfRows found effect.deletes) aim.rows_are (record { test = is_taken merge sources; deletes_are = refl });
+      fits = fits-table info effect touches is (merged-rows columns merge sources rows);
+    })
+
 -- over the target and these other tables
 module _ (tree : Stmt) (tables : List Seen) (name : List ℕ) (locks : List Lock) where
   abbrev its : List Seen
@@ -294,6 +355,31 @@ module _ (tree : Stmt) (tables : List Seen) (name : List ℕ) (locks : List Lock
       target-named names change
       (on_ok (IsChangeOf (map info_of its) name tree) (change_of (map info_of its) name tree) change (changes-are (map info_of its) name tree) e)))
 
+-- of a MERGE
+module _ (merge : Merge) (tables : List Seen) (locks : List Lock) where
+  abbrev all_of : List Seen
+  all_of = named_by tables (shared merge.table) ++ flat_map (named_by tables) locks
+
+  merge-named : (typed : TypedMerge) → IsMergeOf (map info_of all_of) merge.table typed
+      → Named (stmt.Merge merge) tables
+      (merged_in (slice_get (map info_of all_of) typed.table) (slice_get (map found_in all_of) typed.table) (tables_of (map found_in all_of)) typed)
+  merge-named typed is =
+      let found = map found_in all_of in
+      let sources = source_frames typed.source (tables_of found) in
+      let aim = target merge.table tables locks is.place is.info is.named is.here in
+      subst (λ (n : ℕ). Named (stmt.Merge merge) tables (merged_in (slice_get (map info_of all_of) n) (slice_get found n) (tables_of found) typed)) (sym is.table)
+      (subst (λ (o : Option TableInfo). Named (stmt.Merge merge) tables (merged_in o (slice_get found is.place) (tables_of found) typed)) (sym is.here)
+      (merge-is (stmt.Merge merge) tables merge.table sources refl is.info (or_none (slice_get found is.place)) typed aim))
+
+  merges-named : Named (stmt.Merge merge) tables (meant (map info_of all_of) (map found_in all_of) (merge_analysed (map info_of all_of) merge))
+  merges-named =
+      let infos = map info_of all_of in
+      let found = map found_in all_of in
+      let N = Named (stmt.Merge merge) tables in
+      meant-is N tt (λ why. tt) infos found _
+      (then-ok (Comes N tt (λ why. tt) infos found) (merged infos merge) _ (λ typed e.
+      merge-named typed (on_ok (IsMergeOf infos merge.table) (merged infos merge) typed (merges-are infos merge) e)))
+
 named-form : (tree : Stmt) (tables : List Seen)
     → Named tree tables (meant (map info_of (its_tables tree tables)) (map found_in (its_tables tree tables)) (form_analysed (map info_of (its_tables tree tables)) tree))
 unfolding form_analysed
@@ -301,12 +387,18 @@ named-form (stmt.Query query) tables = queries-come (Named (stmt.Query query) ta
 named-form (stmt.Insert insert) tables = change-named (stmt.Insert insert) tables insert.table (rows_names insert.rows) refl
 named-form (stmt.Update update) tables = change-named (stmt.Update update) tables update.table [] refl
 named-form (stmt.Delete delete) tables = change-named (stmt.Delete delete) tables delete.table [] refl
+named-form (stmt.Merge merge) tables = merges-named merge tables (source_names merge.source)
 named-form (stmt.Truncate truncate) tables = change-named (stmt.Truncate truncate) tables truncate.table [] refl
 named-form (stmt.CreateTable create) tables =
     let N = Named (stmt.CreateTable create) tables in
     let infos = map info_of (its_tables (stmt.CreateTable create) tables) in
     let found = map found_in (its_tables (stmt.CreateTable create) tables) in
     meant-is N tt (λ why. tt) infos found (created infos create) (creates-are (Comes N tt (λ why. tt) infos found) infos create tt tt)
+named-form (stmt.Describe table) tables =
+    describes-come (Named (stmt.Describe table) tables) tt (λ why. tt) _ _ table (λ names rows. tt)
+named-form (stmt.Set setting) tables =
+    let own = its_tables (stmt.Set setting) tables in
+    settings-come (Named (stmt.Set setting) tables) tt (λ why. tt) (map info_of own) (map found_in own) setting tt
 named-form other tables = tt
 
 named-all : (tree : Stmt) (tables : List Seen) → Named tree tables (meaning_of tables tree)
@@ -347,6 +439,22 @@ effect-seen tables place all_rows change (Some seen) at =
       fits = fits-table seen.info effect touches is all;
     })
 
+merge-seen : (tables : List Seen) (place : ℕ) (rows : Tables) (merge : TypedMerge) (o : Option Seen) → slice_get tables place ≡ o
+    → SeenOf tables (merged_in (option_map info_of o) (option_map found_in o) rows merge)
+merge-seen tables place rows merge None at = tt
+merge-seen tables place rows merge (Some seen) at =
+    let columns = columns_of seen.info.shape in
+    let sources = source_frames merge.source rows in
+    let effect = merge_effect (stored_row columns) merge sources seen.rows in
+    merges-come (SeenOf tables) (λ partition id. tt) tt tt seen.info (twice_found merge sources seen.rows) effect (λ touches is. record {
+      place = place;
+      seen = seen;
+      here = at;
+      info_is = refl;
+      stand = record { test = is_taken merge sources; deletes_are = refl };
+      fits = fits-table seen.info effect touches is (merged-rows columns merge sources seen.rows);
+    })
+
 any-seen : (tables : List Seen) (r : Result Logic Refusal) → SeenOf tables (meant (map info_of tables) (map found_in tables) r)
 any-seen tables (Ok (logic.Query query)) = tt
 any-seen tables (Ok (logic.Change change)) =
@@ -356,8 +464,16 @@ any-seen tables (Ok (logic.Change change)) =
     (subst (λ (o : Option (List Found)). SeenOf tables (changed_in (option_map info_of (slice_get tables change.table)) o all_rows change))
     (sym (get-mapped found_in tables change.table))
     (effect-seen tables change.table all_rows change (slice_get tables change.table) refl))
+any-seen tables (Ok (logic.Merge merge)) =
+    let all_rows = tables_of (map found_in tables) in
+    subst (λ (o : Option TableInfo). SeenOf tables (merged_in o (slice_get (map found_in tables) merge.table) all_rows merge))
+    (sym (get-mapped info_of tables merge.table))
+    (subst (λ (o : Option (List Found)). SeenOf tables (merged_in (option_map info_of (slice_get tables merge.table)) o all_rows merge))
+    (sym (get-mapped found_in tables merge.table))
+    (merge-seen tables merge.table all_rows merge (slice_get tables merge.table) refl))
 any-seen tables (Ok (logic.Make shape)) = tt
 any-seen tables (Ok logic.Nothing) = tt
+any-seen tables (Ok (logic.Describe columns)) = tt
 any-seen tables (Err why) = refused-is (SeenOf tables) tt (λ other. tt) why
 
 pub changes-seen : ChangesAreSeen
@@ -480,6 +596,22 @@ change-makes tree tables infos found name said =
     (then-ok (Comes (MakesAt tree tables) tt (λ why. tt) infos found) (change_of infos name said) _ (λ change e.
     changed-makes tree tables (slice_get infos change.table) (slice_get found change.table) (tables_of found) change))
 
+merge-makes-in : (tree : Stmt) (tables : List Seen) (info : Option TableInfo) (found : Option (List Found)) (rows : Tables) (merge : TypedMerge)
+    → MakesAt tree tables (merged_in info found rows merge)
+merge-makes-in tree tables None found rows merge = tt
+merge-makes-in tree tables (Some info) found rows merge =
+    let sources = source_frames merge.source rows in
+    merges-come (MakesAt tree tables) (λ partition id. tt) tt tt info (twice_found merge sources (or_none found))
+    (merge_effect (stored_row (columns_of info.shape)) merge sources (or_none found)) (λ touches is. tt)
+
+merge-makes : (merge : Merge) (tables : List Seen) (infos : List TableInfo) (found : List (List Found))
+    → MakesAt (stmt.Merge merge) tables (meant infos found (merge_analysed infos merge))
+merge-makes merge tables infos found =
+    let M = MakesAt (stmt.Merge merge) tables in
+    meant-is M tt (λ why. tt) infos found _
+    (then-ok (Comes M tt (λ why. tt) infos found) (merged infos merge) _ (λ typed e.
+    merge-makes-in (stmt.Merge merge) tables (slice_get infos typed.table) (slice_get found typed.table) (tables_of found) typed))
+
 makes-form : (tree : Stmt) (tables : List Seen)
     → MakesAt tree tables (meant (map info_of (its_tables tree tables)) (map found_in (its_tables tree tables)) (form_analysed (map info_of (its_tables tree tables)) tree))
 unfolding form_analysed created
@@ -487,12 +619,18 @@ makes-form (stmt.Query query) tables = queries-come (MakesAt (stmt.Query query) 
 makes-form (stmt.Insert insert) tables = change-makes (stmt.Insert insert) tables _ _ insert.table (stmt.Insert insert)
 makes-form (stmt.Update update) tables = change-makes (stmt.Update update) tables _ _ update.table (stmt.Update update)
 makes-form (stmt.Delete delete) tables = change-makes (stmt.Delete delete) tables _ _ delete.table (stmt.Delete delete)
+makes-form (stmt.Merge merge) tables = merge-makes merge tables _ _
 makes-form (stmt.Truncate truncate) tables = change-makes (stmt.Truncate truncate) tables _ _ truncate.table (stmt.Truncate truncate)
 makes-form (stmt.CreateTable create) tables =
     let infos = map info_of (its_tables (stmt.CreateTable create) tables) in
     let found = map found_in (its_tables (stmt.CreateTable create) tables) in
     meant-is (MakesAt (stmt.CreateTable create) tables) tt (λ why. tt) infos found (created infos create)
     (create-comes create tables found (named create.table tables) refl)
+makes-form (stmt.Describe table) tables =
+    describes-come (MakesAt (stmt.Describe table) tables) tt (λ why. tt) _ _ table (λ names rows. tt)
+makes-form (stmt.Set setting) tables =
+    let own = its_tables (stmt.Set setting) tables in
+    settings-come (MakesAt (stmt.Set setting) tables) tt (λ why. tt) (map info_of own) (map found_in own) setting tt
 makes-form other tables = tt
 
 makes-all : (tree : Stmt) (tables : List Seen) → MakesAt tree tables (meaning_of tables tree)

@@ -10,6 +10,7 @@ use Rattle.hv_ast.specs.declared.change.Rows.{Rows}
 use Rattle.hv_ast.specs.declared.change.Rows.TheVariants as source_rows
 use Rattle.hv_ast.specs.declared.change.Truncate.{Truncate}
 use Rattle.hv_ast.specs.declared.change.Update.{Update}
+use Rattle.hv_ast.specs.declared.statement.Setting.{Setting}
 use Rattle.hv_ast.specs.declared.statement.Stmt.{Stmt}
 use Rattle.hv_ast.specs.declared.statement.Stmt.TheVariants as stmt
 use Rattle.hv_ast.specs.declared.table.CreateTable.{CreateTable}
@@ -33,6 +34,8 @@ use Rattle.hv_typing.specs.Updates.{sets_of, update_of, updated, delete_of, dele
 use Rattle.hv_typing.specs.declared.logic.Logic.{Logic}
 use Rattle.hv_typing.specs.declared.logic.Logic.TheVariants as logic
 use Rattle.hv_typing.specs.Creates.{place_of, created, created_beside, made, unless_fault, fault_of}
+use Rattle.hv_typing.specs.Descriptions.{described, described_as, described_at}
+use Rattle.hv_typing.specs.Settings.{set_analysed, takes_value}
 use Rattle.hv_typing.specs.Changes.{source_inserted, inserted, changing, changing_table, changing_at, change_of}
 use Rattle.hv_typing.specs.Subqueries.{selected}
 
@@ -181,3 +184,22 @@ module _ (P : Logic → Type 0) where
       by : (exists : Bool) → OnOk P (created_beside exists create)
       by true = makes (fault_of true create) logic.Nothing (λ none. nothing)
       by false = makes (fault_of false create) (logic.Make (shape_of create)) (λ none. make)
+
+-- ---- what a DESCRIBE and a SET can come to
+
+module _ (P : Logic → Type 0) where
+  pub describes-are : (tables : List TableInfo) (name : List ℕ) → ((columns : List Column) → P (logic.Describe columns)) → OnOk P (described tables name)
+  unfolding described
+  describes-are tables name each = at (place_of name tables)
+    where
+      told : (info : Option TableInfo) → OnOk P (described_as info)
+      told None = tt
+      told (Some info) = each (columns_of info.shape)
+
+      at : (place : Option ℕ) → OnOk P (described_at tables place)
+      at None = tt
+      at (Some place) = told (slice_get tables place)
+
+  pub settings-are : (setting : Setting) → P logic.Nothing → OnOk P (set_analysed setting)
+  unfolding set_analysed
+  settings-are setting nothing = if-ok P (takes_value setting) (Ok logic.Nothing) refusal.BadType (λ takes. nothing)

@@ -383,6 +383,9 @@ module _ (tables : List TableInfo) where
   free-source : (s : Source) → IsFree s
   free-source = ind-Source IsFree (λ x y is. subst (λ (layer : Source-F Source). IsFree (roll-Source layer)) is (layers y))
 
+  pub free-brought : (s : Source) → is_windowless_source s ≡ true → Free (brought tables s)
+  free-brought s = free-source s
+
   pub free-selected : (query : Query Source) → is_windowless query ≡ true → Free (selected tables query)
   unfolding is_windowless
   free-selected query e = free-query (brought tables) is_windowless_source free-source query e

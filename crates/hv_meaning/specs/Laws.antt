@@ -66,6 +66,7 @@ abbrev pub change_name : Stmt → Option (List ℕ)
 change_name (stmt.Insert insert) = Some insert.table
 change_name (stmt.Update update) = Some update.table
 change_name (stmt.Delete delete) = Some delete.table
+change_name (stmt.Merge merge) = Some merge.table
 change_name (stmt.Truncate truncate) = Some truncate.table
 change_name _ = None
 
@@ -164,6 +165,8 @@ are_values (rows.Query query) = false
 abbrev pub reads_rows : Stmt → Bool
 reads_rows (stmt.Insert insert) = insert.overwrite || not (are_values insert.rows)
 reads_rows (stmt.CreateTable create) = false
+reads_rows (stmt.Describe table) = false
+reads_rows (stmt.Set setting) = false
 reads_rows _ = true
 
 -- over the tables that it names

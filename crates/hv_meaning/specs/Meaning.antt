@@ -1,6 +1,6 @@
--- What a statement comes to over the tables that it names. Source: Hive Language Manual, DDL (Create Table), DML
+-- What a statement comes to over the tables that it names. Source: Hive Language Manual, DDL (Create Table, Describe), DML
 -- (Inserting values into tables from SQL, Inserting data into
--- Hive Tables from queries, Update, Delete), Select.
+-- Hive Tables from queries, Update, Delete, Merge), Select.
 use Rattle.std.specs.Prelude.{ℕ, Bool, Option, Some, None, List, [], ◌∷◌, length, map, filter, drop, slice_get, Result, Ok, Err}
 use Rattle.std.specs.List.{flat_map, list_any}
 use Rattle.std.specs.Option.{option_to_list}
@@ -24,7 +24,7 @@ use Rattle.hv_logic.specs.declared.catalog.TableInfo.{TableInfo}
 use Rattle.hv_logic.specs.declared.effect.Effect.{Effect}
 use Rattle.hv_logic.specs.declared.effect.Found.{Found}
 use Rattle.hv_logic.specs.declared.meaning.Meaning.{Meaning}
-use Rattle.hv_logic.specs.declared.meaning.Meaning.TheVariants.{Refused, Listing, Change, Make, Plain, RowLimit, PartitionLimit}
+use Rattle.hv_logic.specs.declared.meaning.Meaning.TheVariants.{Refused, Listing, Change, Make, Plain, Twice, RowLimit, PartitionLimit}
 use Rattle.hv_logic.specs.declared.seen.Seen.{Seen}
 use Rattle.hv_logic.specs.Tables.{named}
 use Rattle.hv_logic.specs.Names.{names_in}
@@ -35,7 +35,9 @@ use Rattle.hv_route.specs.Touching.{touched}
 use Rattle.hv_typing.specs.declared.tree.OutputColumn.{OutputColumn}
 use Rattle.hv_typing.specs.declared.tree.TypedQuery.{TypedQuery}
 use Rattle.hv_typing.specs.declared.tree.TypedSource.{TypedSource}
-use Rattle.hv_typing.specs.Rows.{Frame, Tables, is_met, rows_of}
+use Rattle.hv_typing.specs.Rows.{Frame, Tables, is_met, rows_of, source_frames}
+use Rattle.hv_typing.specs.declared.merge.TypedMerge.{TypedMerge}
+use Rattle.hv_meaning.specs.Merging.{twice_found, merge_effect}
 use Rattle.hv_typing.specs.declared.change.Deletes.{Deletes}
 use Rattle.hv_typing.specs.declared.change.Deletes.TheVariants as deletes
 use Rattle.hv_typing.specs.declared.change.Origin.{Origin}
@@ -45,6 +47,7 @@ use Rattle.hv_typing.specs.Columns.{columns_of}
 use Rattle.hv_typing.specs.declared.logic.Logic.{Logic}
 use Rattle.hv_typing.specs.declared.logic.Logic.TheVariants as logic
 use Rattle.hv_typing.specs.Analysis.{analysed}
+use Rattle.hv_meaning.specs.Describing.{described}
 
 -- ---- the live tables that a statement names, in the order in which it names them: a name means one of these
 
@@ -150,6 +153,20 @@ abbrev pub changed_in : Option TableInfo → Option (List Found) → Tables → 
 changed_in None found tables change = None
 changed_in (Some info) found tables change = Some (within_limits info (change_effect info.shape change (or_none found) tables))
 
+-- ---- MERGE: the first row of the target that two source rows match, where a clause is of matched rows, or the change
+
+abbrev pub twice_or : TableInfo → Option Found → Effect → Meaning
+twice_or info None effect = within_limits info effect
+twice_or info (Some found) effect = Twice found.partition found.id
+
+abbrev pub merge_of : TableInfo → List Found → List Frame → TypedMerge → Meaning
+merge_of info rows sources merge =
+    twice_or info (twice_found merge sources rows) (merge_effect (stored_row (columns_of info.shape)) merge sources rows)
+
+abbrev pub merged_in : Option TableInfo → Option (List Found) → Tables → TypedMerge → Option Meaning
+merged_in None found tables merge = None
+merged_in (Some info) found tables merge = Some (merge_of info (or_none found) (source_frames merge.source tables) merge)
+
 -- ---- a form that isn't built has no meaning
 
 abbrev pub refused_for : Refusal → Option Meaning
@@ -160,8 +177,11 @@ abbrev pub meant : List TableInfo → List (List Found) → Result Logic Refusal
 meant infos found (Ok (logic.Query query)) = Some (listed query (tables_of found))
 meant infos found (Ok (logic.Change change)) =
     changed_in (slice_get infos change.table) (slice_get found change.table) (tables_of found) change
+meant infos found (Ok (logic.Merge merge)) =
+    merged_in (slice_get infos merge.table) (slice_get found merge.table) (tables_of found) merge
 meant infos found (Ok (logic.Make shape)) = Some (Make shape)
 meant infos found (Ok logic.Nothing) = Some Plain
+meant infos found (Ok (logic.Describe columns)) = Some (described columns)
 meant infos found (Err why) = refused_for why
 
 -- over tables of these descriptions, where these rows stand

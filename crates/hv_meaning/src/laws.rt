@@ -1,3 +1,4 @@
+ghost use Rattle.hv_meaning.specs.MergeLaws.{FirstIsNamed, NoneMatchTwice};
 ghost use Rattle.hv_meaning.specs.Laws.{FormsMean, OtherFormsMeanNothing, TablesAreNew, ChangesAreNamed, ChangesAreSeen, InsertsDeleteNothing, TypedValuesAreStored, RowsAreUnseen, RowsAreUnseenIn};
 
 /// The statements of the forms that are analysed mean something, whatever the tables.
@@ -38,4 +39,11 @@ pub fn typed_values_are_stored()
 pub fn rows_are_unseen()
     ensures named { RowsAreUnseenIn }
     ensures live { RowsAreUnseen }
+{}
+
+/// The row that a MERGE names as matched by two source rows is one, and each row before it is matched by one at most; where none is
+/// named, so is every row.
+pub fn merges_name_the_first()
+    ensures first { FirstIsNamed }
+    ensures none { NoneMatchTwice }
 {}

@@ -7,5 +7,5 @@ mod laws;
 
 pub use laws::{
     changes_are_named, changes_are_seen, forms_mean, inserts_delete_nothing, made_tables_are_new,
-    rows_are_unseen, typed_values_are_stored,
+    merges_name_the_first, rows_are_unseen, typed_values_are_stored,
 };

@@ -3,7 +3,7 @@ use Rattle.std.proofs.Common.{◌≡◌, ◌⊎◌, ℕ, ◌<◌, Some, List, []
 use Rattle.std.specs.List.{AllByRecursion}
 use Rattle.std.proofs.lemmas.List.{take-append-le}
 use Rattle.hv_logic.specs.declared.meaning.Meaning.{Meaning}
-use Rattle.hv_logic.specs.declared.meaning.Meaning.TheVariants.{Change}
+use Rattle.hv_logic.specs.declared.meaning.Meaning.TheVariants.{Change, Twice}
 use Rattle.hv_history.specs.declared.entry.Entry.{Entry}
 use Rattle.hv_stands.specs.Running.{Asking, AreOf, AreNotOf, IsOf, IsNotOf, meant}
 use Rattle.hv_stands.specs.Statements.{AllFitting}
@@ -35,6 +35,7 @@ others a b apart (event ∷ events) of_a = (other-one a b apart event of_a.0, ot
 
 end-stays : (before more : List Entry) (meaning : Meaning) → AllFitting (before ++ more) → CanEnd before meaning → CanEnd (before ++ more) meaning
 end-stays before more (Change info effect) fit can = change-stays before more info effect fit can
+end-stays before more (Twice partition row) fit can = can
 end-stays before more other fit can = tt
 
 last-stays : (before more : List Entry) (txn : ℕ) (given : List (ℕ × ℕ)) (end : End) → AllFitting (before ++ more)

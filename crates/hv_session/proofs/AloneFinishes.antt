@@ -9,7 +9,7 @@ use Rattle.hv_ast.specs.declared.statement.Stmt.{Stmt}
 use Rattle.hv_logic.specs.declared.catalog.TableInfo.{TableInfo}
 use Rattle.hv_logic.specs.declared.effect.Effect.{Effect}
 use Rattle.hv_logic.specs.declared.meaning.Meaning.{Meaning}
-use Rattle.hv_logic.specs.declared.meaning.Meaning.TheVariants.{Listing, Change, Make, Refused, RowLimit, PartitionLimit, Plain}
+use Rattle.hv_logic.specs.declared.meaning.Meaning.TheVariants.{Listing, Change, Make, Refused, Twice, RowLimit, PartitionLimit, Plain}
 use Rattle.hv_history.specs.declared.entry.Entry.{Entry}
 use Rattle.hv_history.specs.declared.entry.Cause.{Cause}
 use Rattle.hv_history.specs.declared.entry.Cause.TheVariants as cause
@@ -92,6 +92,7 @@ gives-unended txn (Change info effect) first gives = subst (AllByRecursion IsNoE
 gives-unended txn (Listing names rows) first gives = absurd gives
 gives-unended txn (Make shape) first gives = absurd gives
 gives-unended txn (Refused why) first gives = absurd gives
+gives-unended txn (Twice region row) first gives = absurd gives
 gives-unended txn RowLimit first gives = absurd gives
 gives-unended txn PartitionLimit first gives = absurd gives
 gives-unended txn Plain first gives = absurd gives
@@ -133,6 +134,7 @@ module _ (book : List Entry) (asking : Asking) (txn place : ℕ) (said : Stmt) (
       readied-none (Change info effect) means first so.0 (ap (λ (n : ℕ). nat_lt 0 n) so.1)
   readied (Change info effect) means ready first (inr so) = readied-id info effect so.0 first so.2 so.3
   readied (Refused why) means ready first so = absurd so
+  readied (Twice region row) means ready first so = absurd so
   readied RowLimit means ready first so = absurd so
   readied PartitionLimit means ready first so = absurd so
 
@@ -199,6 +201,7 @@ module _ (book : List Entry) (asking : Asking) (txn place : ℕ) (said : Stmt) (
   gives-before (Listing names rows) first gives = absurd gives
   gives-before (Make shape) first gives = absurd gives
   gives-before (Refused why) first gives = absurd gives
+  gives-before (Twice region row) first gives = absurd gives
   gives-before RowLimit first gives = absurd gives
   gives-before PartitionLimit first gives = absurd gives
   gives-before Plain first gives = absurd gives

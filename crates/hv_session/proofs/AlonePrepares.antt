@@ -7,7 +7,7 @@ use Rattle.hv_ast.specs.declared.statement.Stmt.{Stmt}
 use Rattle.hv_logic.specs.declared.catalog.TableInfo.{TableInfo}
 use Rattle.hv_logic.specs.declared.effect.Effect.{Effect}
 use Rattle.hv_logic.specs.declared.meaning.Meaning.{Meaning}
-use Rattle.hv_logic.specs.declared.meaning.Meaning.TheVariants.{Listing, Change, Make, Refused, RowLimit, PartitionLimit, Plain}
+use Rattle.hv_logic.specs.declared.meaning.Meaning.TheVariants.{Listing, Change, Make, Refused, Twice, RowLimit, PartitionLimit, Plain}
 use Rattle.hv_history.specs.declared.entry.Entry.{Entry}
 use Rattle.hv_history.specs.declared.entry.Cause.{Cause}
 use Rattle.hv_history.specs.declared.entry.Cause.TheVariants as cause
@@ -51,6 +51,7 @@ never-conflict (Listing names rows) by_ table partition never = never
 never-conflict (Change info effect) by_ table partition never = never
 never-conflict (Make shape) by_ table partition never = never
 never-conflict (Refused why) by_ table partition never = never
+never-conflict (Twice region row) by_ table partition never = never
 never-conflict RowLimit by_ table partition never = never
 never-conflict PartitionLimit by_ table partition never = never
 never-conflict Plain by_ table partition never = never
@@ -60,6 +61,7 @@ never-damaged (Listing names rows) place never = never
 never-damaged (Change info effect) place never = never
 never-damaged (Make shape) place never = never
 never-damaged (Refused why) place never = never
+never-damaged (Twice region row) place never = never
 never-damaged RowLimit place never = never
 never-damaged PartitionLimit place never = never
 never-damaged Plain place never = never
@@ -184,6 +186,7 @@ module _ {D : Type 0} (told : D → Option Store) (faults : D → ℕ) (B : List
   broken-alone (Listing names rows) first found gives gains = absurd gives
   broken-alone (Make shape) first found gives gains = absurd gives
   broken-alone (Refused why) first found gives gains = absurd gives
+  broken-alone (Twice region row) first found gives gains = absurd gives
   broken-alone RowLimit first found gives gains = absurd gives
   broken-alone PartitionLimit first found gives gains = absurd gives
   broken-alone Plain first found gives gains = absurd gives
@@ -211,6 +214,7 @@ module _ {D : Type 0} (told : D → Option Store) (faults : D → ℕ) (B : List
         gained.book ∙ ap (λ (xs : List Entry). entries_of before.house ++ xs) so.2 in
         change-ready faults asking said way before now under ready info effect so.0 so.1 book (subst AllFitting book (kept.whole running).ready.fit) can so.3 so.4
     ready-alone (Refused why) can so = absurd so
+    ready-alone (Twice region row) can so = absurd so
     ready-alone RowLimit can so = absurd so
     ready-alone PartitionLimit can so = absurd so
 

@@ -10,7 +10,7 @@ use Rattle.hv_ast.specs.declared.statement.Stmt.{Stmt}
 use Rattle.hv_logic.specs.declared.catalog.TableInfo.{TableInfo}
 use Rattle.hv_logic.specs.declared.effect.Effect.{Effect}
 use Rattle.hv_logic.specs.declared.meaning.Meaning.{Meaning}
-use Rattle.hv_logic.specs.declared.meaning.Meaning.TheVariants.{Listing, Change, Make, Refused, RowLimit, PartitionLimit, Plain}
+use Rattle.hv_logic.specs.declared.meaning.Meaning.TheVariants.{Listing, Change, Make, Refused, Twice, RowLimit, PartitionLimit, Plain}
 use Rattle.hv_history.specs.declared.entry.Entry.{Entry}
 use Rattle.hv_history.specs.declared.state.Table.{Table}
 use Rattle.hv_history.specs.State.{state_of, numbered}
@@ -55,6 +55,7 @@ module _ {D : Type 0} (told : D → Option Store) (before now : ToldHouse D) (fr
   end-lasts (Listing names rows) can = tt
   end-lasts (Make shape) can = tt
   end-lasts (Refused why) can = tt
+  end-lasts (Twice region row) can = can
   end-lasts RowLimit can = tt
   end-lasts PartitionLimit can = tt
   end-lasts Plain can = tt

@@ -11,9 +11,10 @@ use Rattle.hv_logic.specs.declared.effect.Effect.{Effect}
 use Rattle.hv_logic.specs.declared.effect.Found.{Found}
 use Rattle.hv_logic.specs.declared.seen.Seen.{Seen}
 use Rattle.hv_logic.specs.declared.meaning.Meaning.{Meaning}
-use Rattle.hv_logic.specs.declared.meaning.Meaning.TheVariants.{Listing, Change, RowLimit, PartitionLimit}
+use Rattle.hv_logic.specs.declared.meaning.Meaning.TheVariants.{Listing, Change, Twice, RowLimit, PartitionLimit}
 use Rattle.hv_logic.specs.Tables.{named}
-use Rattle.hv_typing.specs.Rows.{Tables}
+use Rattle.hv_typing.specs.Rows.{Tables, source_frames}
+use Rattle.hv_typing.specs.declared.merge.TypedMerge.{TypedMerge}
 use Rattle.hv_typing.specs.declared.logic.Logic.{Logic}
 use Rattle.hv_typing.specs.declared.logic.Logic.TheVariants as logic
 use Rattle.hv_typing.specs.Analysis.{analysed}
@@ -23,7 +24,8 @@ use Rattle.hv_base.specs.declared.ids.Touch.{Touch}
 use Rattle.hv_route.specs.Touching.{touched}
 use Rattle.hv_route.specs.declared.fault.RouteFault.{RouteFault}
 use Rattle.hv_route.specs.declared.fault.RouteFault.TheVariants as route_fault
-use Rattle.hv_meaning.specs.Meaning.{info_of, found_in, tables_of, or_none, change_effect, changed_in, unless_limited, meant, meaning_over, meaning_in, meaning_of}
+use Rattle.hv_meaning.specs.Meaning.{info_of, found_in, tables_of, or_none, stored_row, change_effect, changed_in, twice_or, merged_in, unless_limited, meant, meaning_over, meaning_in, meaning_of}
+use Rattle.hv_meaning.specs.Merging.{twice_found, merge_effect}
 use Rattle.hv_meaning.specs.Laws.{MeansSomething, AreOf, IsRowOf, FitsTable}
 use Rattle.hv_stands.specs.Sound.{HasAllValues}
 use Rattle.hv_stands.proofs.Soundness.{all-mapped}
@@ -76,6 +78,7 @@ built-means tables tree built = forms-mean tree tables built
 abbrev pub ComesOfRows : Option Meaning → Type 0
 ComesOfRows (Some (Listing names rows)) = Unit {0}
 ComesOfRows (Some (Change info effect)) = Unit {0}
+ComesOfRows (Some (Twice region row)) = Unit {0}
 ComesOfRows (Some RowLimit) = Unit {0}
 ComesOfRows (Some PartitionLimit) = Unit {0}
 ComesOfRows _ = ⊥
@@ -93,13 +96,27 @@ changed-alike (Some info) one other rows others change =
     let effect = change_effect info.shape change (or_none one) rows in
     inr (limited info effect (touched info effect))
 
+merge-comes : (info : TableInfo) (effect : Effect) (found : Option Found) → ComesOfRows (Some (twice_or info found effect))
+merge-comes info effect None = limited info effect (touched info effect)
+merge-comes info effect (Some found) = tt
+
+merged-alike : (info : Option TableInfo) (one other : Option (List Found)) (rows others : Tables) (merge : TypedMerge)
+    → (merged_in info one rows merge ≡ merged_in info other others merge) ⊎ ComesOfRows (merged_in info one rows merge)
+merged-alike None one other rows others merge = inl refl
+merged-alike (Some info) one other rows others merge =
+    let sources = source_frames merge.source rows in
+    inr (merge-comes info (merge_effect (stored_row (columns_of info.shape)) merge sources (or_none one)) (twice_found merge sources (or_none one)))
+
 alike : (infos : List TableInfo) (found others : List (List Found)) (r : Result Logic Refusal)
     → (meant infos found r ≡ meant infos others r) ⊎ ComesOfRows (meant infos found r)
 alike infos found others (Ok (logic.Query query)) = inr tt
 alike infos found others (Ok (logic.Change change)) =
     changed-alike (slice_get infos change.table) (slice_get found change.table) (slice_get others change.table) (tables_of found) (tables_of others) change
+alike infos found others (Ok (logic.Merge merge)) =
+    merged-alike (slice_get infos merge.table) (slice_get found merge.table) (slice_get others merge.table) (tables_of found) (tables_of others) merge
 alike infos found others (Ok (logic.Make shape)) = inl refl
 alike infos found others (Ok logic.Nothing) = inl refl
+alike infos found others (Ok (logic.Describe columns)) = inl refl
 alike infos found others (Err why) = inl refl
 
 pub same-or-rows : (tree : Stmt) (tables others : List Seen) → map info_of tables ≡ map info_of others

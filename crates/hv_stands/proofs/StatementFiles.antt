@@ -12,7 +12,7 @@ use Rattle.hv_logic.specs.declared.catalog.Shape.{Shape}
 use Rattle.hv_logic.specs.declared.catalog.TableInfo.{TableInfo}
 use Rattle.hv_logic.specs.declared.effect.Effect.{Effect}
 use Rattle.hv_logic.specs.declared.meaning.Meaning.{Meaning}
-use Rattle.hv_logic.specs.declared.meaning.Meaning.TheVariants.{Refused, Listing, Change, Make, Plain, RowLimit, PartitionLimit}
+use Rattle.hv_logic.specs.declared.meaning.Meaning.TheVariants.{Refused, Listing, Change, Make, Plain, Twice, RowLimit, PartitionLimit}
 use Rattle.hv_history.specs.declared.entry.Entry.{Entry}
 use Rattle.hv_history.specs.declared.entry.Entry.TheVariants as entry
 use Rattle.hv_history.specs.declared.state.Written.{Written}
@@ -77,6 +77,7 @@ writes-none (Some (Listing names rows)) = refl
 writes-none (Some (Change info effect)) = refl
 writes-none (Some (Make shape)) = refl
 writes-none (Some Plain) = refl
+writes-none (Some (Twice region row)) = refl
 writes-none (Some RowLimit) = refl
 writes-none (Some PartitionLimit) = refl
 

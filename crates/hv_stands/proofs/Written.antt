@@ -7,7 +7,7 @@ use Rattle.hv_logic.specs.declared.catalog.TableInfo.{TableInfo}
 use Rattle.hv_logic.specs.declared.effect.Effect.{Effect}
 use Rattle.hv_logic.specs.declared.effect.Found.{Found}
 use Rattle.hv_logic.specs.declared.meaning.Meaning.{Meaning}
-use Rattle.hv_logic.specs.declared.meaning.Meaning.TheVariants.{Refused, Listing, Change, Make, Plain, RowLimit, PartitionLimit}
+use Rattle.hv_logic.specs.declared.meaning.Meaning.TheVariants.{Refused, Listing, Change, Make, Plain, Twice, RowLimit, PartitionLimit}
 use Rattle.hv_typing.specs.Columns.{columns_of}
 use Rattle.hv_route.specs.Back.{AreFlat, AreHeld}
 use Rattle.hv_route.specs.Routes.{files_of}
@@ -77,6 +77,7 @@ changes-among s tree sound = by (meaning_of (seen_tables s.tables) tree) refl
         }
     by (Some (Make shape)) is = tt
     by (Some Plain) is = tt
+    by (Some (Twice region row)) is = tt
     by (Some RowLimit) is = tt
     by (Some PartitionLimit) is = tt
 

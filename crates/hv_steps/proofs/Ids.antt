@@ -1,6 +1,7 @@
 -- A write id that is taken for a change, or the abort where there is no room for it.
 use Rattle.std.proofs.Common.{◌≡◌, ℕ, ◌+◌, ◌≤◌, ◌<◌, true, Option, Some, None, List, [], ◌∷◌, ◌++◌, length, take, refl, sym, ap, ◌∙◌, subst, arith}
 use Rattle.std.specs.Prelude.{IsSomeAnd, IsTrue}
+use Rattle.hv_base.specs.declared.ids.RowId.{RowId}
 use Rattle.hv_base.specs.declared.ids.TxnId.{TxnId}
 use Rattle.hv_base.specs.declared.ids.TableId.{TableId}
 use Rattle.hv_base.specs.declared.ids.WriteId.{WriteId}
@@ -10,7 +11,7 @@ use Rattle.hv_dirs.specs.Names.{write_end}
 use Rattle.hv_logic.specs.declared.catalog.TableInfo.{TableInfo}
 use Rattle.hv_logic.specs.declared.effect.Effect.{Effect}
 use Rattle.hv_logic.specs.declared.meaning.Meaning.{Meaning}
-use Rattle.hv_logic.specs.declared.meaning.Meaning.TheVariants.{Change}
+use Rattle.hv_logic.specs.declared.meaning.Meaning.TheVariants.{Change, Twice}
 use Rattle.hv_meaning.specs.Laws.{MeansSomething}
 use Rattle.hv_history.specs.declared.entry.Entry.{Entry}
 use Rattle.hv_history.specs.declared.entry.Entry.TheVariants as entry
@@ -105,6 +106,11 @@ comes-change told house asking way said m info effect was comes same = record {
   can = subst (CanEnd (book_in house)) same comes.can;
   truly = λ is. comes.truly is ∙ ap (λ (x : Meaning). Some x) same;
 }
+
+-- a partition's text that an abort keeps is short
+pub comes-short : {D : Type 0} (told : D → Option Store) (house : ToldHouse D) (way : Way) (said : Stmt) (m : Meaning) (partition : List ℕ) (row : RowId)
+    → ComesTo told house way said m → m ≡ Twice partition row → length partition ≤ 240
+comes-short told house way said m partition row comes same = subst (CanEnd (book_in house)) same comes.can
 
 -- ---- a write id
 

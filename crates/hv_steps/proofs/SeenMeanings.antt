@@ -96,6 +96,7 @@ module _ (is_told : Type 0) (book : List Entry) (place : ℕ) (tree : Stmt) (fit
   can-end (meanings.Listing names rows) e narrow = tt
   can-end (meanings.Make shape) e narrow = tt
   can-end (meanings.Refused why) e narrow = tt
+  can-end (meanings.Twice region row) e narrow = narrow
   can-end meanings.RowLimit e narrow = tt
   can-end meanings.PartitionLimit e narrow = tt
   can-end meanings.Plain e narrow = tt

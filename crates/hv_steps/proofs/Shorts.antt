@@ -6,6 +6,7 @@ use Rattle.std.proofs.lemmas.Bool.{or_parts}
 use Rattle.std.proofs.lemmas.Bool.Decides.{nat_tests}
 use Rattle.std.proofs.lemmas.List.{length-append}
 use Rattle.std.proofs.lemmas.List.Concat.{flat_map-cons}
+use Rattle.hv_base.specs.declared.ids.RowId.{RowId}
 use Rattle.hv_base.specs.declared.ids.Touch.{Touch}
 use Rattle.hv_logic.specs.declared.catalog.TableInfo.{TableInfo}
 use Rattle.hv_logic.specs.declared.effect.Effect.{Effect}
@@ -16,7 +17,7 @@ use Rattle.hv_house.specs.House.{IsSmall}
 use Rattle.hv_steps.specs.Ending.{aborting, committing}
 use Rattle.hv_history.specs.Spelling.{touch_spelling}
 use Rattle.hv_bytes.proofs.Lengths.{length-four, length-eight, length-text}
-use Rattle.hv_journal.proofs.Lengths.{length-touches}
+use Rattle.hv_journal.proofs.Lengths.{length-touches, length-row}
 
 pub short_idle : (txn : ℕ) → IsSmall (committing txn [])
 short_idle txn = grind (arith, length-append, length-eight, length-touches)
@@ -26,6 +27,9 @@ short_refused txn number = grind (arith, length-append, length-eight, length-fou
 
 pub short_limit : (txn : ℕ) → IsSmall (aborting txn cause.RowLimit)
 short_limit txn = grind (arith, length-append, length-eight)
+
+pub short_twice : (txn : ℕ) (partition : List ℕ) (row : RowId) → length partition ≤ 240 → IsSmall (aborting txn (cause.Twice partition row))
+short_twice txn partition row short = grind (arith, length-append, length-eight, length-text, length-row, short)
 
 pub short_many : (txn : ℕ) → IsSmall (aborting txn cause.PartitionLimit)
 short_many txn = grind (arith, length-append, length-eight)

@@ -11,7 +11,7 @@ use Rattle.hv_ast.specs.declared.statement.Stmt.{Stmt}
 use Rattle.hv_logic.specs.declared.catalog.TableInfo.{TableInfo}
 use Rattle.hv_logic.specs.declared.effect.Effect.{Effect}
 use Rattle.hv_logic.specs.declared.meaning.Meaning.{Meaning}
-use Rattle.hv_logic.specs.declared.meaning.Meaning.TheVariants.{Change}
+use Rattle.hv_logic.specs.declared.meaning.Meaning.TheVariants.{Change, Twice}
 use Rattle.hv_route.specs.Back.{AreHeld}
 use Rattle.hv_route.specs.Routes.{files_of}
 use Rattle.hv_route.specs.Touching.{touches_of, touched}
@@ -103,8 +103,10 @@ pub record CanChange (book : List Entry) (info : TableInfo) (effect : Effect) : 
   pub within : touched info effect ≡ Ok (touches_of info effect)
   pub fit : (write : ℕ) → 1 ≤ write → AllByRecursion CanPut (files_of info.shape write 0 effect)
 
+-- the partition's text of a MERGE that comes to Twice is short enough for the entry of its abort
 abbrev pub CanEnd : List Entry → Meaning → Type 0
 CanEnd book (Change info effect) = CanChange book info effect
+CanEnd book (Twice partition row) = length partition ≤ 240
 CanEnd book _ = Unit {0}
 
 -- the touches of a commit rise, and are of the table in which its transaction has a write id

@@ -14,7 +14,7 @@ use Rattle.hv_built.specs.Running.{Runs}
 use Rattle.hv_logic.specs.declared.catalog.TableInfo.{TableInfo}
 use Rattle.hv_logic.specs.declared.effect.Effect.{Effect}
 use Rattle.hv_logic.specs.declared.meaning.Meaning.{Meaning}
-use Rattle.hv_logic.specs.declared.meaning.Meaning.TheVariants.{Listing, Change, Make, Refused, RowLimit, PartitionLimit, Plain}
+use Rattle.hv_logic.specs.declared.meaning.Meaning.TheVariants.{Listing, Change, Make, Refused, Twice, RowLimit, PartitionLimit, Plain}
 use Rattle.hv_route.specs.Back.{AreHeld}
 use Rattle.hv_route.specs.Routes.{files_of}
 use Rattle.hv_route.specs.Touching.{touches_of}
@@ -202,6 +202,7 @@ PreparesTo txn meaning ready added = ⊥
 -- the causes for which a statement of this meaning is aborted before its end, without a write id and behind it
 abbrev pub EndsEarlyFor : Meaning → Cause → Type 0
 EndsEarlyFor (Refused why) (cause.Refused number) = number ≡ refusals.number why
+EndsEarlyFor (Twice partition row) (cause.Twice other id) = (other ≡ partition) × (id ≡ row)
 EndsEarlyFor RowLimit cause.RowLimit = Unit {0}
 EndsEarlyFor PartitionLimit cause.PartitionLimit = Unit {0}
 EndsEarlyFor (Change info effect) cause.Full = 0 < changes_in effect

@@ -8,7 +8,7 @@ use Rattle.hv_locks.specs.declared.table.Lock.{Lock}
 use Rattle.hv_ast.specs.declared.statement.Stmt.{Stmt}
 use Rattle.hv_logic.specs.Names.{names_in}
 use Rattle.hv_logic.specs.declared.meaning.Meaning.{Meaning}
-use Rattle.hv_logic.specs.declared.meaning.Meaning.TheVariants.{Change}
+use Rattle.hv_logic.specs.declared.meaning.Meaning.TheVariants.{Change, Twice}
 use Rattle.hv_logic.specs.declared.seen.Seen.{Seen}
 use Rattle.hv_typing.specs.Columns.{columns_of}
 use Rattle.hv_meaning.specs.Meaning.{info_of}
@@ -98,9 +98,10 @@ pub record SeesUpTo {D : Type 0} (told : D → Option Store) (faults : D → ℕ
 
 -- ---- what it means
 
--- a row file counts the columns of the table that is changed
+-- a row file counts the columns of the table that is changed; a partition's text is as long as a legal book's may be
 abbrev pub IsNarrow : Meaning → Type 0
 IsNarrow (Change info effect) = length (columns_of info.shape) ≤ 65535
+IsNarrow (Twice partition row) = length partition ≤ 240
 IsNarrow meaning = Unit {0}
 
 -- ---- where it can't be seen

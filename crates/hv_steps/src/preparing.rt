@@ -380,6 +380,9 @@ pub fn prepare<D: Shelf + Drop, W: Actor<D, ToldHouse<D>>>(
             let number = refusal.number();
             withdraw(alloc, actor, txn, Cause::Refused { number })
         }
+        Meaning::Twice(partition, row) => {
+            withdraw(alloc, actor, txn, Cause::Twice { partition, row })
+        }
         Meaning::RowLimit => withdraw(alloc, actor, txn, Cause::RowLimit),
         Meaning::PartitionLimit => withdraw(alloc, actor, txn, Cause::PartitionLimit),
         Meaning::Plain => made_ready(alloc, actor, txn, nothing(alloc), ok_line(alloc)),

@@ -56,7 +56,7 @@ fn reads_rows(tree: &Stmt) -> bool
 {
     match tree {
         Stmt::Insert(insert) => insert.overwrite || !are_values(&insert.rows),
-        Stmt::CreateTable(_) => false,
+        Stmt::CreateTable(_) | Stmt::Describe(_) | Stmt::Set(_) => false,
         _ => true,
     }
 }
@@ -192,6 +192,9 @@ fn seen<D: Shelf + Drop, W: Actor<D, ToldHouse<D>>>(
 /// The most columns of a table that a row file counts.
 const MOST_COLUMNS: usize = 65_535;
 
+/// The bytes of the longest partition's text that a legal book has.
+const LONGEST_PARTITION: usize = 240;
+
 /// Whether a row file counts the columns of the table that is changed. No legal book has a table of more columns
 /// than 64.
 fn is_narrow(touching: &Touching) -> bool
@@ -203,6 +206,7 @@ fn is_narrow(touching: &Touching) -> bool
             let parts = info.shape.parts.len();
             columns <= MOST_COLUMNS && parts <= MOST_COLUMNS - columns
         }
+        Meaning::Twice(partition, _) => partition.len() <= LONGEST_PARTITION,
         _ => true,
     }
 }

@@ -23,7 +23,11 @@ use Rattle.hv_typing.specs.declared.logic.Logic.{Logic}
 use Rattle.hv_typing.specs.declared.logic.Logic.TheVariants as logic
 use Rattle.hv_typing.specs.Creates.{created}
 use Rattle.hv_typing.specs.Changes.{change_of}
+use Rattle.hv_typing.specs.Merges.{merged}
+use Rattle.hv_ast.specs.declared.change.Merge.{Merge}
 use Rattle.hv_typing.specs.Subqueries.{selected}
+use Rattle.hv_typing.specs.Descriptions.{described}
+use Rattle.hv_typing.specs.Settings.{set_analysed}
 
 -- ---- a query without windows, in all its selects and in those of its subqueries
 
@@ -76,8 +80,11 @@ is_form (stmt.Query query) = is_windowless query
 is_form (stmt.Insert insert) = are_windowless insert.rows
 is_form (stmt.Update update) = true
 is_form (stmt.Delete delete) = true
+is_form (stmt.Merge merge) = is_windowless_source merge.source
 is_form (stmt.Truncate truncate) = true
 is_form (stmt.CreateTable create) = true
+is_form (stmt.Describe table) = true
+is_form (stmt.Set setting) = true
 is_form _ = false
 
 -- ----
@@ -88,13 +95,19 @@ query_analysed tables query = and_then (selected tables query) (λ typed. Ok (lo
 abbrev pub change_analysed : List TableInfo → List ℕ → Stmt → Result Logic Refusal
 change_analysed tables name tree = and_then (change_of tables name tree) (λ change. Ok (logic.Change change))
 
+abbrev pub merge_analysed : List TableInfo → Merge → Result Logic Refusal
+merge_analysed tables merge = and_then (merged tables merge) (λ typed. Ok (logic.Merge typed))
+
 unfoldable pub form_analysed : List TableInfo → Stmt → Result Logic Refusal
 form_analysed tables (stmt.Query query) = query_analysed tables query
 form_analysed tables (stmt.Insert insert) = change_analysed tables insert.table (stmt.Insert insert)
 form_analysed tables (stmt.Update update) = change_analysed tables update.table (stmt.Update update)
 form_analysed tables (stmt.Delete delete) = change_analysed tables delete.table (stmt.Delete delete)
+form_analysed tables (stmt.Merge merge) = merge_analysed tables merge
 form_analysed tables (stmt.Truncate truncate) = change_analysed tables truncate.table (stmt.Truncate truncate)
 form_analysed tables (stmt.CreateTable create) = created tables create
+form_analysed tables (stmt.Describe table) = described tables table
+form_analysed tables (stmt.Set setting) = set_analysed setting
 form_analysed tables _ = Err refusal.Syntax
 
 unfoldable pub analysed : List TableInfo → Stmt → Result Logic Refusal

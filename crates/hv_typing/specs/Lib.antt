@@ -19,6 +19,9 @@ pub mod Updates
 pub mod Creates
 pub mod Subqueries
 pub mod Changes
+pub mod Merges
+pub mod Descriptions
+pub mod Settings
 pub mod Analysis
 pub mod Joins
 pub mod Grouped

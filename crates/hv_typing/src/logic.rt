@@ -1,6 +1,8 @@
 use crate::change::TypedChange;
+use crate::merge::TypedMerge;
 use crate::tree::TypedQuery;
-use hv_logic::Shape;
+use hv_base::List;
+use hv_logic::{Column, Shape};
 
 /// A statement whose names are resolved and whose expressions are typed. A table is its place among the
 /// live ones.
@@ -9,8 +11,11 @@ pub enum Logic {
     Query(TypedQuery),
     /// INSERT, UPDATE, DELETE and TRUNCATE.
     Change(TypedChange),
+    Merge(TypedMerge),
     /// A new table of this shape.
     Make(Shape),
-    /// CREATE TABLE IF NOT EXISTS where there is a table of that name.
+    /// CREATE TABLE IF NOT EXISTS where there is a table of that name, and SET.
     Nothing,
+    /// DESCRIBE: the table's columns, those of its partitions last.
+    Describe(List<Column>),
 }

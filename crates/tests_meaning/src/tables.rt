@@ -114,6 +114,7 @@ impl Tables {
         match meaning {
             Meaning::Refused(why) => show::refusal(alloc, why, out),
             Meaning::Plain => Ok(out.extend_from_slice(b"nothing")?),
+            Meaning::Twice(..) => Ok(out.extend_from_slice(b"twice")?),
             Meaning::RowLimit => Ok(out.extend_from_slice(b"row limit")?),
             Meaning::PartitionLimit => Ok(out.extend_from_slice(b"partition limit")?),
             Meaning::Listing(names, rows) => {

@@ -69,6 +69,12 @@ pub(crate) fn shape(alloc: Global, shape: &Shape, out: &mut Vec<u8>) -> Result<(
     Ok(out.extend_from_slice(text.as_bytes())?)
 }
 
+/// The columns of a table that is described.
+pub(crate) fn described(listed: &[Column], out: &mut Vec<u8>) -> Result<(), NoMemory> {
+    out.extend_from_slice(b"describes ")?;
+    columns(listed, out)
+}
+
 /// The names and types of output columns.
 pub(crate) fn outputs(columns: &List<OutputColumn>, out: &mut Vec<u8>) -> Result<(), NoMemory> {
     for (i, column) in columns.as_slice().iter().enumerate() {

@@ -6,7 +6,10 @@ use hv_base::{Boxed, List, NoMemory, TableId};
 use hv_eval::eval;
 use hv_expr::TypedExpr;
 use hv_logic::{Shape, TableInfo};
-use hv_typing::{Deletes, Logic, Origin, TypedChange, TypedFrom, TypedQuery, TypedSource};
+use hv_typing::{
+    Deletes, Logic, MatchedAction, Origin, TypedChange, TypedClauses, TypedFrom, TypedQuery,
+    TypedSource,
+};
 use hv_value::{Row, Value};
 use std::alloc::Global;
 
@@ -62,6 +65,31 @@ fn deleted(deletes: &Deletes) -> &'static str {
         Deletes::Matching(None) => "all, ",
         Deletes::Matching(Some(_)) => "where, ",
         Deletes::Received => "partitions, ",
+    }
+}
+
+fn matched(alloc: Global, action: &MatchedAction, out: &mut Vec<u8>) -> Result<(), NoMemory> {
+    match action {
+        MatchedAction::Delete => Ok(out.extend_from_slice(b" delete")?),
+        MatchedAction::Update(exprs) => {
+            out.extend_from_slice(b" update:")?;
+            values(alloc, exprs.as_slice(), out)
+        }
+    }
+}
+
+/// The clauses of a MERGE.
+fn merged(alloc: Global, clauses: &TypedClauses, out: &mut Vec<u8>) -> Result<(), NoMemory> {
+    out.extend_from_slice(b"merged")?;
+    for clause in clauses.matched.as_slice() {
+        matched(alloc, &clause.action, out)?;
+    }
+    match &clauses.newcomers {
+        None => Ok(()),
+        Some(newcomers) => {
+            out.extend_from_slice(b" insert:")?;
+            values(alloc, newcomers.values.as_slice(), out)
+        }
     }
 }
 
@@ -173,11 +201,13 @@ impl Tables {
     ) -> Result<(), NoMemory> {
         match logic.into_inner() {
             Logic::Nothing => Ok(out.extend_from_slice(b"nothing")?),
+            Logic::Describe(columns) => show::described(columns.as_slice(), out),
             Logic::Make(shape) => {
                 show::shape(alloc, &shape, out)?;
                 self.make(alloc, shape)
             }
             Logic::Change(change) => self.change(alloc, &change, out),
+            Logic::Merge(merge) => merged(alloc, &merge.clauses, out),
             Logic::Query(query) => self.query(alloc, &query, out),
         }
     }

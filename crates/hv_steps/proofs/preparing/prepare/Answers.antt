@@ -7,11 +7,11 @@ use Rattle.hv_logic.specs.declared.meaning.Meaning.TheVariants as meaning
 use Rattle.hv_effect.specs.Touches.{touches_in}
 use Rattle.hv_acts.specs.Told.{trail_in}
 use Rattle.hv_steps.specs.declared.ready.End.TheVariants as end
-use Rattle.hv_steps.proofs.Shorts.{short_refused, short_limit, short_many}
+use Rattle.hv_steps.proofs.Shorts.{short_refused, short_limit, short_many, short_twice}
 use Rattle.hv_steps.specs.Going.{faults_in, Goes}
 use Rattle.hv_steps.specs.Phases.{Prepares}
 use Rattle.hv_steps.proofs.Joining.{on-way-opened}
-use Rattle.hv_steps.proofs.Ids.{comes-means, comes-change}
+use Rattle.hv_steps.proofs.Ids.{comes-means, comes-change, comes-short}
 use Rattle.hv_steps.proofs.Parts.{idle-prepares, idle-concludes, meant-prepares, ends-can, made-prepares, made-can, idle-can, make-can}
 use Rattle.hv_steps.proofs.preparing.prepare.Goals as goal
 
@@ -112,6 +112,38 @@ returns-in-Refused-clause-can g c =
     let own' = g.W.Actor.own c.withdraw.new.actor in
     let low = faults_in g.D.Shelf.faults a in
     ends-can g.D.Shelf.told g.D.Shelf.faults g.W.Actor.between g.met.W.Actor.rows g.W.Actor.meanwhile c.args.way.txn.0 low own own' a b c.args.way (λ (why : Cause). why ≡ cause.Refused c.number-number.result) c.withdraw.result (c.withdraw.ensures.goes low (omega arith) tt)
+
+pub withdraw-requires-in-Twice-clause-small : goal.withdraw-requires-in-Twice-clause-small
+withdraw-requires-in-Twice-clause-small g c =
+    short_twice c.args.way.txn.0 c.in-Twice.partition c.in-Twice.row
+    (comes-short g.D.Shelf.told (g.W.Actor.house c.args.actor.now) c.args.way c.requires.was.1 c.args.meaning c.in-Twice.partition c.in-Twice.row c.requires.was.3
+    (sym c.meaning.view_is ∙ c.in-Twice.is))
+
+pub withdraw-requires-in-Twice-clause-was : goal.withdraw-requires-in-Twice-clause-was
+withdraw-requires-in-Twice-clause-was g c =
+    on-way-opened (trail_in (g.W.Actor.house c.args.actor.now)) c.requires.was.0 c.args.way c.requires.was.1 c.requires.was.2
+
+pub withdraw-requires-in-Twice-clause-due : goal.withdraw-requires-in-Twice-clause-due
+withdraw-requires-in-Twice-clause-due g c = λ is.
+    comes-means g.D.Shelf.told (g.W.Actor.house c.args.actor.now) c.requires.was.0 c.args.way c.requires.was.1 c.args.meaning (meaning.Twice c.in-Twice.partition c.in-Twice.row) c.requires.was.2 c.requires.was.3 (sym c.meaning.view_is ∙ c.in-Twice.is) is
+
+pub returns-in-Twice-clause-goes : goal.returns-in-Twice-clause-goes
+returns-in-Twice-clause-goes g c =
+    let a = g.W.Actor.house c.args.actor.now in
+    let b = g.W.Actor.house c.withdraw-in-Twice.new.actor in
+    let own = g.W.Actor.own c.args.actor.now in
+    let own' = g.W.Actor.own c.withdraw-in-Twice.new.actor in
+    let low = faults_in g.D.Shelf.faults a in
+    meant-prepares g.D.Shelf.told g.D.Shelf.faults g.W.Actor.between g.met.W.Actor.rows g.W.Actor.meanwhile c.args.way.txn.0 low own own' a b c.args.meaning (meaning.Twice c.in-Twice.partition c.in-Twice.row) (cause.Twice c.in-Twice.partition c.in-Twice.row) c.withdraw-in-Twice.result (sym c.meaning.view_is ∙ c.in-Twice.is) (refl, refl) (c.withdraw-in-Twice.ensures.goes low (omega arith) tt)
+
+pub returns-in-Twice-clause-can : goal.returns-in-Twice-clause-can
+returns-in-Twice-clause-can g c =
+    let a = g.W.Actor.house c.args.actor.now in
+    let b = g.W.Actor.house c.withdraw-in-Twice.new.actor in
+    let own = g.W.Actor.own c.args.actor.now in
+    let own' = g.W.Actor.own c.withdraw-in-Twice.new.actor in
+    let low = faults_in g.D.Shelf.faults a in
+    ends-can g.D.Shelf.told g.D.Shelf.faults g.W.Actor.between g.met.W.Actor.rows g.W.Actor.meanwhile c.args.way.txn.0 low own own' a b c.args.way (λ (why : Cause). why ≡ cause.Twice c.in-Twice.partition c.in-Twice.row) c.withdraw-in-Twice.result (c.withdraw-in-Twice.ensures.goes low (omega arith) tt)
 
 pub withdraw-requires-in-RowLimit-clause-small : goal.withdraw-requires-in-RowLimit-clause-small
 withdraw-requires-in-RowLimit-clause-small g c =
