@@ -3,10 +3,12 @@ pub mod Below
 pub mod Depth
 pub mod Found
 pub mod Joins
+pub mod Pushes
 pub mod Reserved
 pub mod Room
 pub mod Rows
 pub mod Spelled
 pub mod Told
 pub mod Turns
+pub mod UpTo
 pub mod Wholes

@@ -1,3 +1,5 @@
 pub mod Exact
+pub mod Handed
 pub mod Nests
 pub mod Reads
+pub mod UpTo

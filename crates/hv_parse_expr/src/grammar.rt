@@ -4,12 +4,14 @@
 ghost use Rattle.hv_grammar.specs.Reading as reading;
 ghost use Rattle.hv_parse_expr.specs.Nests.{Nests};
 ghost use Rattle.hv_parse_expr.specs.Reads.{Reads};
+ghost use Rattle.hv_parse_expr.specs.UpTo.{up_to};
 
 use crate::fault::ReadFault;
 use crate::nesting::MOST_LEVELS;
 use crate::tokens::Tokens;
 use hv_ast::Expr;
-use hv_base::List;
+use hv_base::{Boxed, List};
+use hv_grammar::Kind;
 use std::alloc::Global;
 
 /// The rules that hold expressions, over a function that reads what stands between brackets.
@@ -30,6 +32,17 @@ impl<F: Fn(Global, &mut Tokens<'_>, usize) -> Result<Expr, ReadFault>> Grammar<F
         ensures { Reads (reading.expr self.now.depth tokens.old) result tokens.new }
     {
         (self.expr)(self.alloc, tokens, self.depth)
+    }
+
+    /// An expression between brackets in a box, up to a token of this kind, which is passed.
+    #[tactic(auto, unfolding(crate::specs::UpTo::up_to))]
+    pub fn expr_up_to(&self, tokens: &mut Tokens<'_>, kind: Kind) -> Result<Boxed<Expr>, ReadFault>
+        requires { Nests self.now.depth (F.pre self.now.expr) (F.post self.now.expr) }
+        ensures { Reads (up_to kind (reading.expr self.now.depth) tokens.old) result tokens.new }
+    {
+        let value = Boxed::new(self.alloc, self.expr(tokens)?)?;
+        tokens.expect(kind)?;
+        Ok(value)
     }
 }
 
@@ -53,6 +66,22 @@ pub fn any_expr(alloc: Global, tokens: &mut Tokens<'_>) -> Result<Expr, ReadFaul
     ensures { Reads (reading.any_expr tokens.old) result tokens.new }
 {
     expr(alloc, tokens, MOST_LEVELS + 1)
+}
+
+/// An expression in a box, however deep a text may nest, up to a token of this kind, which is passed.
+pub fn any_expr_up_to(
+    alloc: Global,
+    tokens: &mut Tokens<'_>,
+    kind: Kind,
+) -> Result<Boxed<Expr>, ReadFault>
+    ensures { Reads (up_to kind reading.any_expr tokens.old) result tokens.new }
+{
+    Grammar {
+        alloc,
+        depth: MOST_LEVELS + 1,
+        expr,
+    }
+    .expr_up_to(tokens, kind)
 }
 
 /// `expr {, expr}`

@@ -7,7 +7,8 @@ ghost use Rattle.hv_parse_expr.specs.Reads.{Reads};
 
 use crate::fault::ReadFault;
 use crate::grammar::Grammar;
-use crate::operators::{additive, comparison, discard, multiplicative, sign, unary};
+use crate::operators::{additive, comparison, multiplicative, sign, unary};
+use crate::results::pushed;
 use crate::tokens::Tokens;
 use hv_ast::{Binary, Expr, Operation, Unary};
 use hv_base::{Boxed, List};
@@ -16,15 +17,14 @@ use std::alloc::Global;
 
 impl<F: Fn(Global, &mut Tokens<'_>, usize) -> Result<Expr, ReadFault>> Grammar<F> {
     /// Behind `[`: `expr ]`
-    #[tactic(auto, unfolding(hv_grammar::specs::Reading::element))]
+    #[tactic(auto, using(crate::proofs::UpTo::element_is))]
     fn element(&self, tokens: &mut Tokens<'_>, array: Expr) -> Result<Expr, ReadFault>
         requires { Nests self.now.depth (F.pre self.now.expr) (F.post self.now.expr) }
         ensures { Reads (reading.element (reading.expr self.now.depth) array tokens.old)
             result tokens.new }
     {
         let array = Boxed::new(self.alloc, array)?;
-        let index = Boxed::new(self.alloc, self.expr(tokens)?)?;
-        tokens.expect(Kind::CloseIndex)?;
+        let index = self.expr_up_to(tokens, Kind::CloseIndex)?;
         Ok(Expr::Binary(Binary::Element, array, index))
     }
 
@@ -154,9 +154,22 @@ impl<F: Fn(Global, &mut Tokens<'_>, usize) -> Result<Expr, ReadFault>> Grammar<F
         Ok(Expr::Chain(first, self.summands(tokens)?))
     }
 
+    /// `sum`, in a box, so that a caller that leaves early drops a box and not each form of an expression.
+    fn boxed_sum(&self, tokens: &mut Tokens<'_>) -> Result<Boxed<Expr>, ReadFault>
+        requires { Nests self.now.depth (F.pre self.now.expr) (F.post self.now.expr) }
+        ensures { Reads (reading.sum (reading.expr self.now.depth) tokens.old) result tokens.new }
+    {
+        Ok(Boxed::new(self.alloc, self.sum(tokens)?)?)
+    }
+
     /// Behind `[NOT] LIKE`: `sum`
     #[tactic(auto, unfolding(hv_grammar::specs::Reading::like))]
-    fn like(&self, tokens: &mut Tokens<'_>, value: Expr, negated: bool) -> Result<Expr, ReadFault>
+    fn like(
+        &self,
+        tokens: &mut Tokens<'_>,
+        value: Boxed<Expr>,
+        negated: bool,
+    ) -> Result<Expr, ReadFault>
         requires { Nests self.now.depth (F.pre self.now.expr) (F.post self.now.expr) }
         ensures { Reads (reading.like (reading.expr self.now.depth) value negated tokens.old)
             result tokens.new }
@@ -166,8 +179,7 @@ impl<F: Fn(Global, &mut Tokens<'_>, usize) -> Result<Expr, ReadFault>> Grammar<F
         } else {
             Binary::Like
         };
-        let value = Boxed::new(self.alloc, value)?;
-        let pattern = Boxed::new(self.alloc, self.sum(tokens)?)?;
+        let pattern = self.boxed_sum(tokens)?;
         Ok(Expr::Binary(operator, value, pattern))
     }
 
@@ -176,17 +188,16 @@ impl<F: Fn(Global, &mut Tokens<'_>, usize) -> Result<Expr, ReadFault>> Grammar<F
     fn between(
         &self,
         tokens: &mut Tokens<'_>,
-        value: Expr,
+        value: Boxed<Expr>,
         negated: bool,
     ) -> Result<Expr, ReadFault>
         requires { Nests self.now.depth (F.pre self.now.expr) (F.post self.now.expr) }
         ensures { Reads (reading.between (reading.expr self.now.depth) value negated tokens.old)
             result tokens.new }
     {
-        let value = Boxed::new(self.alloc, value)?;
-        let low = Boxed::new(self.alloc, self.sum(tokens)?)?;
+        let low = self.boxed_sum(tokens)?;
         tokens.expect(Kind::And)?;
-        let high = Boxed::new(self.alloc, self.sum(tokens)?)?;
+        let high = self.boxed_sum(tokens)?;
         Ok(Expr::Between {
             value,
             negated,
@@ -197,12 +208,16 @@ impl<F: Fn(Global, &mut Tokens<'_>, usize) -> Result<Expr, ReadFault>> Grammar<F
 
     /// Behind `[NOT] IN`: `( expr {, expr} )`
     #[tactic(auto, unfolding(hv_grammar::specs::Reading::among))]
-    fn among(&self, tokens: &mut Tokens<'_>, value: Expr, negated: bool) -> Result<Expr, ReadFault>
+    fn among(
+        &self,
+        tokens: &mut Tokens<'_>,
+        value: Boxed<Expr>,
+        negated: bool,
+    ) -> Result<Expr, ReadFault>
         requires { Nests self.now.depth (F.pre self.now.expr) (F.post self.now.expr) }
         ensures { Reads (reading.among (reading.expr self.now.depth) value negated tokens.old)
             result tokens.new }
     {
-        let value = Boxed::new(self.alloc, value)?;
         tokens.expect(Kind::Open)?;
         let among = self.list(tokens)?;
         tokens.expect(Kind::Close)?;
@@ -225,6 +240,7 @@ impl<F: Fn(Global, &mut Tokens<'_>, usize) -> Result<Expr, ReadFault>> Grammar<F
         ensures { Reads (reading.matched (reading.expr self.now.depth) value negated tokens.old)
             result tokens.new }
     {
+        let value = Boxed::new(self.alloc, value)?;
         match tokens.peek() {
             Kind::Like => {
                 tokens.pass();
@@ -238,10 +254,7 @@ impl<F: Fn(Global, &mut Tokens<'_>, usize) -> Result<Expr, ReadFault>> Grammar<F
                 tokens.pass();
                 self.among(tokens, value, negated)
             }
-            _ => {
-                discard(value);
-                Err(ReadFault::Syntax)
-            }
+            _ => Err(ReadFault::Syntax),
         }
     }
 
@@ -258,7 +271,7 @@ impl<F: Fn(Global, &mut Tokens<'_>, usize) -> Result<Expr, ReadFault>> Grammar<F
             result tokens.new }
     {
         let value = Boxed::new(self.alloc, value)?;
-        let right = Boxed::new(self.alloc, self.sum(tokens)?)?;
+        let right = self.boxed_sum(tokens)?;
         Ok(Expr::Binary(operator, value, right))
     }
 
@@ -324,7 +337,7 @@ impl<F: Fn(Global, &mut Tokens<'_>, usize) -> Result<Expr, ReadFault>> Grammar<F
             if !tokens.eat(Kind::And) {
                 break;
             }
-            found.push(self.negation(tokens)?)?;
+            found = pushed(found, self.negation(tokens))?;
         }
         Ok(List::from_vec(found))
     }
@@ -357,7 +370,7 @@ impl<F: Fn(Global, &mut Tokens<'_>, usize) -> Result<Expr, ReadFault>> Grammar<F
             if !tokens.eat(Kind::Or) {
                 break;
             }
-            found.push(self.conjunction(tokens)?)?;
+            found = pushed(found, self.conjunction(tokens))?;
         }
         Ok(List::from_vec(found))
     }

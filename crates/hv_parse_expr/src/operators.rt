@@ -77,9 +77,13 @@ pub fn binds(kind: Kind) -> u8
     }
 }
 
-/// Lets go of an expression, in a function without other paths: where it is dropped among other paths,
-/// each of its forms is gone through there.
-pub fn discard(_expr: Expr) {}
+/// Lets go of a value, in a function without other paths.
+fn let_go<T: Drop>(_value: T) {}
+
+/// Lets go of an expression. Where it is dropped by its own type, each of its forms is gone through there.
+pub fn discard(expr: Expr) {
+    let_go(expr);
+}
 
 pub fn unary(alloc: Global, operator: Unary, operand: Expr) -> Result<Expr, NoMemory>
     ensures { IfOk result (λ tree. tree ≡ Expr.Unary operator operand) }

@@ -7,6 +7,7 @@ ghost use Rattle.hv_parse_expr.specs.Reads.{Reads};
 use crate::fault::ReadFault;
 use crate::grammar::Grammar;
 use crate::names::{column, date, is_name};
+use crate::results::pushed;
 use crate::tokens::Tokens;
 use crate::types::type_name;
 use hv_ast::{Expr, Literal, When};
@@ -21,26 +22,24 @@ impl<F: Fn(Global, &mut Tokens<'_>, usize) -> Result<Expr, ReadFault>> Grammar<F
         requires { Nests self.now.depth (F.pre self.now.expr) (F.post self.now.expr) }
         ensures { Reads (reading.list (reading.expr self.now.depth) tokens.old) result tokens.new }
     {
-        let mut found = Vec::new(self.alloc);
-        found.push(self.expr(tokens)?)?;
+        let mut found = pushed(Vec::new(self.alloc), self.expr(tokens))?;
         for _turn in 0..tokens.left() {
             if !tokens.eat(Kind::Comma) {
                 break;
             }
-            found.push(self.expr(tokens)?)?;
+            found = pushed(found, self.expr(tokens))?;
         }
         Ok(List::from_vec(found))
     }
 
     /// Behind `(`: `expr )`
-    #[tactic(auto, unfolding(hv_grammar::specs::Reading::bracketed))]
+    #[tactic(auto, using(crate::proofs::UpTo::bracketed_is))]
     fn bracketed(&self, tokens: &mut Tokens<'_>) -> Result<Expr, ReadFault>
         requires { Nests self.now.depth (F.pre self.now.expr) (F.post self.now.expr) }
         ensures { Reads (reading.bracketed (reading.expr self.now.depth) tokens.old)
             result tokens.new }
     {
-        let inner = Boxed::new(self.alloc, self.expr(tokens)?)?;
-        tokens.expect(Kind::Close)?;
+        let inner = self.expr_up_to(tokens, Kind::Close)?;
         Ok(inner.into_inner())
     }
 
@@ -120,13 +119,12 @@ impl<F: Fn(Global, &mut Tokens<'_>, usize) -> Result<Expr, ReadFault>> Grammar<F
     }
 
     /// Behind WHEN: `expr THEN expr`
-    #[tactic(auto, unfolding(hv_grammar::specs::Reading::when))]
+    #[tactic(auto, using(crate::proofs::UpTo::when_is))]
     fn when(&self, tokens: &mut Tokens<'_>) -> Result<When, ReadFault>
         requires { Nests self.now.depth (F.pre self.now.expr) (F.post self.now.expr) }
         ensures { Reads (reading.when (reading.expr self.now.depth) tokens.old) result tokens.new }
     {
-        let condition = Boxed::new(self.alloc, self.expr(tokens)?)?;
-        tokens.expect(Kind::Then)?;
+        let condition = self.expr_up_to(tokens, Kind::Then)?;
         let value = self.expr(tokens)?;
         Ok(When {
             condition: condition.into_inner(),
@@ -140,19 +138,18 @@ impl<F: Fn(Global, &mut Tokens<'_>, usize) -> Result<Expr, ReadFault>> Grammar<F
         requires { Nests self.now.depth (F.pre self.now.expr) (F.post self.now.expr) }
         ensures { Reads (reading.whens (reading.expr self.now.depth) tokens.old) result tokens.new }
     {
-        let mut found = Vec::new(self.alloc);
-        found.push(self.when(tokens)?)?;
+        let mut found = pushed(Vec::new(self.alloc), self.when(tokens))?;
         for _turn in 0..tokens.left() {
             if !tokens.eat(Kind::When) {
                 break;
             }
-            found.push(self.when(tokens)?)?;
+            found = pushed(found, self.when(tokens))?;
         }
         Ok(List::from_vec(found))
     }
 
     /// Behind CASE: `[expr] WHEN`
-    #[tactic(auto, unfolding(hv_grammar::specs::Reading::operand))]
+    #[tactic(auto, using(crate::proofs::UpTo::operand_is))]
     fn operand(&self, tokens: &mut Tokens<'_>) -> Result<Option<Boxed<Expr>>, ReadFault>
         requires { Nests self.now.depth (F.pre self.now.expr) (F.post self.now.expr) }
         ensures { Reads (reading.operand (reading.expr self.now.depth) tokens.old)
@@ -161,13 +158,11 @@ impl<F: Fn(Global, &mut Tokens<'_>, usize) -> Result<Expr, ReadFault>> Grammar<F
         if tokens.eat(Kind::When) {
             return Ok(None);
         }
-        let value = Boxed::new(self.alloc, self.expr(tokens)?)?;
-        tokens.expect(Kind::When)?;
-        Ok(Some(value))
+        Ok(Some(self.expr_up_to(tokens, Kind::When)?))
     }
 
     /// `[ELSE expr] END`
-    #[tactic(auto, unfolding(hv_grammar::specs::Reading::otherwise))]
+    #[tactic(auto, using(crate::proofs::UpTo::otherwise_is))]
     fn otherwise(&self, tokens: &mut Tokens<'_>) -> Result<Option<Boxed<Expr>>, ReadFault>
         requires { Nests self.now.depth (F.pre self.now.expr) (F.post self.now.expr) }
         ensures { Reads (reading.otherwise (reading.expr self.now.depth) tokens.old)
@@ -177,9 +172,7 @@ impl<F: Fn(Global, &mut Tokens<'_>, usize) -> Result<Expr, ReadFault>> Grammar<F
             tokens.expect(Kind::End)?;
             return Ok(None);
         }
-        let value = Boxed::new(self.alloc, self.expr(tokens)?)?;
-        tokens.expect(Kind::End)?;
-        Ok(Some(value))
+        Ok(Some(self.expr_up_to(tokens, Kind::End)?))
     }
 
     /// Behind CASE: `[expr] WHEN expr THEN expr {WHEN expr THEN expr} [ELSE expr] END`
@@ -199,14 +192,13 @@ impl<F: Fn(Global, &mut Tokens<'_>, usize) -> Result<Expr, ReadFault>> Grammar<F
     }
 
     /// Behind CAST: `( expr AS type )`
-    #[tactic(auto, unfolding(hv_grammar::specs::Reading::cast))]
+    #[tactic(auto, using(crate::proofs::UpTo::cast_is))]
     fn cast(&self, tokens: &mut Tokens<'_>) -> Result<Expr, ReadFault>
         requires { Nests self.now.depth (F.pre self.now.expr) (F.post self.now.expr) }
         ensures { Reads (reading.cast (reading.expr self.now.depth) tokens.old) result tokens.new }
     {
         tokens.expect(Kind::Open)?;
-        let value = Boxed::new(self.alloc, self.expr(tokens)?)?;
-        tokens.expect(Kind::As)?;
+        let value = self.expr_up_to(tokens, Kind::As)?;
         let to = type_name(tokens)?;
         tokens.expect(Kind::Close)?;
         Ok(Expr::Cast(value, to))

@@ -11,7 +11,7 @@ use crate::names::optional_alias;
 use hv_ast::{Expr, Item, Key};
 use hv_base::{Boxed, List};
 use hv_grammar::Kind;
-use hv_parse_expr::{ReadFault, Tokens, any_expr, expr_list, name};
+use hv_parse_expr::{ReadFault, Tokens, any_expr, expr_list, name, pushed};
 use std::alloc::Global;
 
 /// `[word expr]`, where the word is of this kind, as WHERE, HAVING or ON. It is boxed, so that a caller
@@ -56,13 +56,12 @@ pub fn key(alloc: Global, tokens: &mut Tokens<'_>) -> Result<Key, ReadFault>
 pub fn keys(alloc: Global, tokens: &mut Tokens<'_>) -> Result<List<Key>, ReadFault>
     ensures { Reads (reading.keys any_expr tokens.old) result tokens.new }
 {
-    let mut found = Vec::new(alloc);
-    found.push(key(alloc, tokens)?)?;
+    let mut found = pushed(Vec::new(alloc), key(alloc, tokens))?;
     for _turn in 0..tokens.left() {
         if !tokens.eat(Kind::Comma) {
             break;
         }
-        found.push(key(alloc, tokens)?)?;
+        found = pushed(found, key(alloc, tokens))?;
     }
     Ok(List::from_vec(found))
 }
@@ -152,13 +151,12 @@ pub fn item(alloc: Global, tokens: &mut Tokens<'_>) -> Result<Item, ReadFault>
 pub fn items(alloc: Global, tokens: &mut Tokens<'_>) -> Result<List<Item>, ReadFault>
     ensures { Reads (reading.items any_expr tokens.old) result tokens.new }
 {
-    let mut found = Vec::new(alloc);
-    found.push(item(alloc, tokens)?)?;
+    let mut found = pushed(Vec::new(alloc), item(alloc, tokens))?;
     for _turn in 0..tokens.left() {
         if !tokens.eat(Kind::Comma) {
             break;
         }
-        found.push(item(alloc, tokens)?)?;
+        found = pushed(found, item(alloc, tokens))?;
     }
     Ok(List::from_vec(found))
 }

@@ -7,19 +7,17 @@ ghost use Rattle.hv_parse_expr.specs.Reads.{Reads};
 use hv_ast::{Explode, Expr, Lateral};
 use hv_base::{Boxed, List};
 use hv_grammar::Kind;
-use hv_parse_expr::{ReadFault, Tokens, any_expr, name};
+use hv_parse_expr::{ReadFault, Tokens, any_expr_up_to, name, pushed};
 use std::alloc::Global;
 
 /// `( expr )`, boxed, so that a caller that leaves early drops a box and not each form of an
 /// expression.
-#[tactic(auto, unfolding(hv_grammar::specs::QueryReading::exploded))]
+#[tactic(auto, unfolding(hv_grammar::specs::QueryReading::exploded, hv_parse_expr::specs::UpTo::up_to))]
 fn exploded(alloc: Global, tokens: &mut Tokens<'_>) -> Result<Boxed<Expr>, ReadFault>
     ensures { Reads (reading.exploded any_expr tokens.old) result tokens.new }
 {
     tokens.expect(Kind::Open)?;
-    let array = Boxed::new(alloc, any_expr(alloc, tokens)?)?;
-    tokens.expect(Kind::Close)?;
-    Ok(array)
+    any_expr_up_to(alloc, tokens, Kind::Close)
 }
 
 /// Behind EXPLODE: `( expr ) ident [AS ident]`
@@ -85,7 +83,7 @@ pub fn laterals(alloc: Global, tokens: &mut Tokens<'_>) -> Result<List<Lateral>,
         if !tokens.eat(Kind::Lateral) {
             break;
         }
-        found.push(lateral(alloc, tokens)?)?;
+        found = pushed(found, lateral(alloc, tokens))?;
     }
     Ok(List::from_vec(found))
 }

@@ -14,7 +14,7 @@ use crate::names::{alias, optional_alias, table_name};
 use hv_ast::{From, Join, JoinKind, Query, Select, Source, Union};
 use hv_base::{Boxed, List};
 use hv_grammar::Kind;
-use hv_parse_expr::{MOST_LEVELS, ReadFault, Tokens, any_expr};
+use hv_parse_expr::{MOST_LEVELS, ReadFault, Tokens, any_expr, pushed};
 use std::alloc::Global;
 
 /// Whether a join begins with such a token.
@@ -171,43 +171,34 @@ impl<F: Fn(Global, &mut Tokens<'_>, usize) -> Result<Query, ReadFault>> Queries<
     }
 
     /// A source that is joined to those before it.
-    #[tactic(auto, unfolding(hv_grammar::specs::QueryReading::join))]
+    #[tactic(auto, unfolding(hv_grammar::specs::QueryReading::join, hv_grammar::specs::Readers::expect, hv_grammar::specs::Readers::after))]
     fn join(&self, tokens: &mut Tokens<'_>) -> Result<Join, ReadFault>
         requires { Nests self.now.depth (F.pre self.now.query) (F.post self.now.query) }
         ensures { Reads (reading.join any_expr (reading.query any_expr self.now.depth) tokens.old)
             result tokens.new }
     {
-        match tokens.peek() {
-            Kind::Comma => {
-                tokens.pass();
-                self.cross_join(tokens)
-            }
+        let kind = tokens.peek();
+        tokens.pass();
+        match kind {
+            Kind::Comma => self.cross_join(tokens),
             Kind::Cross => {
-                tokens.pass();
-                tokens.expect(Kind::Join)?;
-                self.cross_join(tokens)
+                if tokens.eat(Kind::Join) {
+                    self.cross_join(tokens)
+                } else {
+                    Err(ReadFault::Syntax)
+                }
             }
-            Kind::Join => {
-                tokens.pass();
-                self.inner_join(tokens)
-            }
+            Kind::Join => self.inner_join(tokens),
             Kind::Inner => {
-                tokens.pass();
-                tokens.expect(Kind::Join)?;
-                self.inner_join(tokens)
+                if tokens.eat(Kind::Join) {
+                    self.inner_join(tokens)
+                } else {
+                    Err(ReadFault::Syntax)
+                }
             }
-            Kind::Left => {
-                tokens.pass();
-                self.left_join(tokens)
-            }
-            Kind::Right => {
-                tokens.pass();
-                self.outer_join(tokens, JoinKind::Right)
-            }
-            Kind::Full => {
-                tokens.pass();
-                self.outer_join(tokens, JoinKind::Full)
-            }
+            Kind::Left => self.left_join(tokens),
+            Kind::Right => self.outer_join(tokens, JoinKind::Right),
+            Kind::Full => self.outer_join(tokens, JoinKind::Full),
             _ => Err(ReadFault::Syntax),
         }
     }
@@ -224,7 +215,7 @@ impl<F: Fn(Global, &mut Tokens<'_>, usize) -> Result<Query, ReadFault>> Queries<
             if !begins_join(tokens.peek()) {
                 break;
             }
-            found.push(self.join(tokens)?)?;
+            found = pushed(found, self.join(tokens))?;
         }
         Ok(List::from_vec(found))
     }
@@ -309,7 +300,7 @@ impl<F: Fn(Global, &mut Tokens<'_>, usize) -> Result<Query, ReadFault>> Queries<
             if !tokens.eat(Kind::Union) {
                 break;
             }
-            found.push(self.union(tokens)?)?;
+            found = pushed(found, self.union(tokens))?;
         }
         Ok(List::from_vec(found))
     }
@@ -357,8 +348,9 @@ pub fn any_query(alloc: Global, tokens: &mut Tokens<'_>) -> Result<Query, ReadFa
     query(alloc, tokens, MOST_LEVELS + 1)
 }
 
-/// `name [[AS] ident] | ( query ) [AS] ident`, however deep a text may nest.
-pub fn any_source(alloc: Global, tokens: &mut Tokens<'_>) -> Result<Source, ReadFault>
+/// `name [[AS] ident] | ( query ) [AS] ident`, however deep a text may nest, in a box, so that a caller that leaves
+/// early drops a box and not each part.
+pub fn any_source(alloc: Global, tokens: &mut Tokens<'_>) -> Result<Boxed<Source>, ReadFault>
     ensures { Reads (reading.source any_expr reading.any_query tokens.old) result tokens.new }
 {
     Queries {
@@ -366,5 +358,5 @@ pub fn any_source(alloc: Global, tokens: &mut Tokens<'_>) -> Result<Source, Read
         depth: MOST_LEVELS + 1,
         query,
     }
-    .source(tokens)
+    .boxed_source(tokens)
 }

@@ -10,9 +10,9 @@ use hv_ast::{
     Assignment, Compact, Delete, Expr, Insert, Merge, MergeAction, MergeClause, PartitionItem,
     Rows, Stmt, Truncate, Update,
 };
-use hv_base::{Boxed, List, Text};
+use hv_base::{List, Text};
 use hv_grammar::Kind;
-use hv_parse_expr::{ReadFault, Tokens, any_expr, expr_list, name};
+use hv_parse_expr::{ReadFault, Tokens, any_expr, any_expr_up_to, expr_list, name, pushed};
 use hv_parse_query::{any_query, any_source, condition, optional_alias, table_name, unboxed};
 use std::alloc::Global;
 
@@ -34,13 +34,12 @@ fn partition_item(alloc: Global, tokens: &mut Tokens<'_>) -> Result<PartitionIte
 fn partition_items(alloc: Global, tokens: &mut Tokens<'_>) -> Result<List<PartitionItem>, ReadFault>
     ensures { Reads (reading.partition_items any_expr any_query tokens.old) result tokens.new }
 {
-    let mut found = Vec::new(alloc);
-    found.push(partition_item(alloc, tokens)?)?;
+    let mut found = pushed(Vec::new(alloc), partition_item(alloc, tokens))?;
     for _turn in 0..tokens.left() {
         if !tokens.eat(Kind::Comma) {
             break;
         }
-        found.push(partition_item(alloc, tokens)?)?;
+        found = pushed(found, partition_item(alloc, tokens))?;
     }
     Ok(List::from_vec(found))
 }
@@ -87,13 +86,12 @@ fn row(alloc: Global, tokens: &mut Tokens<'_>) -> Result<List<Expr>, ReadFault>
 fn row_list(alloc: Global, tokens: &mut Tokens<'_>) -> Result<List<List<Expr>>, ReadFault>
     ensures { Reads (reading.row_list any_expr any_query tokens.old) result tokens.new }
 {
-    let mut found = Vec::new(alloc);
-    found.push(row(alloc, tokens)?)?;
+    let mut found = pushed(Vec::new(alloc), row(alloc, tokens))?;
     for _turn in 0..tokens.left() {
         if !tokens.eat(Kind::Comma) {
             break;
         }
-        found.push(row(alloc, tokens)?)?;
+        found = pushed(found, row(alloc, tokens))?;
     }
     Ok(List::from_vec(found))
 }
@@ -159,13 +157,12 @@ fn assignment(alloc: Global, tokens: &mut Tokens<'_>) -> Result<Assignment, Read
 fn assignment_list(alloc: Global, tokens: &mut Tokens<'_>) -> Result<List<Assignment>, ReadFault>
     ensures { Reads (reading.assignment_list any_expr any_query tokens.old) result tokens.new }
 {
-    let mut found = Vec::new(alloc);
-    found.push(assignment(alloc, tokens)?)?;
+    let mut found = pushed(Vec::new(alloc), assignment(alloc, tokens))?;
     for _turn in 0..tokens.left() {
         if !tokens.eat(Kind::Comma) {
             break;
         }
-        found.push(assignment(alloc, tokens)?)?;
+        found = pushed(found, assignment(alloc, tokens))?;
     }
     Ok(List::from_vec(found))
 }
@@ -276,19 +273,18 @@ fn merge_clause(alloc: Global, tokens: &mut Tokens<'_>) -> Result<MergeClause, R
 fn merge_clauses(alloc: Global, tokens: &mut Tokens<'_>) -> Result<List<MergeClause>, ReadFault>
     ensures { Reads (reading.merge_clauses any_expr any_query tokens.old) result tokens.new }
 {
-    let mut found = Vec::new(alloc);
-    found.push(merge_clause(alloc, tokens)?)?;
+    let mut found = pushed(Vec::new(alloc), merge_clause(alloc, tokens))?;
     for _turn in 0..tokens.left() {
         if !tokens.eat(Kind::When) {
             break;
         }
-        found.push(merge_clause(alloc, tokens)?)?;
+        found = pushed(found, merge_clause(alloc, tokens))?;
     }
     Ok(List::from_vec(found))
 }
 
 /// Behind MERGE, `INTO name [[AS] ident] USING source ON expr WHEN ..`.
-#[tactic(auto, unfolding(hv_grammar::specs::StatementReading::merge))]
+#[tactic(auto, using(crate::proofs::Merged::merge_is))]
 pub fn merge(alloc: Global, tokens: &mut Tokens<'_>) -> Result<Stmt, ReadFault>
     ensures { Reads (reading.merge any_expr any_query tokens.old) result tokens.new }
 {
@@ -296,10 +292,9 @@ pub fn merge(alloc: Global, tokens: &mut Tokens<'_>) -> Result<Stmt, ReadFault>
     let table = table_name(alloc, tokens)?;
     let alias = optional_alias(alloc, tokens)?;
     tokens.expect(Kind::Using)?;
-    let source = Boxed::new(alloc, any_source(alloc, tokens)?)?;
+    let source = any_source(alloc, tokens)?;
     tokens.expect(Kind::On)?;
-    let on = Boxed::new(alloc, any_expr(alloc, tokens)?)?;
-    tokens.expect(Kind::When)?;
+    let on = any_expr_up_to(alloc, tokens, Kind::When)?;
     let clauses = merge_clauses(alloc, tokens)?;
     Ok(Stmt::Merge(Merge {
         table,

@@ -6,7 +6,7 @@ ghost use Rattle.hv_parse_expr.specs.Reads.{Reads};
 use hv_ast::{Clustering, ColumnDefinition, CreateTable, DropTable, Property, Stmt};
 use hv_base::{List, Text};
 use hv_grammar::Kind;
-use hv_parse_expr::{ReadFault, Tokens, name, type_name};
+use hv_parse_expr::{ReadFault, Tokens, name, pushed, type_name};
 use hv_parse_query::table_name;
 use std::alloc::Global;
 
@@ -15,13 +15,12 @@ use std::alloc::Global;
 fn names(alloc: Global, tokens: &mut Tokens<'_>) -> Result<List<Text>, ReadFault>
     ensures { Reads (reading.names tokens.old) result tokens.new }
 {
-    let mut found = Vec::new(alloc);
-    found.push(name(alloc, tokens)?)?;
+    let mut found = pushed(Vec::new(alloc), name(alloc, tokens))?;
     for _turn in 0..tokens.left() {
         if !tokens.eat(Kind::Comma) {
             break;
         }
-        found.push(name(alloc, tokens)?)?;
+        found = pushed(found, name(alloc, tokens))?;
     }
     Ok(List::from_vec(found))
 }
@@ -82,13 +81,12 @@ fn column(alloc: Global, tokens: &mut Tokens<'_>) -> Result<ColumnDefinition, Re
 fn column_list(alloc: Global, tokens: &mut Tokens<'_>) -> Result<List<ColumnDefinition>, ReadFault>
     ensures { Reads (reading.column_list tokens.old) result tokens.new }
 {
-    let mut found = Vec::new(alloc);
-    found.push(column(alloc, tokens)?)?;
+    let mut found = pushed(Vec::new(alloc), column(alloc, tokens))?;
     for _turn in 0..tokens.left() {
         if !tokens.eat(Kind::Comma) {
             break;
         }
-        found.push(column(alloc, tokens)?)?;
+        found = pushed(found, column(alloc, tokens))?;
     }
     Ok(List::from_vec(found))
 }
@@ -180,13 +178,12 @@ fn property(alloc: Global, tokens: &mut Tokens<'_>) -> Result<Property, ReadFaul
 fn property_list(alloc: Global, tokens: &mut Tokens<'_>) -> Result<List<Property>, ReadFault>
     ensures { Reads (reading.property_list tokens.old) result tokens.new }
 {
-    let mut found = Vec::new(alloc);
-    found.push(property(alloc, tokens)?)?;
+    let mut found = pushed(Vec::new(alloc), property(alloc, tokens))?;
     for _turn in 0..tokens.left() {
         if !tokens.eat(Kind::Comma) {
             break;
         }
-        found.push(property(alloc, tokens)?)?;
+        found = pushed(found, property(alloc, tokens))?;
     }
     Ok(List::from_vec(found))
 }

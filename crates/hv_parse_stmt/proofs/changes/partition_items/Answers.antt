@@ -1,24 +1,39 @@
 use Rattle.std.proofs.Common.{◌≡◌, Some, rules, arith, sym, ap, ◌∙◌}
 use Rattle.std.proofs.lemmas.Grind.{common_steps}
 use Rattle.hv_grammar.specs.declared.kind.Kind.TheVariants as k
+use Rattle.hv_grammar.specs.Readers.{behind, more, separated}
 use Rattle.hv_grammar.specs.Reading.{any_expr}
 use Rattle.hv_grammar.specs.QueryReading.{any_query}
 use Rattle.hv_grammar.specs.StatementReading.{partition_item, partition_items}
+use Rattle.hv_parse_expr.proofs.Pushes.{begun}
 use Rattle.hv_parse_expr.proofs.Turns.{goes_on, stops, runs_out}
 use Rattle.hv_parse_stmt.proofs.changes.partition_items.Goals.{else-loop-turn-test, then-loop-turn-test+then-not-eat}
 use Rattle.hv_parse_stmt.proofs.changes.partition_items.Goals as goal
 
-pub returns-in_err-partition_item-2 : goal.returns-in_err-partition_item-2
-returns-in_err-partition_item-2 c =
+pub returns-in_err-found : goal.returns-in_err-found
+unfolding partition_items separated
+returns-in_err-found c =
+    let nothing = c.in_err-found.ensures.refused (partition_item any_expr any_query c.args.tokens.now) c.partition_item.new.tokens c.partition_item.ensures in
+    first_of (search rules, grind (arith, common_steps))
+
+pub loop-turn-init : goal.loop-turn-init
+unfolding partition_items
+loop-turn-init c =
+    begun k.Comma (partition_item any_expr any_query) c.args.tokens.now c.partition_item.new.tokens _ _ _ c.new.ensures.items
+    (c.in_ok-found.ensures.more (partition_item any_expr any_query c.args.tokens.now) c.partition_item.new.tokens (behind k.Comma (partition_item any_expr any_query)) c.partition_item.ensures) c.left-turn-end.ensures
+
+pub returns-in_err-found-2 : goal.returns-in_err-found-2
+returns-in_err-found-2 c =
     let e = goes_on k.Comma (partition_item any_expr any_query) (partition_items any_expr any_query c.args.tokens.now) _ _ _ _ _ _
     c.loop-turn-test.true c.loop-turn.invariant c.eat.ensures.found c.if-not-eat.false c.eat.ensures.after in
+    let nothing = c.in_err-found-2.ensures.refused (partition_item any_expr any_query c.eat.new.self) c.partition_item-in-loop-turn.new.tokens c.partition_item-in-loop-turn.ensures in
     first_of (search rules, grind (arith, common_steps))
 
 pub loop-turn-preserved : goal.loop-turn-preserved
 loop-turn-preserved c =
     let e = goes_on k.Comma (partition_item any_expr any_query) (partition_items any_expr any_query c.args.tokens.now) _ _ _ _ _ _
     c.loop-turn-test.true c.loop-turn.invariant c.eat.ensures.found c.if-not-eat.false c.eat.ensures.after in
-    first_of (search rules, grind (arith, common_steps))
+    e ∙ c.in_ok-found-2.ensures.more (partition_item any_expr any_query c.eat.new.self) c.partition_item-in-loop-turn.new.tokens (more k.Comma (partition_item any_expr any_query) _) c.partition_item-in-loop-turn.ensures
 
 pub returns : goal.returns
 returns c =

@@ -1,16 +1,33 @@
 use Rattle.std.proofs.Common.{◌≡◌, Some, rules, arith, sym, ap, ◌∙◌}
 use Rattle.std.proofs.lemmas.Grind.{common_steps}
 use Rattle.hv_grammar.specs.declared.kind.Kind.TheVariants as k
+use Rattle.hv_grammar.specs.Readers.{behind, more, separated}
 use Rattle.hv_grammar.specs.Reading.{expr, when, whens}
+use Rattle.hv_parse_expr.proofs.Pushes.{begun}
 use Rattle.hv_parse_expr.proofs.Turns.{goes_on, stops, runs_out}
 use Rattle.hv_parse_expr.proofs.grammar.Grammar.whens.Goals.{else-loop-turn-test, then-loop-turn-test+then-not-eat}
 use Rattle.hv_parse_expr.proofs.grammar.Grammar.whens.Goals as goal
 
-pub returns-in_err-when-2 : goal.returns-in_err-when-2
-returns-in_err-when-2 g c =
+pub returns-in_err-found : goal.returns-in_err-found
+unfolding whens separated
+returns-in_err-found g c =
+    let item = when (expr c.args.self.now.depth) in
+    let nothing = c.in_err-found.ensures.refused (item c.args.tokens.now) c.when.new.tokens c.when.ensures in
+    first_of (search rules, grind (arith, common_steps))
+
+pub loop-turn-init : goal.loop-turn-init
+unfolding whens
+loop-turn-init g c =
+    let item = when (expr c.args.self.now.depth) in
+    begun k.When item c.args.tokens.now c.when.new.tokens _ _ _ c.new.ensures.items
+    (c.in_ok-found.ensures.more (item c.args.tokens.now) c.when.new.tokens (behind k.When item) c.when.ensures) c.left-turn-end.ensures
+
+pub returns-in_err-found-2 : goal.returns-in_err-found-2
+returns-in_err-found-2 g c =
     let item = when (expr c.args.self.now.depth) in
     let e = goes_on k.When item (whens (expr c.args.self.now.depth) c.args.tokens.now) _ _ _ _ _ _
     c.loop-turn-test.true c.loop-turn.invariant c.eat.ensures.found c.if-not-eat.false c.eat.ensures.after in
+    let nothing = c.in_err-found-2.ensures.refused (item c.eat.new.self) c.when-in-loop-turn.new.tokens c.when-in-loop-turn.ensures in
     first_of (search rules, grind (arith, common_steps))
 
 pub loop-turn-preserved : goal.loop-turn-preserved
@@ -18,7 +35,7 @@ loop-turn-preserved g c =
     let item = when (expr c.args.self.now.depth) in
     let e = goes_on k.When item (whens (expr c.args.self.now.depth) c.args.tokens.now) _ _ _ _ _ _
     c.loop-turn-test.true c.loop-turn.invariant c.eat.ensures.found c.if-not-eat.false c.eat.ensures.after in
-    first_of (search rules, grind (arith, common_steps))
+    e ∙ c.in_ok-found-2.ensures.more (item c.eat.new.self) c.when-in-loop-turn.new.tokens (more k.When item _) c.when-in-loop-turn.ensures
 
 pub returns : goal.returns
 returns g c =
