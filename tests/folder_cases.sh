@@ -324,4 +324,30 @@ done <<'S'
 /proc/self/wh|a folder there is gone, or takes no files
 /proc/self/fd/wh|a folder there is gone, or takes no files
 S
+
+echo "== a folder with a dropped table"
+fresh
+cat >script <<'S'
+CREATE TABLE a (x INT);
+CREATE TABLE b (x INT);
+INSERT INTO a VALUES (1);
+DROP TABLE a;
+S
+run wh <script
+so "a table is dropped" is_status 0
+so "its file stands" [ -f wh/tables/0000001/delta_0000001_0000001_0000/bucket_00000 ]
+sums wh/tables/0000001 >wanted
+cat >script <<'S'
+CREATE TABLE a (y INT);
+INSERT INTO a VALUES (2);
+SELECT * FROM a;
+SELECT * FROM b;
+DROP TABLE b;
+S
+printf 'OK\nOK inserted 1 deleted 0\ny\n2\nx\nOK\n' >printed
+run wh <script
+so "the folder opens again" is_status 0
+so "the name is free" diff out printed
+so "the new table has a folder of its own" [ -f wh/tables/0000003/delta_0000001_0000001_0000/bucket_00000 ]
+so "the dropped one's folder is as it was" [ "$(sums wh/tables/0000001)" = "$(cat wanted)" ]
 ended

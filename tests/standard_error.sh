@@ -17,7 +17,7 @@ INSERT INTO t VALUES (1, 'FAILED 4 Syntax'), (2, 'FAILED 13 BadType');
 
 SELECT * FROM t; SELECT nothing FROM t;
 -- a comment
-  DROP TABLE t;
+  SHOW TABLES;
 INSERT INTO t
   VALUES (1);
 SELECT s AS `FAILED 4 Syntax` FROM t WHERE a > 2;

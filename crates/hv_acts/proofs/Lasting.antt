@@ -8,7 +8,7 @@ use Rattle.hv_base.specs.declared.ids.Touch.{Touch}
 use Rattle.hv_shelf.specs.declared.place.Place.{Place}
 use Rattle.hv_logic.specs.declared.catalog.TableInfo.{TableInfo}
 use Rattle.hv_logic.specs.declared.meaning.Meaning.{Meaning}
-use Rattle.hv_logic.specs.declared.meaning.Meaning.TheVariants.{Change, Make, Refused, Twice, RowLimit, PartitionLimit}
+use Rattle.hv_logic.specs.declared.meaning.Meaning.TheVariants.{Change, Make, Unmake, Refused, Twice, RowLimit, PartitionLimit}
 use Rattle.hv_route.specs.declared.files.OutFile.{OutFile}
 use Rattle.hv_history.specs.declared.entry.Cause.{Cause}
 use Rattle.hv_history.specs.declared.entry.Cause.TheVariants as cause
@@ -25,7 +25,7 @@ use Rattle.hv_trail.proofs.LastingLaws.{goes-on-front, lasts, given-keeps}
 use Rattle.hv_acts.specs.Answers.{HasItsMark}
 use Rattle.hv_acts.specs.Putting.{HasIdFor}
 use Rattle.hv_acts.specs.Committing.{IsOfItsChange, CanBePut}
-use Rattle.hv_acts.specs.Meant.{HasMeant, IsFileMeant, IsIdDue, IsCommitDue, IsMakeMeant, IsAbortDue}
+use Rattle.hv_acts.specs.Meant.{HasMeant, IsFileMeant, IsIdDue, IsCommitDue, IsMakeMeant, IsDropMeant, IsAbortDue}
 
 same-info : (info : TableInfo) (t u : Table) → TableLater t u → t.info ≡ info → u.info ≡ info
 same-info info t u later is = later.info ∙ is
@@ -129,6 +129,9 @@ module _ (before now : List TrailItem) (front : IsFront before now) where
 
   pub make-lasts : (txn : TxnId) → IsMakeMeant before txn → IsMakeMeant now txn
   make-lasts txn is = record { shape = is.shape; make = meant-lasts txn [] (Make is.shape) is.make }
+
+  pub drop-lasts : (txn : TxnId) (table : TableId) → IsDropMeant before txn table → IsDropMeant now txn table
+  drop-lasts txn table is = meant-lasts txn [] (Unmake table) is
 
   pub abort-lasts : (txn : TxnId) (why : Cause) → IsAbortDue before txn why → IsAbortDue now txn why
   abort-lasts txn (cause.Refused number) is = (is.0, is.1, meant-lasts txn [] (Refused is.0) is.2)

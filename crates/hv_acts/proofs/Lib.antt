@@ -11,6 +11,7 @@ pub mod Opens
 pub mod Meant
 pub mod Truths
 pub mod Makes
+pub mod Drops
 pub mod Commits
 pub mod Lasting
 pub mod RunsOn

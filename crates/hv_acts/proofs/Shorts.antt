@@ -20,6 +20,9 @@ short_given txn table write = grind (arith, length-append, length-eight)
 pub short_create : (txn : TxnId) (table : TableId) → IsSmall (entry.Create txn table)
 short_create txn table = grind (arith, length-append, length-eight)
 
+pub short_drop : (txn : TxnId) (table : TableId) → IsSmall (entry.Drop txn table)
+short_drop txn table = grind (arith, length-append, length-eight)
+
 pub short_full : (txn : TxnId) → IsSmall (entry.Abort txn cause.Full)
 short_full txn = grind (arith, length-append, length-eight)
 

@@ -8,7 +8,7 @@ use Rattle.hv_base.specs.declared.ids.TableId.{TableId}
 use Rattle.hv_base.specs.declared.ids.Touch.{Touch}
 use Rattle.hv_shelf.specs.declared.place.Place.{Place}
 use Rattle.hv_logic.specs.declared.meaning.Meaning.{Meaning}
-use Rattle.hv_logic.specs.declared.meaning.Meaning.TheVariants.{Change, Make, Refused, Twice, RowLimit, PartitionLimit}
+use Rattle.hv_logic.specs.declared.meaning.Meaning.TheVariants.{Change, Make, Unmake, Refused, Twice, RowLimit, PartitionLimit}
 use Rattle.hv_route.specs.declared.files.OutFile.{OutFile}
 use Rattle.hv_route.specs.Routes.{files_of}
 use Rattle.hv_route.specs.Touching.{touches_of}
@@ -33,7 +33,7 @@ use Rattle.hv_telling.specs.Telling.{IsTrueNow, IsMeantFile}
 use Rattle.hv_acts.specs.Answers.{EntryFits}
 use Rattle.hv_acts.specs.Putting.{Runs}
 use Rattle.hv_acts.specs.Committing.{IsConflict, WerePut}
-use Rattle.hv_acts.specs.Meant.{MeansNow, HasMeant, HasAtMost, places_of_files, IsFileMeant, IsCommitDue, IsMakeMeant, IsAbortDue, IsCauseTrue}
+use Rattle.hv_acts.specs.Meant.{MeansNow, HasMeant, HasAtMost, places_of_files, IsFileMeant, IsCommitDue, IsMakeMeant, IsDropMeant, IsAbortDue, IsCauseTrue}
 use Rattle.hv_acts.proofs.Steps.{book-is}
 use Rattle.hv_acts.proofs.Meant.{IsOnWay, on-way}
 
@@ -131,6 +131,13 @@ module _ (trail : List TrailItem) (txn : TxnId) (runs : Runs trail txn) where
   make-true table most is =
       let just = just-given [] (Make is.shape) is.make most in (
         meaning-here [] (Make is.shape) IsMake just tt,
+        record { asking = just.asking; place = just.place; said = just.said; under_way = just.under_way },
+      )
+
+  pub drop-true : (table : TableId) → HasAtMost trail txn 0 → IsDropMeant trail txn table → IsTrueNow (book_of trail) trail (entry.Drop txn table)
+  drop-true table most is =
+      let just = just-given [] (Unmake table) is most in (
+        meaning-here [] (Unmake table) (λ m. m ≡ Some (Unmake table)) just refl,
         record { asking = just.asking; place = just.place; said = just.said; under_way = just.under_way },
       )
 

@@ -4,6 +4,7 @@ pub mod Answers
 pub mod Beginning
 pub mod Committing
 pub mod Counting
+pub mod Dropping
 pub mod Giving
 pub mod Going
 pub mod Making

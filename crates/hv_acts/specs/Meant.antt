@@ -13,7 +13,7 @@ use Rattle.hv_logic.specs.declared.catalog.Shape.{Shape}
 use Rattle.hv_logic.specs.declared.catalog.TableInfo.{TableInfo}
 use Rattle.hv_logic.specs.declared.effect.Effect.{Effect}
 use Rattle.hv_logic.specs.declared.meaning.Meaning.{Meaning}
-use Rattle.hv_logic.specs.declared.meaning.Meaning.TheVariants.{Change, Make, Refused, Twice, RowLimit, PartitionLimit}
+use Rattle.hv_logic.specs.declared.meaning.Meaning.TheVariants.{Change, Make, Unmake, Refused, Twice, RowLimit, PartitionLimit}
 use Rattle.hv_route.specs.Back.{AreHeld}
 use Rattle.hv_route.specs.Routes.{files_of}
 use Rattle.hv_route.specs.Touching.{touches_of}
@@ -104,6 +104,10 @@ IsCommitDue trail txn wrote places = TouchesNothing trail txn wrote ⊎ IsChange
 pub record IsMakeMeant (trail : List TrailItem) (txn : TxnId) : Type 0 where
   pub shape : Shape
   pub make : HasMeant trail txn [] (Make shape)
+
+-- its statement drops this table, and it had no write id
+abbrev pub IsDropMeant : List TrailItem → TxnId → TableId → Type 0
+IsDropMeant trail txn table = HasMeant trail txn [] (Unmake table)
 
 -- Its statement means what the abort says, whatever others add: so it is true wherever it fits. An abort for want of room, for a lock or for
 -- a conflict is tested in one hold, and isn't asked for.

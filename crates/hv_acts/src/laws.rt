@@ -23,7 +23,7 @@ ghost use Rattle.hv_trail.specs.Steps.{begun};
 ghost use Rattle.hv_acts.specs.Answers.{HasItsMark, HasNotEnded};
 ghost use Rattle.hv_acts.specs.Putting.{HasIdFor};
 ghost use Rattle.hv_acts.specs.Committing.{CanBePut};
-ghost use Rattle.hv_acts.specs.Meant.{RunsWith, MeansNow, HasMeant, IsFileMeant, IsIdDue, IsCommitDue, IsMakeMeant, IsAbortDue, IsNoEnd};
+ghost use Rattle.hv_acts.specs.Meant.{RunsWith, MeansNow, HasMeant, IsFileMeant, IsIdDue, IsCommitDue, IsMakeMeant, IsDropMeant, IsAbortDue, IsNoEnd};
 
 /// What acts ask of a trail is true of every longer one too, whatever its further items are.
 pub fn what_is_asked_lasts()
@@ -41,6 +41,8 @@ pub fn what_is_asked_lasts()
         → IsCommitDue before txn wrote places → IsCommitDue now txn wrote places }
     ensures make { (before now : List TrailItem) (txn : TxnId) → IsFront before now
         → IsMakeMeant before txn → IsMakeMeant now txn }
+    ensures unmake { (before now : List TrailItem) (txn : TxnId) (table : TableId) → IsFront before now
+        → IsDropMeant before txn table → IsDropMeant now txn table }
     ensures cause { (before now : List TrailItem) (txn : TxnId) (cause : Cause) → IsFront before now
         → IsAbortDue before txn cause → IsAbortDue now txn cause }
 {}

@@ -7,6 +7,7 @@ ghost use Rattle.hv_typing.specs.Analysis.{query_analysed, change_analysed, merg
 use crate::changes::change_of;
 use crate::creates::created;
 use crate::descriptions::described;
+use crate::drops::dropped;
 use crate::merges::merged;
 use crate::queries::selected;
 use crate::settings::set_analysed;
@@ -55,6 +56,7 @@ fn form_analysed(alloc: Global, tables: &[TableInfo], stmt: &Stmt) -> Result<Log
         Stmt::Merge(merge) => merge_analysed(alloc, tables, merge),
         Stmt::Truncate(truncate) => change_analysed(alloc, tables, &truncate.table, stmt),
         Stmt::CreateTable(create) => created(alloc, tables, create),
+        Stmt::DropTable(drop) => dropped(tables, drop),
         Stmt::Describe(table) => described(alloc, tables, table),
         Stmt::Set(setting) => set_analysed(setting),
         _ => Err(SYNTAX),

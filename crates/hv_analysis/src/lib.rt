@@ -5,6 +5,7 @@ mod analysis;
 mod changes;
 mod creates;
 mod descriptions;
+mod drops;
 mod merges;
 mod queries;
 mod settings;

@@ -1,6 +1,6 @@
 use crate::index::Index;
 use crate::jobs::JobNote;
-use crate::names::{has_named, name_place, note_names};
+use crate::names::{has_name, has_named, name_place, note_names};
 use crate::notes::{End, Held, TableNote, TransactionNote, append};
 use crate::openings::OpeningNotes;
 use crate::past::PastNotes;
@@ -46,8 +46,10 @@ impl Book {
     ghost use Rattle.hv_book.specs.Index.{openings_in};
     ghost use Rattle.hv_book.specs.Past.{IsPast, past_in};
     ghost use Rattle.hv_book.specs.Opened.{AreOpened};
+    ghost use Rattle.hv_book.specs.Names.{name_at};
     ghost use Rattle.std.specs.List.{list_any};
-    ghost use Rattle.std.specs.Prelude.{Bool, List};
+    ghost use Rattle.std.specs.Cmp.Lexicographic.{pointwise};
+    ghost use Rattle.std.specs.Prelude.{Bool, List, nat_eq};
     ghost use Rattle.hv_base.specs.declared.ids.Touch.{Touch};
     ghost use Rattle.hv_book.specs.Commits.{commits_so, passes_at, touches_at, touches_by, wrote_in, IsRising};
 
@@ -124,6 +126,14 @@ impl Book {
         let entries = self.entries.as_slice().len() as u128;
         let ongoing = self.index.ongoing.as_slice().len() as u128;
         entries + ongoing + u128::from(self.index.jobs.working())
+    }
+
+    /// Whether the table of this number, live or dropped, has this name; where there is none, whether the name is empty.
+    pub fn has_name(&self, table: u64, name: &Text) -> bool
+        ensures same { result
+            ≡ pointwise nat_eq (name_at (state_of self.now.entries).tables table) name.now }
+    {
+        has_name(self, table, name.as_str())
     }
 
     /// Whether a live table has this name.

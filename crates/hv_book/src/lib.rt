@@ -11,6 +11,6 @@ mod past;
 
 pub use book::Book;
 pub use jobs::{JobNote, Jobs, Step};
-pub use notes::{End, Held, TableNote, TransactionNote};
+pub use notes::{End, Held, TableNote, TransactionNote, is_open};
 pub use openings::OpeningNotes;
 pub use past::{ForgotNote, PastNotes, SpanNote};

@@ -1,4 +1,5 @@
-ghost use Rattle.std.specs.Prelude.{◌≡◌, ◌+◌, ◌<◌, ◌≤◌, length, true, false, vec_len, vec_capacity};
+ghost use Rattle.std.specs.Prelude.{◌≡◌, ◌+◌, ◌<◌, ◌≤◌, length, nat_eq, true, false, vec_len, vec_capacity};
+ghost use Rattle.std.specs.Cmp.Lexicographic.{pointwise};
 ghost use Rattle.std.specs.Option.{option_copied};
 ghost use Rattle.std.specs.List.{list_any};
 ghost use Rattle.hv_history.specs.State.{state_of, created_shape};
@@ -28,6 +29,13 @@ fn name_of(book: &Book, table: u64) -> &str
         Some(_) => made_name(book.table_tree(table)),
         None => "",
     }
+}
+
+/// Whether the table of this number has this name; where there is none, whether the name is empty.
+pub fn has_name(book: &Book, table: u64, name: &str) -> bool
+    ensures same { result ≡ pointwise nat_eq (name_at (state_of book.now.entries).tables table) name.now }
+{
+    name_of(book, table) == name
 }
 
 /// How many of these tables have names below this one.

@@ -26,6 +26,7 @@ pub(crate) fn is_form(stmt: &Stmt) -> bool
         Stmt::Merge(merge) => is_windowless_source(&merge.source),
         Stmt::Truncate(_) => true,
         Stmt::CreateTable(_) => true,
+        Stmt::DropTable(_) => true,
         Stmt::Describe(_) => true,
         Stmt::Set(_) => true,
         _ => false,

@@ -78,6 +78,7 @@ fn meant(
         Logic::Change(change) => changed_in(alloc, infos, rows, &change),
         Logic::Merge(merge) => merged_in(alloc, infos, rows, &merge),
         Logic::Make(shape) => Ok(Some(untouched(alloc, Meaning::Make(shape)))),
+        Logic::Unmake(table) => Ok(Some(untouched(alloc, Meaning::Unmake(table)))),
         Logic::Nothing => Ok(Some(untouched(alloc, Meaning::Plain))),
         Logic::Describe(columns) => Ok(Some(described(alloc, columns.as_slice())?)),
     }

@@ -14,7 +14,7 @@ use Rattle.hv_history.specs.declared.entry.Entry.TheVariants as entry
 use Rattle.hv_history.specs.declared.state.Statement.{Statement}
 use Rattle.hv_history.specs.declared.state.Transaction.{Transaction}
 use Rattle.hv_history.specs.declared.state.Ending.{Ending}
-use Rattle.hv_history.specs.declared.state.Ending.TheVariants.{Aborted, Made}
+use Rattle.hv_history.specs.declared.state.Ending.TheVariants.{Aborted, Made, Dropped}
 use Rattle.hv_history.specs.State.{State, numbered, changed, changed_at, while_open, unless_ended, started, given_id, committed, ended, meant_in, wrote_as, opened, statement_tree, opening_tree, acted, after, nothing_yet, state_of}
 use Rattle.hv_history.specs.Legal.{Fits, AllFit, Of, is_open, is_started, IsRunning, IsWaiting, BlockedFits, locks_of, locks_of_tree, locks_conflict, holds_against, first_holder}
 use Rattle.hv_book.specs.Briefs.{brief, open_from, open_next, end_of, tree_in}
@@ -70,7 +70,7 @@ texts-next limits state (entry.Commit txn wrote) fits h =
     on-one (committed state.entries wrote) (λ (t : Transaction). texts-same (wrote_as t.given 0) (λ s. refl) t.statements 0) state.transactions txn.0 h
 texts-next limits state (entry.Abort txn cause) fits h = on-one (ended (Aborted state.entries cause)) (λ t. refl) state.transactions txn.0 h
 texts-next limits state (entry.Create txn table) fits h = on-one (ended (Made state.entries table.0)) (λ t. refl) state.transactions txn.0 h
-texts-next limits state (entry.Drop txn table) fits h = absurd fits
+texts-next limits state (entry.Drop txn table) fits h = on-one (ended (Dropped state.entries table.0)) (λ t. refl) state.transactions txn.0 h
 texts-next limits state (entry.Asked job table partition kind by) fits h = h
 texts-next limits state (entry.Picked job watermark) fits h = h
 texts-next limits state (entry.Published job low high mark) fits h = h

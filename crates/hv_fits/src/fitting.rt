@@ -11,8 +11,8 @@ use hv_base::{Limits, Text, TxnId};
 use hv_book::Book;
 use hv_history::{Cause, Entry};
 use hv_meta::{
-    boot_fits, commit_fits, conflict_fits, create_fits, fault_fits, full_fits, given_fits,
-    is_running, is_unended, lost_fits, opened_fits,
+    boot_fits, commit_fits, conflict_fits, create_fits, drop_fits, fault_fits, full_fits,
+    given_fits, is_running, is_unended, lost_fits, opened_fits,
 };
 
 /// Whether an Opened of this number and text fits the book.
@@ -66,7 +66,8 @@ fn is_fitting(book: &Book, limits: &Limits, entry: &Entry, tree: Option<&Stmt>) 
         Entry::Commit { txn, wrote } => commit_fits(book, *txn, wrote.as_slice()),
         Entry::Abort { txn, cause } => abort_fits(book, limits, *txn, cause),
         Entry::Create { txn, table } => create_fits(book, *txn, *table),
-        Entry::Drop { .. } | Entry::Asked { .. } | Entry::Picked { .. } => false,
+        Entry::Drop { txn, table } => drop_fits(book, *txn, *table),
+        Entry::Asked { .. } | Entry::Picked { .. } => false,
         Entry::Published { .. } | Entry::Empty { .. } | Entry::Cleaned { .. } => false,
         Entry::Failed { .. } | Entry::Forgot { .. } => false,
     }

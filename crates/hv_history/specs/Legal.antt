@@ -19,7 +19,7 @@ use Rattle.hv_ast.specs.declared.statement.Stmt.TheVariants as stmt
 use Rattle.hv_built.specs.Running.{Runs}
 use Rattle.hv_grammar.specs.Texts.{tree_of}
 use Rattle.hv_logic.specs.declared.meaning.Meaning.{Meaning}
-use Rattle.hv_logic.specs.declared.meaning.Meaning.TheVariants.{Refused, Listing, Change, Make, Plain, Twice, RowLimit, PartitionLimit}
+use Rattle.hv_logic.specs.declared.meaning.Meaning.TheVariants.{Refused, Listing, Change, Make, Unmake, Plain, Twice, RowLimit, PartitionLimit}
 use Rattle.hv_logic.specs.Names.{names_in}
 use Rattle.hv_meaning.specs.hv_route.specs.Back.{AreFlat}
 use Rattle.hv_meaning.specs.hv_route.specs.Touching.{touches_of}
@@ -148,9 +148,23 @@ abbrev pub made_name : Option Stmt → List ℕ
 made_name (Some (stmt.CreateTable create)) = create.table
 made_name _ = []
 
+abbrev pub is_drop : Option Stmt → Bool
+is_drop (Some (stmt.DropTable drop)) = true
+is_drop _ = false
+
+-- the name of the table that a text drops
+abbrev pub dropped_name : Option Stmt → List ℕ
+dropped_name (Some (stmt.DropTable drop)) = drop.table
+dropped_name _ = []
+
 -- a live table of that name
 abbrev pub is_named : List ℕ → Table → Bool
 is_named name table = table.is_live && pointwise nat_eq table.info.shape.name name
+
+-- the table is there, live, and of that name
+abbrev pub is_named_there : List ℕ → Option Table → Bool
+is_named_there name None = false
+is_named_there name (Some table) = is_named name table
 
 pub record BootFits (limits : Limits) (state : State) (run : ℕ) : Type 0 where
   pub next : run ≡ state.openings.count
@@ -204,6 +218,12 @@ pub record CreateFits (state : State) (table : ℕ) (transaction : Transaction) 
   pub flat : AreFlat (created_shape (opening_tree transaction)).parts
   pub absent : IsFalse (list_any (is_named (made_name (opening_tree transaction))) state.tables)
   pub next : table ≡ length state.tables + 1
+
+-- the name is free at once; what the table's files hold stands until it is cleaned
+pub record DropFits (state : State) (table : ℕ) (transaction : Transaction) : Type 0 where
+  pub running : IsRunning transaction
+  pub drop : IsTrue (is_drop (opening_tree transaction))
+  pub named : IsTrue (is_named_there (dropped_name (opening_tree transaction)) (numbered state.tables table))
 
 -- ---- an Abort's cause
 
@@ -261,7 +281,7 @@ CauseFits limits state txn cause.PartitionLimit transaction = IsRunning transact
 CauseFits limits state txn cause.Memory transaction = IsTrue (is_open transaction)
 CauseFits limits state txn cause.Lost transaction = LostFits state transaction
 
--- the entry fits a book that leaves this state; those of compaction, of DROP TABLE and of forgetting come later
+-- the entry fits a book that leaves this state; those of compaction and of forgetting come later
 abbrev pub Fits : Limits → State → Entry → Type 0
 Fits limits state (entry.Boot run) = BootFits limits state run
 Fits limits state (entry.Opened txn session number text) = OpenedFits limits state txn.0 text
@@ -270,6 +290,7 @@ Fits limits state (entry.Given txn table write) = Of state txn.0 (GivenFits limi
 Fits limits state (entry.Commit txn wrote) = Of state txn.0 (CommitFits state wrote)
 Fits limits state (entry.Abort txn cause) = Of state txn.0 (CauseFits limits state txn.0 cause)
 Fits limits state (entry.Create txn table) = Of state txn.0 (CreateFits state table.0)
+Fits limits state (entry.Drop txn table) = Of state txn.0 (DropFits state table.0)
 Fits limits state _ = ⊥
 
 -- ---- what is true: an entry says of its statement what it came to at its Start
@@ -330,6 +351,7 @@ CauseIsTrue state _ transaction = Unit {0}
 abbrev pub IsTruthful : State → Entry → Type 0
 IsTruthful state (entry.Commit txn wrote) = Of state txn.0 (λ transaction. TouchesAreMeant wrote (meaning transaction))
 IsTruthful state (entry.Create txn table) = Of state txn.0 (λ transaction. IsMake (meaning transaction))
+IsTruthful state (entry.Drop txn table) = Of state txn.0 (λ transaction. meaning transaction ≡ Some (Unmake table))
 IsTruthful state (entry.Abort txn cause) = Of state txn.0 (CauseIsTrue state cause)
 IsTruthful state _ = Unit {0}
 

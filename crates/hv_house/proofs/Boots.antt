@@ -50,11 +50,12 @@ open-same number (t ∷ ts) = by t.ending refl (open-same (number + 1) ts)
         ∙ rest
         ∙ sym (ap (λ (e : Option Ending). number_next (is_none e) number (marked_from (number + 1) (map is_open ts))) is)
 
-pub learned : (book : List Entry) (notes : OpeningNotes) (left : Left) → openings_in notes ≡ (state_of book).openings → left.runs ≡ notes.count
-    → left.unended.items ≡ open_from 1 (map brief (state_of book).transactions) → IsLearned book left
-learned book notes left same runs open_are = record {
-  runs = runs ∙ ap (λ (o : Openings). o.count) same;
-  open_are = open_are ∙ open-same 1 (state_of book).transactions;
+pub learned : (book now : List Entry) (notes : OpeningNotes) (left : Left) → now ≡ book → openings_in notes ≡ (state_of now).openings
+    → left.runs ≡ notes.count → left.unended.items ≡ open_from 1 (map brief (state_of now).transactions) → IsLearned book left
+learned book now notes left is same runs open_are = record {
+  runs = runs ∙ ap (λ (o : Openings). o.count) same ∙ ap (λ (es : List Entry). (state_of es).openings.count) is;
+  open_are =
+      open_are ∙ ap (λ (es : List Entry). open_from 1 (map brief (state_of es).transactions)) is ∙ open-same 1 (state_of book).transactions;
 }
 
 -- ---- journals that are empty, and those that aren't

@@ -22,6 +22,9 @@ short_given txn table write = grind (arith, length-append, length-eight)
 pub short_create : (txn : TxnId) (table : TableId) → length (entry_spelling (entry.Create txn table)) ≤ 65536
 short_create txn table = grind (arith, length-append, length-eight)
 
+pub short_drop : (txn : TxnId) (table : TableId) → length (entry_spelling (entry.Drop txn table)) ≤ 65536
+short_drop txn table = grind (arith, length-append, length-eight)
+
 pub short_lost : (txn : TxnId) → length (entry_spelling (entry.Abort txn cause.Lost)) ≤ 65536
 short_lost txn = grind (arith, length-append, length-eight)
 

@@ -11,11 +11,9 @@ use Rattle.hv_shelf.specs.declared.fault.ShelfFault.TheVariants as shelf
 use Rattle.hv_shelf.specs.Disk.{Store}
 use Rattle.hv_logic.specs.declared.catalog.TableInfo.{TableInfo}
 use Rattle.hv_history.specs.declared.entry.Entry.{Entry}
-use Rattle.hv_history.specs.State.{nothing_yet, state_of}
-use Rattle.hv_history.specs.Legal.{AllFit}
+use Rattle.hv_history.specs.State.{state_of}
 use Rattle.hv_earlier.specs.Lists.{catalog_at, info_of_name}
 use Rattle.hv_stands.specs.Reading.{table_of_name}
-use Rattle.hv_stands.proofs.Keeping.{sound-all, nothing-sound}
 use Rattle.hv_trail.specs.declared.trail.Reader.TheVariants.{Txn}
 use Rattle.hv_trail.specs.Steps.{Call, Read, Step}
 use Rattle.hv_house.specs.declared.fault.HouseFault.{HouseFault}
@@ -26,7 +24,6 @@ use Rattle.hv_house.specs.Faults.{house_fault, HasRisen}
 use Rattle.hv_house.specs.House.{entries_of, IsAsked, IsReadyWithin, StaysPutWithin}
 use Rattle.hv_house.specs.Steps.{seen_of, fault_outcome, outcome_of, GainsBy}
 use Rattle.hv_house.specs.Listing.{ReadStep, info_in}
-use Rattle.hv_stands.proofs.Fitting.{front-fits}
 use Rattle.hv_house.proofs.Past.{infos-named}
 use Rattle.hv_house.proofs.Reading.{gains-behind, step-read, step-unread}
 use Rattle.hv_house.proofs.Ready.{read-stays}
@@ -84,12 +81,11 @@ pub on-found : {T E : Type 0} (r : Result T E) (P Q : T → Type 0) → ((x : T)
 on-found (Ok x) P Q f p = f x p
 on-found (Err e) P Q f p = tt
 
-pub found-named : (limits : Limits) (book : List Entry) (place : ℕ) → AllFit limits nothing_yet book → (entries : List Entry) → entries ≡ book → (name : List ℕ)
+pub found-named : (book : List Entry) (place : ℕ) (entries : List Entry) → entries ≡ book → (name : List ℕ)
     → (found : Option TableInfo) → found ≡ info_of_name name (catalog_at entries place)
     → found ≡ option_map info_in (table_of_name name (state_of (take place book)).tables)
-found-named limits book place fit entries is name found named =
-    let sound = sound-all limits nothing_yet (take place book) (front-fits limits book nothing_yet place fit) nothing-sound in
-    named ∙ ap (λ b. info_of_name name (catalog_at b place)) is ∙ infos-named name (state_of (take place book)).tables sound.tables.live
+found-named book place entries is name found named =
+    named ∙ ap (λ b. info_of_name name (catalog_at b place)) is ∙ infos-named name (state_of (take place book)).tables
 
 -- ---- the bytes of a file
 

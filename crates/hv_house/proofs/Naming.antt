@@ -17,7 +17,7 @@ use Rattle.hv_history.specs.declared.state.Ending.{Ending}
 use Rattle.hv_history.specs.declared.state.Table.{Table}
 use Rattle.hv_history.specs.declared.state.Transaction.{Transaction}
 use Rattle.hv_history.specs.State.{State, numbered, state_of}
-use Rattle.hv_history.specs.Legal.{is_open, is_started, load, HasRoom, OpenedFits, CreateFits, Fits, Of}
+use Rattle.hv_history.specs.Legal.{is_open, is_started, load, HasRoom, OpenedFits, CreateFits, DropFits, Fits, Of}
 use Rattle.std.proofs.lemmas.List.{length-map}
 use Rattle.hv_book.specs.declared.notes.TableNote.{TableNote}
 use Rattle.hv_book.specs.Briefs.{brief_table}
@@ -152,6 +152,12 @@ pub create-fits : (book : List Entry) (txn : TxnId) (number : ℕ) → number �
 create-fits book txn number is can none =
     subst (λ n. Of (state_of book) txn.0 (CreateFits (state_of book) (n + 1))) (sym is)
     (when-open (numbered (state_of book).transactions txn.0) (CreateFits (state_of book) (next_table book)) can none)
+
+-- ---- a table that is dropped
+
+pub drop-fits : (book : List Entry) (txn : TxnId) (table : TableId) → IfOpen (state_of book) txn.0 (DropFits (state_of book) table.0) → HasNotEnded book txn.0
+    → Of (state_of book) txn.0 (DropFits (state_of book) table.0)
+drop-fits book txn table can none = when-open (numbered (state_of book).transactions txn.0) (DropFits (state_of book) table.0) can none
 
 -- ---- when it is refused
 

@@ -15,6 +15,7 @@ use Rattle.hv_history.specs.declared.state.Ending.TheVariants.{Committed, Aborte
 use Rattle.hv_history.specs.declared.state.Table.{Table}
 use Rattle.hv_history.specs.declared.state.Transaction.{Transaction}
 use Rattle.hv_history.specs.State.{State, numbered}
+use Rattle.hv_history.specs.Legal.{is_named}
 use Rattle.hv_book.specs.Past.{owners_in, forgotten_in}
 use Rattle.hv_recovery.specs.hv_fits.specs.hv_meta.specs.Catalogs.{info_if, live_infos}
 use Rattle.hv_earlier.specs.declared.fates.Fate.{Fate}
@@ -22,7 +23,7 @@ use Rattle.hv_earlier.specs.declared.fates.Fate.TheVariants as fate
 use Rattle.hv_earlier.specs.Fates.{fate_by, fate_of}
 use Rattle.hv_earlier.specs.Lists.{exception_by, exceptions_from, info_of_name}
 use Rattle.hv_stands.specs.Files.{ending_of, IsUndone}
-use Rattle.hv_stands.specs.Sound.{IsLive, IsDone, KeepsAll}
+use Rattle.hv_stands.specs.Sound.{IsDone, KeepsAll}
 use Rattle.hv_stands.specs.Reading.{table_of_name}
 use Rattle.hv_stands.proofs.Numbers.{numbered-map, numbered-within}
 use Rattle.hv_table_rows.specs.Laws.{SaysCommitted}
@@ -38,12 +39,16 @@ info-by : (b : Bool) (table : Table) (rest : Option TableInfo) (more : Option Ta
 info-by true table rest more e = refl
 info-by false table rest more e = e
 
-pub infos-named : (name : List ℕ) (tables : List Table) → AllByRecursion IsLive tables
-    → info_of_name name (live_infos tables) ≡ option_map info_in (table_of_name name tables)
-infos-named name [] live = refl
-infos-named name (table ∷ tables) live =
-    ap (λ b. info_of_name name (info_if b table.info ++ live_infos tables)) live.0
-    ∙ info-by (pointwise nat_eq table.info.shape.name name) table (info_of_name name (live_infos tables)) (table_of_name name tables) (infos-named name tables live.1)
+infos-next : (name : List ℕ) (table : Table) (rest : List TableInfo) (more : Option Table) → info_of_name name rest ≡ option_map info_in more → (live : Bool)
+    → info_of_name name (info_if live table.info ++ rest)
+    ≡ option_map info_in (cond (live && pointwise nat_eq table.info.shape.name name) (Some table) more)
+infos-next name table rest more e true = info-by (pointwise nat_eq table.info.shape.name name) table (info_of_name name rest) more e
+infos-next name table rest more e false = e
+
+pub infos-named : (name : List ℕ) (tables : List Table) → info_of_name name (live_infos tables) ≡ option_map info_in (table_of_name name tables)
+infos-named name [] = refl
+infos-named name (table ∷ tables) =
+    infos-next name table (live_infos tables) (table_of_name name tables) (infos-named name tables) table.is_live
 
 by-name : (P : Table → Type 0) (b : Bool) (first table : Table) (rest : Option Table) → P first → (rest ≡ Some table → P table)
     → cond b (Some first) rest ≡ Some table → P table
@@ -55,7 +60,7 @@ pub all-named : (P : Table → Type 0) (name : List ℕ) (tables : List Table) (
     → table_of_name name tables ≡ Some table → P table
 all-named P name [] table all e = cc
 all-named P name (first ∷ tables) table all e =
-    by-name P (pointwise nat_eq first.info.shape.name name) first table (table_of_name name tables) all.0 (all-named P name tables table all.1) e
+    by-name P (is_named name first) first table (table_of_name name tables) all.0 (all-named P name tables table all.1) e
 
 -- ---- its write ids
 

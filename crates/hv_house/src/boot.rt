@@ -7,11 +7,13 @@ ghost use Rattle.hv_history.specs.State.{state_of, nothing_yet};
 ghost use Rattle.hv_history.specs.Legal.{AllFit, HasRoom};
 ghost use Rattle.hv_journal.specs.Appending.{Holds, KeepsTree};
 ghost use Rattle.hv_recovery.specs.Recovery.{IsJournalOf};
+ghost use Rattle.hv_trail.specs.Spare.{open_count};
 ghost use Rattle.hv_house.specs.Faults.{StoreCause, FileCause};
 ghost use Rattle.hv_house.specs.House.{entries_of, book_limit, IsKept, IsReadyWithin, IsBeside};
 ghost use Rattle.hv_house.specs.Steps.{KeepsMarks, IsOpenedOver};
 ghost use Rattle.hv_house.specs.Booting.{boot_fault, lost_entry, opening_of, IsLearned, LosesSome, CutsOpening, IsCutOpening, IsRaiseFault, Opens, IsBootFault, IsBootStore, StopsOpening, NotesWithRoom, StopsWithRoom};
 
+use crate::buffer::RecordBuffer;
 use crate::fault::HouseFault;
 use crate::house::House;
 use hv_base::{Limits, NoMemory, TxnId};
@@ -70,19 +72,27 @@ impl From<OpenFault> for BootFault {
 /// More bytes than any journal has that was read into memory.
 const MOST_BYTES: u64 = 1 << 62;
 
-/// What is learned of a book that was left: how often it was opened, and which transactions are open.
+/// What is learned of a book that was left: how often it was opened, and which transactions are open. And where its next
+/// records are spelled.
 #[derive(Drop)]
 struct Left {
     runs: u64,
     unended: Vec<u64>,
+    buffer: RecordBuffer,
 }
 
-fn learn(alloc: Global, book: &Book) -> Result<Left, NoMemory>
-    ensures learned { IfOk result (IsLearned book.now.entries) }
+/// Learns of a book, and makes room in it for what its open transactions still need.
+fn learn(alloc: Global, book: &mut Book) -> Result<Left, NoMemory>
+    ensures learned { IfOk result (IsLearned book.old.entries) }
+    ensures entries { book.new.entries ≡ book.old.entries }
+    ensures places { OnOk result (open_count book.new.entries ≤ book.new.spare) }
 {
+    let count = book.ongoing().len();
+    book.reserve(count)?;
     Ok(Left {
         runs: book.openings().count,
         unended: Vec::from_slice(alloc, book.ongoing())?,
+        buffer: RecordBuffer::new(alloc)?,
     })
 }
 
@@ -189,24 +199,30 @@ impl<D: Shelf + Drop> House<D> {
         ensures roomy { IfErr result (λ x. Tells (D.told x.1)
             (λ s. NotesWithRoom limits book.entries s.journal)) }
     {
+        let mut book = book;
         let entries = book.entries().len() as u64;
         if place > MOST_BYTES {
             return Err((BootFault::NoMemory, shelf));
         }
-        match learn(alloc, &book) {
+        match learn(alloc, &mut book) {
             Ok(found) => {
                 if entries + found.unended.len() as u64 + 1 > limits.entries {
                     return Err((BootFault::Full { entries }, shelf));
                 }
+                let Left {
+                    runs,
+                    unended,
+                    buffer,
+                } = found;
                 let mut house = House {
                     start,
                     shelf,
                     place,
-                    buffer: Vec::new(alloc),
+                    buffer,
                     trail: KeptTrail::over(alloc, book),
                     limits,
                 };
-                match house.note_opening(found.runs, &found.unended) {
+                match house.note_opening(runs, &unended) {
                     Ok(()) => {
                         house.trail.settle();
                         Ok(house)

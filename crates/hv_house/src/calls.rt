@@ -4,7 +4,7 @@ ghost use Rattle.hv_base.specs.declared.ids.Limits.{Limits};
 ghost use Rattle.hv_history.specs.declared.entry.Entry.TheVariants as entries;
 ghost use Rattle.hv_history.specs.Book.{tree_of_entry};
 ghost use Rattle.hv_history.specs.State.{state_of, numbered};
-ghost use Rattle.hv_history.specs.Legal.{load, Fits, CommitFits, CauseFits, CreateFits};
+ghost use Rattle.hv_history.specs.Legal.{load, Fits, CommitFits, CauseFits, CreateFits, DropFits};
 ghost use Rattle.hv_recovery.specs.hv_fits.specs.hv_meta.specs.States.{state_in};
 ghost use Rattle.hv_house.specs.declared.calls.EntryFault.TheVariants as fault;
 ghost use Rattle.hv_house.specs.House.{entries_of, IsSmall, IsReadyWithin};
@@ -218,5 +218,24 @@ impl<D: Shelf> House<D> {
             Ok(_) => Ok(table),
             Err(fault) => Err(fault),
         }
+    }
+
+    /// Drops the table of this number, and answers the place of its Drop. Its name is free at once, and its files stand.
+    ///
+    /// # Errors
+    /// `NotOpen` where the transaction has ended; the house is as it was. `House` where the journal failed or memory lacked.
+    pub fn drop_table(&mut self, txn: TxnId, table: TableId) -> Result<u64, EntryFault>
+        ghost limits: { Limits }
+        requires ready { IsReadyWithin limits D.told self.old }
+        requires can { IfOpen (state_of (entries_of self.old)) txn.0
+            (DropFits (state_of (entries_of self.old)) table.0) }
+        ensures step { EntryStepWithin limits D.told D.faults
+            (entries.Drop txn table) self.old self.new result }
+        ensures place { IfOk result (λ place. place ≡ length (entries_of self.old)) }
+        ensures not_open { (at : ℕ) → IsErrOf result (fault.NotOpen at)
+            ↔ HasEndedAt (entries_of self.old) txn.0 at }
+        ensures not_full { (count : ℕ) → IsErrOf result (fault.Full count) → ⊥ }
+    {
+        self.note_last(txn, Entry::Drop { txn, table })
     }
 }

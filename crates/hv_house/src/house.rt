@@ -12,13 +12,15 @@ ghost use Rattle.hv_house.specs.Faults.{FileCause, EndsRun};
 ghost use Rattle.hv_house.specs.House.{entries_of, entry_limit, book_limit, IsSmall, IsKept, AreNoted, IsNoted, AreHalted, IsHalted};
 ghost use Rattle.hv_house.specs.Steps.{seen_of, outcome_of, KeepsMarks, ClosesBy};
 ghost use Rattle.hv_trail.specs.Kept.{trail_of};
+ghost use Rattle.hv_trail.specs.Spare.{HavePlaces};
 ghost use Rattle.hv_trail.specs.declared.trail.TrailItem.TheVariants.{Noted};
 
+use crate::buffer::RecordBuffer;
 use crate::fault::HouseFault;
 use hv_ast::Stmt;
 use hv_base::{Limits, TxnId};
 use hv_history::Entry;
-use hv_journal::{append, records_length};
+use hv_journal::records_length;
 use hv_shelf::{Shelf, ShelfFault};
 use hv_trail::KeptTrail;
 use std::slice::from_ref;
@@ -33,7 +35,7 @@ pub struct House<D> {
     /// The place of the journal's closed gate.
     pub(crate) place: u64,
     /// Where records are spelled.
-    pub(crate) buffer: Vec<u8>,
+    pub(crate) buffer: RecordBuffer,
     /// The journal's entries, and the marks between them.
     pub(crate) trail: KeptTrail,
     /// How much it may hold.
@@ -53,7 +55,8 @@ impl<D: Shelf> House<D> {
         ensures place { OnOk result
             (self.new.place ≡ self.old.place + place_of (first.now ∷ more.now)) }
         ensures entries { entries_of self.new ≡ entries_of self.old }
-        ensures spare { OnOk result (length (first.now ∷ more.now) ≤ self.new.trail.spare) }
+        ensures places { OnOk result
+            (HavePlaces (entries_of self.new) self.new.trail.spare first.now (length more.now)) }
         ensures tree { Moves KeepsTree (D.told self.old.shelf) (D.told self.new.shelf) }
         ensures halted { IfErr result (λ fault.
             AreHalted D.told (first.now ∷ more.now) fault self.old self.new) }
@@ -65,16 +68,12 @@ impl<D: Shelf> House<D> {
         ensures ends { IfErr result EndsRun }
         ensures cause { FileCause (D.faults self.old.shelf) (D.faults self.new.shelf) result }
     {
-        self.buffer.clear();
         self.buffer.reserve(records_length(first, more))?;
-        self.trail.reserve(1 + more.len())?;
-        match append(
-            &mut self.shelf,
-            &mut self.place,
-            first,
-            more,
-            &mut self.buffer,
-        ) {
+        self.trail.reserve_for(first, more.len())?;
+        match self
+            .buffer
+            .append(&mut self.shelf, &mut self.place, first, more)
+        {
             Ok(()) => Ok(()),
             Err(ShelfFault::Failed) => {
                 self.trail.close();
@@ -128,7 +127,9 @@ impl<D: Shelf> House<D> {
         ensures place { OnOk result
             (self.new.place ≡ self.old.place + place_of (entry.now ∷ entries.Start txn 0 ∷ [])) }
         ensures entries { entries_of self.new ≡ entries_of self.old }
-        ensures spare { OnOk result (2 ≤ self.new.trail.spare) }
+        ensures places { OnOk result
+            (HavePlaces (entries_of self.new) self.new.trail.spare entry.now
+            (length (entries.Start txn 0 ∷ []))) }
         ensures tree { Moves KeepsTree (D.told self.old.shelf) (D.told self.new.shelf) }
         ensures halted { IfErr result (λ fault.
             AreHalted D.told (entry.now ∷ entries.Start txn 0 ∷ []) fault self.old self.new) }

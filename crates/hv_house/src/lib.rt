@@ -6,6 +6,7 @@ pub use hv_table_rows;
 
 mod asking;
 mod boot;
+mod buffer;
 mod calls;
 mod failing;
 mod fault;

@@ -13,7 +13,7 @@ use Rattle.hv_stands.proofs.Numbers.{found}
 use Rattle.hv_stands.proofs.Soundness.{all-numbered}
 use Rattle.hv_stands.proofs.Keeping.{sound-after, nothing-sound}
 use Rattle.hv_law_visible.specs.Members.{IsIn}
-use Rattle.hv_law_partitions.proofs.StoodLemmas.{WasWritten, given-was, made-was, wrote-was, OneWrite, single-writes, nothing-numbered}
+use Rattle.hv_law_partitions.proofs.StoodLemmas.{WasWritten, given-was, dropped-was, made-was, wrote-was, OneWrite, single-writes, nothing-numbered}
 
 abbrev AllFirst : State → Type 0
 AllFirst s = (number : ℕ) (table : Table) (written : Written) → numbered s.tables number ≡ Some table → IsIn written table.writes → written.statement ≡ 0
@@ -52,6 +52,8 @@ first-after limits s (entry.Commit txn wrote) fits sound h =
 first-after limits s (entry.Abort txn cause) fits sound h = h
 first-after limits s (entry.Create txn table) fits sound h = λ number next written now here.
     was-first s number written h (made-was s.tables (made_by table.0 (numbered s.transactions txn.0)) refl number next written now here)
+first-after limits s (entry.Drop txn table) fits sound h = λ number next written now here.
+    was-first s number written h (dropped-was table.0 s.tables number next written now here)
 first-after limits s event fits sound h = absurd fits
 
 first-all : (limits : Limits) (s : State) (more : List Entry) → AllFit limits s more → IsSound s → AllFirst s → AllFirst (fold after s more)

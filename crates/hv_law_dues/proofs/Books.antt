@@ -12,7 +12,7 @@ use Rattle.hv_base.specs.Sorting.{sorted_by}
 use Rattle.hv_logic.specs.declared.catalog.TableInfo.{TableInfo}
 use Rattle.hv_logic.specs.declared.effect.Effect.{Effect}
 use Rattle.hv_logic.specs.declared.meaning.Meaning.{Meaning}
-use Rattle.hv_logic.specs.declared.meaning.Meaning.TheVariants.{Refused, Listing, Change, Make, Plain, Twice, RowLimit, PartitionLimit}
+use Rattle.hv_logic.specs.declared.meaning.Meaning.TheVariants.{Refused, Listing, Change, Make, Unmake, Plain, Twice, RowLimit, PartitionLimit}
 use Rattle.hv_route.specs.Placing.{placed_cmp, runs_of}
 use Rattle.hv_route.specs.Touching.{rows_touched, touch_of, touches_of}
 use Rattle.hv_route.specs.declared.runs.Run.{Run}
@@ -24,7 +24,7 @@ use Rattle.hv_history.specs.declared.state.Statement.{Statement}
 use Rattle.hv_history.specs.declared.state.Table.{Table}
 use Rattle.hv_history.specs.declared.state.Transaction.{Transaction}
 use Rattle.hv_history.specs.declared.state.Written.{Written}
-use Rattle.hv_history.specs.State.{State, nothing_yet, numbered, changed, changed_at, unless_ended, while_open, opened, started, given_id, given_in, owned, written_to, committed, ended, wrote_as, writes_of, written_by, commits, statement_meaning, meaning, tables_behind, made_by, acted, after}
+use Rattle.hv_history.specs.State.{State, nothing_yet, numbered, changed, changed_at, unless_ended, while_open, opened, started, given_id, given_in, owned, dropped, written_to, committed, ended, wrote_as, writes_of, written_by, commits, statement_meaning, meaning, tables_behind, made_by, acted, after}
 use Rattle.hv_history.specs.Legal.{Fits, CommitFits, GivenFits, TouchesAreMeant, IsTruthful, AllFit, AllTruthful}
 use Rattle.hv_book.specs.Commits.{wrote_by, wrote_in}
 use Rattle.hv_book.specs.Past.{total, only_if, owners_in}
@@ -240,6 +240,27 @@ module _ (deletes : Bool) (partition : List ℕ) where
           let is = numbered-other (owned n) tables table k e in
           (ap (λ o. numbered (owners_in o) w) (sym is) ∙ owner, ap writes_in is)
 
+  -- a table that is dropped keeps its ids and its writes
+  gone : (tables : List Table) (table k w txn : ℕ) → numbered (owners_in (numbered (changed dropped tables table) k)) w ≡ Some txn
+      → (numbered (owners_in (numbered tables k)) w ≡ Some txn) × (writes_in (numbered (changed dropped tables table) k) ≡ writes_in (numbered tables k))
+  gone tables table k w txn owner = by (either (k == table))
+    where
+      at : (o : Option Table) → numbered (owners_in (option_map dropped o)) w ≡ Some txn
+          → (numbered (owners_in o) w ≡ Some txn) × (writes_in (option_map dropped o) ≡ writes_in o)
+      at None is = (is, refl)
+      at (Some there) is = (is, refl)
+
+      by : ((k == table) ≡ true) ⊎ ((k == table) ≡ false)
+          → (numbered (owners_in (numbered tables k)) w ≡ Some txn) × (writes_in (numbered (changed dropped tables table) k) ≡ writes_in (numbered tables k))
+      by (inl e) =
+          let is : numbered (changed dropped tables table) k ≡ option_map dropped (numbered tables k) =
+          subst (λ m. numbered (changed dropped tables m) k ≡ option_map dropped (numbered tables k)) (eqb-true k table e) (numbered-at dropped tables k) in
+          let both = at (numbered tables k) (ap (λ o. numbered (owners_in o) w) (sym is) ∙ owner) in
+          (both.0, ap writes_in is ∙ both.1)
+      by (inr e) =
+          let is = numbered-other dropped tables table k e in
+          (ap (λ o. numbered (owners_in o) w) (sym is) ∙ owner, ap writes_in is)
+
   -- a table more, which nobody has an id of
   made : (tables : List Table) (new : Table) (k w txn : ℕ) → new.owners ≡ [] → numbered (owners_in (numbered (tables ++ new ∷ []) k)) w ≡ Some txn
       → (numbered (owners_in (numbered tables k)) w ≡ Some txn) × (writes_in (numbered (tables ++ new ∷ []) k) ≡ writes_in (numbered tables k))
@@ -317,6 +338,7 @@ module _ (deletes : Bool) (partition : List ℕ) where
         said = ap (total (touch_at info.table.0)) is ∙ change-rows info effect write;
       })
   meant given (Some (Make shape)) wrote is = absurd is
+  meant given (Some (Unmake table)) wrote is = absurd is
   meant given (Some Plain) wrote is = inl (record { nothing = refl; unsaid = λ k w e. ap (total (touch_at k)) is })
   meant given (Some (Twice region row)) wrote is = absurd is
   meant given (Some RowLimit) wrote is = absurd is
@@ -513,6 +535,13 @@ module _ (deletes : Bool) (partition : List ℕ) where
       (wrote-same (ended (Made s.entries table.0)) (λ t e. refl) s.transactions txn.0)
       (λ k w other wrote owner has.
       let both = made s.tables (made_by table.0 (numbered s.transactions txn.0)) k w other refl owner in
+      record { owner = both.0; writes = both.1 })
+      said
+  step limits s (entry.Drop txn table) fits is sound said =
+      quiet s (after s (entry.Drop txn table)) (sound-after limits s (entry.Drop txn table) fits sound)
+      (wrote-same (ended (Dropped s.entries table.0)) (λ t e. refl) s.transactions txn.0)
+      (λ k w other wrote owner has.
+      let both = gone s.tables table.0 k w other owner in
       record { owner = both.0; writes = both.1 })
       said
   step limits s event fits is sound said = absurd fits

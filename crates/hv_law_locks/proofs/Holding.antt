@@ -15,9 +15,8 @@ use Rattle.hv_history.specs.declared.state.Ending.{Ending}
 use Rattle.hv_history.specs.declared.state.Transaction.{Transaction}
 use Rattle.hv_history.specs.declared.state.Ending.TheVariants.{Committed, Aborted, Made, Dropped}
 use Rattle.hv_history.specs.State.{State, numbered, changed, owned, dropped, commits, made_by, ended, did, committed, given_id, opened, opening_tree, acted, after, nothing_yet, state_of}
-use Rattle.hv_history.specs.Legal.{is_open, is_started, IsRunning, StartFits, CreateFits, Fits, locks_of, locks_conflict, holds_against, is_named, is_create, made_name}
+use Rattle.hv_history.specs.Legal.{is_open, is_started, IsRunning, StartFits, CreateFits, DropFits, Fits, AllFit, locks_of, locks_conflict, holds_against, is_named, is_named_there, is_create, made_name, is_drop, dropped_name}
 use Rattle.hv_stands.proofs.Numbers.{one_value, found, numbered-or-last}
-use Rattle.hv_law_locks.specs.Dropping.{DropFits, FitsToo, AllFitToo, is_drop, dropped_name, is_named_there}
 use Rattle.hv_law_locks.specs.Locked.{IsApart, AreApart, StaysNamed, StaysLocked, KeepsNames, LocksHold}
 use Rattle.hv_law_locks.specs.Laws.{LocksAreApart, LockedNamesStay, GivenTablesLive, CreatedNamesAreFree, DroppedTablesAreNamed}
 use Rattle.hv_law_locks.proofs.Texts.{first-false, apart-by, apart-turned, made-lock, dropped-lock, shape-name}
@@ -148,7 +147,7 @@ module _ (state : State) (k : ℕ) (t : Transaction) (here : numbered state.tran
 never-ended : (ending : Ending) (x : Transaction) → is_open (ended ending x) ≡ true → ⊥
 never-ended ending x e = let wrong : false ≡ true = e in cc
 
-pub holds-after : (limits : Limits) (state : State) (event : Entry) → FitsToo limits state event → LocksHold state → LocksHold (after state event)
+pub holds-after : (limits : Limits) (state : State) (event : Entry) → Fits limits state event → LocksHold state → LocksHold (after state event)
 unfolding acted
 holds-after limits state (entry.Boot run) fits hold =
     goes-on state (after state (entry.Boot run)) hold (λ n t at running. was-same state.transactions n t at running.unended)
@@ -210,7 +209,7 @@ nothing-holds = record {
   names = λ n t at. absurd (none-numbered n t at);
 }
 
-holds-all : (limits : Limits) (book : List Entry) (state : State) → AllFitToo limits state book → LocksHold state → LocksHold (fold after state book)
+holds-all : (limits : Limits) (book : List Entry) (state : State) → AllFit limits state book → LocksHold state → LocksHold (fold after state book)
 holds-all limits [] state fit hold = hold
 holds-all limits (event ∷ book) state fit hold = holds-all limits book (after state event) fit.1 (holds-after limits state event fit.0 hold)
 

@@ -6,8 +6,7 @@ use Rattle.std.specs.Str.{bytes_eq}
 use Rattle.hv_history.specs.declared.state.Written.{Written}
 use Rattle.hv_history.specs.declared.state.Table.{Table}
 use Rattle.hv_history.specs.State.{numbered, changed, changed_at, written_to, tables_behind, dropped}
-use Rattle.hv_history.specs.Legal.{is_named}
-use Rattle.hv_law_locks.specs.Dropping.{is_named_there}
+use Rattle.hv_history.specs.Legal.{is_named, is_named_there}
 use Rattle.hv_law_locks.specs.Locked.{StaysNamed}
 use Rattle.hv_law_locks.proofs.Texts.{neither, both, second-false, same-name}
 

@@ -14,8 +14,7 @@ use Rattle.hv_history.specs.declared.state.Statement.{Statement}
 use Rattle.hv_history.specs.declared.state.Table.{Table}
 use Rattle.hv_history.specs.declared.state.Transaction.{Transaction}
 use Rattle.hv_history.specs.State.{statement_tree, opening_tree, created_shape, changed_at}
-use Rattle.hv_history.specs.Legal.{locks_of_tree, locks_of, locks_conflict, conflicts_with_any, is_create, made_name, is_named}
-use Rattle.hv_law_locks.specs.Dropping.{is_drop, dropped_name}
+use Rattle.hv_history.specs.Legal.{locks_of_tree, locks_of, locks_conflict, conflicts_with_any, is_create, made_name, is_drop, dropped_name, is_named}
 use Rattle.hv_law_locks.specs.Locked.{IsApart, AreApart}
 
 -- ---- tests

@@ -8,19 +8,18 @@ use Rattle.hv_history.specs.declared.state.Table.{Table}
 use Rattle.hv_history.specs.declared.state.Snapshot.{Snapshot}
 use Rattle.hv_history.specs.declared.state.Transaction.{Transaction}
 use Rattle.hv_history.specs.State.{numbered, state_of, nothing_yet, opening_tree}
-use Rattle.hv_history.specs.Legal.{IsRunning, is_open, locks_of, is_named, is_create, made_name}
-use Rattle.hv_law_locks.specs.Dropping.{AllFitToo, is_drop, dropped_name, is_named_there}
+use Rattle.hv_history.specs.Legal.{AllFit, IsRunning, is_open, locks_of, is_named, is_named_there, is_create, made_name, is_drop, dropped_name}
 use Rattle.hv_law_locks.specs.Locked.{AreApart, KeepsNames}
 
 abbrev pub LocksAreApart : Type 0
 LocksAreApart =
-    (limits : Limits) (book : List Entry) (m n : ℕ) (a b : Transaction) → AllFitToo limits nothing_yet book → (m ≡ n → ⊥)
+    (limits : Limits) (book : List Entry) (m n : ℕ) (a b : Transaction) → AllFit limits nothing_yet book → (m ≡ n → ⊥)
     → numbered (state_of book).transactions m ≡ Some a → numbered (state_of book).transactions n ≡ Some b
     → IsRunning a → IsRunning b → AreApart (locks_of a) (locks_of b)
 
 abbrev pub LockedNamesStay : Type 0
 LockedNamesStay =
-    (limits : Limits) (book : List Entry) (n : ℕ) (t : Transaction) → AllFitToo limits nothing_yet book
+    (limits : Limits) (book : List Entry) (n : ℕ) (t : Transaction) → AllFit limits nothing_yet book
     → numbered (state_of book).transactions n ≡ Some t → KeepsNames (state_of book) t
 
 -- ---- what a statement that runs finds
@@ -36,7 +35,7 @@ pub record HoldsLock (book : List Entry) (n : ℕ) (t : Transaction) (s : Snapsh
 -- a table that was live under a locked name is live
 abbrev pub GivenTablesLive : Type 0
 GivenTablesLive =
-    (limits : Limits) (book : List Entry) (n : ℕ) (t : Transaction) (s : Snapshot) (lock : Lock) (table : ℕ) → AllFitToo limits nothing_yet book
+    (limits : Limits) (book : List Entry) (n : ℕ) (t : Transaction) (s : Snapshot) (lock : Lock) (table : ℕ) → AllFit limits nothing_yet book
     → HoldsLock book n t s lock → IsTrue (is_named_there lock.name (numbered s.tables table))
     → IsSomeAnd (numbered (state_of book).tables table) (λ (found : Table). IsTrue found.is_live)
 
@@ -48,14 +47,14 @@ pub record IsUnderWayTo (book : List Entry) (n : ℕ) (t : Transaction) (s : Sna
 
 abbrev pub CreatedNamesAreFree : Type 0
 CreatedNamesAreFree =
-    (limits : Limits) (book : List Entry) (n : ℕ) (t : Transaction) (s : Snapshot) → AllFitToo limits nothing_yet book
+    (limits : Limits) (book : List Entry) (n : ℕ) (t : Transaction) (s : Snapshot) → AllFit limits nothing_yet book
     → IsUnderWayTo book n t s → IsTrue (is_create (opening_tree t))
     → IsFalse (list_any (is_named (made_name (opening_tree t))) s.tables)
     → IsFalse (list_any (is_named (made_name (opening_tree t))) (state_of book).tables)
 
 abbrev pub DroppedTablesAreNamed : Type 0
 DroppedTablesAreNamed =
-    (limits : Limits) (book : List Entry) (n : ℕ) (t : Transaction) (s : Snapshot) (table : ℕ) → AllFitToo limits nothing_yet book
+    (limits : Limits) (book : List Entry) (n : ℕ) (t : Transaction) (s : Snapshot) (table : ℕ) → AllFit limits nothing_yet book
     → IsUnderWayTo book n t s → IsTrue (is_drop (opening_tree t))
     → IsTrue (is_named_there (dropped_name (opening_tree t)) (numbered s.tables table))
     → IsTrue (is_named_there (dropped_name (opening_tree t)) (numbered (state_of book).tables table))

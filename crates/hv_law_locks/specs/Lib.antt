@@ -1,3 +1,2 @@
-pub mod Dropping
 pub mod Locked
 pub mod Laws

@@ -7,8 +7,7 @@ use Rattle.hv_history.specs.declared.state.Table.{Table}
 use Rattle.hv_history.specs.declared.state.Snapshot.{Snapshot}
 use Rattle.hv_history.specs.declared.state.Transaction.{Transaction}
 use Rattle.hv_history.specs.State.{State, numbered}
-use Rattle.hv_history.specs.Legal.{IsRunning, is_open, locks_of}
-use Rattle.hv_law_locks.specs.Dropping.{is_named_there}
+use Rattle.hv_history.specs.Legal.{IsRunning, is_open, is_named_there, locks_of}
 
 -- the lock conflicts with none of those
 abbrev pub IsApart : List Lock → Lock → Type 0

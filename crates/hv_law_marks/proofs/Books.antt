@@ -18,11 +18,11 @@ use Rattle.hv_history.specs.declared.entry.Entry.TheVariants as entry
 use Rattle.hv_history.specs.declared.state.Snapshot.{Snapshot}
 use Rattle.hv_history.specs.declared.state.Statement.{Statement}
 use Rattle.hv_history.specs.declared.state.Transaction.{Transaction}
-use Rattle.hv_history.specs.declared.state.Ending.TheVariants.{Aborted, Made, Committed}
+use Rattle.hv_history.specs.declared.state.Ending.TheVariants.{Aborted, Made, Dropped, Committed}
 use Rattle.hv_history.specs.declared.state.Ending.{Ending}
 use Rattle.hv_history.specs.declared.state.Table.{Table}
 use Rattle.hv_history.specs.State.{State, nothing_yet, numbered, changed_at, first_of, first_known, meant_in, means, meaning, meaning_in, statement_meaning, opened, started, given_id, wrote_as, committed, ended, while_open, acted, after, state_of, written_by, changed, unless_ended}
-use Rattle.hv_history.specs.Legal.{GivenFits, Fits, AllFit, StartFits, CommitFits, CauseFits, CreateFits}
+use Rattle.hv_history.specs.Legal.{GivenFits, Fits, AllFit, StartFits, CommitFits, CauseFits, CreateFits, DropFits}
 use Rattle.hv_stands.specs.Files.{IsEncoded}
 use Rattle.hv_stands.specs.Sound.{IsSound}
 use Rattle.hv_stands.specs.Laws.{HasFile}
@@ -120,6 +120,8 @@ settled-after limits s (entry.Abort txn cause) fits sound each =
     all-open IsSettled (ended (Aborted s.entries cause)) (λ t h. record { bare = h.bare; readable = h.readable }) s.transactions txn.0 each
 settled-after limits s (entry.Create txn table) fits sound each =
     all-open IsSettled (ended (Made s.entries table.0)) (λ t h. record { bare = h.bare; readable = h.readable }) s.transactions txn.0 each
+settled-after limits s (entry.Drop txn table) fits sound each =
+    all-open IsSettled (ended (Dropped s.entries table.0)) (λ t h. record { bare = h.bare; readable = h.readable }) s.transactions txn.0 each
 settled-after limits s event fits sound each = absurd fits
 
 settled-all : (limits : Limits) (more : List Entry) (s : State) → AllFit limits s more → IsSound s → AllByRecursion IsSettled s.transactions
@@ -228,4 +230,7 @@ module _ (limits : Limits) (s : State) (settled : AllByRecursion IsSettled s.tra
   was-changing (entry.Create by_ table) fits h =
       let here = found (CreateFits s table.0) (numbered s.transactions by_.0) fits in
       changed-before (ended (Made s.entries table.0)) by_.0 here.0 here.1 (λ same. ended-not (ended (Made s.entries table.0) here.0) (Made s.entries table.0) refl) h
+  was-changing (entry.Drop by_ table) fits h =
+      let here = found (DropFits s table.0) (numbered s.transactions by_.0) fits in
+      changed-before (ended (Dropped s.entries table.0)) by_.0 here.0 here.1 (λ same. ended-not (ended (Dropped s.entries table.0) here.0) (Dropped s.entries table.0) refl) h
   was-changing event fits h = absurd fits

@@ -7,7 +7,7 @@ use Rattle.hv_base.specs.declared.ids.Touch.{Touch}
 use Rattle.hv_logic.specs.declared.catalog.TableInfo.{TableInfo}
 use Rattle.hv_logic.specs.declared.effect.Effect.{Effect}
 use Rattle.hv_logic.specs.declared.meaning.Meaning.{Meaning}
-use Rattle.hv_logic.specs.declared.meaning.Meaning.TheVariants.{Refused, Listing, Change, Make, Plain, Twice, RowLimit, PartitionLimit}
+use Rattle.hv_logic.specs.declared.meaning.Meaning.TheVariants.{Refused, Listing, Change, Make, Unmake, Plain, Twice, RowLimit, PartitionLimit}
 use Rattle.hv_route.specs.Touching.{touches_of}
 use Rattle.hv_history.specs.declared.entry.Entry.{Entry}
 use Rattle.hv_history.specs.declared.entry.Cause.TheVariants as cause
@@ -49,6 +49,7 @@ module _ (state : State) (txn : ℕ) (t : Transaction) where
   by-read (Some (Listing names rows)) at = refl
   by-read (Some (Change info effect)) at = unread info effect (needs_id t.given (Some (Change info effect)))
   by-read (Some (Make shape)) at = refl
+  by-read (Some (Unmake table)) at = refl
   by-read (Some Plain) at = refl
   by-read (Some (Twice region row)) at = refl
   by-read (Some RowLimit) at = refl
@@ -66,6 +67,7 @@ module _ (state : State) (txn : ℕ) (t : Transaction) where
       ap (λ b. if_before (Some stage.Commit) true (Some (changing state txn t info effect b))) at
       ∙ committing (touches_of info effect) (first_met (place_of_snapshot t.snapshot) (touches_of info effect) 1 state.transactions)
   by-commit (Some (Make shape)) at = refl
+  by-commit (Some (Unmake table)) at = refl
   by-commit (Some Plain) at = refl
   by-commit (Some (Twice region row)) at = absurd at
   by-commit (Some RowLimit) at = absurd at

@@ -15,7 +15,7 @@ use Rattle.hv_typing.specs.Analysis.{is_form}
 use Rattle.hv_logic.specs.declared.catalog.TableInfo.{TableInfo}
 use Rattle.hv_logic.specs.declared.effect.Effect.{Effect}
 use Rattle.hv_logic.specs.declared.meaning.Meaning.{Meaning}
-use Rattle.hv_logic.specs.declared.meaning.Meaning.TheVariants.{Refused, Listing, Change, Make, Plain, Twice, RowLimit, PartitionLimit}
+use Rattle.hv_logic.specs.declared.meaning.Meaning.TheVariants.{Refused, Listing, Change, Make, Unmake, Plain, Twice, RowLimit, PartitionLimit}
 use Rattle.hv_route.specs.Touching.{touches_of}
 use Rattle.hv_route.proofs.StandingLemmas.{touches-are-of-rows}
 use Rattle.hv_history.specs.declared.entry.Entry.{Entry}
@@ -23,13 +23,13 @@ use Rattle.hv_history.specs.declared.entry.Entry.TheVariants as entry
 use Rattle.hv_history.specs.declared.entry.Cause.{Cause}
 use Rattle.hv_history.specs.declared.entry.Cause.TheVariants as cause
 use Rattle.hv_history.specs.declared.state.Ending.{Ending}
-use Rattle.hv_history.specs.declared.state.Ending.TheVariants.{Committed, Aborted, Made}
+use Rattle.hv_history.specs.declared.state.Ending.TheVariants.{Committed, Aborted, Made, Dropped}
 use Rattle.hv_history.specs.declared.state.Statement.{Statement}
 use Rattle.hv_history.specs.declared.state.Table.{Table}
 use Rattle.hv_history.specs.declared.state.Snapshot.{Snapshot}
 use Rattle.hv_history.specs.declared.state.Transaction.{Transaction}
 use Rattle.hv_history.specs.State.{State, numbered, meaning, opening_tree, statement_tree, statement_of, given_in, first_of, started, given_id, committed, ended, changed, while_open, acted, after, state_of}
-use Rattle.hv_history.specs.Legal.{Of, Fits, IsTruthful, is_started, locks_of, holds_against, first_holder, IsRunning, IsOwnTouch, StartFits, GivenFits, CommitFits, CreateFits, CauseFits, FullFits, CauseIsTrue, TouchesAreMeant, IsMake, NeedsId, IsRefusedAs, ConflictIsTrue, IsFirstConflict, asks_to_abort, place_of_snapshot, HasRoom, load, profile}
+use Rattle.hv_history.specs.Legal.{Of, Fits, IsTruthful, is_started, locks_of, holds_against, first_holder, IsRunning, IsOwnTouch, StartFits, GivenFits, CommitFits, CreateFits, DropFits, CauseFits, FullFits, CauseIsTrue, TouchesAreMeant, IsMake, NeedsId, IsRefusedAs, ConflictIsTrue, IsFirstConflict, asks_to_abort, place_of_snapshot, HasRoom, load, profile}
 use Rattle.hv_stands.specs.Sound.{IsSound, IsSingle, info_in}
 use Rattle.hv_stands.specs.Running.{IsOf}
 use Rattle.hv_stands.proofs.Numbers.{found, one_value, numbered-within}
@@ -76,6 +76,7 @@ needs-true [] None needs = absurd needs
 needs-true [] (Some (Refused why)) needs = absurd needs
 needs-true [] (Some (Listing names rows)) needs = absurd needs
 needs-true [] (Some (Make shape)) needs = absurd needs
+needs-true [] (Some (Unmake table)) needs = absurd needs
 needs-true [] (Some Plain) needs = absurd needs
 needs-true [] (Some (Twice region row)) needs = absurd needs
 needs-true [] (Some RowLimit) needs = absurd needs
@@ -203,6 +204,7 @@ module _ (book : List Entry) (txn : ℕ) (t : Transaction) (at : numbered (state
       by (Some (Refused why)) is needs its = absurd (subst (IsOfTable table) is its)
       by (Some (Listing names rows)) is needs its = absurd (subst (IsOfTable table) is its)
       by (Some (Make shape)) is needs its = absurd (subst (IsOfTable table) is its)
+      by (Some (Unmake other)) is needs its = absurd (subst (IsOfTable table) is its)
       by (Some Plain) is needs its = absurd (subst (IsOfTable table) is its)
       by (Some (Twice region row)) is needs its = absurd (subst (IsOfTable table) is its)
       by (Some RowLimit) is needs its = absurd (subst (IsOfTable table) is its)
@@ -230,6 +232,7 @@ module _ (book : List Entry) (txn : ℕ) (t : Transaction) (at : numbered (state
       by None is truth = absurd (subst (TouchesAreMeant wrote) is truth)
       by (Some (Refused why)) is truth = absurd (subst (TouchesAreMeant wrote) is truth)
       by (Some (Make shape)) is truth = absurd (subst (TouchesAreMeant wrote) is truth)
+      by (Some (Unmake table)) is truth = absurd (subst (TouchesAreMeant wrote) is truth)
       by (Some (Twice region row)) is truth = absurd (subst (TouchesAreMeant wrote) is truth)
       by (Some RowLimit) is truth = absurd (subst (TouchesAreMeant wrote) is truth)
       by (Some PartitionLimit) is truth = absurd (subst (TouchesAreMeant wrote) is truth)
@@ -245,10 +248,14 @@ module _ (book : List Entry) (txn : ℕ) (t : Transaction) (at : numbered (state
       by (Some (Change info effect)) is truth = absurd (subst IsMake is truth)
       by (Some (Refused why)) is truth = absurd (subst IsMake is truth)
       by (Some (Listing names rows)) is truth = absurd (subst IsMake is truth)
+      by (Some (Unmake other)) is truth = absurd (subst IsMake is truth)
       by (Some Plain) is truth = absurd (subst IsMake is truth)
       by (Some (Twice region row)) is truth = absurd (subst IsMake is truth)
       by (Some RowLimit) is truth = absurd (subst IsMake is truth)
       by (Some PartitionLimit) is truth = absurd (subst IsMake is truth)
+
+  drop-next : (table : TableId) → DropFits s table.0 t → meaning t ≡ Some (Unmake table) → next_of s txn t ≡ Some (entry.Drop (record { 0 = txn }) table)
+  drop-next table fits truth = means (entry.Drop (record { 0 = txn }) table) fits.running (Some (Unmake table)) truth refl
 
   refused-next : (number : ℕ) → IsRunning t → IsRefusedAs number (meaning t) → next_of s txn t ≡ Some (abort txn (cause.Refused number))
   refused-next number running truth = by (meaning t) refl truth
@@ -261,6 +268,7 @@ module _ (book : List Entry) (txn : ℕ) (t : Transaction) (at : numbered (state
       by (Some (Change info effect)) is truth = absurd (subst (IsRefusedAs number) is truth)
       by (Some (Listing names rows)) is truth = absurd (subst (IsRefusedAs number) is truth)
       by (Some (Make shape)) is truth = absurd (subst (IsRefusedAs number) is truth)
+      by (Some (Unmake table)) is truth = absurd (subst (IsRefusedAs number) is truth)
       by (Some Plain) is truth = absurd (subst (IsRefusedAs number) is truth)
       by (Some (Twice region row)) is truth = absurd (subst (IsRefusedAs number) is truth)
       by (Some RowLimit) is truth = absurd (subst (IsRefusedAs number) is truth)
@@ -287,6 +295,7 @@ module _ (book : List Entry) (txn : ℕ) (t : Transaction) (at : numbered (state
       by (Some (Refused why)) is truth = absurd (subst (ConflictIsTrue s other.0 table.0 partition t) is truth)
       by (Some (Listing names rows)) is truth = absurd (subst (ConflictIsTrue s other.0 table.0 partition t) is truth)
       by (Some (Make shape)) is truth = absurd (subst (ConflictIsTrue s other.0 table.0 partition t) is truth)
+      by (Some (Unmake dropped)) is truth = absurd (subst (ConflictIsTrue s other.0 table.0 partition t) is truth)
       by (Some Plain) is truth = absurd (subst (ConflictIsTrue s other.0 table.0 partition t) is truth)
       by (Some (Twice region row)) is truth = absurd (subst (ConflictIsTrue s other.0 table.0 partition t) is truth)
       by (Some RowLimit) is truth = absurd (subst (ConflictIsTrue s other.0 table.0 partition t) is truth)
@@ -314,6 +323,7 @@ module _ (book : List Entry) (txn : ℕ) (t : Transaction) (at : numbered (state
       by (Some (Refused why)) is asks = absurd (other-needs t.given (Some (Refused why)) (subst (NeedsId t.given) is needs) tt)
       by (Some (Listing names rows)) is asks = absurd (other-needs t.given (Some (Listing names rows)) (subst (NeedsId t.given) is needs) tt)
       by (Some (Make shape)) is asks = absurd (other-needs t.given (Some (Make shape)) (subst (NeedsId t.given) is needs) tt)
+      by (Some (Unmake table)) is asks = absurd (other-needs t.given (Some (Unmake table)) (subst (NeedsId t.given) is needs) tt)
       by (Some Plain) is asks = absurd (other-needs t.given (Some Plain) (subst (NeedsId t.given) is needs) tt)
       by (Some (Twice region row)) is asks = absurd (other-needs t.given (Some (Twice region row)) (subst (NeedsId t.given) is needs) tt)
       by (Some RowLimit) is asks = absurd (other-needs t.given (Some RowLimit) (subst (NeedsId t.given) is needs) tt)
@@ -404,6 +414,11 @@ module _ (book : List Entry) (txn : ℕ) (t : Transaction) (at : numbered (state
   create-fewer table fits =
       ends-fewer (ended (Made s.entries table.0)) (Made s.entries table.0) (after s (entry.Create (record { 0 = txn }) table)) refl (still-open t fits.running.unended) refl
 
+  drop-fewer : (table : TableId) → DropFits s table.0 t → HasFewer txn (rank t) (after s (entry.Drop (record { 0 = txn }) table))
+  unfolding acted
+  drop-fewer table fits =
+      ends-fewer (ended (Dropped s.entries table.0)) (Dropped s.entries table.0) (after s (entry.Drop (record { 0 = txn }) table)) refl (still-open t fits.running.unended) refl
+
   abort-fewer : (why : Cause) → CauseFits profile s txn why t → HasFewer txn (rank t) (after s (entry.Abort (record { 0 = txn }) why))
   unfolding acted
   abort-fewer why fits =
@@ -447,6 +462,12 @@ next-is book txn t (entry.Create id table) at sound running good =
     let truth = here book txn t at (λ x. IsMake (meaning x)) id same good.truth in
     subst (λ n. IsNext book txn t (entry.Create (record { 0 = n }) table)) (sym same)
     (record { next = create-next book txn t at table fits truth; later = create-fewer book txn t at table fits })
+next-is book txn t (entry.Drop id table) at sound running good =
+    let same : id.0 ≡ txn = one_value id.0 txn good.of_it in
+    let fits = here book txn t at (DropFits (state_of book) table.0) id same good.fits in
+    let truth = here book txn t at (λ x. meaning x ≡ Some (Unmake table)) id same good.truth in
+    subst (λ n. IsNext book txn t (entry.Drop (record { 0 = n }) table)) (sym same)
+    (record { next = drop-next book txn t at table fits truth; later = drop-fewer book txn t at table fits })
 next-is book txn t (entry.Abort id why) at sound running good =
     let same : id.0 ≡ txn = one_value id.0 txn good.of_it in
     let fits0 = here book txn t at (CauseFits profile (state_of book) id.0 why) id same good.fits in

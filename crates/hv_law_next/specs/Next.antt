@@ -9,7 +9,7 @@ use Rattle.hv_base.specs.declared.ids.Touch.{Touch}
 use Rattle.hv_logic.specs.declared.catalog.TableInfo.{TableInfo}
 use Rattle.hv_logic.specs.declared.effect.Effect.{Effect}
 use Rattle.hv_logic.specs.declared.meaning.Meaning.{Meaning}
-use Rattle.hv_logic.specs.declared.meaning.Meaning.TheVariants.{Refused, Listing, Change, Make, Plain, Twice, RowLimit, PartitionLimit}
+use Rattle.hv_logic.specs.declared.meaning.Meaning.TheVariants.{Refused, Listing, Change, Make, Unmake, Plain, Twice, RowLimit, PartitionLimit}
 use Rattle.hv_route.specs.Touching.{touches_of}
 use Rattle.hv_history.specs.declared.entry.Entry.{Entry}
 use Rattle.hv_history.specs.declared.entry.Entry.TheVariants as entry
@@ -103,6 +103,7 @@ by_meaning state txn transaction (Some PartitionLimit) = Some (abort txn cause.P
 by_meaning state txn transaction (Some (Listing names rows)) = Some (commit txn [])
 by_meaning state txn transaction (Some Plain) = Some (commit txn [])
 by_meaning state txn transaction (Some (Make shape)) = Some (entry.Create (record { 0 = txn }) (record { 0 = length state.tables + 1 }))
+by_meaning state txn transaction (Some (Unmake table)) = Some (entry.Drop (record { 0 = txn }) table)
 by_meaning state txn transaction (Some (Change info effect)) =
     Some (changing state txn transaction info effect (needs_id transaction.given (Some (Change info effect))))
 by_meaning state txn transaction None = None
@@ -130,6 +131,7 @@ is_refusal event = false
 abbrev pub is_commit : Entry → Bool
 is_commit (entry.Commit txn wrote) = true
 is_commit (entry.Create txn table) = true
+is_commit (entry.Drop txn table) = true
 is_commit (entry.Abort txn (cause.Conflict by_ table partition)) = true
 is_commit event = false
 

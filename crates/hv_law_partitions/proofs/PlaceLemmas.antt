@@ -5,7 +5,7 @@ use Rattle.std.proofs.lemmas.List.{append-nil}
 use Rattle.hv_base.specs.declared.ids.Limits.{Limits}
 use Rattle.hv_history.specs.declared.entry.Entry.{Entry}
 use Rattle.hv_history.specs.declared.entry.Entry.TheVariants as entry
-use Rattle.hv_history.specs.declared.state.Ending.TheVariants.{Aborted, Made}
+use Rattle.hv_history.specs.declared.state.Ending.TheVariants.{Aborted, Made, Dropped}
 use Rattle.hv_history.specs.declared.state.Snapshot.{Snapshot}
 use Rattle.hv_history.specs.declared.state.Transaction.{Transaction}
 use Rattle.hv_history.specs.Legal.{Fits, AllFit}
@@ -73,6 +73,8 @@ taken-after limits book event fits h =
         all-open (Taken (book ++ event ∷ [])) (ended (Aborted (state_of book).entries cause)) (λ t m. m) (state_of book).transactions txn.0 k
     by (entry.Create txn table) fits k =
         all-open (Taken (book ++ event ∷ [])) (ended (Made (state_of book).entries table.0)) (λ t m. m) (state_of book).transactions txn.0 k
+    by (entry.Drop txn table) fits k =
+        all-open (Taken (book ++ event ∷ [])) (ended (Dropped (state_of book).entries table.0)) (λ t m. m) (state_of book).transactions txn.0 k
     by other fits k = absurd fits
 
 taken-all : (limits : Limits) (book more : List Entry) → AllFit limits (state_of book) more → AllByRecursion (Taken book) (state_of book).transactions

@@ -40,7 +40,7 @@ use Rattle.hv_law_partitions.proofs.ContentLemmas.{content-of-partition}
 use Rattle.hv_law_partitions.proofs.ListLemmas.{list-in}
 use Rattle.hv_law_partitions.proofs.CommitLemmas.{book-sound, committed-in, content-written}
 use Rattle.hv_law_partitions.proofs.SnapshotLemmas.{IsLater, tables-go-on}
-use Rattle.hv_law_partitions.proofs.StoodLemmas.{owner-front, WasWritten, given-was, made-was, wrote-was, OneWrite, single-writes}
+use Rattle.hv_law_partitions.proofs.StoodLemmas.{owner-front, WasWritten, given-was, dropped-was, made-was, wrote-was, OneWrite, single-writes}
 
 -- ---- a book from a place on
 
@@ -239,6 +239,7 @@ came-from limits s (entry.Commit txn wrote) fits sound number next written now h
 came-from limits s (entry.Abort txn cause) fits sound number next written now here = inl (next, now, here)
 came-from limits s (entry.Create txn table) fits sound number next written now here =
     inl (made-was s.tables (made_by table.0 (numbered s.transactions txn.0)) refl number next written now here)
+came-from limits s (entry.Drop txn table) fits sound number next written now here = inl (dropped-was table.0 s.tables number next written now here)
 came-from limits s event fits sound number next written now here = absurd fits
 
 -- over several entries

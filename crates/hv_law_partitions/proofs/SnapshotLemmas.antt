@@ -14,7 +14,7 @@ use Rattle.hv_logic.specs.declared.meaning.Meaning.{Meaning}
 use Rattle.hv_logic.specs.declared.meaning.Meaning.TheVariants.{Change}
 use Rattle.hv_history.specs.declared.entry.Entry.{Entry}
 use Rattle.hv_history.specs.declared.entry.Entry.TheVariants as entry
-use Rattle.hv_history.specs.declared.state.Ending.TheVariants.{Aborted, Made}
+use Rattle.hv_history.specs.declared.state.Ending.TheVariants.{Aborted, Made, Dropped}
 use Rattle.hv_history.specs.declared.state.Snapshot.{Snapshot}
 use Rattle.hv_history.specs.declared.state.Statement.{Statement}
 use Rattle.hv_history.specs.declared.state.Table.{Table}
@@ -217,5 +217,10 @@ knows-after limits s (entry.Create txn table) fits sound h =
     let next : List Table = (after s (entry.Create txn table)).tables in
     let on : TablesGoOn s.tables next = tables-go-on s (entry.Create txn table) in
     all-open (Knows next) (ended (Made s.entries table.0)) (λ t k. k) s.transactions txn.0
+    (all-mapped (Knows s.tables) (Knows next) (λ u k. knows-later s.tables next on u.snapshot u.given (meaning u) k) s.transactions h)
+knows-after limits s (entry.Drop txn table) fits sound h =
+    let next : List Table = (after s (entry.Drop txn table)).tables in
+    let on : TablesGoOn s.tables next = tables-go-on s (entry.Drop txn table) in
+    all-open (Knows next) (ended (Dropped s.entries table.0)) (λ t k. k) s.transactions txn.0
     (all-mapped (Knows s.tables) (Knows next) (λ u k. knows-later s.tables next on u.snapshot u.given (meaning u) k) s.transactions h)
 knows-after limits s event fits sound h = absurd fits

@@ -11,7 +11,7 @@ use Rattle.hv_logic.specs.declared.catalog.TableInfo.{TableInfo}
 use Rattle.hv_logic.specs.declared.effect.Effect.{Effect}
 use Rattle.hv_logic.specs.declared.effect.Found.{Found}
 use Rattle.hv_logic.specs.declared.meaning.Meaning.{Meaning}
-use Rattle.hv_logic.specs.declared.meaning.Meaning.TheVariants.{Refused, Listing, Change, Make, Plain, Twice, RowLimit, PartitionLimit}
+use Rattle.hv_logic.specs.declared.meaning.Meaning.TheVariants.{Refused, Listing, Change, Make, Unmake, Plain, Twice, RowLimit, PartitionLimit}
 use Rattle.hv_history.specs.declared.entry.Entry.{Entry}
 use Rattle.hv_history.specs.declared.entry.Entry.TheVariants as entry
 use Rattle.hv_history.specs.declared.state.Snapshot.{Snapshot}
@@ -21,7 +21,7 @@ use Rattle.hv_history.specs.declared.state.Transaction.{Transaction}
 use Rattle.hv_history.specs.declared.state.Written.{Written}
 use Rattle.hv_history.specs.Lasting.{IsFront, Later}
 use Rattle.hv_history.specs.Legal.{CommitFits, Fits, AllFit}
-use Rattle.hv_history.specs.State.{State, numbered, changed, changed_at, nothing_yet, state_of, given_in, meaning, wrote_as, writes_of, written_by, owned, written_to, commits, tables_behind, made_by, acted, after}
+use Rattle.hv_history.specs.State.{State, numbered, changed, changed_at, nothing_yet, state_of, given_in, meaning, wrote_as, writes_of, written_by, owned, dropped, written_to, commits, tables_behind, made_by, acted, after}
 use Rattle.hv_history.proofs.LastingLaws.{kept-more, goes-on}
 use Rattle.hv_stands.specs.Sound.{info_in, given_of, owners_of, given_among, IsSingle, IsSound}
 use Rattle.hv_stands.proofs.Numbers.{one_value, same_one, found, numbered-map, numbered-or-last}
@@ -90,17 +90,26 @@ changed-from f xs (suc n) (suc k) y e =
 abbrev pub WasWritten : List Table → ℕ → Written → Type 0
 WasWritten tables number written = (table : Table) × (numbered tables number ≡ Some table) × IsIn written table.writes
 
-pub given-was : (txn key : ℕ) (tables : List Table) (number : ℕ) (next : Table) (written : Written) → numbered (changed (owned txn) tables key) number ≡ Some next
-    → IsIn written next.writes → WasWritten tables number written
-given-was txn key tables number next written is at =
-    let m = changed-from (owned txn) tables key number next is in (
+-- where a change keeps a table's writes
+pub kept-was : (f : Table → Table) → ((t : Table) → (f t).writes ≡ t.writes) → (key : ℕ) (tables : List Table) (number : ℕ) (next : Table) (written : Written)
+    → numbered (changed f tables key) number ≡ Some next → IsIn written next.writes → WasWritten tables number written
+kept-was f kept key tables number next written is at =
+    let m = changed-from f tables key number next is in (
       m.0,
       m.1,
       elim m.2 [
         | inl same ↦ subst (λ (t : Table). IsIn written t.writes) same at
-        | inr new ↦ subst (λ (t : Table). IsIn written t.writes) new.1 at
+        | inr new ↦ subst (IsIn written) (kept m.0) (subst (λ (t : Table). IsIn written t.writes) new.1 at)
       ],
     )
+
+pub given-was : (txn key : ℕ) (tables : List Table) (number : ℕ) (next : Table) (written : Written) → numbered (changed (owned txn) tables key) number ≡ Some next
+    → IsIn written next.writes → WasWritten tables number written
+given-was txn key tables number next written is at = kept-was (owned txn) (λ t. refl) key tables number next written is at
+
+pub dropped-was : (key : ℕ) (tables : List Table) (number : ℕ) (next : Table) (written : Written) → numbered (changed dropped tables key) number ≡ Some next
+    → IsIn written next.writes → WasWritten tables number written
+dropped-was key tables number next written is at = kept-was dropped (λ t. refl) key tables number next written is at
 
 pub made-was : (tables : List Table) (made : Table) → made.writes ≡ [] → (number : ℕ) (next : Table) (written : Written)
     → numbered (tables ++ made ∷ []) number ≡ Some next → IsIn written next.writes → WasWritten tables number written
@@ -140,6 +149,7 @@ one-write (Some (Refused why)) given = inl refl
 one-write (Some (Listing names rows)) given = inl refl
 one-write (Some (Change info effect)) given = change-write info effect given (given_in info.table.0 given) refl
 one-write (Some (Make shape)) given = inl refl
+one-write (Some (Unmake table)) given = inl refl
 one-write (Some Plain) given = inl refl
 one-write (Some (Twice region row)) given = inl refl
 one-write (Some RowLimit) given = inl refl
@@ -236,6 +246,8 @@ stood-after limits s (entry.Abort txn cause) fits sound knows h = λ number next
 stood-after limits s (entry.Create txn table) fits sound knows h = λ number next written now here.
     old-stood s (entry.Create txn table) number next written h now
     (made-was s.tables (made_by table.0 (numbered s.transactions txn.0)) refl number next written now here)
+stood-after limits s (entry.Drop txn table) fits sound knows h = λ number next written now here.
+    old-stood s (entry.Drop txn table) number next written h now (dropped-was table.0 s.tables number next written now here)
 stood-after limits s event fits sound knows h = absurd fits
 
 stood-all : (limits : Limits) (s : State) (more : List Entry) → AllFit limits s more → IsSound s → AllByRecursion (Knows s.tables) s.transactions → AllStood s

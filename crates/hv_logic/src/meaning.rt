@@ -1,6 +1,6 @@
 use crate::catalog::{Shape, TableInfo};
 use crate::effect::Effect;
-use hv_base::{List, Refusal, RowId, Text};
+use hv_base::{List, Refusal, RowId, TableId, Text};
 use hv_value::Row;
 
 /// What a statement comes to over the tables that it sees.
@@ -14,6 +14,8 @@ pub enum Meaning {
     Change(TableInfo, Effect),
     /// A new table of this shape.
     Make(Shape),
+    /// The end of a table.
+    Unmake(TableId),
     /// Nothing that the book keeps.
     Plain,
     /// A MERGE whose clauses are of matched rows, where two source rows match one row of the target: the least such row, by its

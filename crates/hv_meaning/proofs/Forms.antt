@@ -20,6 +20,7 @@ use Rattle.hv_ast.specs.declared.statement.Setting.{Setting}
 use Rattle.hv_ast.specs.declared.statement.Stmt.{Stmt}
 use Rattle.hv_ast.specs.declared.statement.Stmt.TheVariants as stmt
 use Rattle.hv_ast.specs.declared.table.CreateTable.{CreateTable}
+use Rattle.hv_ast.specs.declared.table.DropTable.{DropTable}
 use Rattle.hv_value.specs.declared.sql_type.SqlType.{SqlType}
 use Rattle.hv_value.specs.Conversion.{is_convertible}
 use Rattle.hv_expr.specs.declared.tree.TypedExpr.{TypedExpr}
@@ -54,12 +55,13 @@ use Rattle.hv_typing.specs.declared.logic.Logic.TheVariants as logic
 use Rattle.hv_typing.specs.Analysis.{is_windowless, is_windowless_source, are_windowless, is_form, query_analysed, change_analysed, merge_analysed, form_analysed, analysed}
 use Rattle.hv_typing.specs.Changes.{source_inserted, inserted, changing, changing_table, changing_at, change_of}
 use Rattle.hv_typing.specs.Creates.{place_of, created, made, fault_of, unless_fault, names_repeat, is_bucket_column, arrays_route, numbers_fit, is_unkept}
+use Rattle.hv_typing.specs.Drops.{dropped, dropped_as, dropped_at}
 use Rattle.hv_typing.specs.Descriptions.{described, described_as, described_at}
 use Rattle.hv_typing.specs.Settings.{set_analysed, takes_value}
 use Rattle.hv_typing.specs.Subqueries.{selected}
 use Rattle.hv_meaning.specs.Meaning.{its_tables, info_of, found_in, tables_of, changed_in, merged_in, refused_for, meant, meaning_in}
 use Rattle.hv_meaning.specs.Laws.{MeansSomething, FormsMean, OtherFormsMeanNothing}
-use Rattle.hv_meaning.proofs.Outcomes.{OnOk, on_ok, then-ok, IsChangeOf, changes-are, creates-are, describes-are, settings-are}
+use Rattle.hv_meaning.proofs.Outcomes.{OnOk, on_ok, then-ok, IsChangeOf, changes-are, creates-are, drops-are, describes-are, settings-are}
 use Rattle.hv_meaning.proofs.Queries.{free-filter, free-selected, free-brought}
 use Rattle.hv_meaning.proofs.Merges.{IsMergeOf, merges-are}
 use Rattle.hv_meaning.proofs.Typed.{IsOther, Free, free-then, free-if, free-front, free-each, free-placed, typed-free}
@@ -315,6 +317,18 @@ free-created tables create =
     let exists = is_some (place_of create.table tables) in
     free-made (fault_of exists create) (made exists create) (free-faults exists create)
 
+free-dropped : (tables : List TableInfo) (drop : DropTable) → Free (dropped tables drop)
+unfolding dropped
+free-dropped tables drop = at (place_of drop.table tables)
+  where
+    told : (info : Option TableInfo) → Free (dropped_as drop.if_exists info)
+    told None = free-if drop.if_exists _ _ tt tt
+    told (Some info) = tt
+
+    at : (place : Option ℕ) → Free (dropped_at tables drop.if_exists place)
+    at None = told None
+    at (Some place) = told (slice_get tables place)
+
 free-described : (tables : List TableInfo) (name : List ℕ) → Free (described tables name)
 unfolding described
 free-described tables name = at (place_of name tables)
@@ -381,6 +395,8 @@ means-form (stmt.Merge merge) infos found e = merges-mean infos found merge e
 means-form (stmt.Truncate truncate) infos found e = change-mean infos found truncate.table (stmt.Truncate truncate) refl e
 means-form (stmt.CreateTable create) infos found e =
     free-means infos found (created infos create) (free-created infos create) (creates-are (Means infos found) infos create tt tt)
+means-form (stmt.DropTable drop) infos found e =
+    free-means infos found (dropped infos drop) (free-dropped infos drop) (drops-are (Means infos found) infos drop tt (λ table. tt))
 means-form (stmt.Describe table) infos found e =
     free-means infos found (described infos table) (free-described infos table) (describes-are (Means infos found) infos table (λ columns. tt))
 means-form (stmt.Set setting) infos found e =

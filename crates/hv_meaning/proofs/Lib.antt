@@ -6,5 +6,6 @@ mod Twice
 mod Typed
 mod Queries
 pub mod Meanings
+mod Drops
 pub mod Forms
 pub mod Unseen

@@ -7,6 +7,7 @@ use Rattle.std.specs.List.{position_or_len, flat_map}
 use Rattle.std.specs.List.{AllByRecursion, list_all, list_any}
 use Rattle.std.specs.Option.{option_map, option_to_list}
 use Rattle.std.specs.Cmp.Lexicographic.{pointwise}
+use Rattle.hv_base.specs.declared.ids.TableId.{TableId}
 use Rattle.hv_base.specs.declared.ids.Touch.{Touch}
 use Rattle.hv_base.specs.declared.refusal.Refusal.{Refusal}
 use Rattle.hv_base.specs.declared.refusal.Refusal.TheVariants as refusal
@@ -18,6 +19,7 @@ use Rattle.hv_ast.specs.declared.statement.Setting.{Setting}
 use Rattle.hv_ast.specs.declared.statement.Stmt.{Stmt}
 use Rattle.hv_ast.specs.declared.statement.Stmt.TheVariants as stmt
 use Rattle.hv_ast.specs.declared.table.CreateTable.{CreateTable}
+use Rattle.hv_ast.specs.declared.table.DropTable.{DropTable}
 use Rattle.hv_value.specs.declared.row.Row.{Row}
 use Rattle.hv_value.specs.declared.sql_type.SqlType.{SqlType}
 use Rattle.hv_value.specs.declared.sql_type.SqlType.TheVariants as type
@@ -35,7 +37,7 @@ use Rattle.hv_logic.specs.declared.catalog.TableInfo.{TableInfo}
 use Rattle.hv_logic.specs.declared.effect.Effect.{Effect}
 use Rattle.hv_logic.specs.declared.effect.Found.{Found}
 use Rattle.hv_logic.specs.declared.meaning.Meaning.{Meaning}
-use Rattle.hv_logic.specs.declared.meaning.Meaning.TheVariants.{Refused, Listing, Change, Make, Plain}
+use Rattle.hv_logic.specs.declared.meaning.Meaning.TheVariants.{Refused, Listing, Change, Make, Unmake, Plain}
 use Rattle.hv_logic.specs.declared.seen.Seen.{Seen}
 use Rattle.hv_logic.specs.Tables.{named}
 use Rattle.hv_logic.specs.Shapes.{column_of, shape_of, bucket_names}
@@ -60,12 +62,13 @@ use Rattle.hv_typing.specs.declared.logic.Logic.TheVariants as logic
 use Rattle.hv_typing.specs.Analysis.{analysed, form_analysed, is_form, query_analysed, change_analysed, merge_analysed}
 use Rattle.hv_typing.specs.Creates.{created, created_beside, place_of, is_table, fault_of, names_repeat, is_bucket_column, has_array, is_array_named, arrays_route, numbers_fit}
 use Rattle.hv_typing.specs.Changes.{changing, change_of}
+use Rattle.hv_typing.specs.Drops.{dropped}
 use Rattle.hv_typing.specs.Descriptions.{described}
 use Rattle.hv_typing.specs.Settings.{set_analysed}
 use Rattle.hv_typing.specs.Subqueries.{selected}
 use Rattle.hv_meaning.specs.Meaning.{its_tables, named_by, info_of, found_in, tables_of, is_matched, matched, frames_from, first_value, stored_values, stored_row, is_received, deleted, change_effect, within_limits, or_none, changed_in, merge_of, merged_in, refused_for, meant, meaning_in, meaning_of}
 use Rattle.hv_meaning.specs.Laws.{MakesNew, TablesAreNew, AreOf, IsRowOf, AreOfRows, change_name, ChangesNamed, ChangesAreNamed, ChangesSeen, ChangesAreSeen, only_inserts, InsertsDeleteNothing}
-use Rattle.hv_meaning.proofs.Outcomes.{OnOk, on_ok, then-ok, IsGone, IsChangeOf, inserts-are, changes-are, creates-are, describes-are, settings-are, makes}
+use Rattle.hv_meaning.proofs.Outcomes.{OnOk, on_ok, then-ok, IsGone, IsChangeOf, inserts-are, changes-are, creates-are, drops-are, describes-are, settings-are, makes}
 use Rattle.hv_meaning.proofs.Stored.{both}
 use Rattle.hv_meaning.proofs.Limits.{neither, limits-come, fits-table, flat-columns}
 use Rattle.hv_meaning.proofs.Merges.{IsMergeOf, merges-are, merges-come, all-both, all-made}
@@ -98,6 +101,11 @@ module _ (P : Option Meaning → Type 0) (unbuilt : P None) (refused : (why : Re
   queries-come infos found query listing =
       meant-is infos found (query_analysed infos query) (then-ok (Comes infos found) (selected infos query) _ (λ typed e. listing _ _))
 
+  pub drops-come : (infos : List TableInfo) (found : List (List Found)) (dropping : DropTable) → P (Some Plain) → ((table : TableId) → P (Some (Unmake table)))
+      → P (meant infos found (dropped infos dropping))
+  drops-come infos found dropping plain unmake =
+      meant-is infos found (dropped infos dropping) (drops-are (Comes infos found) infos dropping plain unmake)
+
   pub describes-come : (infos : List TableInfo) (found : List (List Found)) (name : List ℕ) → ((names : List (List ℕ)) (rows : List Row) → P (Some (Listing names rows)))
       → P (meant infos found (described infos name))
   describes-come infos found name listing =
@@ -120,7 +128,7 @@ place-none p xs h =
     ap (λ n. cond (nat_lt n (length xs)) (Some n) None) (len-none p xs h)
     ∙ ap (λ b. cond b (Some (length xs)) None) (le-ltb (length xs) (length xs) (omega arith))
 
-place-first : {X : Type 0} (p : X → Bool) (x : X) (xs : List X) → p x ≡ true → position p (x ∷ xs) ≡ Some 0
+pub place-first : {X : Type 0} (p : X → Bool) (x : X) (xs : List X) → p x ≡ true → position p (x ∷ xs) ≡ Some 0
 place-first p x xs here =
     let first : position_or_len p (x ∷ xs) ≡ 0 = ap (λ b. cond (not b) (1 + position_or_len p xs) 0) here in
     ap (λ n. cond (nat_lt n (length (x ∷ xs))) (Some n) None) first
@@ -134,7 +142,7 @@ first-same name first seen rest more true is found =
     ap (λ (s : Seen). pointwise nat_eq s.info.shape.name name) (sym same) ∙ is
 first-same name first seen rest more false is found = more found
 
-named-same : (name : List ℕ) (tables : List Seen) (seen : Seen) → named name tables ≡ Some seen → pointwise nat_eq seen.info.shape.name name ≡ true
+pub named-same : (name : List ℕ) (tables : List Seen) (seen : Seen) → named name tables ≡ Some seen → pointwise nat_eq seen.info.shape.name name ≡ true
 named-same name [] seen e = cc
 named-same name (first ∷ tables) seen e =
     first-same name first seen (named name tables) (named-same name tables seen) (pointwise nat_eq first.info.shape.name name) refl e
@@ -394,6 +402,7 @@ named-form (stmt.CreateTable create) tables =
     let infos = map info_of (its_tables (stmt.CreateTable create) tables) in
     let found = map found_in (its_tables (stmt.CreateTable create) tables) in
     meant-is N tt (λ why. tt) infos found (created infos create) (creates-are (Comes N tt (λ why. tt) infos found) infos create tt tt)
+named-form (stmt.DropTable dropping) tables = drops-come (Named (stmt.DropTable dropping) tables) tt (λ why. tt) _ _ dropping tt (λ table. tt)
 named-form (stmt.Describe table) tables =
     describes-come (Named (stmt.Describe table) tables) tt (λ why. tt) _ _ table (λ names rows. tt)
 named-form (stmt.Set setting) tables =
@@ -472,6 +481,7 @@ any-seen tables (Ok (logic.Merge merge)) =
     (sym (get-mapped found_in tables merge.table))
     (merge-seen tables merge.table all_rows merge (slice_get tables merge.table) refl))
 any-seen tables (Ok (logic.Make shape)) = tt
+any-seen tables (Ok (logic.Unmake table)) = tt
 any-seen tables (Ok logic.Nothing) = tt
 any-seen tables (Ok (logic.Describe columns)) = tt
 any-seen tables (Err why) = refused-is (SeenOf tables) tt (λ other. tt) why
@@ -536,7 +546,7 @@ abbrev MakesAt : Stmt → List Seen → Option Meaning → Type 0
 MakesAt tree tables (Some (Make shape)) = MakesNew tree tables shape
 MakesAt tree tables _ = Unit {0}
 
-abbrev infos_of : Option Seen → List TableInfo
+abbrev pub infos_of : Option Seen → List TableInfo
 infos_of found = map info_of (option_to_list found ++ [])
 
 none-of : (b : Bool) (why : Refusal) (rest : Option Refusal) → cond b (Some why) rest ≡ None → (b ≡ false) × (rest ≡ None)
@@ -626,6 +636,7 @@ makes-form (stmt.CreateTable create) tables =
     let found = map found_in (its_tables (stmt.CreateTable create) tables) in
     meant-is (MakesAt (stmt.CreateTable create) tables) tt (λ why. tt) infos found (created infos create)
     (create-comes create tables found (named create.table tables) refl)
+makes-form (stmt.DropTable dropping) tables = drops-come (MakesAt (stmt.DropTable dropping) tables) tt (λ why. tt) _ _ dropping tt (λ table. tt)
 makes-form (stmt.Describe table) tables =
     describes-come (MakesAt (stmt.Describe table) tables) tt (λ why. tt) _ _ table (λ names rows. tt)
 makes-form (stmt.Set setting) tables =

@@ -1,6 +1,7 @@
 -- What analysis can give, form by form.
 use Rattle.std.proofs.Common.{◌≡◌, ℕ, Bool, true, false, cond, ◌==◌, List, map, slice_get, length, Option, Some, None, Result, Ok, Err, refl, subst}
 use Rattle.std.specs.List.{list_all}
+use Rattle.hv_base.specs.declared.ids.TableId.{TableId}
 use Rattle.hv_base.specs.declared.refusal.Refusal.{Refusal}
 use Rattle.hv_base.specs.declared.refusal.Refusal.TheVariants as refusal
 use Rattle.hv_ast.specs.declared.change.Delete.{Delete}
@@ -14,6 +15,7 @@ use Rattle.hv_ast.specs.declared.statement.Setting.{Setting}
 use Rattle.hv_ast.specs.declared.statement.Stmt.{Stmt}
 use Rattle.hv_ast.specs.declared.statement.Stmt.TheVariants as stmt
 use Rattle.hv_ast.specs.declared.table.CreateTable.{CreateTable}
+use Rattle.hv_ast.specs.declared.table.DropTable.{DropTable}
 use Rattle.hv_expr.specs.declared.tree.TypedExpr.{TypedExpr}
 use Rattle.hv_value.specs.declared.sql_type.SqlType.{SqlType}
 use Rattle.hv_logic.specs.declared.catalog.Column.{Column}
@@ -34,6 +36,7 @@ use Rattle.hv_typing.specs.Updates.{sets_of, update_of, updated, delete_of, dele
 use Rattle.hv_typing.specs.declared.logic.Logic.{Logic}
 use Rattle.hv_typing.specs.declared.logic.Logic.TheVariants as logic
 use Rattle.hv_typing.specs.Creates.{place_of, created, created_beside, made, unless_fault, fault_of}
+use Rattle.hv_typing.specs.Drops.{dropped, dropped_as, dropped_at}
 use Rattle.hv_typing.specs.Descriptions.{described, described_as, described_at}
 use Rattle.hv_typing.specs.Settings.{set_analysed, takes_value}
 use Rattle.hv_typing.specs.Changes.{source_inserted, inserted, changing, changing_table, changing_at, change_of}
@@ -184,6 +187,24 @@ module _ (P : Logic → Type 0) where
       by : (exists : Bool) → OnOk P (created_beside exists create)
       by true = makes (fault_of true create) logic.Nothing (λ none. nothing)
       by false = makes (fault_of false create) (logic.Make (shape_of create)) (λ none. make)
+
+-- ---- what a DROP TABLE can come to
+
+module _ (P : Logic → Type 0) where
+  -- over the table that its name has
+  pub dropped-is : (if_exists : Bool) (info : Option TableInfo) → P logic.Nothing → ((table : TableId) → P (logic.Unmake table))
+      → OnOk P (dropped_as if_exists info)
+  dropped-is if_exists None nothing each = if-ok P if_exists (Ok logic.Nothing) refusal.NoTable (λ exists. nothing)
+  dropped-is if_exists (Some info) nothing each = each info.table
+
+  pub drops-are : (tables : List TableInfo) (drop : DropTable) → P logic.Nothing → ((table : TableId) → P (logic.Unmake table))
+      → OnOk P (dropped tables drop)
+  unfolding dropped
+  drops-are tables drop nothing each = at (place_of drop.table tables)
+    where
+      at : (place : Option ℕ) → OnOk P (dropped_at tables drop.if_exists place)
+      at None = dropped-is drop.if_exists None nothing each
+      at (Some place) = dropped-is drop.if_exists (slice_get tables place) nothing each
 
 -- ---- what a DESCRIBE and a SET can come to
 

@@ -32,11 +32,12 @@ use Rattle.hv_typing.specs.declared.logic.Logic.{Logic}
 use Rattle.hv_typing.specs.Analysis.{analysed, form_analysed, is_form}
 use Rattle.hv_typing.specs.Changes.{changing, change_of}
 use Rattle.hv_typing.specs.Creates.{created}
+use Rattle.hv_typing.specs.Drops.{dropped}
 use Rattle.hv_typing.specs.Descriptions.{described}
 use Rattle.hv_typing.specs.Settings.{set_analysed}
 use Rattle.hv_meaning.specs.Meaning.{info_of, found_in, tables_of, named_by, its_tables, matched, frames_from, stored_row, effect_of, change_effect, within_limits, or_none, changed_in, meant, meaning_over, meaning_in}
 use Rattle.hv_meaning.specs.Laws.{are_values, reads_rows, RowsAreUnseen, RowsAreUnseenIn}
-use Rattle.hv_meaning.proofs.Outcomes.{OnOk, on_ok, then-ok, IsGone, IsFrom, IsChangeOf, inserts-are, changes-are, creates-are, describes-are, settings-are}
+use Rattle.hv_meaning.proofs.Outcomes.{OnOk, on_ok, then-ok, IsGone, IsFrom, IsChangeOf, inserts-are, changes-are, creates-are, drops-are, describes-are, settings-are}
 
 -- ---- over these descriptions, with one tables' rows and with others
 
@@ -96,6 +97,7 @@ module _ (infos : List TableInfo) (found others : List (List Found)) where
       same-change (slice_get infos change.table) (slice_get found change.table) (slice_get others change.table) change
       (on_ok IsAlone (changing infos of.place of.info.shape (stmt.Insert insert)) change (insert-alone of.place of.info.shape insert e) of.is)))
   unseen-form (stmt.CreateTable create) e = same-meant (created infos create) (creates-are Same infos create refl refl)
+  unseen-form (stmt.DropTable drop) e = same-meant (dropped infos drop) (drops-are Same infos drop refl (λ table. refl))
   unseen-form (stmt.Describe table) e = same-meant (described infos table) (describes-are Same infos table (λ columns. refl))
   unseen-form (stmt.Set setting) e = same-meant (set_analysed setting) (settings-are Same setting refl)
   unseen-form other e = cc

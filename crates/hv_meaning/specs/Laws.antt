@@ -1,10 +1,12 @@
 -- What is proved of meanings.
 use Rattle.std.specs.Prelude.{◌≡◌, ℕ, ◌≤◌, ◌||◌, not, Bool, true, false, IsTrue, Option, Some, None, Ok, List, [], ◌∷◌, length, map, drop, filter, slice_get}
 use Rattle.std.specs.List.{AllByRecursion}
+use Rattle.hv_base.specs.declared.ids.TableId.{TableId}
 use Rattle.hv_base.specs.declared.ids.Touch.{Touch}
 use Rattle.hv_ast.specs.declared.change.Rows.{Rows}
 use Rattle.hv_ast.specs.declared.change.Rows.TheVariants as rows
 use Rattle.hv_ast.specs.declared.table.CreateTable.{CreateTable}
+use Rattle.hv_ast.specs.declared.table.DropTable.{DropTable}
 use Rattle.hv_ast.specs.declared.statement.Stmt.{Stmt}
 use Rattle.hv_ast.specs.declared.statement.Stmt.TheVariants as stmt
 use Rattle.hv_value.specs.declared.row.Row.{Row}
@@ -17,7 +19,7 @@ use Rattle.hv_logic.specs.declared.catalog.TableInfo.{TableInfo}
 use Rattle.hv_logic.specs.declared.effect.Effect.{Effect}
 use Rattle.hv_logic.specs.declared.effect.Found.{Found}
 use Rattle.hv_logic.specs.declared.meaning.Meaning.{Meaning}
-use Rattle.hv_logic.specs.declared.meaning.Meaning.TheVariants.{Change, Make}
+use Rattle.hv_logic.specs.declared.meaning.Meaning.TheVariants.{Change, Make, Unmake}
 use Rattle.hv_logic.specs.declared.seen.Seen.{Seen}
 use Rattle.hv_logic.specs.Tables.{named}
 use Rattle.hv_logic.specs.Shapes.{shape_of}
@@ -59,6 +61,19 @@ pub record MakesNew (tree : Stmt) (tables : List Seen) (shape : Shape) : Type 0 
 abbrev pub TablesAreNew : Type 0
 TablesAreNew =
     (tree : Stmt) (tables : List Seen) (shape : Shape) → meaning_of tables tree ≡ Some (Make shape) → MakesNew tree tables shape
+
+-- ---- a table is dropped by a DROP TABLE of its name
+
+pub record DropsNamed (tree : Stmt) (tables : List Seen) (table : TableId) : Type 0 where
+  pub said : DropTable
+  pub tree_is : tree ≡ stmt.DropTable said
+  pub seen : Seen
+  pub here : named said.table tables ≡ Some seen
+  pub table_is : table ≡ seen.info.table
+
+abbrev pub DropsAreNamed : Type 0
+DropsAreNamed =
+    (tree : Stmt) (tables : List Seen) (table : TableId) → meaning_of tables tree ≡ Some (Unmake table) → DropsNamed tree tables table
 
 -- ---- a change is of the table that the statement names, and deletes rows that stand in it
 
@@ -165,6 +180,7 @@ are_values (rows.Query query) = false
 abbrev pub reads_rows : Stmt → Bool
 reads_rows (stmt.Insert insert) = insert.overwrite || not (are_values insert.rows)
 reads_rows (stmt.CreateTable create) = false
+reads_rows (stmt.DropTable dropping) = false
 reads_rows (stmt.Describe table) = false
 reads_rows (stmt.Set setting) = false
 reads_rows _ = true

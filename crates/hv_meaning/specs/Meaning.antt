@@ -1,4 +1,4 @@
--- What a statement comes to over the tables that it names. Source: Hive Language Manual, DDL (Create Table, Describe), DML
+-- What a statement comes to over the tables that it names. Source: Hive Language Manual, DDL (Create Table, Drop Table, Describe), DML
 -- (Inserting values into tables from SQL, Inserting data into
 -- Hive Tables from queries, Update, Delete, Merge), Select.
 use Rattle.std.specs.Prelude.{ℕ, Bool, Option, Some, None, List, [], ◌∷◌, length, map, filter, drop, slice_get, Result, Ok, Err}
@@ -24,7 +24,7 @@ use Rattle.hv_logic.specs.declared.catalog.TableInfo.{TableInfo}
 use Rattle.hv_logic.specs.declared.effect.Effect.{Effect}
 use Rattle.hv_logic.specs.declared.effect.Found.{Found}
 use Rattle.hv_logic.specs.declared.meaning.Meaning.{Meaning}
-use Rattle.hv_logic.specs.declared.meaning.Meaning.TheVariants.{Refused, Listing, Change, Make, Plain, Twice, RowLimit, PartitionLimit}
+use Rattle.hv_logic.specs.declared.meaning.Meaning.TheVariants.{Refused, Listing, Change, Make, Unmake, Plain, Twice, RowLimit, PartitionLimit}
 use Rattle.hv_logic.specs.declared.seen.Seen.{Seen}
 use Rattle.hv_logic.specs.Tables.{named}
 use Rattle.hv_logic.specs.Names.{names_in}
@@ -180,6 +180,7 @@ meant infos found (Ok (logic.Change change)) =
 meant infos found (Ok (logic.Merge merge)) =
     merged_in (slice_get infos merge.table) (slice_get found merge.table) (tables_of found) merge
 meant infos found (Ok (logic.Make shape)) = Some (Make shape)
+meant infos found (Ok (logic.Unmake table)) = Some (Unmake table)
 meant infos found (Ok logic.Nothing) = Some Plain
 meant infos found (Ok (logic.Describe columns)) = Some (described columns)
 meant infos found (Err why) = refused_for why

@@ -1,5 +1,5 @@
 ghost use Rattle.hv_meaning.specs.MergeLaws.{FirstIsNamed, NoneMatchTwice};
-ghost use Rattle.hv_meaning.specs.Laws.{FormsMean, OtherFormsMeanNothing, TablesAreNew, ChangesAreNamed, ChangesAreSeen, InsertsDeleteNothing, TypedValuesAreStored, RowsAreUnseen, RowsAreUnseenIn};
+ghost use Rattle.hv_meaning.specs.Laws.{FormsMean, OtherFormsMeanNothing, TablesAreNew, DropsAreNamed, ChangesAreNamed, ChangesAreSeen, InsertsDeleteNothing, TypedValuesAreStored, RowsAreUnseen, RowsAreUnseenIn};
 
 /// The statements of the forms that are analysed mean something, whatever the tables.
 pub fn forms_mean()
@@ -10,6 +10,11 @@ pub fn forms_mean()
 /// Only a CREATE TABLE of a new name makes a table, in the shape of its text, with no ARRAY among its partition columns.
 pub fn made_tables_are_new()
     ensures law { TablesAreNew }
+{}
+
+/// Only a DROP TABLE drops a table: the live one of its name.
+pub fn dropped_tables_are_named()
+    ensures law { DropsAreNamed }
 {}
 
 /// A change is of the table that the statement names, and deletes rows that stand in it, each once and in

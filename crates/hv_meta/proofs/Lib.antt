@@ -1,2 +1,3 @@
 pub mod FactLemmas
+mod DropLemmas
 pub mod CommitLemmas

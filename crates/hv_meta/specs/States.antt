@@ -5,11 +5,12 @@ use Rattle.hv_ast.specs.declared.statement.Stmt.TheVariants as stmt
 use Rattle.hv_ast.specs.declared.table.ColumnDefinition.{ColumnDefinition}
 use Rattle.hv_ast.specs.declared.types.TypeName.{TypeName}
 use Rattle.hv_ast.specs.declared.types.TypeName.TheVariants as type_name
+use Rattle.hv_history.specs.declared.state.Table.{Table}
 use Rattle.hv_history.specs.declared.state.Transaction.{Transaction}
 use Rattle.hv_history.specs.declared.state.Ending.{Ending}
 use Rattle.hv_history.specs.declared.state.Ending.TheVariants.{Committed, Aborted, Made, Dropped}
 use Rattle.hv_history.specs.State.{State, numbered, given_in}
-use Rattle.hv_history.specs.Legal.{is_started}
+use Rattle.hv_history.specs.Legal.{is_started, is_named_there}
 use Rattle.hv_book.specs.declared.notes.End.{End}
 use Rattle.hv_book.specs.declared.notes.TransactionNote.{TransactionNote}
 use Rattle.hv_book.specs.declared.notes.TableNote.{TableNote}
@@ -72,3 +73,14 @@ is_flat_definition column = is_flat_name column.kind
 abbrev pub made_parts : Option Stmt → List ColumnDefinition
 made_parts (Some (stmt.CreateTable create)) = create.partitions
 made_parts _ = []
+
+-- ---- a table that is dropped
+
+abbrev pub is_live_note : Option TableNote → Bool
+is_live_note None = false
+is_live_note (Some note) = note.is_live
+
+-- the text is a DROP TABLE of the name that this table has, which is live
+abbrev pub drops_table : List Table → ℕ → Option Stmt → Bool
+drops_table tables table (Some (stmt.DropTable drop)) = is_named_there drop.table (numbered tables table)
+drops_table tables table _ = false

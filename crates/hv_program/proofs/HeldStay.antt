@@ -41,6 +41,7 @@ end-stays before more other fit can = tt
 last-stays : (before more : List Entry) (txn : ℕ) (given : List (ℕ × ℕ)) (end : End) → AllFitting (before ++ more)
     → EndCanBeNoted before txn given end → EndCanBeNoted (before ++ more) txn given end
 last-stays before more txn given end.Create fit can = tt
+last-stays before more txn given (end.Drop table) fit can = tt
 last-stays before more txn given (end.Commit wrote name put) fit can = record { small = can.small; touched = can.touched; change = by can.change }
   where
     by : (wrote ≡ []) ⊎ IsOfChange before given wrote put → (wrote ≡ []) ⊎ IsOfChange (before ++ more) given wrote put

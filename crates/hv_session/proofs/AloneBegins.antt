@@ -18,7 +18,7 @@ use Rattle.hv_history.specs.declared.entry.Cause.TheVariants as cause
 use Rattle.hv_history.specs.declared.state.Ending.TheVariants.{Aborted}
 use Rattle.hv_history.specs.declared.state.Transaction.{Transaction}
 use Rattle.hv_history.specs.State.{State, state_of, nothing_yet, acted, after, numbered, opened, ended}
-use Rattle.hv_history.specs.Legal.{Of, AllFit, Fits, GivenFits, CommitFits, CreateFits, CauseFits, StartFits, BlockedFits, HasRoom, holds_against, first_holder, locks_of, load, profile}
+use Rattle.hv_history.specs.Legal.{Of, AllFit, Fits, GivenFits, CommitFits, CreateFits, DropFits, CauseFits, StartFits, BlockedFits, HasRoom, holds_against, first_holder, locks_of, load, profile}
 use Rattle.hv_history.specs.Legal.{IsWaiting as WaitsNow}
 use Rattle.hv_history.proofs.LastingLaws.{goes-on-all}
 use Rattle.hv_stands.specs.Running.{Asking, next_number, opening, starting, IsOf, AreOf, IsWaiting}
@@ -110,6 +110,7 @@ fits-of s (entry.Given id table write) txn fits whose = there s id.0 txn (GivenF
 fits-of s (entry.Commit id wrote) txn fits whose = there s id.0 txn (CommitFits s wrote) whose fits
 fits-of s (entry.Abort id why) txn fits whose = there s id.0 txn (CauseFits profile s id.0 why) whose fits
 fits-of s (entry.Create id table) txn fits whose = there s id.0 txn (CreateFits s table.0) whose fits
+fits-of s (entry.Drop id table) txn fits whose = there s id.0 txn (DropFits s table.0) whose fits
 fits-of s (entry.Boot run) txn fits whose = let never : None ≡ Some txn = whose in let wrong : ⊥ = cc in absurd wrong
 fits-of s event txn fits whose = absurd fits
 

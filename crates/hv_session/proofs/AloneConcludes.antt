@@ -31,6 +31,7 @@ pub record IsCleanEnd (last : Entry) : Type 0 where
 clean-by : (txn : ℕ) (by_ : End) (last : Entry) → IsEndBy txn by_ last → IsCleanEnd last
 clean-by txn (end.Commit wrote name put) last is = subst IsCleanEnd (sym is) (record { undamaged = tt; ends = λ never. never })
 clean-by txn end.Create last is = subst IsCleanEnd (sym is.1) (record { undamaged = tt; ends = λ never. never })
+clean-by txn (end.Drop table) last is = subst IsCleanEnd (sym is) (record { undamaged = tt; ends = λ never. never })
 
 clean-memory : (txn : ℕ) (why : Cause) → why ≡ cause.Memory → IsCleanEnd (aborting txn why)
 clean-memory txn why is = subst (λ (c : Cause). IsCleanEnd (aborting txn c)) (sym is) (record { undamaged = tt; ends = λ never. never })

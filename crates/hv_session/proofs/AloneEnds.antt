@@ -12,12 +12,12 @@ use Rattle.hv_history.specs.declared.entry.Cause.{Cause}
 use Rattle.hv_history.specs.declared.state.Ending.{Ending}
 use Rattle.hv_history.specs.declared.state.Transaction.{Transaction}
 use Rattle.hv_history.specs.State.{State, state_of, nothing_yet, after, numbered, opened}
-use Rattle.hv_history.specs.Legal.{Of, is_open, IsRunning, AllFit, Fits, CommitFits, CreateFits, CauseFits, profile}
+use Rattle.hv_history.specs.Legal.{Of, is_open, IsRunning, AllFit, Fits, CommitFits, CreateFits, DropFits, CauseFits, profile}
 use Rattle.hv_history.specs.Legal as legal
 use Rattle.hv_history.specs.Lasting as lasting
 use Rattle.hv_history.proofs.LastingLaws.{goes-on-all}
 use Rattle.hv_stands.specs.Running.{Asking, meant, snapshot_at, running, IsWaiting, IsUnderWay}
-use Rattle.hv_stands.proofs.Behind.{committed-there, created-there, aborted-there, numbered-behind}
+use Rattle.hv_stands.proofs.Behind.{committed-there, created-there, dropped-there, aborted-there, numbered-behind}
 use Rattle.hv_stands.proofs.Fitting.{cause-open}
 use Rattle.hv_trail.specs.declared.trail.TrailItem.{TrailItem}
 use Rattle.hv_trail.specs.Trail.{book_of, state_at}
@@ -107,7 +107,11 @@ end-ends book (entry.Create other table) txn ends fits =
     subst (IsEndedHere (book ++ entry.Create other table ∷ [])) ends
     (ended-of (book ++ entry.Create other table ∷ []) other.0 _ _
     (numbered-behind book (entry.Create other table) other.0 _ (created-there (state_of book) other.0 open_.t open_.here open_.unended table)) refl)
-end-ends book (entry.Drop other table) txn ends fits = absurd fits
+end-ends book (entry.Drop other table) txn ends fits =
+    let open_ = open-here book other.0 (DropFits (state_of book) table.0) (λ t fit. fit.running.unended) fits in
+    subst (IsEndedHere (book ++ entry.Drop other table ∷ [])) ends
+    (ended-of (book ++ entry.Drop other table ∷ []) other.0 _ _
+    (numbered-behind book (entry.Drop other table) other.0 _ (dropped-there (state_of book) other.0 open_.t open_.here open_.unended table)) refl)
 end-ends book (entry.Opened other session number text) txn ends fits = absurd ends
 end-ends book (entry.Start other statement) txn ends fits = absurd ends
 end-ends book (entry.Given other table write) txn ends fits = absurd ends

@@ -9,7 +9,7 @@ use Rattle.hv_ast.specs.declared.statement.Stmt.{Stmt}
 use Rattle.hv_logic.specs.declared.catalog.TableInfo.{TableInfo}
 use Rattle.hv_logic.specs.declared.effect.Effect.{Effect}
 use Rattle.hv_logic.specs.declared.meaning.Meaning.{Meaning}
-use Rattle.hv_logic.specs.declared.meaning.Meaning.TheVariants.{Listing, Change, Make, Refused, Twice, RowLimit, PartitionLimit, Plain}
+use Rattle.hv_logic.specs.declared.meaning.Meaning.TheVariants.{Listing, Change, Make, Unmake, Refused, Twice, RowLimit, PartitionLimit, Plain}
 use Rattle.hv_history.specs.declared.entry.Entry.{Entry}
 use Rattle.hv_history.specs.declared.entry.Cause.{Cause}
 use Rattle.hv_history.specs.declared.entry.Cause.TheVariants as cause
@@ -91,6 +91,7 @@ gives-unended : (txn : ℕ) (meaning : Meaning) (first : List Entry) → GivesId
 gives-unended txn (Change info effect) first gives = subst (AllByRecursion IsNoEnd) (sym gives.2) (tt, tt)
 gives-unended txn (Listing names rows) first gives = absurd gives
 gives-unended txn (Make shape) first gives = absurd gives
+gives-unended txn (Unmake table) first gives = absurd gives
 gives-unended txn (Refused why) first gives = absurd gives
 gives-unended txn (Twice region row) first gives = absurd gives
 gives-unended txn RowLimit first gives = absurd gives
@@ -130,6 +131,7 @@ module _ (book : List Entry) (asking : Asking) (txn place : ℕ) (said : Stmt) (
   readied (Listing names rows) means ready first so = readied-none (Listing names rows) means first so.0 refl
   readied Plain means ready first so = readied-none Plain means first so.0 refl
   readied (Make shape) means ready first so = readied-none (Make shape) means first so.0 refl
+  readied (Unmake table) means ready first so = readied-none (Unmake table) means first so.0 refl
   readied (Change info effect) means ready first (inl so) =
       readied-none (Change info effect) means first so.0 (ap (λ (n : ℕ). nat_lt 0 n) so.1)
   readied (Change info effect) means ready first (inr so) = readied-id info effect so.0 first so.2 so.3
@@ -200,6 +202,7 @@ module _ (book : List Entry) (asking : Asking) (txn place : ℕ) (said : Stmt) (
       subst (IsBefore book txn (Change info effect)) (sym gives.2) (id-before book asking txn place said info effect gives.0 gives.1 under)
   gives-before (Listing names rows) first gives = absurd gives
   gives-before (Make shape) first gives = absurd gives
+  gives-before (Unmake table) first gives = absurd gives
   gives-before (Refused why) first gives = absurd gives
   gives-before (Twice region row) first gives = absurd gives
   gives-before RowLimit first gives = absurd gives

@@ -8,7 +8,7 @@ use Rattle.hv_base.specs.declared.refusal.Refusal.{Refusal}
 use Rattle.hv_shelf.specs.Disk.{Store}
 use Rattle.hv_ast.specs.declared.statement.Stmt.{Stmt}
 use Rattle.hv_logic.specs.declared.meaning.Meaning.{Meaning}
-use Rattle.hv_logic.specs.declared.meaning.Meaning.TheVariants.{Listing, Change, Make, Refused, Twice, RowLimit, PartitionLimit, Plain}
+use Rattle.hv_logic.specs.declared.meaning.Meaning.TheVariants.{Listing, Change, Make, Unmake, Refused, Twice, RowLimit, PartitionLimit, Plain}
 use Rattle.hv_history.specs.declared.entry.Entry.{Entry}
 use Rattle.hv_history.specs.declared.entry.Cause.{Cause}
 use Rattle.hv_history.specs.declared.entry.Cause.TheVariants as cause
@@ -102,6 +102,7 @@ module _ {D : Type 0} (told : D → Option Store) (now : ToldHouse D) (way : Way
   refused-read (Listing names rows) found added waits own ends = absurd (waits tt)
   refused-read (Change info effect) found added waits own ends = absurd (waits tt)
   refused-read (Make shape) found added waits own ends = absurd (waits tt)
+  refused-read (Unmake table) found added waits own ends = absurd (waits tt)
   refused-read (Twice region row) found added waits own ends = absurd (waits tt)
   refused-read RowLimit found added waits own ends = absurd (waits tt)
   refused-read PartitionLimit found added waits own ends = absurd (waits tt)
@@ -120,6 +121,7 @@ module _ {D : Type 0} (told : D → Option Store) (now : ToldHouse D) (way : Way
       )
   broken-commit (Listing names rows) first found added own gives ends = absurd gives
   broken-commit (Make shape) first found added own gives ends = absurd gives
+  broken-commit (Unmake table) first found added own gives ends = absurd gives
   broken-commit (Refused refusal) first found added own gives ends = absurd gives
   broken-commit (Twice region row) first found added own gives ends = absurd gives
   broken-commit RowLimit first found added own gives ends = absurd gives
@@ -159,6 +161,7 @@ module _ {D : Type 0} (told : D → Option Store) (now : ToldHouse D) (way : Way
   ready-added (Change info effect) ready added (inl so) = inl so.0
   ready-added (Change info effect) ready added (inr so) = inr (info.table, so.0, so.2)
   ready-added (Make shape) ready added so = inl so.0
+  ready-added (Unmake table) ready added so = inl so.0
   ready-added (Refused refusal) ready added so = absurd so
   ready-added (Twice region row) ready added so = absurd so
   ready-added RowLimit ready added so = absurd so

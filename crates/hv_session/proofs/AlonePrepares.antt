@@ -7,7 +7,7 @@ use Rattle.hv_ast.specs.declared.statement.Stmt.{Stmt}
 use Rattle.hv_logic.specs.declared.catalog.TableInfo.{TableInfo}
 use Rattle.hv_logic.specs.declared.effect.Effect.{Effect}
 use Rattle.hv_logic.specs.declared.meaning.Meaning.{Meaning}
-use Rattle.hv_logic.specs.declared.meaning.Meaning.TheVariants.{Listing, Change, Make, Refused, Twice, RowLimit, PartitionLimit, Plain}
+use Rattle.hv_logic.specs.declared.meaning.Meaning.TheVariants.{Listing, Change, Make, Unmake, Refused, Twice, RowLimit, PartitionLimit, Plain}
 use Rattle.hv_history.specs.declared.entry.Entry.{Entry}
 use Rattle.hv_history.specs.declared.entry.Cause.{Cause}
 use Rattle.hv_history.specs.declared.entry.Cause.TheVariants as cause
@@ -50,6 +50,7 @@ never-conflict : (meaning : Meaning) (by_ : _) (table : _) (partition : List ℕ
 never-conflict (Listing names rows) by_ table partition never = never
 never-conflict (Change info effect) by_ table partition never = never
 never-conflict (Make shape) by_ table partition never = never
+never-conflict (Unmake other) by_ table partition never = never
 never-conflict (Refused why) by_ table partition never = never
 never-conflict (Twice region row) by_ table partition never = never
 never-conflict RowLimit by_ table partition never = never
@@ -60,6 +61,7 @@ never-damaged : (meaning : Meaning) (place : _) → EndsEarlyFor meaning (cause.
 never-damaged (Listing names rows) place never = never
 never-damaged (Change info effect) place never = never
 never-damaged (Make shape) place never = never
+never-damaged (Unmake table) place never = never
 never-damaged (Refused why) place never = never
 never-damaged (Twice region row) place never = never
 never-damaged RowLimit place never = never
@@ -185,6 +187,7 @@ module _ {D : Type 0} (told : D → Option Store) (faults : D → ℕ) (B : List
       (subst (λ (f : List Entry). Gains faults B (faults_in faults before) way.txn.0 own own' before now (AbortsFor way.txn.0 now f IsWriteFault found)) gives.2 gains)
   broken-alone (Listing names rows) first found gives gains = absurd gives
   broken-alone (Make shape) first found gives gains = absurd gives
+  broken-alone (Unmake table) first found gives gains = absurd gives
   broken-alone (Refused why) first found gives gains = absurd gives
   broken-alone (Twice region row) first found gives gains = absurd gives
   broken-alone RowLimit first found gives gains = absurd gives
@@ -208,6 +211,9 @@ module _ {D : Type 0} (told : D → Option Store) (faults : D → ℕ) (B : List
     ready-alone (Make shape) can so =
         plain-ready faults asking said way before now under ready (Make shape) end.Create ok_line (same-book so.0) so.1.0 so.1.1 tt
         (record { makes = tt; reply = refl; none = refl })
+    ready-alone (Unmake table) can so =
+        plain-ready faults asking said way before now under ready (Unmake table) (end.Drop table) ok_line (same-book so.0) so.1.0 so.1.1 tt
+        (record { drops = refl; reply = refl; none = refl })
     ready-alone (Change info effect) can (inl so) = idle-alone (Change info effect) (counts_line []) (touches-none info effect so.1) refl so.0 so.2
     ready-alone (Change info effect) can (inr so) =
         let book : entries_of now.house ≡ entries_of before.house ++ giving way.txn.0 info.table so.0 ∷ [] =

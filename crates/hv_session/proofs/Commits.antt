@@ -1,8 +1,9 @@
--- A statement that is ready ends by its commit, by the abort for a conflict, or by its Create.
+-- A statement that is ready ends by its commit, by the abort for a conflict, or by its Create or its Drop.
 use Rattle.std.proofs.Common.{◌≡◌, inl, inr, ℕ, zero, suc, true, false, Option, Some, None, List, [], ◌∷◌, ◌++◌, length, take, refl, sym, ap, ◌∙◌, subst, arith, Ok, Err, Result}
 use Rattle.std.specs.Prelude.{IfOk, IfErr}
 use Rattle.std.specs.List.{slice_get}
 use Rattle.hv_base.specs.declared.ids.TxnId.{TxnId}
+use Rattle.hv_base.specs.declared.ids.TableId.{TableId}
 use Rattle.hv_base.specs.declared.ids.Touch.{Touch}
 use Rattle.hv_shelf.specs.declared.place.Place.{Place}
 use Rattle.hv_shelf.specs.Disk.{Store}
@@ -15,7 +16,7 @@ use Rattle.hv_history.specs.declared.entry.Cause.{Cause}
 use Rattle.hv_history.specs.declared.entry.Cause.TheVariants as cause
 use Rattle.hv_history.specs.declared.state.Snapshot.{Snapshot}
 use Rattle.hv_history.specs.State.{state_of, numbered}
-use Rattle.hv_history.specs.Legal.{CommitFits, CreateFits, IsRunning}
+use Rattle.hv_history.specs.Legal.{CommitFits, CreateFits, DropFits, IsRunning}
 use Rattle.hv_history.specs.Lasting.{IsFront}
 use Rattle.hv_history.specs.Answers.{cause_text, conflict_text, committed_text, ok_line, name_of, name_at}
 use Rattle.hv_stands.specs.Running.{snapshot_at}
@@ -39,22 +40,23 @@ use Rattle.hv_steps.specs.hv_acts.specs.Told.{IsWholeOrClosed, seen_in, trail_in
 use Rattle.hv_steps.specs.hv_acts.specs.Answers.{NoTest, FilesTest, Answers, AnswerLeaves, EntryFits, answer_call, answer_outcome, next_table}
 use Rattle.hv_steps.specs.hv_acts.specs.Committing.{call_to_commit, adds_commit, CommitAnswers, HasConflicted}
 use Rattle.hv_steps.specs.hv_acts.specs.Making.{MakeFits, IsMadeAt}
+use Rattle.hv_steps.specs.hv_acts.specs.Dropping.{CanDrop, IsDroppedAt}
 use Rattle.hv_steps.specs.hv_acts.specs.Meant.{HasMeant, IsCommitDue}
 use Rattle.hv_steps.specs.hv_acts.proofs.Steps.{book-is}
 use Rattle.hv_steps.specs.hv_acts.proofs.Meant.{on-way}
-use Rattle.hv_steps.specs.Ending.{KeepsCount, committing, creating, aborting, HasReplied}
+use Rattle.hv_steps.specs.Ending.{KeepsCount, committing, creating, dropping, aborting, HasReplied}
 use Rattle.hv_steps.specs.declared.ready.Ready.{Ready}
 use Rattle.hv_steps.specs.declared.ready.End.TheVariants as last
 use Rattle.hv_steps.proofs.Replied.{commit-replies, abort-replies}
 use Rattle.hv_steps.proofs.Touched.{touch-of-table}
 use Rattle.hv_steps.specs.declared.reply.Done.{Done}
 use Rattle.hv_steps.specs.declared.reply.Done.TheVariants as done
-use Rattle.hv_session.specs.Ends.{commit_adds, IsCommitEnd, IsCommitAnswered, committed_reply, create_adds}
+use Rattle.hv_session.specs.Ends.{commit_adds, IsCommitEnd, IsCommitAnswered, committed_reply, create_adds, drop_adds}
 use Rattle.hv_steps.specs.Going.{faults_in, IsOpenHouse, AddsOwn, Goes}
 use Rattle.hv_steps.specs.Leaving.{EndsAct}
 use Rattle.hv_steps.specs.Phases.{IsDueSo, NoCause, AbortsFor, Concludes, AnswersTruly}
 use Rattle.hv_steps.proofs.Joining.{front-more, HeldBy, NamesEnd, why-names, goes-on, held-front}
-use Rattle.hv_steps.proofs.Ends.{open-here, replied-now, ended-now, create-replies}
+use Rattle.hv_steps.proofs.Ends.{open-here, replied-now, ended-now, create-replies, drop-replies}
 
 -- ---- what it means
 
@@ -206,6 +208,23 @@ module _ {D : Type 0} (told : D → Option Store) (faults : D → ℕ) (meanwhil
       (open-here (book_of trail) txn.0 (CreateFits (state_at trail) (next_table trail).0) (λ t fits. fits.running.unended) held.does_it.0.0.0))
   make-replied (Err why) held = tt
 
+-- ---- a table that is dropped
+
+module _ {D : Type 0} (told : D → Option Store) (faults : D → ℕ) (meanwhile : ToldHouse D → ToldHouse D → Type 0) (before now : ToldHouse D) (txn : TxnId)
+    (table : TableId) where
+  abbrev pub HeldDrop : Result ℕ ActFault → Type 0
+  HeldDrop result =
+      HeldBy told faults meanwhile before now (λ seen. answer_call (Note (entry.Drop txn table)) result) (answer_outcome result)
+      (λ house after. Answers NoTest house.trail txn (CanDrop house.trail txn table) (IsDroppedAt house.trail) result × AnswerLeaves told faults txn.0 house after result)
+
+  pub drop-replied : (result : Result ℕ ActFault) → HeldDrop result → IfOk result (λ (at : ℕ). HasReplied (book_in now) txn.0 ok_line false (Some at))
+  drop-replied (Ok at) held =
+      let trail = trail_in held.house in
+      replied-now trail (trail_in now) (dropping txn.0 table) txn.0 ok_line false at held.step.trail held.does_it.0.1
+      (drop-replies (book_of trail) txn.0 table
+      (open-here (book_of trail) txn.0 (DropFits (state_at trail) table.0) (λ t fits. fits.running.unended) held.does_it.0.0.0))
+  drop-replied (Err why) held = tt
+
 -- ---- what it comes to
 
 -- an abort for want of memory is one of its ends
@@ -306,6 +325,23 @@ module _ {D : Type 0} (told : D → Option Store) (faults : D → ℕ) (B : List
           of_it = (refl, tt);
           counts = (tt, tt);
           is = (create_adds txn made, refl, inl (record { text_is = refl; accepted = refl; by = (made.table, refl) }), answered.ended_at);
+          running = running;
+        };
+        halted = tt;
+      })
+
+  pub concludes-drop : (text : List ℕ) (table : TableId) (at : ℕ) (reply : Done) → reply ≡ done.Replied (record { text = text; refused = false; ended = Some at })
+      → AddsOwn faults B own own' before now (drop_adds txn table at ∷ []) → IsOpenHouse now → HasReplied (book_in now) txn ok_line false (Some at)
+      → Goes told faults B meanwhile low txn own own' before now (Concludes txn now (record { end = last.Drop table; text = text })) (Ok reply)
+  concludes-drop text table at reply e adds running answered =
+      subst (λ (d : Done). Goes told faults B meanwhile low txn own own' before now (Concludes txn now (record { end = last.Drop table; text = text })) (Ok d)) (sym e)
+      (record {
+        done = record {
+          added = drop_adds txn table at ∷ [];
+          adds = adds;
+          of_it = (refl, tt);
+          counts = (tt, tt);
+          is = (drop_adds txn table at, refl, inl (record { text_is = refl; accepted = refl; by = refl }), answered.ended_at);
           running = running;
         };
         halted = tt;

@@ -10,7 +10,7 @@ use Rattle.hv_ast.specs.declared.statement.Stmt.{Stmt}
 use Rattle.hv_logic.specs.declared.catalog.TableInfo.{TableInfo}
 use Rattle.hv_logic.specs.declared.effect.Effect.{Effect}
 use Rattle.hv_logic.specs.declared.meaning.Meaning.{Meaning}
-use Rattle.hv_logic.specs.declared.meaning.Meaning.TheVariants.{Listing, Change, Make, Refused, Twice, RowLimit, PartitionLimit, Plain}
+use Rattle.hv_logic.specs.declared.meaning.Meaning.TheVariants.{Listing, Change, Make, Unmake, Refused, Twice, RowLimit, PartitionLimit, Plain}
 use Rattle.hv_history.specs.declared.entry.Entry.{Entry}
 use Rattle.hv_history.specs.declared.state.Table.{Table}
 use Rattle.hv_history.specs.State.{state_of, numbered}
@@ -22,7 +22,7 @@ use Rattle.hv_actor.specs.Acting.{IsLater}
 use Rattle.hv_steps.specs.hv_acts.specs.hv_telling.specs.Telling.{IsTold, IsToldHouse}
 use Rattle.hv_steps.specs.hv_acts.specs.declared.told.ToldHouse.{ToldHouse}
 use Rattle.hv_steps.specs.hv_acts.specs.Told.{seen_in, trail_in, book_in}
-use Rattle.hv_steps.specs.hv_acts.proofs.Lasting.{put-lasts, make-lasts}
+use Rattle.hv_steps.specs.hv_acts.proofs.Lasting.{put-lasts, make-lasts, drop-lasts}
 use Rattle.hv_steps.specs.Ending.{CanChange, CanEnd}
 use Rattle.hv_steps.specs.declared.ready.Way.{Way}
 use Rattle.hv_steps.specs.declared.ready.End.{End}
@@ -54,6 +54,7 @@ module _ {D : Type 0} (told : D → Option Store) (before now : ToldHouse D) (fr
   end-lasts (Change info effect) can = change-lasts info effect can
   end-lasts (Listing names rows) can = tt
   end-lasts (Make shape) can = tt
+  end-lasts (Unmake table) can = tt
   end-lasts (Refused why) can = tt
   end-lasts (Twice region row) can = can
   end-lasts RowLimit can = tt
@@ -113,6 +114,7 @@ module _ {D : Type 0} (told : D → Option Store) (before now : ToldHouse D) (fr
     λ is. due-lasts way.txn wrote name put text (can.2 (earlier is)),
   )
   concluding-lasts way end.Create text can = (λ is. make-lasts (trail_in before) (trail_in now) front way.txn (can.0 (earlier is)), can.1)
+  concluding-lasts way (end.Drop table) text can = (λ is. drop-lasts (trail_in before) (trail_in now) front way.txn table (can.0 (earlier is)), can.1)
 
   -- ---- how it can go on
 

@@ -14,7 +14,7 @@ use Rattle.hv_ast.specs.declared.statement.Stmt.{Stmt}
 use Rattle.hv_grammar.specs.Texts.{tree_of}
 use Rattle.hv_logic.specs.Names.{names_in}
 use Rattle.hv_logic.specs.declared.meaning.Meaning.{Meaning}
-use Rattle.hv_logic.specs.declared.meaning.Meaning.TheVariants.{Refused, Listing, Change, Make, Plain, Twice, RowLimit, PartitionLimit}
+use Rattle.hv_logic.specs.declared.meaning.Meaning.TheVariants.{Refused, Listing, Change, Make, Unmake, Plain, Twice, RowLimit, PartitionLimit}
 use Rattle.hv_history.specs.declared.entry.Entry.{Entry}
 use Rattle.hv_history.specs.declared.entry.Entry.TheVariants as entry
 use Rattle.hv_history.specs.declared.entry.Cause.{Cause}
@@ -151,6 +151,7 @@ touches-nothing (Some (Change info effect)) are = by (nat_lt 0 (changes_in effec
     by false is = is
 touches-nothing (Some (Refused why)) are = absurd are
 touches-nothing (Some (Make shape)) are = tt
+touches-nothing (Some (Unmake table)) are = tt
 touches-nothing (Some (Twice region row)) are = absurd are
 touches-nothing (Some RowLimit) are = absurd are
 touches-nothing (Some PartitionLimit) are = absurd are
@@ -173,12 +174,15 @@ true-to-commit o given (end.Commit wrote name put) text is = by is.files_are
         subst (λ (ids : List (ℕ × ℕ)). IsToCommit ids o) (sym change.id)
         (subst (λ (m : Option Meaning). IsToCommit ((change.info.table.0, change.write) ∷ []) m) (sym change.is_change) refl)
 true-to-commit o given end.Create text is = subst (λ (ids : List (ℕ × ℕ)). IsToCommit ids o) (sym is.none) (makes-table o is.makes)
+true-to-commit o given (end.Drop table) text is =
+    subst (λ (ids : List (ℕ × ℕ)). IsToCommit ids o) (sym is.none) (subst (IsToCommit []) (sym is.drops) tt)
 
 pub needs-no-id : (given : List (ℕ × ℕ)) (o : Option Meaning) → IsToCommit given o → needs_id given o ≡ false
 needs-no-id (x ∷ given) o to_commit = refl
 needs-no-id [] (Some (Change info effect)) to_commit = to_commit
 needs-no-id [] (Some (Refused why)) to_commit = refl
 needs-no-id [] (Some (Make shape)) to_commit = refl
+needs-no-id [] (Some (Unmake table)) to_commit = refl
 needs-no-id [] (Some (Twice region row)) to_commit = refl
 needs-no-id [] (Some RowLimit) to_commit = refl
 needs-no-id [] (Some PartitionLimit) to_commit = refl

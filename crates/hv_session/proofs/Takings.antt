@@ -7,7 +7,7 @@ use Rattle.hv_base.specs.declared.gate.Stage.TheVariants as stage
 use Rattle.hv_shelf.specs.Disk.{Store}
 use Rattle.hv_ast.specs.declared.statement.Stmt.{Stmt}
 use Rattle.hv_logic.specs.declared.meaning.Meaning.{Meaning}
-use Rattle.hv_logic.specs.declared.meaning.Meaning.TheVariants.{Listing, Change, Make, Refused, Twice, RowLimit, PartitionLimit, Plain}
+use Rattle.hv_logic.specs.declared.meaning.Meaning.TheVariants.{Listing, Change, Make, Unmake, Refused, Twice, RowLimit, PartitionLimit, Plain}
 use Rattle.hv_history.specs.declared.entry.Entry.{Entry}
 use Rattle.hv_history.specs.declared.entry.Cause.{Cause}
 use Rattle.hv_history.specs.Lasting.{IsFront}
@@ -53,6 +53,7 @@ pub prepares-unended : (txn : ℕ) (meaning : Meaning) (ready : Ready) (added : 
 prepares-unended txn (Listing names rows) ready added is = subst (AllByRecursion IsNoEnd) (sym is.0) tt
 prepares-unended txn Plain ready added is = subst (AllByRecursion IsNoEnd) (sym is.0) tt
 prepares-unended txn (Make shape) ready added is = subst (AllByRecursion IsNoEnd) (sym is.0) tt
+prepares-unended txn (Unmake table) ready added is = subst (AllByRecursion IsNoEnd) (sym is.0) tt
 prepares-unended txn (Change info effect) ready added (inl is) = subst (AllByRecursion IsNoEnd) (sym is.0) tt
 prepares-unended txn (Change info effect) ready added (inr is) = subst (AllByRecursion IsNoEnd) (sym is.2) (tt, tt)
 prepares-unended txn (Refused why) ready added is = absurd is
@@ -98,6 +99,7 @@ unrefused (Refused why) e = let never : true ≡ false = e in cc
 unrefused (Listing names rows) e = tt
 unrefused (Change info effect) e = tt
 unrefused (Make shape) e = tt
+unrefused (Unmake table) e = tt
 unrefused (Twice region row) e = tt
 unrefused RowLimit e = tt
 unrefused PartitionLimit e = tt
@@ -108,6 +110,7 @@ refused (Refused why) e is = is
 refused (Listing names rows) e is = let never : false ≡ true = e in cc
 refused (Change info effect) e is = let never : false ≡ true = e in cc
 refused (Make shape) e is = let never : false ≡ true = e in cc
+refused (Unmake table) e is = let never : false ≡ true = e in cc
 refused (Twice region row) e is = let never : false ≡ true = e in cc
 refused RowLimit e is = let never : false ≡ true = e in cc
 refused PartitionLimit e is = let never : false ≡ true = e in cc

@@ -9,7 +9,7 @@ use Rattle.hv_history.specs.declared.entry.Entry.TheVariants as entry
 use Rattle.hv_history.specs.declared.state.Snapshot.{Snapshot}
 use Rattle.hv_history.specs.declared.state.Transaction.{Transaction}
 use Rattle.hv_history.specs.declared.state.Ending.{Ending}
-use Rattle.hv_history.specs.declared.state.Ending.TheVariants.{Committed, Aborted, Made}
+use Rattle.hv_history.specs.declared.state.Ending.TheVariants.{Committed, Aborted, Made, Dropped}
 use Rattle.hv_history.specs.State.{State, nothing_yet, numbered, changed, first_of, while_open, opened, started, given_id, did, committed, ended, acted, after, state_of}
 use Rattle.hv_history.specs.Legal.{Of, is_started, GivenFits, Fits, AllFit, profile}
 use Rattle.hv_history.specs.Legal.{IsWaiting as WaitsNow}
@@ -91,6 +91,8 @@ module _ (session : List ℕ) (number : ℕ) (text : List ℕ) where
       with-open (ended (Aborted state.entries why)) (end-waits (Aborted state.entries why)) state.transactions txn.0 n t e
   entry-waits state (entry.Create txn table) n t fits e =
       with-open (ended (Made state.entries table.0)) (end-waits (Made state.entries table.0)) state.transactions txn.0 n t e
+  entry-waits state (entry.Drop txn table) n t fits e =
+      with-open (ended (Dropped state.entries table.0)) (end-waits (Dropped state.entries table.0)) state.transactions txn.0 n t e
   entry-waits state (entry.Boot run) n t fits e = there (numbered state.transactions n) t e
   entry-waits state event n t fits e = absurd fits
 

@@ -14,7 +14,7 @@ use Rattle.hv_steps.specs.hv_acts.specs.declared.committing.Committed.TheVariant
 use Rattle.hv_steps.specs.hv_acts.specs.declared.fault.ActFault.{ActFault}
 use Rattle.hv_steps.specs.hv_acts.specs.declared.making.Made.{Made}
 use Rattle.hv_steps.specs.hv_acts.specs.Told.{book_in}
-use Rattle.hv_steps.specs.Ending.{aborting, committing, creating, HasEndedAt, HasReplied}
+use Rattle.hv_steps.specs.Ending.{aborting, committing, creating, dropping, HasEndedAt, HasReplied}
 use Rattle.hv_steps.specs.declared.reply.Done.{Done}
 use Rattle.hv_steps.specs.declared.reply.Done.TheVariants as done
 
@@ -51,3 +51,8 @@ committed_reply text (committed.Aborted aborted) = done.Replied (record { text =
 
 abbrev pub create_adds : ℕ → Made → Entry
 create_adds txn made = creating txn made.table
+
+-- ---- a table that is dropped
+
+abbrev pub drop_adds : ℕ → TableId → ℕ → Entry
+drop_adds txn table at = dropping txn table

@@ -1,25 +1,27 @@
-//! The end of a statement that is ready: by its commit or its Create, by the abort for a conflict, or by one for want of memory.
+//! The end of a statement that is ready: by its commit, its Create or its Drop, by the abort for a conflict, or by one for want of memory.
 ghost use Rattle.std.specs.Prelude.{◌≡◌, ℕ, List, false, Some, [], IfOk, IfErr};
 ghost use Rattle.hv_history.specs.Answers.{ok_line};
 ghost use Rattle.hv_house.specs.Faults.{EndsRun};
 ghost use Rattle.hv_house.specs.House.{IsSmall};
 ghost use Rattle.hv_steps.specs.hv_acts.specs.hv_telling.specs.Telling.{IsToldHouse};
 ghost use Rattle.hv_steps.specs.hv_acts.specs.Told.{trail_in, book_in};
-ghost use Rattle.hv_steps.specs.hv_acts.specs.Meant.{IsCommitDue, IsMakeMeant};
+ghost use Rattle.hv_steps.specs.hv_acts.specs.Meant.{IsCommitDue, IsMakeMeant, IsDropMeant};
 ghost use Rattle.hv_steps.specs.hv_acts.specs.Committing.{CanBePut};
 ghost use Rattle.hv_steps.specs.declared.ready.End.TheVariants as last;
 ghost use Rattle.hv_steps.specs.Ending.{committing, HasReplied};
 ghost use Rattle.hv_steps.specs.declared.reply.Done.TheVariants as done;
-ghost use Rattle.hv_session.specs.Ends.{commit_adds, IsCommitEnd, IsCommitAnswered, committed_reply, create_adds};
+ghost use Rattle.hv_session.specs.Ends.{commit_adds, IsCommitEnd, IsCommitAnswered, committed_reply, create_adds, drop_adds};
 ghost use Rattle.hv_steps.specs.Going.{faults_in, IsOpenHouse, AddsOwn, Goes, WasOpened};
 ghost use Rattle.hv_steps.specs.Leaving.{IsLeft, EndsAct, added_by};
 ghost use Rattle.hv_steps.specs.Phases.{IsDueSo, CanConclude, Concludes, AnswersTruly};
 
 use hv_actor::Actor;
-use hv_base::{List, Text, Touch, TxnId};
+use hv_base::{List, TableId, Text, Touch, TxnId};
 use hv_house::HouseFault;
 use hv_shelf::{Place, Shelf};
-use hv_steps::hv_acts::{Aborted, ActFault, CommitWrites, Committed, Made, MakeTable, ToldHouse};
+use hv_steps::hv_acts::{
+    Aborted, ActFault, CommitWrites, Committed, DropTable, Made, MakeTable, ToldHouse,
+};
 use hv_steps::{Done, End, Ready, Reply, Way, end_without};
 use std::alloc::Global;
 
@@ -129,7 +131,7 @@ fn make<D: Shelf + Drop, W: Actor<D, ToldHouse<D>>>(
     actor.hold(alloc, MakeTable { txn })
 }
 
-/// The reply to a table that was made, by the entry at this place.
+/// The reply to a table that was made or dropped, by the entry at this place.
 fn made(text: List<u8>, at: u64) -> Done
     ensures { result ≡ done.Replied (record { text = text; refused = false; ended = Some at }) }
 {
@@ -164,7 +166,52 @@ fn end_by_create<D: Shelf + Drop, W: Actor<D, ToldHouse<D>>>(
     }
 }
 
-/// Ends a statement that is ready: by its commit or its Create, by the abort for a conflict, or by one for want of memory.
+/// Drops the table of a transaction, where that fits.
+fn unmake<D: Shelf + Drop, W: Actor<D, ToldHouse<D>>>(
+    alloc: Global,
+    actor: &mut W,
+    txn: TxnId,
+    table: TableId,
+) -> Result<u64, ActFault>
+    requires keeps { W.keeps actor.old }
+    requires running { IsOpenHouse (W.house actor.old) }
+    requires due { IsToldHouse D.told (W.house actor.old).house → IsDropMeant (trail_in (W.house actor.old)) txn table }
+    ensures keeps { W.keeps actor.new }
+    ensures adds { AddsOwn D.faults W.between (W.own actor.old) (W.own actor.new) (W.house actor.old) (W.house actor.new)
+        (added_by (drop_adds txn.0 table) result) }
+    ensures replied { IfOk result (λ at. HasReplied (book_in (W.house actor.new)) txn.0 ok_line false (Some at)) }
+    ensures left { IsLeft D.told W.meanwhile txn.0 (W.house actor.new) result }
+    ensures ends { IfErr result EndsAct }
+{
+    actor.hold(alloc, DropTable { txn, table })
+}
+
+/// Ends a statement by the drop of a table.
+fn end_by_drop<D: Shelf + Drop, W: Actor<D, ToldHouse<D>>>(
+    alloc: Global,
+    actor: &mut W,
+    way: Way,
+    table: TableId,
+    text: List<u8>,
+) -> Result<Done, HouseFault>
+    requires keeps { W.keeps actor.old }
+    requires running { IsOpenHouse (W.house actor.old) }
+    requires was { WasOpened (trail_in (W.house actor.old)) way.txn.0 }
+    requires can { CanConclude D.told (W.house actor.old) way (last.Drop table) text }
+    ensures keeps { W.keeps actor.new }
+    ensures goes { Goes D.told D.faults W.between W.meanwhile (faults_in D.faults (W.house actor.old)) way.txn.0
+        (W.own actor.old) (W.own actor.new) (W.house actor.old) (W.house actor.new)
+        (Concludes way.txn.0 (W.house actor.new) (record { end = last.Drop table; text = text })) result }
+    ensures answered { IsToldHouse D.told (W.house actor.old).house → IfOk result (AnswersTruly way.txn.0 (W.house actor.new)) }
+    ensures ends { IfErr result EndsRun }
+{
+    match unmake(alloc, actor, way.txn, table) {
+        Ok(at) => Ok(made(text, at)),
+        Err(why) => end_without(alloc, actor, way.txn, why),
+    }
+}
+
+/// Ends a statement that is ready: by its commit, its Create or its Drop, by the abort for a conflict, or by one for want of memory.
 ///
 /// # Errors
 /// `Store` where the journal failed or others closed the house, and `NoMemory` where memory lacked even for an abort.
@@ -189,5 +236,6 @@ pub fn conclude<D: Shelf + Drop, W: Actor<D, ToldHouse<D>>>(
     match end {
         End::Commit(wrote, name, put) => end_by_commit(alloc, actor, way, wrote, name, put, text),
         End::Create => end_by_create(alloc, actor, way, text),
+        End::Drop(table) => end_by_drop(alloc, actor, way, table, text),
     }
 }

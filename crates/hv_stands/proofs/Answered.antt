@@ -11,9 +11,9 @@ use Rattle.hv_history.specs.Answers.{answer_in, answer_of}
 use Rattle.hv_history.specs.Lasting.{Later}
 use Rattle.hv_history.proofs.LastingLaws.{goes-on-all}
 use Rattle.hv_stands.specs.Running.{Asking, meant, snapshot_at, running, is_refused_transaction, HasAnswered}
-use Rattle.hv_stands.specs.Statements.{CommitsAnswer, CreatesAnswer, AbortsAnswer, WaitingAbortsAnswer, AnswersStay}
+use Rattle.hv_stands.specs.Statements.{CommitsAnswer, CreatesAnswer, DropsAnswer, AbortsAnswer, WaitingAbortsAnswer, AnswersStay}
 use Rattle.hv_stands.proofs.Numbers.{found}
-use Rattle.hv_stands.proofs.Behind.{numbered-behind, committed-there, created-there, aborted-there}
+use Rattle.hv_stands.proofs.Behind.{numbered-behind, committed-there, created-there, dropped-there, aborted-there}
 
 -- the answer of the transaction that stands there
 answered-by : (book : List Entry) (txn : ℕ) (t : Transaction) (reply : List ℕ) (refused : Bool) → numbered (state_of book).transactions txn ≡ Some t
@@ -35,6 +35,12 @@ creates-answer book asking txn place said given table way =
     let event : Entry = entry.Create (record { 0 = txn }) table in
     answered-by (book ++ event ∷ []) txn _ _ _
     (numbered-behind book event txn _ (created-there (state_of book) txn (way_of book asking place said given) way.here refl table)) refl refl
+
+pub drops-answer : DropsAnswer
+drops-answer book asking txn place said given table way =
+    let event : Entry = entry.Drop (record { 0 = txn }) table in
+    answered-by (book ++ event ∷ []) txn _ _ _
+    (numbered-behind book event txn _ (dropped-there (state_of book) txn (way_of book asking place said given) way.here refl table)) refl refl
 
 pub aborts-answer : AbortsAnswer
 aborts-answer book asking txn place said given why way =

@@ -9,7 +9,7 @@ use Rattle.hv_ast.specs.declared.statement.Stmt.{Stmt}
 use Rattle.hv_history.specs.declared.entry.Entry.{Entry}
 use Rattle.hv_history.specs.declared.entry.Entry.TheVariants as entry
 use Rattle.hv_history.specs.declared.entry.Cause.{Cause}
-use Rattle.hv_history.specs.declared.state.Ending.TheVariants.{Aborted, Made}
+use Rattle.hv_history.specs.declared.state.Ending.TheVariants.{Aborted, Made, Dropped}
 use Rattle.hv_history.specs.declared.state.Transaction.{Transaction}
 use Rattle.hv_history.specs.State.{State, nothing_yet, numbered, opened, started, given_id, committed, ended, acted, after, state_of}
 use Rattle.hv_stands.specs.Running.{Asking, meant, snapshot_at, running}
@@ -72,6 +72,11 @@ module _ (s : State) (txn : ℕ) (t : Transaction) (at : numbered s.transactions
       → numbered (after s (entry.Create (record { 0 = txn }) table)).transactions txn ≡ Some (ended (Made s.entries table.0) t)
   unfolding acted
   created-there table = open-here (ended (Made s.entries table.0)) s.transactions txn t at unended
+
+  pub dropped-there : (table : TableId)
+      → numbered (after s (entry.Drop (record { 0 = txn }) table)).transactions txn ≡ Some (ended (Dropped s.entries table.0) t)
+  unfolding acted
+  dropped-there table = open-here (ended (Dropped s.entries table.0)) s.transactions txn t at unended
 
   pub aborted-there : (why : Cause)
       → numbered (after s (entry.Abort (record { 0 = txn }) why)).transactions txn ≡ Some (ended (Aborted s.entries why) t)

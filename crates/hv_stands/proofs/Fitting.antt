@@ -9,10 +9,10 @@ use Rattle.hv_history.specs.declared.entry.Entry.TheVariants as entry
 use Rattle.hv_history.specs.declared.entry.Cause.{Cause}
 use Rattle.hv_history.specs.declared.entry.Cause.TheVariants as cause
 use Rattle.hv_history.specs.declared.state.Ending.{Ending}
-use Rattle.hv_history.specs.declared.state.Ending.TheVariants.{Aborted, Made}
+use Rattle.hv_history.specs.declared.state.Ending.TheVariants.{Aborted, Made, Dropped}
 use Rattle.hv_history.specs.declared.state.Transaction.{Transaction}
 use Rattle.hv_history.specs.State.{State, nothing_yet, numbered, changed, changed_at, unless_ended, while_open, opened, started, given_id, committed, ended, acted, after, state_of}
-use Rattle.hv_history.specs.Legal.{is_open, one_if, open_one, working_one, load, HasRoom, StartFits, GivenFits, CommitFits, CreateFits, CauseFits, Fits, AllFit, profile}
+use Rattle.hv_history.specs.Legal.{is_open, one_if, open_one, working_one, load, HasRoom, StartFits, GivenFits, CommitFits, CreateFits, DropFits, CauseFits, Fits, AllFit, profile}
 use Rattle.hv_stands.specs.Statements.{FittingIsSound, FrontsFit, OneMoreFits, FittingHasRoom}
 use Rattle.hv_stands.proofs.Numbers.{one_value, found}
 use Rattle.hv_stands.proofs.Keeping.{still-open, open-by, sound-all, nothing-sound}
@@ -143,6 +143,9 @@ fits-roomy limits s (entry.Abort txn why) fits within =
 fits-roomy limits s (entry.Create txn table) fits within =
     let here = found (CreateFits s table.0) (numbered s.transactions txn.0) fits in
     ends-roomy limits s (after s (entry.Create txn table)) txn.0 here.0 (ended (Made s.entries table.0)) (λ t. refl) here.1 here.2.running.unended within refl refl refl
+fits-roomy limits s (entry.Drop txn table) fits within =
+    let here = found (DropFits s table.0) (numbered s.transactions txn.0) fits in
+    ends-roomy limits s (after s (entry.Drop txn table)) txn.0 here.0 (ended (Dropped s.entries table.0)) (λ t. refl) here.1 here.2.running.unended within refl refl refl
 fits-roomy limits s event fits within = absurd fits
 
 load-within : (limits : Limits) (book : List Entry) (s : State) → AllFit limits s book → load s ≤ limits.entries → load (fold after s book) ≤ limits.entries

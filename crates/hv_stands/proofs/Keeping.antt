@@ -11,17 +11,17 @@ use Rattle.hv_grammar.specs.Texts.{tree_of}
 use Rattle.hv_logic.specs.declared.catalog.TableInfo.{TableInfo}
 use Rattle.hv_logic.specs.declared.effect.Effect.{Effect}
 use Rattle.hv_logic.specs.declared.meaning.Meaning.{Meaning}
-use Rattle.hv_logic.specs.declared.meaning.Meaning.TheVariants.{Refused, Listing, Change, Make, Plain, Twice, RowLimit, PartitionLimit}
+use Rattle.hv_logic.specs.declared.meaning.Meaning.TheVariants.{Refused, Listing, Change, Make, Unmake, Plain, Twice, RowLimit, PartitionLimit}
 use Rattle.hv_history.specs.declared.entry.Entry.{Entry}
 use Rattle.hv_history.specs.declared.entry.Entry.TheVariants as entry
 use Rattle.hv_history.specs.declared.state.Written.{Written}
 use Rattle.hv_history.specs.declared.state.Statement.{Statement}
 use Rattle.hv_history.specs.declared.state.Table.{Table}
 use Rattle.hv_history.specs.declared.state.Ending.{Ending}
-use Rattle.hv_history.specs.declared.state.Ending.TheVariants.{Committed, Aborted, Made}
+use Rattle.hv_history.specs.declared.state.Ending.TheVariants.{Committed, Aborted, Made, Dropped}
 use Rattle.hv_history.specs.declared.state.Transaction.{Transaction}
-use Rattle.hv_history.specs.State.{State, nothing_yet, numbered, changed, changed_at, unless_ended, while_open, opened, meant_in, meaning_in, means, first_known, started, given_id, given_in, owned, written_to, committed, ended, did, wrote_as, writes_of, written_by, commits, tables_behind, made_by, acted, after}
-use Rattle.hv_history.specs.Legal.{is_open, Fits, OpenedFits, GivenFits, CommitFits, CreateFits, IsStatement, AllFit}
+use Rattle.hv_history.specs.State.{State, nothing_yet, numbered, changed, changed_at, unless_ended, while_open, opened, meant_in, meaning_in, means, first_known, started, given_id, given_in, owned, dropped, written_to, committed, ended, did, wrote_as, writes_of, written_by, commits, tables_behind, made_by, opening_tree, acted, after}
+use Rattle.hv_history.specs.Legal.{is_open, Fits, OpenedFits, GivenFits, CommitFits, CreateFits, DropFits, dropped_name, is_named_there, IsStatement, AllFit}
 use Rattle.hv_stands.specs.Files.{ending_of}
 use Rattle.hv_stands.specs.Sound.{IsRoutedWrite, HasOther, AreApart, AreSound, info_in, IsRoutedChange, ChangesAmong, IsSingle, given_of, owners_of, given_among, owner_among, AreGiven, IsDone, IsOfCommitted, AreOfCommitted, IsSound}
 use Rattle.hv_stands.proofs.Numbers.{same_one, none_is, found, changed-here, numbered-map, map-changed, map-more, numbered-more}
@@ -165,6 +165,7 @@ module _ (infos : List TableInfo) where
   writes-one (Some (Listing names rows)) number t routed = inl refl
   writes-one (Some (Change info effect)) number t routed = change-writes info effect number t routed (given_in info.table.0 t.given) refl
   writes-one (Some (Make shape)) number t routed = inl refl
+  writes-one (Some (Unmake table)) number t routed = inl refl
   writes-one (Some Plain) number t routed = inl refl
   writes-one (Some (Twice region row)) number t routed = inl refl
   writes-one (Some RowLimit) number t routed = inl refl
@@ -231,6 +232,7 @@ changes-more infos info (Some (Listing names rows)) h = tt
 changes-more infos info (Some (Change of effect)) h =
     record { here = numbered-more infos info of.table.0 of h.here; whole = h.whole; deletes = h.deletes }
 changes-more infos info (Some (Make shape)) h = tt
+changes-more infos info (Some (Unmake table)) h = tt
 changes-more infos info (Some Plain) h = tt
 changes-more infos info (Some (Twice region row)) h = tt
 changes-more infos info (Some RowLimit) h = tt
@@ -334,7 +336,7 @@ module _ (limits : Limits) (s now : State) (n k w : ℕ) (t : Transaction) (soun
         no_jobs = jobs ∙ sound.no_jobs;
         tables = subst (λ ts. AreSound now.entries ts) (sym tables)
             (subst (λ m. AreSound m (changed (owned n) s.tables k)) (sym entries)
-            (changed-sound s.entries (s.entries + 1) s.tables k (owned n) table there.1 (λ t. refl) (λ t. refl) (λ t. refl)
+            (changed-sound s.entries (s.entries + 1) s.tables k (owned n) table there.1 (λ t. refl) (λ t. refl)
             (λ t few. omega arith) (λ few. owned-few s.entries n table few) (λ h. record { each = h.each; apart = h.apart }) sound.tables));
         single = subst (λ infos. AllByRecursion (IsSingle infos) now.transactions)
             (sym (ap (map info_in) tables ∙ map-same info_in (owned n) (λ t. refl) s.tables k))
@@ -408,7 +410,7 @@ module _ (s now : State) (n place : ℕ) (wrote : List Touch) (t : Transaction) 
         no_jobs = jobs ∙ sound.no_jobs;
         tables = subst (λ ts. AreSound now.entries ts) (sym made)
             (subst (λ m. AreSound m (changed (written_to x.1) s.tables x.0)) (sym entries)
-            (changed-sound s.entries (s.entries + 1) s.tables x.0 (written_to x.1) table there.1 (λ t. refl) (λ t. refl) (λ t. refl)
+            (changed-sound s.entries (s.entries + 1) s.tables x.0 (written_to x.1) table there.1 (λ t. refl) (λ t. refl)
             (λ t few. omega arith) (λ few. omega arith)
             (λ h. record {
               each = all-more (IsRoutedWrite table.info.shape) table.writes x.1 h.each (routed-there x is table there.1);
@@ -444,7 +446,7 @@ created-sound s now n k place t sound at fits transactions tables jobs entries =
           (subst (λ m. AreSound m (s.tables ++ made ∷ [])) (sym entries)
           (table-made-sound (s.entries + 1) s.tables made
           (soundness-later s.entries (s.entries + 1) s.tables sound.tables (omega arith))
-          refl fits.flat fits.next (omega arith) refl (record { each = tt; apart = tt })));
+          fits.flat fits.next (omega arith) refl (record { each = tt; apart = tt })));
       single = subst (λ infos. AllByRecursion (IsSingle infos) now.transactions) (sym (ap (map info_in) tables ∙ map-more info_in s.tables made))
           (subst (AllByRecursion (IsSingle (map info_in s.tables ++ made.info ∷ []))) (sym transactions)
           (all-open (IsSingle (map info_in s.tables ++ made.info ∷ [])) (ended (Made place k))
@@ -462,6 +464,39 @@ created-sound s now n k place t sound at fits transactions tables jobs entries =
           (λ m done. subst (λ ts. IsDone (numbered (map ending_of ts) m)) (sym transactions) (done-stays (ended (Made place k)) s.transactions n m done))
           s.tables sound.committed)
           tt);
+    }
+
+-- the table of that name is there
+pub named-table : (name : List ℕ) (o : Option Table) → IsTrue (is_named_there name o) → (table : Table) × (o ≡ Some table)
+named-table name None named = cc
+named-table name (Some table) named = (table, refl)
+
+-- a table was dropped
+dropped-sound : (s now : State) (n k place : ℕ) (table : Table) → IsSound s → numbered s.tables k ≡ Some table
+    → now.transactions ≡ changed (while_open (ended (Dropped place k))) s.transactions n → now.tables ≡ changed dropped s.tables k
+    → now.jobs ≡ s.jobs → now.entries ≡ s.entries + 1 → IsSound now
+dropped-sound s now n k place table sound at transactions tables jobs entries =
+    let infos : List TableInfo = map info_in s.tables in
+    let endings : List (Option Ending) = map ending_of now.transactions in
+    let later : AllByRecursion (AreOfCommitted endings) s.tables =
+    committed-later (map ending_of s.transactions) endings
+    (λ m done. subst (λ ts. IsDone (numbered (map ending_of ts) m)) (sym transactions) (done-stays (ended (Dropped place k)) s.transactions n m done))
+    s.tables sound.committed in
+    record {
+      no_jobs = jobs ∙ sound.no_jobs;
+      tables = subst (λ ts. AreSound now.entries ts) (sym tables)
+          (subst (λ m. AreSound m (changed dropped s.tables k)) (sym entries)
+          (changed-sound s.entries (s.entries + 1) s.tables k dropped table at (λ t. refl) (λ t. refl)
+          (λ t few. omega arith) (λ few. omega arith) (λ h. record { each = h.each; apart = h.apart }) sound.tables));
+      single = subst (λ (xs : List TableInfo). AllByRecursion (IsSingle xs) now.transactions)
+          (sym (ap (map info_in) tables ∙ map-same info_in dropped (λ t. refl) s.tables k))
+          (subst (AllByRecursion (IsSingle infos)) (sym transactions)
+          (all-open (IsSingle infos) (ended (Dropped place k)) (λ t single. single-same infos t (ended (Dropped place k) t) refl single) s.transactions n sound.single));
+      given = subst (λ gs. AreGiven gs (map owners_of now.tables))
+          (sym (ap (map given_of) transactions ∙ map-open given_of (ended (Dropped place k)) (λ t. refl) s.transactions n))
+          (subst (λ os. AreGiven (map given_of s.transactions) os) (sym (ap (map owners_of) tables ∙ map-same owners_of dropped (λ t. refl) s.tables k)) sound.given);
+      committed = subst (λ ts. AllByRecursion (AreOfCommitted endings) ts) (sym tables)
+          (all-changed (AreOfCommitted endings) (AreOfCommitted endings) dropped s.tables k table at (λ t h. h) (λ h. h) later);
     }
 
 -- ---- the law
@@ -489,6 +524,10 @@ sound-after limits s (entry.Create txn table) fits sound =
     let here = found (CreateFits s table.0) (numbered s.transactions txn.0) fits in
     created-sound s (after s (entry.Create txn table)) txn.0 table.0 s.entries here.0 sound here.1 here.2 refl
     (ap (λ o. s.tables ++ made_by table.0 o ∷ []) here.1) refl refl
+sound-after limits s (entry.Drop txn table) fits sound =
+    let here = found (DropFits s table.0) (numbered s.transactions txn.0) fits in
+    let there = named-table (dropped_name (opening_tree here.0)) (numbered s.tables table.0) here.2.named in
+    dropped-sound s (after s (entry.Drop txn table)) txn.0 table.0 s.entries there.0 sound there.1 refl refl refl refl
 sound-after limits s event fits sound = absurd fits
 
 pub sound-all : (limits : Limits) (s : State) (more : List Entry) → AllFit limits s more → IsSound s → IsSound (fold after s more)
@@ -499,7 +538,7 @@ sound-all limits s (event ∷ more) fit sound = sound-all limits (after s event)
 pub nothing-sound : IsSound nothing_yet
 nothing-sound = record {
   no_jobs = refl;
-  tables = record { live = tt; flat = tt; in_order = tt; few = tt; keeping = tt; written = tt };
+  tables = record { flat = tt; in_order = tt; few = tt; keeping = tt; written = tt };
   single = tt;
   given = record { has_owner = λ txn table write e. none-given txn table write e; is_given = λ txn table write e. none-owned txn table write e };
   committed = tt;

@@ -115,6 +115,7 @@ alike infos found others (Ok (logic.Change change)) =
 alike infos found others (Ok (logic.Merge merge)) =
     merged-alike (slice_get infos merge.table) (slice_get found merge.table) (slice_get others merge.table) (tables_of found) (tables_of others) merge
 alike infos found others (Ok (logic.Make shape)) = inl refl
+alike infos found others (Ok (logic.Unmake table)) = inl refl
 alike infos found others (Ok logic.Nothing) = inl refl
 alike infos found others (Ok (logic.Describe columns)) = inl refl
 alike infos found others (Err why) = inl refl

@@ -15,13 +15,12 @@ use Rattle.hv_stands.proofs.Written.{effect-written}
 use Rattle.hv_stands.proofs.Fitting.{fitting-sound}
 
 pub seeing-enough : SeeingIsEnough
-seeing-enough book said fit =
-    let sound : IsSound (state_of book) = fitting-sound book fit in reading-enough said (state_of book).tables sound.tables.live
+seeing-enough book said fit = reading-enough said (state_of book).tables
 
 pub changed-table-stood : ChangedTableStood
 changed-table-stood book said info effect fit e =
     let sound : IsSound (state_of book) = fitting-sound book fit in
-    let change = changes-table (state_of book).tables sound.tables.live sound.tables.in_order info effect said e in
+    let change = changes-table (state_of book).tables sound.tables.in_order info effect said e in
     (change.table, change.here, change.info_is)
 
 -- a table stays, behind whatever follows

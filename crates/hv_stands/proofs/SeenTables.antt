@@ -21,7 +21,7 @@ use Rattle.hv_logic.specs.declared.seen.Seen.{Seen}
 use Rattle.hv_logic.specs.declared.effect.Effect.{Effect}
 use Rattle.hv_logic.specs.declared.meaning.Meaning.TheVariants.{Change}
 use Rattle.hv_history.specs.State.{numbered, seen_table, seen_tables, content_of}
-use Rattle.hv_stands.specs.Sound.{IsLive, NumberedFrom}
+use Rattle.hv_stands.specs.Sound.{NumberedFrom}
 use Rattle.hv_stands.specs.Reading.{table_of_name, named_in, tables_named, seen_of, seen_read}
 use Rattle.hv_stands.proofs.Numbers.{one_value}
 use Rattle.hv_stands.proofs.Tables.{named-seen, named-numbered, HasTable}
@@ -32,16 +32,15 @@ listed-table : (o : Option Table) → option_to_list (option_map seen_table o) �
 listed-table None = refl
 listed-table (Some table) = refl
 
-seen-named : (tables : List Table) → AllByRecursion IsLive tables → (locks : List Lock)
+seen-named : (tables : List Table) (locks : List Lock)
     → flat_map (named_by (seen_tables tables)) locks ≡ map seen_table (flat_map (named_in tables) locks)
-seen-named tables live [] = refl
-seen-named tables live (lock ∷ locks) =
-    (λ i. (ap option_to_list (named-seen lock.name tables live) ∙ listed-table (table_of_name lock.name tables)) i ++ seen-named tables live locks i)
+seen-named tables [] = refl
+seen-named tables (lock ∷ locks) =
+    (λ i. (ap option_to_list (named-seen lock.name tables) ∙ listed-table (table_of_name lock.name tables)) i ++ seen-named tables locks i)
     ∙ sym (map-append seen_table (named_in tables lock) (flat_map (named_in tables) locks))
 
-pub its-seen : (tree : Stmt) (tables : List Table) → AllByRecursion IsLive tables
-    → its_tables tree (seen_tables tables) ≡ map seen_table (tables_named tree tables)
-its-seen tree tables live = seen-named tables live (names_in tree)
+pub its-seen : (tree : Stmt) (tables : List Table) → its_tables tree (seen_tables tables) ≡ map seen_table (tables_named tree tables)
+its-seen tree tables = seen-named tables (names_in tree)
 
 -- ---- with their rows, or none where they don't matter
 
@@ -59,19 +58,17 @@ read-alike : (tree : Stmt) (tables : List Table) (b : Bool) → reads_rows tree 
 read-alike tree tables true reads = ap (meaning_in tree) (whole-rows tree tables reads)
 read-alike tree tables false reads = unseen-in tree (map (seen_of tree) tables) (map seen_table tables) reads (same-infos tree tables)
 
-pub reading-enough : (tree : Stmt) (tables : List Table) → AllByRecursion IsLive tables
-    → meaning_in tree (seen_read tree tables) ≡ meaning_of (seen_tables tables) tree
-reading-enough tree tables live =
-    read-alike tree (tables_named tree tables) (reads_rows tree) refl ∙ ap (meaning_in tree) (sym (its-seen tree tables live))
+pub reading-enough : (tree : Stmt) (tables : List Table) → meaning_in tree (seen_read tree tables) ≡ meaning_of (seen_tables tables) tree
+reading-enough tree tables =
+    read-alike tree (tables_named tree tables) (reads_rows tree) refl ∙ ap (meaning_in tree) (sym (its-seen tree tables))
 
 -- what is read has the descriptions of what is seen
-pub read-infos : (tree : Stmt) (tables : List Table) → AllByRecursion IsLive tables
-    → map info_of (seen_read tree tables) ≡ map info_of (its_tables tree (seen_tables tables))
-read-infos tree tables live = same-infos tree (tables_named tree tables) ∙ ap (map info_of) (sym (its-seen tree tables live))
+pub read-infos : (tree : Stmt) (tables : List Table) → map info_of (seen_read tree tables) ≡ map info_of (its_tables tree (seen_tables tables))
+read-infos tree tables = same-infos tree (tables_named tree tables) ∙ ap (map info_of) (sym (its-seen tree tables))
 
 -- ---- a description among those of the tables that a statement names is that of one of the book's tables
 
-module _ (tables : List Table) (live : AllByRecursion IsLive tables) (order : NumberedFrom 1 tables) where
+module _ (tables : List Table) (order : NumberedFrom 1 tables) where
   abbrev IsAtNumber : Table → Type 0
   IsAtNumber table = numbered tables table.info.table.0 ≡ Some table
 
@@ -96,7 +93,7 @@ module _ (tables : List Table) (live : AllByRecursion IsLive tables) (order : Nu
       → slice_get (map info_of seen) place ≡ Some info → HasTable info tables
   seen-place tree seen place info same e =
       info-place (tables_named tree tables) place info
-      (ap (λ (infos : List TableInfo). slice_get infos place) (sym (same ∙ ap (map info_of) (its-seen tree tables live))) ∙ e)
+      (ap (λ (infos : List TableInfo). slice_get infos place) (sym (same ∙ ap (map info_of) (its-seen tree tables))) ∙ e)
       (named-all (names_in tree))
 
 info-at : (seen : List Seen) (place : ℕ) → slice_get (map info_of seen) place ≡ option_map info_of (slice_get seen place)
@@ -114,11 +111,11 @@ pub record CanChangeTable (tables : List Table) (info : TableInfo) (effect : Eff
   pub within : touched info effect ≡ Ok (touches_of info effect)
   pub taken : length (columns_of info.shape) ≤ 65535 → AllByRecursion (λ (row : Row). RowIsTaken (stored info.shape row)) effect.inserts
 
-pub change-of-seen : (tables : List Table) → AllByRecursion IsLive tables → NumberedFrom 1 tables → (tree : Stmt) (seen : List Seen) (info : TableInfo) (effect : Effect)
+pub change-of-seen : (tables : List Table) → NumberedFrom 1 tables → (tree : Stmt) (seen : List Seen) (info : TableInfo) (effect : Effect)
     → map info_of seen ≡ map info_of (its_tables tree (seen_tables tables)) → meaning_in tree seen ≡ Some (Change info effect) → CanChangeTable tables info effect
-change-of-seen tables live order tree seen info effect same e =
+change-of-seen tables order tree seen info effect same e =
     let change = changes-seen tree seen info effect e in
     let at : slice_get (map info_of seen) change.place ≡ Some info =
     info-at seen change.place ∙ ap (option_map info_of) change.here ∙ ap Some (sym change.info_is) in
-    let there = seen-place tables live order tree seen change.place info same at in
+    let there = seen-place tables order tree seen change.place info same at in
     record { table = there.0; here = there.1; same = there.2; within = change.fits.within; taken = change.fits.taken }

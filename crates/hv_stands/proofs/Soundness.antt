@@ -5,7 +5,7 @@ use Rattle.hv_history.specs.declared.state.Table.{Table}
 use Rattle.hv_history.specs.State.{numbered, changed, changed_at, owned}
 use Rattle.hv_logic.specs.declared.catalog.TableInfo.{TableInfo}
 use Rattle.hv_route.specs.Back.{AreFlat}
-use Rattle.hv_stands.specs.Sound.{IsLive, HasFlatParts, NumberedFrom, HasSoundWrites, HasFewOwners, KeepsAll, AreSound}
+use Rattle.hv_stands.specs.Sound.{HasFlatParts, NumberedFrom, HasSoundWrites, HasFewOwners, KeepsAll, AreSound}
 
 -- ---- what holds of all
 
@@ -64,7 +64,6 @@ in_order-changed f same first tables (suc n) h = in_order-changed_at f same firs
 
 pub soundness-later : (most next : ℕ) (tables : List Table) → AreSound most tables → most < next → AreSound next tables
 soundness-later most next tables sound before = record {
-  live = sound.live;
   flat = sound.flat;
   in_order = sound.in_order;
   few = all-mapped (HasFewOwners most) (HasFewOwners next) (λ table few. omega arith) tables sound.few;
@@ -73,10 +72,9 @@ soundness-later most next tables sound before = record {
 }
 
 -- one table more
-pub table-made-sound : (most : ℕ) (tables : List Table) (made : Table) → AreSound most tables → IsLive made → HasFlatParts made → made.info.table.0 ≡ length tables + 1
+pub table-made-sound : (most : ℕ) (tables : List Table) (made : Table) → AreSound most tables → HasFlatParts made → made.info.table.0 ≡ length tables + 1
     → HasFewOwners most made → KeepsAll made → HasSoundWrites made → AreSound most (tables ++ made ∷ [])
-table-made-sound most tables made sound live flat number few keeping written = record {
-  live = all-more IsLive tables made sound.live live;
+table-made-sound most tables made sound flat number few keeping written = record {
   flat = all-more HasFlatParts tables made sound.flat flat;
   in_order = numbered-more 1 tables made sound.in_order (omega (arith, number));
   few = all-more (HasFewOwners most) tables made sound.few few;
@@ -92,12 +90,11 @@ owned-few most txn table few = omega (arith, owned-more txn table.owners)
 
 -- one table changed, whose number and shape stay
 pub changed-sound : (most next : ℕ) (tables : List Table) (k : ℕ) (f : Table → Table) (table : Table) → numbered tables k ≡ Some table
-    → ((t : Table) → (f t).info ≡ t.info) → ((t : Table) → (f t).is_live ≡ t.is_live) → ((t : Table) → (f t).forgotten ≡ t.forgotten)
+    → ((t : Table) → (f t).info ≡ t.info) → ((t : Table) → (f t).forgotten ≡ t.forgotten)
     → ((t : Table) → HasFewOwners most t → HasFewOwners next t) → (HasFewOwners most table → HasFewOwners next (f table))
     → (HasSoundWrites table → HasSoundWrites (f table))
     → AreSound most tables → AreSound next (changed f tables k)
-changed-sound most next tables k f table at info alive keeps later few written sound = record {
-  live = all-changed IsLive IsLive f tables k table at (λ t h. h) (λ h. alive table ∙ h) sound.live;
+changed-sound most next tables k f table at info keeps later few written sound = record {
   flat = all-changed HasFlatParts HasFlatParts f tables k table at (λ t h. h)
       (λ h. subst (λ (i : TableInfo). AreFlat i.shape.parts) (sym (info table)) h) sound.flat;
   in_order = in_order-changed f (λ t. ap (λ (i : TableInfo). i.table.0) (info t)) 1 tables k sound.in_order;

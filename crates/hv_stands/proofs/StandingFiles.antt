@@ -20,8 +20,8 @@ use Rattle.hv_history.specs.declared.state.Table.{Table}
 use Rattle.hv_history.specs.declared.state.Ending.{Ending}
 use Rattle.hv_history.specs.declared.state.Ending.TheVariants.{Committed, Aborted, Made, Dropped}
 use Rattle.hv_history.specs.declared.state.Transaction.{Transaction}
-use Rattle.hv_history.specs.State.{State, first_known, numbered, changed, changed_at, unless_ended, while_open, opened, started, given_id, owned, written_to, committed, ended, commits, tables_behind, made_by, acted, after}
-use Rattle.hv_history.specs.Legal.{Fits, CommitFits, CreateFits}
+use Rattle.hv_history.specs.State.{State, first_known, numbered, changed, changed_at, unless_ended, while_open, opened, started, given_id, owned, dropped, written_to, committed, ended, commits, tables_behind, made_by, acted, after}
+use Rattle.hv_history.specs.Legal.{Fits, CommitFits, CreateFits, DropFits}
 use Rattle.hv_dirs.specs.Names.{write_end}
 use Rattle.hv_stands.specs.Files.{commit_file, own_dir, own_place, file_at, file_in, made_in, made_at, ending_of, IsOwn, IsUndone, IsLoose, IsEncoded, AreEncoded, Stands, IsFiled}
 use Rattle.hv_stands.specs.Sound.{HasOther, AreApart, HasSoundWrites, HasFewOwners, KeepsAll, info_in, given_of, owners_of, given_among, IsDone, IsSingle, IsOfCommitted, AreOfCommitted, IsSound}
@@ -305,6 +305,13 @@ all-encoded f same t h =
     subst (λ (ws : List Written). AllByRecursion (IsEncoded (f t).info.shape) ws) (sym is.writes)
     (subst (λ (info : TableInfo). AllByRecursion (IsEncoded info.shape) t.writes) (sym is.info) h)
 
+-- a dropped table makes what it made
+dropped-makes : (t : Table) → MakesSame t (dropped t)
+dropped-makes t = record { info = refl; writes = refl }
+
+pub dropped-encoded : (tables : List Table) (k : ℕ) → AllByRecursion AreEncoded tables → AllByRecursion AreEncoded (changed dropped tables k)
+dropped-encoded tables k encoded = all-each AreEncoded dropped (all-encoded dropped dropped-makes) tables k encoded
+
 module _ (s now : State) (files : Tree) (n : ℕ) (f : Transaction → Transaction) (t : Transaction) (sound : IsSound s) (stands : Stands s files)
     (at : numbered s.transactions n ≡ Some t) (transactions : now.transactions ≡ changed (while_open f) s.transactions n) where
   others-later : (m : ℕ) → (m == n) ≡ false → numbered (map ending_of now.transactions) m ≡ numbered (map ending_of s.transactions) m
@@ -343,6 +350,17 @@ module _ (s now : State) (files : Tree) (n : ℕ) (f : Transaction → Transacti
       (λ txn place own. subst (λ ts. IsOwn ts txn place) (sym tables) (own-more s.tables (made_by k o) txn place own))
       others-later whole encoded
 
+  drop-stands : (k : ℕ) → now.tables ≡ changed dropped s.tables k
+      → ((place : Place) → IsOwn s.tables n place → tree.get files place ≡ made_at now.tables place) → AllByRecursion AreEncoded now.tables → Stands now files
+  drop-stands k tables whole encoded =
+      let same : (place : Place) → made_at now.tables place ≡ made_at s.tables place =
+      λ place. ap (λ ts. made_at ts place) tables ∙ same-made dropped dropped-makes s.tables k place in
+      stands-ended s now files n stands
+      (λ place bytes is. inl (sym (same place) ∙ is))
+      (λ place is. sym (same place) ∙ is)
+      (λ txn place own. subst (λ ts. IsOwn ts txn place) (sym tables) (own-changed dropped (λ t write txn e. e) (λ t. refl) s.tables k txn place own))
+      others-later whole encoded
+
 -- ---- the law
 
 pub stands-after : (limits : Limits) (s : State) (event : Entry) (files : Tree) → Fits limits s event → IsSound s → IsFiled event s files → Stands s files
@@ -374,6 +392,10 @@ stands-after limits s (entry.Create txn table) files fits sound filed stands =
     let here = found (CreateFits s table.0) (numbered s.transactions txn.0) fits in
     create-stands s (after s (entry.Create txn table)) files txn.0 (ended (Made s.entries table.0)) here.0 sound stands here.1 refl
     table.0 (numbered s.transactions txn.0) refl filed.whole filed.encoded
+stands-after limits s (entry.Drop txn table) files fits sound filed stands =
+    let here = found (DropFits s table.0) (numbered s.transactions txn.0) fits in
+    drop-stands s (after s (entry.Drop txn table)) files txn.0 (ended (Dropped s.entries table.0)) here.0 sound stands here.1 refl
+    table.0 refl filed.whole filed.encoded
 stands-after limits s event files fits sound filed stands = absurd fits
 
 pub standing-goes-on : StandingGoesOn

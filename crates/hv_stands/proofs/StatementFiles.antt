@@ -12,7 +12,7 @@ use Rattle.hv_logic.specs.declared.catalog.Shape.{Shape}
 use Rattle.hv_logic.specs.declared.catalog.TableInfo.{TableInfo}
 use Rattle.hv_logic.specs.declared.effect.Effect.{Effect}
 use Rattle.hv_logic.specs.declared.meaning.Meaning.{Meaning}
-use Rattle.hv_logic.specs.declared.meaning.Meaning.TheVariants.{Refused, Listing, Change, Make, Plain, Twice, RowLimit, PartitionLimit}
+use Rattle.hv_logic.specs.declared.meaning.Meaning.TheVariants.{Refused, Listing, Change, Make, Unmake, Plain, Twice, RowLimit, PartitionLimit}
 use Rattle.hv_history.specs.declared.entry.Entry.{Entry}
 use Rattle.hv_history.specs.declared.entry.Entry.TheVariants as entry
 use Rattle.hv_history.specs.declared.state.Written.{Written}
@@ -27,7 +27,7 @@ use Rattle.hv_stands.specs.Running.{Asking, meant, snapshot_at, running, IsUnder
 use Rattle.hv_stands.specs.Statements.{AllFitting, FilesArePut, PutsStand, WritesNothing, QuietEntriesStand, CommitsNothing, OtherEntriesStand, CommitsStand, PutFilesStay, NewIdsAreOthers, EarlierIdsAreKept}
 use Rattle.hv_stands.proofs.Numbers.{same_one, changed-here, numbered-within}
 use Rattle.hv_stands.proofs.Soundness.{all-numbered, all-more, all-changed}
-use Rattle.hv_stands.proofs.StandingFiles.{stands-after, new-ids-bare}
+use Rattle.hv_stands.proofs.StandingFiles.{dropped-encoded, stands-after, new-ids-bare}
 use Rattle.hv_stands.proofs.MadeFiles.{own_dir-same, file-last}
 use Rattle.hv_stands.proofs.Written.{of-tables, effect-encoded}
 use Rattle.hv_stands.proofs.Behind.{one-behind, entries-are}
@@ -76,6 +76,7 @@ writes-none (Some (Refused why)) = refl
 writes-none (Some (Listing names rows)) = refl
 writes-none (Some (Change info effect)) = refl
 writes-none (Some (Make shape)) = refl
+writes-none (Some (Unmake table)) = refl
 writes-none (Some Plain) = refl
 writes-none (Some (Twice region row)) = refl
 writes-none (Some RowLimit) = refl
@@ -91,6 +92,11 @@ encoded-created : (s : State) (txn table : ℕ) → AllByRecursion AreEncoded s.
     → AllByRecursion AreEncoded (after s (entry.Create (record { 0 = txn }) (record { 0 = table }))).tables
 unfolding acted
 encoded-created s txn table encoded = all-more AreEncoded s.tables (made_by table (numbered s.transactions txn)) encoded tt
+
+encoded-dropped : (s : State) (txn table : ℕ) → AllByRecursion AreEncoded s.tables
+    → AllByRecursion AreEncoded (after s (entry.Drop (record { 0 = txn }) (record { 0 = table }))).tables
+unfolding acted
+encoded-dropped s txn table encoded = dropped-encoded s.tables table encoded
 
 module _ (s : State) (files : Tree) (sound : IsSound s) (stands : Stands s files) where
   quiet-filed : (asking : Asking) (txn place : ℕ) (book : List Entry) (said : Stmt) (given : List (ℕ × ℕ)) (event : Entry)
@@ -113,11 +119,18 @@ module _ (s : State) (files : Tree) (sound : IsSound s) (stands : Stands s files
         whole = λ where_ own. absurd (unowned s other.0 t sound (ap (numbered s.transactions) nothing.0 ∙ at) nothing.1 where_ own);
         encoded = encoded-created s other.0 table.0 stands.encoded;
       }
+  quiet-filed asking txn place book said given (entry.Drop other table) at nothing =
+      let t : Transaction = way_of book asking place said given in
+      record {
+        whole = λ where_ own. absurd (unowned s other.0 t sound (ap (numbered s.transactions) nothing.0 ∙ at) nothing.1 where_ own);
+        encoded = encoded-dropped s other.0 table.0 stands.encoded;
+      }
   quiet-filed asking txn place book said given event at nothing = tt
 
 other-filed : (s : State) (files : Tree) (event : Entry) → CommitsNothing event → IsFiled event s files
 other-filed s files (entry.Commit txn wrote) nothing = absurd nothing
 other-filed s files (entry.Create txn table) nothing = absurd nothing
+other-filed s files (entry.Drop txn table) nothing = absurd nothing
 other-filed s files event nothing = tt
 
 -- an entry behind the book

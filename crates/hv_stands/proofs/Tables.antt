@@ -1,5 +1,5 @@
 -- The table that a statement names is one of the book's, and what a statement sees of it is what stands there.
-use Rattle.std.proofs.Common.{refl, ◌≡◌, ℕ, suc, ◌+◌, nat_eq, Bool, true, false, cond, IsTrue, Option, Some, None, List, [], ◌∷◌, map, filter, option_map, sym, ap, ◌∙◌, subst, arith}
+use Rattle.std.proofs.Common.{refl, ◌≡◌, ℕ, suc, ◌+◌, ◌&&◌, nat_eq, Bool, true, false, cond, Option, Some, None, List, [], ◌∷◌, map, filter, option_map, sym, ap, ◌∙◌, subst, arith}
 use Rattle.std.specs.Cmp.Lexicographic.{pointwise}
 use Rattle.std.specs.List.{slice_get, AllByRecursion}
 use Rattle.hv_ast.specs.declared.statement.Stmt.{Stmt}
@@ -12,39 +12,31 @@ use Rattle.hv_meaning.specs.Meaning.{meaning_of}
 use Rattle.hv_meaning.specs.Laws.{FitsTable}
 use Rattle.hv_history.specs.declared.state.Table.{Table}
 use Rattle.hv_history.specs.State.{numbered, content_of, seen_table, seen_tables}
-use Rattle.hv_stands.specs.Sound.{IsLive, NumberedFrom, HasAllValues}
+use Rattle.hv_history.specs.Legal.{is_named}
+use Rattle.hv_stands.specs.Sound.{NumberedFrom, HasAllValues}
 use Rattle.hv_stands.specs.Reading.{table_of_name}
 use Rattle.hv_stands.proofs.Meanings.{ArePicked, ChangesLive, changes-seen}
 
--- ---- all tables are seen
-
-seen-cons : (table : Table) (tables rest : List Table) → rest ≡ tables → (b : Bool) → IsTrue b → cond b (table ∷ rest) rest ≡ table ∷ tables
-seen-cons table tables rest e true h = ap (λ ts. table ∷ ts) e
-seen-cons table tables rest e false h = cc
-
-pub seen-live : (tables : List Table) → AllByRecursion IsLive tables → filter (λ (table : Table). table.is_live) tables ≡ tables
-seen-live [] live = refl
-seen-live (table ∷ tables) live =
-    seen-cons table tables (filter (λ (t : Table). t.is_live) tables) (seen-live tables live.1) table.is_live live.0
-
-pub seen_tables-live : (tables : List Table) → AllByRecursion IsLive tables → seen_tables tables ≡ map seen_table tables
-seen_tables-live tables live = ap (map seen_table) (seen-live tables live)
+-- ---- the live tables are seen
 
 named-cond : (b : Bool) (table : Table) (o : Option Table)
     → cond b (Some (seen_table table)) (option_map seen_table o) ≡ option_map seen_table (cond b (Some table) o)
 named-cond true table o = refl
 named-cond false table o = refl
 
-named-mapped : (name : List ℕ) (tables : List Table) → named name (map seen_table tables) ≡ option_map seen_table (table_of_name name tables)
-named-mapped name [] = refl
-named-mapped name (table ∷ tables) =
-    ap (λ o. cond (pointwise nat_eq table.info.shape.name name) (Some (seen_table table)) o) (named-mapped name tables)
-    ∙ named-cond (pointwise nat_eq table.info.shape.name name) table (table_of_name name tables)
+named-next : (name : List ℕ) (table : Table) (rest : List Table) (o : Option Table) → named name (map seen_table rest) ≡ option_map seen_table o → (live : Bool)
+    → named name (map seen_table (cond live (table ∷ rest) rest))
+    ≡ option_map seen_table (cond (live && pointwise nat_eq table.info.shape.name name) (Some table) o)
+named-next name table rest o same true =
+    ap (λ (found : Option Seen). cond (pointwise nat_eq table.info.shape.name name) (Some (seen_table table)) found) same
+    ∙ named-cond (pointwise nat_eq table.info.shape.name name) table o
+named-next name table rest o same false = same
 
 -- the table of a name, as it is seen
-pub named-seen : (name : List ℕ) (tables : List Table) → AllByRecursion IsLive tables
-    → named name (seen_tables tables) ≡ option_map seen_table (table_of_name name tables)
-named-seen name tables live = ap (named name) (seen_tables-live tables live) ∙ named-mapped name tables
+pub named-seen : (name : List ℕ) (tables : List Table) → named name (seen_tables tables) ≡ option_map seen_table (table_of_name name tables)
+named-seen name [] = refl
+named-seen name (table ∷ tables) =
+    named-next name table (filter (λ (t : Table). t.is_live) tables) (table_of_name name tables) (named-seen name tables) table.is_live
 
 -- ---- the table of a name has its number
 
@@ -69,7 +61,7 @@ pub named-at : (first : ℕ) (name : List ℕ) (tables : List Table) (table : Ta
 named-at first name [] table order e = cc
 named-at first name (other ∷ tables) table order e =
     at-here first tables other table (table_of_name name tables) order.0 (named-at (first + 1) name tables table order.1)
-    (pointwise nat_eq other.info.shape.name name) e
+    (is_named name other) e
 
 pub named-numbered : (name : List ℕ) (tables : List Table) (table : Table) → NumberedFrom 1 tables
     → table_of_name name tables ≡ Some table → numbered tables table.info.table.0 ≡ Some table
@@ -92,7 +84,7 @@ pub record ChangesTable (tables : List Table) (info : TableInfo) (effect : Effec
   pub whole : AllByRecursion (HasAllValues info.shape) effect.inserts
   pub fits : FitsTable info effect
 
-module _ (tables : List Table) (live : AllByRecursion IsLive tables) (order : NumberedFrom 1 tables) (info : TableInfo) (effect : Effect) where
+module _ (tables : List Table) (order : NumberedFrom 1 tables) (info : TableInfo) (effect : Effect) where
   found-table : (all : List Seen) (change : ChangesLive all info effect) (o : Option Table) → table_of_name change.name tables ≡ o
       → option_map seen_table o ≡ Some change.seen → ChangesTable tables info effect
   found-table all change None found e = cc
@@ -111,4 +103,4 @@ module _ (tables : List Table) (live : AllByRecursion IsLive tables) (order : Nu
   pub changes-table : (tree : Stmt) → meaning_of (seen_tables tables) tree ≡ Some (Change info effect) → ChangesTable tables info effect
   changes-table tree e =
       let change = changes-seen tree (seen_tables tables) info effect e in
-      found-table (seen_tables tables) change (table_of_name change.name tables) refl (sym (named-seen change.name tables live) ∙ change.here)
+      found-table (seen_tables tables) change (table_of_name change.name tables) refl (sym (named-seen change.name tables) ∙ change.here)

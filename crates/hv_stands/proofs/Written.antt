@@ -7,7 +7,7 @@ use Rattle.hv_logic.specs.declared.catalog.TableInfo.{TableInfo}
 use Rattle.hv_logic.specs.declared.effect.Effect.{Effect}
 use Rattle.hv_logic.specs.declared.effect.Found.{Found}
 use Rattle.hv_logic.specs.declared.meaning.Meaning.{Meaning}
-use Rattle.hv_logic.specs.declared.meaning.Meaning.TheVariants.{Refused, Listing, Change, Make, Plain, Twice, RowLimit, PartitionLimit}
+use Rattle.hv_logic.specs.declared.meaning.Meaning.TheVariants.{Refused, Listing, Change, Make, Unmake, Plain, Twice, RowLimit, PartitionLimit}
 use Rattle.hv_typing.specs.Columns.{columns_of}
 use Rattle.hv_route.specs.Back.{AreFlat, AreHeld}
 use Rattle.hv_route.specs.Routes.{files_of}
@@ -55,7 +55,7 @@ pub record IsOfTables (s : State) (info : TableInfo) (effect : Effect) : Type 0 
 pub of-tables : (s : State) (tree : Stmt) (info : TableInfo) (effect : Effect) → IsSound s → meaning_of (seen_tables s.tables) tree ≡ Some (Change info effect)
     → IsOfTables s info effect
 of-tables s tree info effect sound is =
-    let change = changes-table s.tables sound.tables.live sound.tables.in_order info effect tree is in
+    let change = changes-table s.tables sound.tables.in_order info effect tree is in
     record {
       change = change;
       gone = picked-stands (content_of change.table.writes) effect.deletes change.deletes (rows-stand s info.table.0 change.table sound change.here);
@@ -76,6 +76,7 @@ changes-among s tree sound = by (meaning_of (seen_tables s.tables) tree) refl
           deletes = there.gone.up;
         }
     by (Some (Make shape)) is = tt
+    by (Some (Unmake table)) is = tt
     by (Some Plain) is = tt
     by (Some (Twice region row)) is = tt
     by (Some RowLimit) is = tt

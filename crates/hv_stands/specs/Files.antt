@@ -150,4 +150,5 @@ pub record IsFiledBy (txn : ℕ) (event : Entry) (state : State) (files : Tree) 
 abbrev pub IsFiled : Entry → State → Tree → Type 0
 IsFiled (entry.Commit txn wrote) state files = IsFiledBy txn.0 (entry.Commit txn wrote) state files
 IsFiled (entry.Create txn table) state files = IsFiledBy txn.0 (entry.Create txn table) state files
+IsFiled (entry.Drop txn table) state files = IsFiledBy txn.0 (entry.Drop txn table) state files
 IsFiled _ state files = Unit {0}

@@ -1,6 +1,5 @@
 -- What a statement sees of the tables that it names, with the rows that stand in them.
-use Rattle.std.specs.Prelude.{ℕ, if◌then◌else◌, nat_eq, Option, Some, None, List, [], ◌∷◌, map}
-use Rattle.std.specs.Cmp.Lexicographic.{pointwise}
+use Rattle.std.specs.Prelude.{ℕ, if◌then◌else◌, Option, Some, None, List, [], ◌∷◌, map}
 use Rattle.std.specs.List.{flat_map}
 use Rattle.std.specs.Option.{option_to_list}
 use Rattle.hv_locks.specs.declared.table.Lock.{Lock}
@@ -10,13 +9,13 @@ use Rattle.hv_logic.specs.declared.effect.Found.{Found}
 use Rattle.hv_logic.specs.declared.seen.Seen.{Seen}
 use Rattle.hv_history.specs.declared.state.Table.{Table}
 use Rattle.hv_history.specs.State.{content_of}
+use Rattle.hv_history.specs.Legal.{is_named}
 use Rattle.hv_meaning.specs.Laws.{reads_rows}
 
--- the first table of that name
+-- the live table of that name: a dropped one has no name
 abbrev pub table_of_name : List ℕ → List Table → Option Table
 table_of_name name [] = None
-table_of_name name (table ∷ tables) =
-    if pointwise nat_eq table.info.shape.name name then Some table else table_of_name name tables
+table_of_name name (table ∷ tables) = if is_named name table then Some table else table_of_name name tables
 
 abbrev pub named_in : List Table → Lock → List Table
 named_in tables lock = option_to_list (table_of_name lock.name tables)

@@ -1,7 +1,7 @@
 -- What holds of every state whose entries fit, whatever transactions are open: the tables are those that were made, by
 -- their numbers; each write id has the transaction that it was given to, and each write is one of a transaction that has
 -- committed.
-use Rattle.std.specs.Prelude.{◌≡◌, ◌≢◌, ℕ, ◌+◌, ◌≤◌, IsTrue, Option, Some, None, List, [], ◌∷◌, length, map}
+use Rattle.std.specs.Prelude.{◌≡◌, ◌≢◌, ℕ, ◌+◌, ◌≤◌, Option, Some, None, List, [], ◌∷◌, length, map}
 use Rattle.std.specs.List.{AllByRecursion}
 use Rattle.std.specs.List.Sorted.{IsStrictlySortedBy}
 use Rattle.hv_value.specs.declared.row.Row.{Row}
@@ -23,9 +23,6 @@ use Rattle.hv_history.specs.declared.state.Transaction.{Transaction}
 use Rattle.hv_history.specs.State.{State, numbered, given_in}
 use Rattle.hv_history.specs.Legal.{IsStatement}
 use Rattle.hv_stands.specs.Files.{ending_of}
-
-abbrev pub IsLive : Table → Type 0
-IsLive table = IsTrue table.is_live
 
 -- the table at place k has the number first + k
 abbrev pub NumberedFrom : ℕ → List Table → Type 0
@@ -72,7 +69,6 @@ abbrev pub HasFlatParts : Table → Type 0
 HasFlatParts table = AreFlat table.info.shape.parts
 
 pub record AreSound (most : ℕ) (tables : List Table) : Type 0 where
-  pub live : AllByRecursion IsLive tables
   pub flat : AllByRecursion HasFlatParts tables
   pub in_order : NumberedFrom 1 tables
   pub few : AllByRecursion (HasFewOwners most) tables

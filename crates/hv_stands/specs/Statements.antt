@@ -70,6 +70,12 @@ CreatesAnswer =
     → IsUnderWay book asking txn place said given
     → HasAnswered (book ++ entry.Create (record { 0 = txn }) table ∷ []) txn ok_line false
 
+abbrev pub DropsAnswer : Type 0
+DropsAnswer =
+    (book : List Entry) (asking : Asking) (txn place : ℕ) (said : Stmt) (given : List (ℕ × ℕ)) (table : TableId)
+    → IsUnderWay book asking txn place said given
+    → HasAnswered (book ++ entry.Drop (record { 0 = txn }) table ∷ []) txn ok_line false
+
 abbrev pub AbortsAnswer : Type 0
 AbortsAnswer =
     (book : List Entry) (asking : Asking) (txn place : ℕ) (said : Stmt) (given : List (ℕ × ℕ)) (why : Cause)
@@ -159,6 +165,7 @@ PutsStand =
 abbrev pub WritesNothing : ℕ → List (ℕ × ℕ) → Entry → Type 0
 WritesNothing txn given (entry.Commit other wrote) = (other.0 ≡ txn) × (given ≡ [])
 WritesNothing txn given (entry.Create other table) = (other.0 ≡ txn) × (given ≡ [])
+WritesNothing txn given (entry.Drop other table) = (other.0 ≡ txn) × (given ≡ [])
 WritesNothing txn given event = Unit {0}
 
 abbrev pub QuietEntriesStand : Type 0
@@ -171,6 +178,7 @@ QuietEntriesStand =
 abbrev pub CommitsNothing : Entry → Type 0
 CommitsNothing (entry.Commit txn wrote) = ⊥
 CommitsNothing (entry.Create txn table) = ⊥
+CommitsNothing (entry.Drop txn table) = ⊥
 CommitsNothing event = Unit {0}
 
 abbrev pub OtherEntriesStand : Type 0

@@ -2,7 +2,7 @@ ghost use Rattle.std.specs.Prelude.{◌≡◌, [], ◌∷◌, true, false, None}
 ghost use Rattle.hv_stands.specs.Files.{records_of, commit_file};
 ghost use Rattle.hv_stands.specs.Worked.{shape_by_hand, part_one, part_two, id_by_hand, write_by_hand, record_by_hand, delete_by_hand};
 ghost use Rattle.hv_stands.specs.Laws.{SoundnessGoesOn, StandingGoesOn, PutsAreLoose, FilesAreOfTables, NewIdsHaveNoFile, CommitsHaveFiles};
-ghost use Rattle.hv_stands.specs.Statements.{Opens, Starts, Begins, IdsAreGiven, CommitsAnswer, CreatesAnswer, AbortsAnswer, WaitingAbortsAnswer, AnswersStay, OthersLeaveIt, FittingIsSound, FrontsFit, OneMoreFits, FittingHasRoom, SeeingIsEnough, ChangedTableStood, TablesStay, EffectsCanBeWritten, FilesArePut, PutsStand, QuietEntriesStand, OtherEntriesStand, CommitsStand, PutFilesStay, NewIdsAreOthers, EarlierIdsAreKept};
+ghost use Rattle.hv_stands.specs.Statements.{Opens, Starts, Begins, IdsAreGiven, CommitsAnswer, CreatesAnswer, DropsAnswer, AbortsAnswer, WaitingAbortsAnswer, AnswersStay, OthersLeaveIt, FittingIsSound, FrontsFit, OneMoreFits, FittingHasRoom, SeeingIsEnough, ChangedTableStood, TablesStay, EffectsCanBeWritten, FilesArePut, PutsStand, QuietEntriesStand, OtherEntriesStand, CommitsStand, PutFilesStay, NewIdsAreOthers, EarlierIdsAreKept};
 
 /// What holds of every state holds behind each entry that fits.
 pub fn soundness_goes_on()
@@ -46,6 +46,7 @@ pub fn ids_are_given()
 pub fn answers()
     ensures commits { CommitsAnswer }
     ensures creates { CreatesAnswer }
+    ensures drops { DropsAnswer }
     ensures aborts { AbortsAnswer }
     ensures waiting { WaitingAbortsAnswer }
     ensures stay { AnswersStay }

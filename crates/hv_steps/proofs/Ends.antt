@@ -6,7 +6,7 @@ use Rattle.hv_history.specs.declared.entry.Entry.{Entry}
 use Rattle.hv_history.specs.declared.entry.Cause.{Cause}
 use Rattle.hv_history.specs.declared.entry.Cause.TheVariants as cause
 use Rattle.hv_history.specs.declared.state.Ending.{Ending}
-use Rattle.hv_history.specs.declared.state.Ending.TheVariants.{Aborted, Made}
+use Rattle.hv_history.specs.declared.state.Ending.TheVariants.{Aborted, Made, Dropped}
 use Rattle.hv_history.specs.declared.state.Snapshot.{Snapshot}
 use Rattle.hv_history.specs.declared.state.Transaction.{Transaction}
 use Rattle.hv_history.specs.State.{state_of, numbered, ended}
@@ -14,7 +14,7 @@ use Rattle.hv_history.specs.Legal.{Of, is_open, is_started}
 use Rattle.hv_history.specs.Lasting.{IsFront, Later}
 use Rattle.hv_history.specs.Answers.{cause_text, ok_line, answer_in}
 use Rattle.hv_stands.specs.Running.{IsUnderWay, is_refused_transaction}
-use Rattle.hv_stands.proofs.Behind.{aborted-there, created-there, numbered-behind}
+use Rattle.hv_stands.proofs.Behind.{aborted-there, created-there, dropped-there, numbered-behind}
 use Rattle.hv_trail.specs.declared.trail.TrailItem.{TrailItem}
 use Rattle.hv_trail.specs.declared.trail.TrailItem.TheVariants.{Noted}
 use Rattle.hv_trail.specs.Trail.{book_of, state_at}
@@ -23,7 +23,7 @@ use Rattle.hv_meta.specs.States.{state_by, transaction_state}
 use Rattle.hv_acts.specs.declared.fault.ActFault.{ActFault}
 use Rattle.hv_acts.specs.declared.fault.ActFault.TheVariants as act
 use Rattle.hv_acts.specs.Answers.{NoTest, IsWhy, EntryFits, HasNotEnded}
-use Rattle.hv_steps.specs.Ending.{IsEndOf, HasEndedAt, HasReplied, aborting, creating, EndsUncommitted}
+use Rattle.hv_steps.specs.Ending.{IsEndOf, HasEndedAt, HasReplied, aborting, creating, dropping, EndsUncommitted}
 use Rattle.hv_steps.specs.Going.{WasSo, HasWaited, WasOpened}
 use Rattle.hv_steps.specs.Leaving.{IsNeverUnfit}
 
@@ -88,6 +88,16 @@ create-replies book txn table open_ =
     record {
       answered = record { answer_is = ap answer_in at; refusal = ap is_refused_transaction at };
       ended_at = ends-at book (creating txn table) txn refl;
+    }
+
+pub drop-replies : (book : List Entry) (txn : ℕ) (table : TableId) → IsOpenHere book txn
+    → HasReplied (book ++ dropping txn table ∷ []) txn ok_line false (Some (length book))
+drop-replies book txn table open_ =
+    let at : numbered (state_of (book ++ dropping txn table ∷ [])).transactions txn ≡ Some (ended (Dropped (state_of book).entries table.0) open_.t) =
+    numbered-behind book (dropping txn table) txn _ (dropped-there (state_of book) txn open_.t open_.here open_.unended table) in
+    record {
+      answered = record { answer_is = ap answer_in at; refusal = ap is_refused_transaction at };
+      ended_at = ends-at book (dropping txn table) txn refl;
     }
 
 -- of a trail that one entry more ends

@@ -1,6 +1,7 @@
 -- A statement that is prepared over an actor: it is ready, or it ended on the way.
 use Rattle.std.proofs.Common.{◌≡◌, ◌⊎◌, inl, inr, ℕ, ◌≤◌, ◌<◌, Option, Some, None, List, [], ◌∷◌, ◌++◌, refl, sym, ap, ◌∙◌, subst, append-nil, Ok, Err, Result}
 use Rattle.std.specs.Prelude.{IfOk, IfErr}
+use Rattle.hv_base.specs.declared.ids.TableId.{TableId}
 use Rattle.hv_base.specs.declared.ids.TxnId.{TxnId}
 use Rattle.hv_base.specs.declared.ids.WriteId.{WriteId}
 use Rattle.hv_base.specs.declared.ids.Touch.{Touch}
@@ -9,7 +10,7 @@ use Rattle.hv_logic.specs.declared.catalog.Shape.{Shape}
 use Rattle.hv_logic.specs.declared.catalog.TableInfo.{TableInfo}
 use Rattle.hv_logic.specs.declared.effect.Effect.{Effect}
 use Rattle.hv_logic.specs.declared.meaning.Meaning.{Meaning}
-use Rattle.hv_logic.specs.declared.meaning.Meaning.TheVariants.{Change, Make}
+use Rattle.hv_logic.specs.declared.meaning.Meaning.TheVariants.{Change, Make, Unmake}
 use Rattle.hv_route.specs.Touching.{touches_of, touched}
 use Rattle.hv_history.specs.declared.entry.Entry.{Entry}
 use Rattle.hv_history.specs.declared.entry.Cause.{Cause}
@@ -362,6 +363,11 @@ idle-can told house way meaning text are says means = (
 pub make-can : {D : Type 0} (told : D → Option Store) (house : ToldHouse D) (way : Way) (shape : Shape)
     → (IsToldHouse told house.house → HasMeant (trail_in house) way.txn [] (Make shape)) → CanConclude told house way end.Create ok_line
 make-can told house way shape means = (λ is. record { shape = shape; make = means is }, refl)
+
+-- by its Drop
+pub drop-can : {D : Type 0} (told : D → Option Store) (house : ToldHouse D) (way : Way) (table : TableId)
+    → (IsToldHouse told house.house → HasMeant (trail_in house) way.txn [] (Unmake table)) → CanConclude told house way (end.Drop table) ok_line
+drop-can told house way table means = (means, refl)
 
 -- with all files of its change
 pub change-can : {D : Type 0} (told : D → Option Store) (house : ToldHouse D) (way : Way) (info : TableInfo) (effect : Effect) (write : ℕ) (wrote : List Touch) (text : List ℕ)

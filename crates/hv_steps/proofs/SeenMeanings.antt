@@ -80,8 +80,8 @@ module _ (is_told : Type 0) (book : List Entry) (place : ℕ) (tree : Stmt) (fit
       → CanChange book info effect
   can-change info effect e narrow =
       let change : CanChangeTable tables info effect =
-      change-of-seen tables front-sound.tables.live front-sound.tables.in_order tree seen info effect
-      (seen-infos ∙ read-infos tree tables front-sound.tables.live) e in
+      change-of-seen tables front-sound.tables.in_order tree seen info effect
+      (seen-infos ∙ read-infos tree tables) e in
       let now = tables-stay book place info.table.0 change.table fit change.here in
       record {
         table = now.0;
@@ -95,6 +95,7 @@ module _ (is_told : Type 0) (book : List Entry) (place : ℕ) (tree : Stmt) (fit
   can-end (meanings.Change info effect) e narrow = can-change info effect e narrow
   can-end (meanings.Listing names rows) e narrow = tt
   can-end (meanings.Make shape) e narrow = tt
+  can-end (meanings.Unmake table) e narrow = tt
   can-end (meanings.Refused why) e narrow = tt
   can-end (meanings.Twice region row) e narrow = narrow
   can-end meanings.RowLimit e narrow = tt

@@ -11,7 +11,7 @@ use Rattle.hv_ast.specs.declared.statement.Stmt.{Stmt}
 use Rattle.hv_logic.specs.declared.catalog.TableInfo.{TableInfo}
 use Rattle.hv_logic.specs.declared.effect.Effect.{Effect}
 use Rattle.hv_logic.specs.declared.meaning.Meaning.{Meaning}
-use Rattle.hv_logic.specs.declared.meaning.Meaning.TheVariants.{Change, Twice}
+use Rattle.hv_logic.specs.declared.meaning.Meaning.TheVariants.{Change, Unmake, Twice}
 use Rattle.hv_route.specs.Back.{AreHeld}
 use Rattle.hv_route.specs.Routes.{files_of}
 use Rattle.hv_route.specs.Touching.{touches_of, touched}
@@ -90,6 +90,9 @@ aborting txn why = entry.Abort (record { 0 = txn }) why
 abbrev pub creating : ℕ → TableId → Entry
 creating txn table = entry.Create (record { 0 = txn }) table
 
+abbrev pub dropping : ℕ → TableId → Entry
+dropping txn table = entry.Drop (record { 0 = txn }) table
+
 abbrev pub committing : ℕ → List Touch → Entry
 committing txn wrote = entry.Commit (record { 0 = txn }) wrote
 
@@ -138,6 +141,7 @@ idle_end = end.Commit [] [] []
 abbrev pub EndCanBeNoted : List Entry → ℕ → List (ℕ × ℕ) → End → Type 0
 EndCanBeNoted book txn given (end.Commit wrote name put) = CommitCanEnd book txn given wrote put
 EndCanBeNoted book txn given end.Create = Unit {0}
+EndCanBeNoted book txn given (end.Drop table) = Unit {0}
 
 -- ---- a statement of which all is done but its end
 
@@ -164,9 +168,15 @@ pub record CreateIsReady (meaning : Option Meaning) (given : List (ℕ × ℕ)) 
   pub reply : text ≡ ok_line
   pub none : given ≡ []
 
+pub record DropIsReady (meaning : Option Meaning) (given : List (ℕ × ℕ)) (table : TableId) (text : List ℕ) : Type 0 where
+  pub drops : meaning ≡ Some (Unmake table)
+  pub reply : text ≡ ok_line
+  pub none : given ≡ []
+
 abbrev pub EndIsTrue : Option Meaning → List (ℕ × ℕ) → End → List ℕ → Type 0
 EndIsTrue meaning given (end.Commit wrote name put) text = CommitIsReady meaning given wrote name put text
 EndIsTrue meaning given end.Create text = CreateIsReady meaning given text
+EndIsTrue meaning given (end.Drop table) text = DropIsReady meaning given table text
 
 -- ---- what preparing it adds to the book
 

@@ -14,7 +14,7 @@ use Rattle.hv_built.specs.Running.{Runs}
 use Rattle.hv_logic.specs.declared.catalog.TableInfo.{TableInfo}
 use Rattle.hv_logic.specs.declared.effect.Effect.{Effect}
 use Rattle.hv_logic.specs.declared.meaning.Meaning.{Meaning}
-use Rattle.hv_logic.specs.declared.meaning.Meaning.TheVariants.{Listing, Change, Make, Refused, Twice, RowLimit, PartitionLimit, Plain}
+use Rattle.hv_logic.specs.declared.meaning.Meaning.TheVariants.{Listing, Change, Make, Unmake, Refused, Twice, RowLimit, PartitionLimit, Plain}
 use Rattle.hv_route.specs.Back.{AreHeld}
 use Rattle.hv_route.specs.Routes.{files_of}
 use Rattle.hv_route.specs.Touching.{touches_of}
@@ -36,11 +36,11 @@ use Rattle.hv_acts.specs.Told.{IsWholeOrClosed, seen_in, trail_in, book_in}
 use Rattle.hv_acts.specs.Beginning.{IsBeginningCut}
 use Rattle.hv_house.specs.House.{IsSmall}
 use Rattle.hv_house.specs.Asking.{CanBegin}
-use Rattle.hv_acts.specs.Meant.{TouchesNothing, IsChangeDue, IsMakeMeant, places_of_files}
+use Rattle.hv_acts.specs.Meant.{TouchesNothing, IsChangeDue, IsMakeMeant, IsDropMeant, places_of_files}
 use Rattle.hv_acts.specs.Starting.{IsInItsWay}
 use Rattle.hv_acts.specs.Committing.{CanBePut}
 use Rattle.hv_acts.specs.hv_telling.specs.Telling.{IsToldHouse}
-use Rattle.hv_steps.specs.Ending.{giving, aborting, creating, committing, idle_end, CanEnd, HasEndedAt, HasReplied}
+use Rattle.hv_steps.specs.Ending.{giving, aborting, creating, dropping, committing, idle_end, CanEnd, HasEndedAt, HasReplied}
 use Rattle.hv_steps.specs.declared.ready.Way.{Way}
 use Rattle.hv_steps.specs.declared.ready.Reply.{Reply}
 use Rattle.hv_steps.specs.declared.ready.Ready.{Ready}
@@ -193,6 +193,7 @@ abbrev pub PreparesTo : ℕ → Meaning → Ready → List Entry → Type 0
 PreparesTo txn (Listing names rows) ready added = (added ≡ []) × IsReadyAs ready idle_end (listing names rows)
 PreparesTo txn Plain ready added = (added ≡ []) × IsReadyAs ready idle_end ok_line
 PreparesTo txn (Make shape) ready added = (added ≡ []) × IsReadyAs ready end.Create ok_line
+PreparesTo txn (Unmake table) ready added = (added ≡ []) × IsReadyAs ready (end.Drop table) ok_line
 PreparesTo txn (Change info effect) ready added =
     ((added ≡ []) × (changes_in effect ≡ 0) × IsReadyAs ready idle_end (counts_line []))
     ⊎ ((write : WriteId) × (put : List Place) × (added ≡ giving txn info.table write ∷ []) × (0 < changes_in effect)
@@ -236,6 +237,7 @@ CanConclude told now way (end.Commit wrote name put) text =
     IsSmall (committing way.txn.0 wrote) × CanBePut (trail_in now) way.txn wrote put
     × (IsToldHouse told now.house → IsDueSo (trail_in now) way.txn wrote name put text)
 CanConclude told now way end.Create text = (IsToldHouse told now.house → IsMakeMeant (trail_in now) way.txn) × (text ≡ ok_line)
+CanConclude told now way (end.Drop table) text = (IsToldHouse told now.house → IsDropMeant (trail_in now) way.txn table) × (text ≡ ok_line)
 
 abbrev pub CanConcludeIn : {D : Type 0} → (D → Option Store) → ToldHouse D → Way → Prepared → Type 0
 CanConcludeIn told now way (prepared.Ready ready) = CanConclude told now way ready.end ready.text
@@ -244,6 +246,7 @@ CanConcludeIn told now way (prepared.Ended found) = Unit {0}
 abbrev pub IsEndBy : ℕ → End → Entry → Type 0
 IsEndBy txn (end.Commit wrote name put) last = last ≡ committing txn wrote
 IsEndBy txn end.Create last = (table : TableId) × (last ≡ creating txn table)
+IsEndBy txn (end.Drop table) last = last ≡ dropping txn table
 
 -- it ended as it was ready to, with the reply that it had ready
 pub record EndsReady (txn : ℕ) (ready : Ready) (last : Entry) (reply : Reply) : Type 0 where

@@ -376,6 +376,7 @@ pub fn prepare<D: Shelf + Drop, W: Actor<D, ToldHouse<D>>>(
             prepare_change(alloc, actor, way, info, effect, touches)
         }
         Meaning::Make(_) => made_ready(alloc, actor, txn, End::Create, ok_line(alloc)),
+        Meaning::Unmake(table) => made_ready(alloc, actor, txn, End::Drop(table), ok_line(alloc)),
         Meaning::Refused(refusal) => {
             let number = refusal.number();
             withdraw(alloc, actor, txn, Cause::Refused { number })

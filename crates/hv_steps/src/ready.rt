@@ -1,4 +1,4 @@
-use hv_base::{List, Text, Touch, TxnId};
+use hv_base::{List, TableId, Text, Touch, TxnId};
 use hv_shelf::Place;
 
 /// What is printed for a statement, whether it was refused, and the place in the book of the entry that ended its
@@ -24,6 +24,8 @@ pub enum End {
     Commit(List<Touch>, Text, List<Place>),
     /// The table that it makes.
     Create,
+    /// The table that it drops.
+    Drop(TableId),
 }
 
 /// A statement of which all is done but its end: what is to be noted, and its reply then.

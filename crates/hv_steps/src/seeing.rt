@@ -56,7 +56,8 @@ fn reads_rows(tree: &Stmt) -> bool
 {
     match tree {
         Stmt::Insert(insert) => insert.overwrite || !are_values(&insert.rows),
-        Stmt::CreateTable(_) | Stmt::Describe(_) | Stmt::Set(_) => false,
+        Stmt::CreateTable(_) | Stmt::DropTable(_) => false,
+        Stmt::Describe(_) | Stmt::Set(_) => false,
         _ => true,
     }
 }

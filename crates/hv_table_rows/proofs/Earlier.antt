@@ -10,7 +10,7 @@ use Rattle.hv_history.specs.declared.state.Ending.{Ending}
 use Rattle.hv_history.specs.declared.state.Written.{Written}
 use Rattle.hv_history.specs.declared.state.Table.{Table}
 use Rattle.hv_history.specs.declared.state.Transaction.{Transaction}
-use Rattle.hv_history.specs.State.{State, nothing_yet, state_of, numbered, changed, changed_at, after, acted, owned, written_to, commits, tables_behind}
+use Rattle.hv_history.specs.State.{State, nothing_yet, state_of, numbered, changed, changed_at, after, acted, owned, dropped, written_to, commits, tables_behind}
 use Rattle.hv_history.specs.Legal.{Fits, AllFit, CommitFits}
 use Rattle.hv_history.specs.Lasting.{Later, TableLater, GoesOn}
 use Rattle.hv_history.proofs.LastingLaws.{goes-on, goes-on-all, more-slice as get-front}
@@ -190,6 +190,8 @@ step limits s (entry.Abort txn cause) fits sound k table now written here there 
 step limits s (entry.Create txn other) fits sound k table now written here there h =
     let same : now ≡ table = same_one (numbered (after s (entry.Create txn other)).tables k) now table there (numbered-more s.tables _ k table here) in
     inl (subst (λ (u : Table). In written u.writes) same h)
+step limits s (entry.Drop txn other) fits sound k table now written here there h =
+    same-writes s (changed dropped s.tables other.0) k table now written (map-kept writes_of dropped (λ u. refl) s.tables other.0) here there h
 step limits s event fits sound k table now written here there h = absurd fits
 
 -- ---- any number of entries

@@ -43,6 +43,7 @@ legal-next book event legal fits says = record {
 pub true-says : (book : List Entry) (trail : List TrailItem) (event : Entry) → IsTrueNow book trail event → IsTruthful (state_of book) event
 true-says book trail (entry.Commit txn wrote) truly = truly.0
 true-says book trail (entry.Create txn table) truly = truly.0
+true-says book trail (entry.Drop txn table) truly = truly.0
 true-says book trail event truly = truly
 
 -- no call on files failed for one that commits
@@ -91,6 +92,10 @@ module _ (trail : List TrailItem) (store : Store) (fit : AllFitting (book_of tra
   event-stands (entry.Create txn table) fits unbroken truly =
       let none : HasNoId book txn = truly.1 in
       quiet-entries-stand book none.asking txn.0 none.place none.said [] (entry.Create txn table) store.tree fit fits none.under_way (refl, refl)
+      true_.faithful.stands
+  event-stands (entry.Drop txn table) fits unbroken truly =
+      let none : HasNoId book txn = truly.1 in
+      quiet-entries-stand book none.asking txn.0 none.place none.said [] (entry.Drop txn table) store.tree fit fits none.under_way (refl, refl)
       true_.faithful.stands
   event-stands event fits unbroken truly = other-entries-stand book event store.tree fit fits tt true_.faithful.stands
 

@@ -104,6 +104,7 @@ abbrev pub IsTrueNow : List Entry → List TrailItem → Entry → Type 0
 IsTrueNow book trail (entry.Commit txn wrote) =
     IsTruthful (state_of book) (entry.Commit txn wrote) × (HasNoId book txn ⊎ IsPutAsMeant book trail txn)
 IsTrueNow book trail (entry.Create txn table) = IsTruthful (state_of book) (entry.Create txn table) × HasNoId book txn
+IsTrueNow book trail (entry.Drop txn table) = IsTruthful (state_of book) (entry.Drop txn table) × HasNoId book txn
 IsTrueNow book trail event = IsTruthful (state_of book) event
 
 -- ---- what is true of a file where it is put

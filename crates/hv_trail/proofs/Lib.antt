@@ -7,3 +7,4 @@ pub mod OwnLaws
 pub mod StepLaws
 pub mod SerialLaws
 pub mod WorkedRows
+pub mod SpareLaws

@@ -1,21 +1,23 @@
-ghost use Rattle.std.specs.Prelude.{◌≡◌, ◌↔◌, ◌+◌, ◌≤◌, ◌<◌, List, ◌++◌, ◌∷◌, [], length, vec_len, vec_capacity, OnOk, OnErr, IsOk, IsTrue, Some, ◌&&◌, not, true, false, slice_get};
+ghost use Rattle.std.specs.Prelude.{◌≡◌, ◌↔◌, ◌+◌, ◌^◌, ◌≤◌, ◌<◌, List, ◌++◌, ◌∷◌, [], length, vec_len, vec_capacity, OnOk, OnErr, IsOk, IsTrue, Some, ◌&&◌, not, true, false, slice_get};
 ghost use Rattle.hv_history.specs.declared.entry.Entry.{Entry};
 ghost use Rattle.hv_history.specs.Book.{tree_of_entry};
 ghost use Rattle.hv_trail.specs.declared.trail.TrailItem.TheVariants as item;
 ghost use Rattle.hv_trail.specs.Trail.{is_reader, woven_from, broken, HasWritten};
 ghost use Rattle.hv_trail.specs.Kept.{trail_of, is_fault, fault_of, broken_in, wrote_at, is_written};
+ghost use Rattle.hv_trail.specs.Spare.{open_count, ends_open, needs_room, HavePlaces, HasPlace};
 
 use crate::trail::{Mark, Reader};
 use hv_ast::Stmt;
 use hv_base::NoMemory;
-use hv_book::Book;
+use hv_book::{Book, is_open};
 use hv_history::Entry;
 use hv_shelf::Place;
 use std::alloc::Global;
 use std::marker::Model;
 
 /// The trail of a house: its book, and the marks, each with the number of entries before it. So each entry stands once.
-/// It is closed where the journal failed.
+/// It is closed where the journal failed. For each transaction that is open there is room for one entry more, so what ends it
+/// asks for no memory.
 #[derive(Drop)]
 pub struct KeptTrail {
     book: Book,
@@ -27,8 +29,9 @@ pub struct KeptTrail {
 }
 
 impl Model for KeptTrail {
-    ghost use Rattle.std.specs.Prelude.{◌-◌, vec_len, vec_capacity};
+    ghost use Rattle.std.specs.Prelude.{◌-◌, ◌≤◌, vec_len, vec_capacity};
     ghost use Rattle.hv_trail.specs.Kept.{TrailKept, IsWhole, IsQuiet};
+    ghost use Rattle.hv_trail.specs.Spare.{open_count};
 
     ghost Value = { TrailKept };
 
@@ -41,7 +44,8 @@ impl Model for KeptTrail {
       closed = trail.closed;
     } };
 
-    ghost invariant = { λ trail. IsWhole trail.book.entries trail.marks.items trail.opened × IsQuiet trail.quiet trail.marks.items };
+    ghost invariant = { λ trail. IsWhole trail.book.entries trail.marks.items trail.opened
+        × IsQuiet trail.quiet trail.marks.items × open_count trail.book.entries ≤ trail.book.spare };
 }
 
 /// Whether two readers are one.
@@ -144,6 +148,58 @@ fn any_written(reader: Reader, place: &Place, marks: &[(u64, Mark)]) -> bool
     false
 }
 
+/// Whether an entry ends a transaction that is open.
+fn ends_open(book: &Book, entry: &Entry) -> bool
+    ensures { result ≡ ends_open book.now.entries entry.now }
+{
+    match entry {
+        Entry::Commit { txn, .. } => is_open(book.transactions(), txn.0),
+        Entry::Abort { txn, .. } => is_open(book.transactions(), txn.0),
+        Entry::Create { txn, .. } => is_open(book.transactions(), txn.0),
+        Entry::Drop { txn, .. } => is_open(book.transactions(), txn.0),
+        _ => false,
+    }
+}
+
+/// Whether an entry and so many behind it need room that isn't there yet.
+fn needs_room(book: &Book, first: &Entry, more: usize) -> bool
+    ensures { result ≡ needs_room book.now.entries first.now more }
+{
+    more > 0 || !ends_open(book, first)
+}
+
+/// Makes room for an entry and so many behind it, where they need any.
+#[tactic(auto, using(crate::proofs::SpareLaws::places_stay))]
+fn make_room(book: &mut Book, first: &Entry, more: usize) -> Result<(), NoMemory>
+    requires few { more < 2 ^ 32 }
+    requires spare { open_count book.old.entries ≤ book.old.spare }
+    ensures entries { book.new.entries ≡ book.old.entries }
+    ensures spare { open_count book.new.entries ≤ book.new.spare }
+    ensures places { OnOk result (HavePlaces book.new.entries book.new.spare first.now more) }
+    ensures has { needs_room book.old.entries first.now more ≡ false → IsOk result }
+{
+    if !needs_room(book, first, more) {
+        return Ok(());
+    }
+    let count = book.ongoing().len();
+    book.reserve(count + 2 * (1 + more))?;
+    Ok(())
+}
+
+/// Appends an entry that has its place.
+fn put(book: &mut Book, entry: Entry, tree: Option<Stmt>) -> Result<(), NoMemory>
+    requires tree { tree ≡ tree_of_entry entry }
+    requires spare { open_count book.old.entries ≤ book.old.spare }
+    requires place { HasPlace book.old.entries book.old.spare entry }
+    ensures ok { OnOk result (book.new.entries ≡ book.old.entries ++ entry ∷ []) }
+    ensures err { OnErr result (book.new.entries ≡ book.old.entries) }
+    ensures there { IsOk result }
+    ensures spare { open_count book.new.entries ≤ book.new.spare }
+    ensures taken { book.old.spare ≤ book.new.spare + 1 }
+{
+    book.push(entry, tree)
+}
+
 fn append(marks: &mut Vec<(u64, Mark)>, before: u64, mark: Mark)
     requires room { vec_len marks.old < vec_capacity marks.old }
     ensures marks { marks.new.items ≡ marks.old.items ++ (before, mark) ∷ [] }
@@ -152,8 +208,9 @@ fn append(marks: &mut Vec<(u64, Mark)>, before: u64, mark: Mark)
 }
 
 impl KeptTrail {
-    /// The trail of a book, without marks.
+    /// The trail of a book, without marks. The book has room for what its open transactions still need.
     pub fn over(alloc: Global, book: Book) -> KeptTrail
+        requires places { open_count book.entries ≤ book.spare }
         ensures entries { result.entries ≡ book.entries }
         ensures marks { result.marks ≡ [] }
         ensures opened { result.opened ≡ 0 }
@@ -217,20 +274,24 @@ impl KeptTrail {
         self.closed
     }
 
-    /// Makes room for so many entries more.
-    pub fn reserve(&mut self, more: usize) -> Result<(), NoMemory>
+    /// Makes room for this entry and so many behind it. One that ends an open transaction and stands alone has its place, and
+    /// asks for no memory.
+    pub fn reserve_for(&mut self, first: &Entry, more: usize) -> Result<(), NoMemory>
+        requires few { more < 2 ^ 32 }
         ensures entries { self.new.entries ≡ self.old.entries }
         ensures marks { self.new.marks ≡ self.old.marks }
         ensures opened { self.new.opened ≡ self.old.opened }
         ensures closed { self.new.closed ≡ self.old.closed }
-        ensures room { OnOk result (more ≤ self.new.spare) }
+        ensures places { OnOk result (HavePlaces self.new.entries self.new.spare first.now more) }
+        ensures has { needs_room self.old.entries first.now more ≡ false → IsOk result }
     {
-        self.book.reserve(more)
+        make_room(&mut self.book, first, more)
     }
 
-    /// Appends an entry with its text's tree, which is there exactly where it has a text.
+    /// Appends an entry with its text's tree, which is there exactly where it has a text. Its place was made.
     pub fn push(&mut self, entry: Entry, tree: Option<Stmt>) -> Result<(), NoMemory>
         requires tree { tree ≡ tree_of_entry entry }
+        requires place { HasPlace self.old.entries self.old.spare entry }
         ensures ok { OnOk result (self.new.entries ≡ self.old.entries ++ entry ∷ []) }
         ensures trail { OnOk result (trail_of self.new ≡ trail_of self.old ++ item.Noted entry ∷ []) }
         ensures err { OnErr result (self.new.entries ≡ self.old.entries) }
@@ -238,9 +299,9 @@ impl KeptTrail {
         ensures opened { self.new.opened ≡ self.old.opened }
         ensures closed { self.new.closed ≡ self.old.closed }
         ensures spare { self.old.spare ≤ self.new.spare + 1 }
-        ensures room { 0 < self.old.spare → IsOk result }
+        ensures room { IsOk result }
     {
-        self.book.push(entry, tree)?;
+        put(&mut self.book, entry, tree)?;
         Ok(())
     }
 

@@ -20,6 +20,7 @@ pub mod Creates
 pub mod Subqueries
 pub mod Changes
 pub mod Merges
+pub mod Drops
 pub mod Descriptions
 pub mod Settings
 pub mod Analysis

@@ -1,7 +1,7 @@
 use crate::change::TypedChange;
 use crate::merge::TypedMerge;
 use crate::tree::TypedQuery;
-use hv_base::List;
+use hv_base::{List, TableId};
 use hv_logic::{Column, Shape};
 
 /// A statement whose names are resolved and whose expressions are typed. A table is its place among the
@@ -14,7 +14,9 @@ pub enum Logic {
     Merge(TypedMerge),
     /// A new table of this shape.
     Make(Shape),
-    /// CREATE TABLE IF NOT EXISTS where there is a table of that name, and SET.
+    /// DROP TABLE of this table.
+    Unmake(TableId),
+    /// CREATE TABLE IF NOT EXISTS where there is a table of that name, DROP TABLE IF EXISTS where there is none, and SET.
     Nothing,
     /// DESCRIBE: the table's columns, those of its partitions last.
     Describe(List<Column>),

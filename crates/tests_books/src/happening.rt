@@ -18,6 +18,7 @@ fn entry_of(call: &str, words: &[&str]) -> Entry
     match call {
         "starts" => Entry::Start { txn, statement: 0 },
         "makes" => Entry::Create { txn, table },
+        "drops" => Entry::Drop { txn, table },
         "gives" => Entry::Given {
             txn,
             table,

@@ -12,6 +12,7 @@ use std::alloc::Global;
 struct Table {
     info: TableInfo,
     rows: Vec<Found>,
+    is_live: bool,
 }
 
 #[derive(Drop)]
@@ -68,7 +69,7 @@ impl Tables {
 
     fn add_named(&self, alloc: Global, name: &Text, named: &mut Vec<Seen>) -> Result<(), NoMemory> {
         for table in &self.tables {
-            if table.info.shape.name == *name {
+            if table.is_live && table.info.shape.name == *name {
                 named.push(seen(alloc, table)?)?;
             }
         }
@@ -87,9 +88,18 @@ impl Tables {
 
     fn make(&mut self, alloc: Global, shape: Shape) -> Result<(), NoMemory> {
         let table = TableId(self.tables.len() as u64);
-        let info = TableInfo { table, shape };
-        let rows = Vec::new(alloc);
-        Ok(self.tables.push(Table { info, rows })?)
+        let made = Table {
+            info: TableInfo { table, shape },
+            rows: Vec::new(alloc),
+            is_live: true,
+        };
+        Ok(self.tables.push(made)?)
+    }
+
+    fn unmake(&mut self, place: usize) {
+        if let Some(table) = self.tables.get_mut(place) {
+            table.is_live = false;
+        }
     }
 
     fn change(&mut self, alloc: Global, place: usize, effect: Effect) -> Result<(), NoMemory> {
@@ -130,6 +140,10 @@ impl Tables {
             Meaning::Make(shape) => {
                 out.extend_from_slice(b"made")?;
                 self.make(alloc, shape)
+            }
+            Meaning::Unmake(table) => {
+                self.unmake(table.0 as usize);
+                Ok(out.extend_from_slice(b"dropped")?)
             }
         }
     }

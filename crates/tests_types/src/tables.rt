@@ -17,6 +17,8 @@ use std::alloc::Global;
 pub(crate) struct Tables {
     infos: Vec<TableInfo>,
     rows: Vec<Vec<Row>>,
+    /// How many tables were made.
+    count: u64,
 }
 
 fn evaluated(alloc: Global, exprs: &List<TypedExpr>, row: &Row) -> Result<Row, NoMemory> {
@@ -98,6 +100,7 @@ impl Tables {
         Tables {
             infos: Vec::new(alloc),
             rows: Vec::new(alloc),
+            count: 0,
         }
     }
 
@@ -106,9 +109,19 @@ impl Tables {
     }
 
     fn make(&mut self, alloc: Global, shape: Shape) -> Result<(), NoMemory> {
-        let table = TableId(1);
+        self.count = self.count.saturating_add(1);
+        let table = TableId(self.count);
         self.infos.push(TableInfo { table, shape })?;
         Ok(self.rows.push(Vec::new(alloc))?)
+    }
+
+    fn unmake(&mut self, table: TableId) {
+        if let Some(place) = self.infos.iter().position(|info| info.table == table) {
+            if place < self.infos.len() && place < self.rows.len() {
+                self.infos.remove(place);
+                self.rows.remove(place);
+            }
+        }
     }
 
     /// Rows of VALUES.
@@ -205,6 +218,10 @@ impl Tables {
             Logic::Make(shape) => {
                 show::shape(alloc, &shape, out)?;
                 self.make(alloc, shape)
+            }
+            Logic::Unmake(table) => {
+                self.unmake(table);
+                Ok(out.extend_from_slice(b"dropped")?)
             }
             Logic::Change(change) => self.change(alloc, &change, out),
             Logic::Merge(merge) => merged(alloc, &merge.clauses, out),

@@ -1,4 +1,4 @@
-use Rattle.hv_acts.proofs.Lasting.{mark-lasts, id-lasts, put-lasts, due-lasts, file-lasts, commit-lasts, make-lasts, abort-lasts}
+use Rattle.hv_acts.proofs.Lasting.{mark-lasts, id-lasts, put-lasts, due-lasts, file-lasts, commit-lasts, make-lasts, drop-lasts, abort-lasts}
 use Rattle.hv_acts.proofs.laws.what_is_asked_lasts.Goals as goal
 
 pub returns : goal.returns
@@ -10,5 +10,6 @@ returns c = record {
   file = λ before now by place file front. file-lasts before now front by place file;
   commit = λ before now txn wrote places front. commit-lasts before now front txn wrote places;
   make = λ before now txn front. make-lasts before now front txn;
+  unmake = λ before now txn table front. drop-lasts before now front txn table;
   cause = λ before now txn cause front. abort-lasts before now front txn cause;
 }

@@ -12,7 +12,7 @@ use Rattle.hv_steps.specs.Going.{faults_in, Goes}
 use Rattle.hv_steps.specs.Phases.{Prepares}
 use Rattle.hv_steps.proofs.Joining.{on-way-opened}
 use Rattle.hv_steps.proofs.Ids.{comes-means, comes-change, comes-short}
-use Rattle.hv_steps.proofs.Parts.{idle-prepares, idle-concludes, meant-prepares, ends-can, made-prepares, made-can, idle-can, make-can}
+use Rattle.hv_steps.proofs.Parts.{idle-prepares, idle-concludes, meant-prepares, ends-can, made-prepares, made-can, idle-can, make-can, drop-can}
 use Rattle.hv_steps.proofs.preparing.prepare.Goals as goal
 
 pub made_ready-requires-clause-was : goal.made_ready-requires-clause-was
@@ -82,6 +82,32 @@ returns-in-Make-clause-can g c =
     made-can g.D.Shelf.told g.D.Shelf.faults g.W.Actor.between g.met.W.Actor.rows g.W.Actor.meanwhile c.args.way.txn.0 low own own' a b c.args.way end.Create ok_line c.made_ready-in-Make.result
     (make-can g.D.Shelf.told a c.args.way c.in-Make.field-0 (λ is. comes-means g.D.Shelf.told a c.requires.was.0 c.args.way c.requires.was.1 c.args.meaning (meaning.Make c.in-Make.field-0) c.requires.was.2 c.requires.was.3 (sym c.meaning.view_is ∙ c.in-Make.is) is))
     (c.made_ready-in-Make.ensures.goes ok_line c.ok_line.ensures)
+
+pub made_ready-requires-in-Unmake-clause-was : goal.made_ready-requires-in-Unmake-clause-was
+made_ready-requires-in-Unmake-clause-was g c =
+    on-way-opened (trail_in (g.W.Actor.house c.args.actor.now)) c.requires.was.0 c.args.way c.requires.was.1 c.requires.was.2
+
+pub returns-in-Unmake-clause-goes : goal.returns-in-Unmake-clause-goes
+returns-in-Unmake-clause-goes g c =
+    let a = g.W.Actor.house c.args.actor.now in
+    let b = g.W.Actor.house c.made_ready-in-Unmake.new.actor in
+    let own = g.W.Actor.own c.args.actor.now in
+    let own' = g.W.Actor.own c.made_ready-in-Unmake.new.actor in
+    let low = faults_in g.D.Shelf.faults a in
+    subst (λ (m : Meaning). Goes g.D.Shelf.told g.D.Shelf.faults g.W.Actor.between g.W.Actor.meanwhile low c.args.way.txn.0 own own' a b (Prepares c.args.way.txn.0 b m) c.made_ready-in-Unmake.result)
+    (sym (sym c.meaning.view_is ∙ c.in-Unmake.is))
+    (made-prepares g.D.Shelf.told g.D.Shelf.faults g.W.Actor.between g.met.W.Actor.rows g.W.Actor.meanwhile c.args.way.txn.0 low own own' a b (meaning.Unmake c.in-Unmake.table) (end.Drop c.in-Unmake.table) ok_line c.made_ready-in-Unmake.result (λ ready is. (refl, is)) (c.made_ready-in-Unmake.ensures.goes ok_line c.ok_line-in-Unmake.ensures))
+
+pub returns-in-Unmake-clause-can : goal.returns-in-Unmake-clause-can
+returns-in-Unmake-clause-can g c =
+    let a = g.W.Actor.house c.args.actor.now in
+    let b = g.W.Actor.house c.made_ready-in-Unmake.new.actor in
+    let own = g.W.Actor.own c.args.actor.now in
+    let own' = g.W.Actor.own c.made_ready-in-Unmake.new.actor in
+    let low = faults_in g.D.Shelf.faults a in
+    made-can g.D.Shelf.told g.D.Shelf.faults g.W.Actor.between g.met.W.Actor.rows g.W.Actor.meanwhile c.args.way.txn.0 low own own' a b c.args.way (end.Drop c.in-Unmake.table) ok_line c.made_ready-in-Unmake.result
+    (drop-can g.D.Shelf.told a c.args.way c.in-Unmake.table (λ is. comes-means g.D.Shelf.told a c.requires.was.0 c.args.way c.requires.was.1 c.args.meaning (meaning.Unmake c.in-Unmake.table) c.requires.was.2 c.requires.was.3 (sym c.meaning.view_is ∙ c.in-Unmake.is) is))
+    (c.made_ready-in-Unmake.ensures.goes ok_line c.ok_line-in-Unmake.ensures)
 
 pub withdraw-requires-clause-small : goal.withdraw-requires-clause-small
 withdraw-requires-clause-small g c =

@@ -42,3 +42,6 @@ returns-in-Err-clause-step g c =
     c.requires.kept.running c.in-Err.ensures.marks.start c.in-Err.ensures.marks.left c.in-Err.ensures.marks.limits c.in-Err.ensures.tree c.in-Err.ensures.cause.later
     c.in-Err.fault (same-trail c.args.self.now c.write.new.self c.in-Err.ensures.entries c.in-Err.ensures.marks.marks) c.in-Err.ensures.closed
     c.in-Err.ensures.halted.leaves
+
+pub push-requires-clause-place : goal.push-requires-clause-place
+push-requires-clause-place g c = c.in-Ok.ensures.places

@@ -1,4 +1,4 @@
-use Rattle.std.proofs.Common.{[], ◌∷◌, ◌++◌, ap, ◌∙◌, append_assoc, arith}
+use Rattle.std.proofs.Common.{[], ◌∷◌, ◌++◌, ap, ◌∙◌, sym, subst, append_assoc, arith}
 use Rattle.hv_history.specs.declared.entry.Entry.TheVariants.{Start}
 use Rattle.hv_house.specs.House.{entries_of}
 use Rattle.hv_trail.specs.declared.trail.TrailItem.TheVariants.{Noted}
@@ -6,6 +6,8 @@ use Rattle.hv_trail.specs.Kept.{trail_of}
 use Rattle.hv_house.proofs.Journals.{noted}
 use Rattle.hv_house.proofs.Steps.{same-trail}
 use Rattle.hv_house.proofs.Lengths.{short_start}
+use Rattle.hv_trail.specs.Spare.{HasPlace}
+use Rattle.hv_trail.proofs.SpareLaws.{first-place, second-place}
 use Rattle.hv_house.proofs.house.House.add_with_start.Goals as goal
 
 pub returns-in_ok-push-in-Ok-2-clause-noted : goal.returns-in_ok-push-in-Ok-2-clause-noted
@@ -34,3 +36,14 @@ returns-in_ok-push-in-Ok-2-clause-trail g c =
     (c.in_ok-push-in-Ok.ensures.trail
     ∙ ap (λ items. items ++ Noted c.args.entry ∷ []) (same-trail c.args.self.now c.write_with_start.new.self c.in-Ok.ensures.entries c.in-Ok.ensures.marks.marks))
     ∙ append_assoc (trail_of c.args.self.now.trail) (Noted c.args.entry ∷ []) (Noted start ∷ [])
+
+pub push-requires-clause-place : goal.push-requires-clause-place
+push-requires-clause-place g c =
+    first-place c.write_with_start.new.self.trail.entries c.args.entry c.write_with_start.new.self.trail.spare c.in-Ok.ensures.places
+
+pub push-requires-in-Ok-clause-place : goal.push-requires-in-Ok-clause-place
+push-requires-in-Ok-clause-place g c =
+    let start = Start c.args.txn 0 in
+    subst (λ b. HasPlace b c.push.new.self.spare start) (sym c.in_ok-push-in-Ok.ensures.ok)
+    (second-place c.write_with_start.new.self.trail.entries c.args.entry start c.write_with_start.new.self.trail.spare c.push.new.self.spare
+    c.in-Ok.ensures.places c.push.ensures.spare)

@@ -6,6 +6,6 @@ pub returns : goal.returns
 returns g c = record {
   found =
       on-found c.find_at.result _ _
-      (found-named g.limits (entries_of c.args.self.now) c.args.place c.requires.1.fit c.book.result.now.entries c.book.ensures.entries c.args.name.now)
+      (found-named (entries_of c.args.self.now) c.args.place c.book.result.now.entries c.book.ensures.entries c.args.name.now)
       c.find_at.ensures.found;
 }

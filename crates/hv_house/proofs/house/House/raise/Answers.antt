@@ -1,6 +1,8 @@
-use Rattle.std.proofs.Common.{◌≤◌, ◌<◌, ◌+◌, ◌++◌, ◌∷◌, List, length, map, arith, refl, ap, ◌∙◌}
+use Rattle.std.proofs.Common.{◌≤◌, ◌<◌, ◌+◌, ◌++◌, ◌∷◌, List, length, map, arith, refl, sym, subst, ap, ◌∙◌}
+use Rattle.hv_base.specs.Told.{Tells}
 use Rattle.hv_history.specs.declared.entry.Entry.{Entry}
 use Rattle.hv_history.specs.declared.entry.Entry.TheVariants.{Boot}
+use Rattle.hv_history.specs.Journal.{IsJournal}
 use Rattle.hv_house.specs.Booting.{lost_entry}
 use Rattle.hv_house.proofs.Boots.{load-full, load-small, raised-ready, settled-ready, over-book, stopped-early, stopped-full, unnoted, noted-with-room}
 use Rattle.hv_house.proofs.house.House.raise.Goals as goal
@@ -25,7 +27,7 @@ returns-in-Ok-note_opening-clause-ready g c =
     settled-ready c.args.limits g.D.Shelf.told c.note_opening.new.self _ refl refl c.settle.ensures.entries refl c.settle.ensures.closed
     (raised-ready c.args.limits g.D.Shelf.told c.args.book.entries c.in-Ok.found c.note_opening.new.self c.in-Ok-note_opening.ensures.marks.limits c.requires.most c.requires.fit c.in-Ok.ensures.learned room c.in-Ok-note_opening.ensures.kept
     (c.in-Ok-note_opening.ensures.entries
-    ∙ ap (λ (es : List Entry). es ++ Boot c.in-Ok.found.runs ∷ map lost_entry c.deref.result.now) c.over.ensures.entries
+    ∙ ap (λ (es : List Entry). es ++ Boot c.in-Ok.found.runs ∷ map lost_entry c.deref.result.now) (c.over.ensures.entries ∙ c.learn.ensures.entries)
     ∙ ap (λ xs. c.args.book.entries ++ Boot c.in-Ok.found.runs ∷ map lost_entry xs) c.deref.ensures.value)).1
 
 pub returns-in-Ok-note_opening-clause-opened : goal.returns-in-Ok-note_opening-clause-opened
@@ -35,7 +37,7 @@ returns-in-Ok-note_opening-clause-opened g c =
       c.settle.ensures.entries
           ∙ (raised-ready c.args.limits g.D.Shelf.told c.args.book.entries c.in-Ok.found c.note_opening.new.self c.in-Ok-note_opening.ensures.marks.limits c.requires.most c.requires.fit c.in-Ok.ensures.learned room c.in-Ok-note_opening.ensures.kept
           (c.in-Ok-note_opening.ensures.entries
-          ∙ ap (λ (es : List Entry). es ++ Boot c.in-Ok.found.runs ∷ map lost_entry c.deref.result.now) c.over.ensures.entries
+          ∙ ap (λ (es : List Entry). es ++ Boot c.in-Ok.found.runs ∷ map lost_entry c.deref.result.now) (c.over.ensures.entries ∙ c.learn.ensures.entries)
           ∙ ap (λ xs. c.args.book.entries ++ Boot c.in-Ok.found.runs ∷ map lost_entry xs) c.deref.ensures.value)).0,
       load-small c.args.limits c.args.book.entries c.requires.fit c.in-Ok.found.unended.items c.in-Ok.ensures.learned.open_are room,
     )
@@ -58,3 +60,8 @@ returns-in-Ok-clause-roomy g c =
     omega (arith, c.if-entries-len.false, c.len.ensures, ap length c.entries.ensures.entries) in
     noted-with-room c.args.limits (g.D.Shelf.told c.close.result) c.args.book.entries
     (load-small c.args.limits c.args.book.entries c.requires.fit c.in-Ok.found.unended.items c.in-Ok.ensures.learned.open_are room)
+
+pub note_opening-requires-clause-journal : goal.note_opening-requires-clause-journal
+note_opening-requires-clause-journal g c =
+    subst (λ (es : List Entry). Tells (g.D.Shelf.told c.args.shelf) (λ s. IsJournal es s.journal))
+    (sym (c.over.ensures.entries ∙ c.learn.ensures.entries)) c.requires.journal

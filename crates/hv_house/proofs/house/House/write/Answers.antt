@@ -2,6 +2,9 @@ use Rattle.std.proofs.Common.{◌∷◌, arith}
 use Rattle.hv_house.proofs.Journals.{reached, few_bytes, can_put}
 use Rattle.hv_house.proofs.house.House.write.Goals as goal
 
+pub reserve_for-requires : goal.reserve_for-requires
+reserve_for-requires g c = record { few = omega (arith, c.requires.room) }
+
 pub records_length-requires-clause-short : goal.records_length-requires-clause-short
 records_length-requires-clause-short g c = omega (arith, few_bytes (c.args.first.now ∷ c.args.more.now) c.requires.small, c.requires.room)
 

@@ -14,6 +14,7 @@ invariant_of-self c = (
   subst (λ b. IsQuiet b c.append.new.marks.items) (sym c.stays_quiet-self-inside.ensures)
       (subst (λ ms. IsQuiet (c.self.inside.quiet && not (is_fault c.args.mark)) ms) (sym c.append.ensures.marks)
       (quiet-marked c.self.inside.quiet c.self.inside.marks.items _ c.args.mark c.self.invariant.1)),
+  c.self.invariant.2,
 )
 
 pub returns-clause-trail : goal.returns-clause-trail
