@@ -45,7 +45,7 @@ use Rattle.hv_typing.specs.declared.opened.Brought.{Brought}
 use Rattle.hv_typing.specs.declared.opened.Opened.{Opened}
 use Rattle.hv_typing.specs.declared.opened.Sources.{Sources}
 use Rattle.hv_typing.specs.Sources.{is_among, is_taken, filter_typed, first_source, join_onto, array_typed, view_onto, all_viewed, all_joined, opened, opened_of}
-use Rattle.hv_typing.specs.Selects.{is_empty, is_grouped, keys_typed, key_typed, Keys, keys_of, over_of, may_stand, item_shown, tested, item_tested, behind, items_shown, having_typed, listed, select_over}
+use Rattle.hv_typing.specs.Selects.{is_empty, is_grouped, keys_typed, key_typed, Keys, keys_of, over_of, may_stand, item_shown, tested, item_tested, behind, most_shown, room_after, items_shown, having_typed, listed, select_over}
 use Rattle.hv_typing.specs.Queries.{column_as, column_met, columns_met, columns_agreed, alone, unite, Place, place_numbered, is_named, place_named, place_of_literal, place_written, place_equal, place_typed, or_item, place_of_key, key_typed as sort_key_typed, order_typed, query_of, query_over, select_typed, all_united, query_typed}
 use Rattle.hv_typing.specs.Analysis.{is_window, is_windowless_from, is_windowless_select, is_windowless_query, windowless_joins, windowless_unions, is_windowless_source, is_windowless}
 use Rattle.hv_typing.specs.Creates.{place_of}
@@ -104,13 +104,19 @@ free-behind : {A : Type 0} (done : List A) (r : Result (List A) Refusal) → Fre
 free-behind done (Ok rest) h = tt
 free-behind done (Err why) h = h
 
-free-items : (opened : Opened) (keys : Keys) (items : List Item) → list_any is_window items ≡ false → Free (items_shown opened keys items)
-free-items opened keys [] e = tt
-free-items opened keys (one ∷ items) e =
+free-room : (room : ℕ) (shown : List Shown) → Free (room_after room shown)
+unfolding room_after
+free-room room shown = free-if (nat_lt room (length shown)) _ _ tt tt
+
+free-items : (room : ℕ) (opened : Opened) (keys : Keys) (items : List Item) → list_any is_window items ≡ false
+    → Free (items_shown room opened keys items)
+free-items room opened keys [] e = tt
+free-items room opened keys (one ∷ items) e =
     let parts = neither (is_window one) (list_any is_window items) e in
     free-then (item_tested opened keys one) _
     (free-then (item_shown opened keys one) _ (free-item opened keys one parts.0) (free-tested keys))
-    (λ shown. free-behind shown (items_shown opened keys items) (free-items opened keys items parts.1))
+    (λ shown. free-then (room_after room shown) _ (free-room room shown)
+    (λ left. free-behind shown (items_shown left opened keys items) (free-items left opened keys items parts.1)))
 
 free-having : (fields : List Field) (keys : Keys) (having : Option Expr) → Free (having_typed fields keys having)
 free-having fields keys None = tt
@@ -222,7 +228,7 @@ module _ {S : Type 0} (brings : S → Result Brought Refusal) (windowless : S �
       → Free (listed select opened filter keys)
   unfolding listed
   free-listed select opened filter keys e =
-      free-then (items_shown opened keys select.items) _ (free-items opened keys select.items e) (λ shown.
+      free-then (items_shown most_shown opened keys select.items) _ (free-items most_shown opened keys select.items e) (λ shown.
       free-then (having_typed opened.fields keys select.having) _ (free-having opened.fields keys select.having) (λ having. tt))
 
   free-over : (select : Select S) (opened : Opened) → list_any is_window select.items ≡ false → Free (select_over select opened)

@@ -3,7 +3,7 @@
 ghost use Rattle.std.specs.Prelude.{◌≡◌, IfOk, map};
 ghost use Rattle.std.specs.List.{list_all};
 ghost use Rattle.hv_typing.specs.Faults.{Types};
-ghost use Rattle.hv_typing.specs.Selects.{is_of, field_shown, fields_shown, shown_name, one_shown, all_shown, item_shown, shown_stands, item_tested, items_shown, numbered, or_numbered, column_shown, columns_shown, expr_shown};
+ghost use Rattle.hv_typing.specs.Selects.{is_of, field_shown, fields_shown, shown_name, one_shown, all_shown, item_shown, shown_stands, item_tested, most_shown, room_after, items_shown, numbered, or_numbered, column_shown, columns_shown, expr_shown};
 
 use crate::grouping::{NOT_GROUPED, may_stand, over_of};
 use crate::sources::is_among;
@@ -13,6 +13,9 @@ use hv_expr::TypedExpr;
 use hv_types::{kind_of, type_expr};
 use hv_typing::{Field, Opened, OutputColumn, Shown, TypeFault};
 use std::alloc::Global;
+
+/// How many columns a select shows at most.
+const SHOWN_LIMIT: usize = 1024;
 
 fn is_of(alias: &Option<Text>, field: &Field) -> bool
     ensures { result ≡ is_of alias.now field.now }
@@ -134,6 +137,18 @@ fn item_tested(
     Ok(shown)
 }
 
+// The room that is left where these are shown.
+#[tactic(auto, unfolding(hv_typing::specs::Selects::room_after))]
+fn room_after(room: usize, shown: &[Shown]) -> Result<usize, TypeFault>
+    ensures { Types result (room_after room shown.now) }
+{
+    let count = shown.len();
+    if room < count {
+        return Err(TypeFault::Refused(Refusal::Limit));
+    }
+    Ok(room - count)
+}
+
 /// What a select shows, or the first fault of its items.
 #[tactic(auto, using(crate::proofs::Behind::steps))]
 pub(crate) fn items_shown(
@@ -142,11 +157,14 @@ pub(crate) fn items_shown(
     keys: &Option<List<TypedExpr>>,
     items: &[Item],
 ) -> Result<List<Shown>, TypeFault>
-    ensures { Types result (items_shown opened.now keys.now items.now) }
+    ensures { Types result (items_shown most_shown opened.now keys.now items.now) }
 {
     let mut made = Vec::with_capacity(alloc, items.len())?;
+    let mut room = SHOWN_LIMIT;
     for item in items {
-        let mut shown = item_tested(alloc, opened, keys, item)?.into_vec();
+        let shown = item_tested(alloc, opened, keys, item)?;
+        room = room_after(room, shown.as_slice())?;
+        let mut shown = shown.into_vec();
         made.append(&mut shown)?;
     }
     Ok(List::from_vec(made))

@@ -1,8 +1,8 @@
 -- A select over what FROM brings: WHERE, GROUP BY, items, HAVING. An item or HAVING is typed whole, then tested for
--- columns outside GROUP BY; the columns of `*` one by one. Output columns are named by their alias, by their column, or
--- `_c` with their place from 0. Source: Hive Language Manual, Select and GROUP BY; the order of faults is this project's
--- profile.
-use Rattle.std.specs.Prelude.{ℕ, ◌+◌, Bool, true, false, not, if◌then◌else◌, ◌||◌, is_some, List, [], ◌∷◌, ◌++◌, map, Option, None, Some, Result, Ok, Err, codes}
+-- columns outside GROUP BY; the columns of `*` one by one; behind that come too many columns (Limit). Output columns are
+-- named by their alias, by their column, or `_c` with their place from 0. Source: Hive Language Manual, Select and GROUP BY;
+-- the limit and the order of faults are this project's profile.
+use Rattle.std.specs.Prelude.{ℕ, ◌+◌, ◌-◌, nat_lt, Bool, true, false, not, if◌then◌else◌, ◌||◌, is_some, List, [], ◌∷◌, ◌++◌, map, length, Option, None, Some, Result, Ok, Err, codes}
 use Rattle.std.specs.Fmt.{decimal}
 use Rattle.std.specs.List.{list_all, list_any}
 use Rattle.hv_base.specs.declared.refusal.Refusal.{Refusal}
@@ -124,9 +124,21 @@ abbrev pub behind : {A : Type 0} → List A → Result (List A) Refusal → Resu
 behind done (Ok rest) = Ok (done ++ rest)
 behind done (Err refusal) = Err refusal
 
-abbrev pub items_shown : Opened → Keys → List Item → Result (List Shown) Refusal
-items_shown opened keys [] = Ok []
-items_shown opened keys (item ∷ items) = and_then (item_tested opened keys item) (λ shown. behind shown (items_shown opened keys items))
+-- how many columns a select shows at most. Hive has no such limit: it is this project's profile, since `*` over what itself
+-- shows `*` would double them at each level
+abbrev pub most_shown : ℕ
+most_shown = 1024
+
+-- the room that is left where these are shown
+unfoldable pub room_after : ℕ → List Shown → Result ℕ Refusal
+room_after room shown = if nat_lt room (length shown) then Err refusal.Limit else Ok (room - length shown)
+
+-- where there is room for so many
+abbrev pub items_shown : ℕ → Opened → Keys → List Item → Result (List Shown) Refusal
+items_shown room opened keys [] = Ok []
+items_shown room opened keys (item ∷ items) =
+    and_then (item_tested opened keys item) (λ shown.
+    and_then (room_after room shown) (λ left. behind shown (items_shown left opened keys items)))
 
 -- ---- HAVING
 
@@ -179,7 +191,7 @@ listed_of distinct opened filter keys having shown = record {
 module _ {S : Type 0} (select : Select S) (opened : Opened) where
   unfoldable pub listed : Option TypedExpr → Keys → Result Listed Refusal
   listed filter keys =
-      and_then (items_shown opened keys select.items) (λ shown.
+      and_then (items_shown most_shown opened keys select.items) (λ shown.
       and_then (having_typed opened.fields keys select.having) (λ having.
       Ok (listed_of select.distinct opened filter keys having shown)))
 

@@ -1,19 +1,16 @@
-use Rattle.std.proofs.Common.{◌∙◌, sym, arith}
-use Rattle.std.specs.Str.{chars}
-use Rattle.hv_text.specs.Characters.{found_behind}
-use Rattle.hv_text.proofs.TextLemmas.{chars_short, found_here}
+use Rattle.std.proofs.Common.{Some, sym, ap, ◌∙◌, arith}
+use Rattle.hv_text.proofs.FindLemmas.{missing_is, split_is, split_short}
 use Rattle.hv_text.proofs.places.find.Goals as goal
 
-pub overflow_add-skipped : goal.overflow_add-skipped
-overflow_add-skipped c =
-    let kept = c.loop-rest.invariant.1 in
-    let short = chars_short c.args.text.now c.utf8.text in omega arith
+pub returns-in-Some-clause-value : goal.returns-in-Some-clause-value
+returns-in-Some-clause-value c =
+    ap (λ n. Some n) c.length.ensures
+    ∙ sym (split_is c.args.text.now c.args.part.now c.utf8.text c.utf8.part c.in-Some.before.now c.in-Some._behind.now c.in-Some.ensures.cases)
 
-pub returns-clause-within : goal.returns-clause-within
-returns-clause-within c =
-    let kept = c.loop-rest.invariant.1 in
-    let short = chars_short c.args.text.now c.utf8.text in omega arith
+pub returns-in-Some-clause-within : goal.returns-in-Some-clause-within
+returns-in-Some-clause-within c =
+    let short = split_short c.args.text.now c.args.part.now c.utf8.text c.utf8.part c.in-Some.before.now c.in-Some._behind.now c.in-Some.ensures.cases in
+    let count = c.length.ensures in omega arith
 
-pub returns-clause-value : goal.returns-clause-value
-unfolding found_behind
-returns-clause-value c = sym (found_here c.loop-rest.skipped (chars c.args.part.now) (chars c.loop-rest.rest.now) (sym c.begins_with.ensures ∙ c.loop-rest-test.false)) ∙ c.loop-rest.invariant.0
+pub returns-in-None-clause-value : goal.returns-in-None-clause-value
+returns-in-None-clause-value c = sym (missing_is c.args.text.now c.args.part.now c.utf8.text c.utf8.part c.in-None.ensures.cases)
