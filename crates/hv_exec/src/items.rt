@@ -3,15 +3,16 @@ ghost use Rattle.hv_expr.specs.declared.tree.TypedExpr.{TypedExpr as Expr};
 ghost use Rattle.hv_value.specs.declared.row.Row.{Row as RowOf};
 ghost use Rattle.hv_order.specs.First.{IsEnough, IsSound};
 ghost use Rattle.hv_typing.specs.Rows.{is_met, item_row};
-ghost use Rattle.hv_eval.specs.Frames.{frame_values, frames_values, values_at};
+ghost use Rattle.hv_eval.specs.Frames.{frame_values, frames_values};
 
 use crate::wanted::is_needless;
-use hv_base::{Boxed, List, NoMemory};
-use hv_eval::{Frame, Scope, eval_at};
+use hv_base::{Boxed, NoMemory};
+use hv_eval::{Frame, Scope};
 use hv_expr::TypedExpr;
 use hv_joins::is_met;
 use hv_order::{Front, Kept};
-use hv_value::{Row, Value};
+use hv_partial::item_values;
+use hv_value::Row;
 use std::alloc::Global;
 
 fn keep_if<'a>(kept: &mut Vec<Frame<'a>>, frame: Frame<'a>, keeps: bool) -> Result<(), NoMemory>
@@ -40,21 +41,6 @@ pub(crate) fn filtered<'a>(
         keep_if(&mut kept, *frame, keeps)?;
     }
     Ok(kept)
-}
-
-/// What the items come to there.
-pub(crate) fn item_values<'a>(
-    alloc: Global,
-    items: &'a [TypedExpr],
-    at: &Scope<'a>,
-) -> Result<List<Value>, NoMemory>
-    ensures { IfOk result (λ values. values ≡ values_at items.now at.now) }
-{
-    let mut values = Vec::with_capacity(alloc, items.len())?;
-    for item in items {
-        values.push(eval_at(alloc, item, at)?)?;
-    }
-    Ok(List::from_vec(values))
 }
 
 #[tactic(auto, unfolding(hv_expr::specs::Evaluation::value_of))]

@@ -1,0 +1,5 @@
+pub mod SumLaws
+pub mod Fitting
+pub mod LiftLaws
+pub mod KeptLaws
+pub mod KeyLaws

@@ -1,0 +1,4 @@
+pub mod Sums
+pub mod Lifts
+pub mod Kept
+pub mod Keys
