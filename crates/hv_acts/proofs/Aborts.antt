@@ -12,12 +12,12 @@ use Rattle.hv_history.specs.Legal.{FullFits, profile}
 use Rattle.hv_trail.specs.Trail.{book_of}
 use Rattle.hv_trail.specs.Kept.{trail_of}
 use Rattle.hv_trail.specs.Steps.{Note, Done, Step}
-use Rattle.hv_house.specs.declared.house.House.{House}
-use Rattle.hv_house.specs.declared.fault.HouseFault.{HouseFault}
-use Rattle.hv_house.specs.declared.fault.HouseFault.TheVariants as fault
-use Rattle.hv_house.specs.Faults.{HasRisen}
-use Rattle.hv_house.specs.House.{entries_of, IsHalted}
-use Rattle.hv_house.specs.Steps.{seen_of, fault_outcome, IsMarked}
+use Rattle.hv_telling.specs.hv_house.specs.declared.house.House.{House}
+use Rattle.hv_telling.specs.hv_house.specs.declared.fault.HouseFault.{HouseFault}
+use Rattle.hv_telling.specs.hv_house.specs.declared.fault.HouseFault.TheVariants as fault
+use Rattle.hv_telling.specs.hv_house.specs.Faults.{HasRisen}
+use Rattle.hv_telling.specs.hv_house.specs.House.{entries_of, IsHalted}
+use Rattle.hv_telling.specs.hv_house.specs.Steps.{seen_of, fault_outcome, IsMarked}
 use Rattle.hv_telling.specs.Telling.{IsToldHouse, IsWhole, StaysWhole, StillOpens, IsTrueNow}
 use Rattle.hv_acts.specs.declared.aborted.Aborted.{Aborted}
 use Rattle.hv_acts.specs.Answers.{EntryFits, HasItsMark}

@@ -9,15 +9,15 @@ use Rattle.hv_stands.specs.Running.{Asking, next_number}
 use Rattle.hv_trail.specs.Trail.{book_of}
 use Rattle.hv_trail.specs.Kept.{trail_of}
 use Rattle.hv_trail.specs.Steps.{Begin, Done, Step}
-use Rattle.hv_house.specs.declared.fault.HouseFault.{HouseFault}
-use Rattle.hv_house.specs.declared.house.House.{House}
-use Rattle.hv_house.specs.declared.fault.HouseFault.TheVariants as fault
-use Rattle.hv_house.specs.Faults.{HasRisen, EndsRun}
-use Rattle.hv_house.specs.House.{entries_of, Leaves, BeginFits, beginning_of, AreHalted}
+use Rattle.hv_telling.specs.hv_house.specs.declared.fault.HouseFault.{HouseFault}
+use Rattle.hv_telling.specs.hv_house.specs.declared.house.House.{House}
+use Rattle.hv_telling.specs.hv_house.specs.declared.fault.HouseFault.TheVariants as fault
+use Rattle.hv_telling.specs.hv_house.specs.Faults.{HasRisen, EndsRun}
+use Rattle.hv_telling.specs.hv_house.specs.House.{entries_of, Leaves, BeginFits, beginning_of, AreHalted}
 use Rattle.hv_locks.specs.declared.table.LockState.{LockState}
 use Rattle.hv_locks.specs.declared.table.LockState.TheVariants.{Granted, Waiting}
-use Rattle.hv_house.specs.Asking.{holder_against, lock_state, CanBegin}
-use Rattle.hv_house.specs.Steps.{seen_of, fault_outcome}
+use Rattle.hv_telling.specs.hv_house.specs.Asking.{holder_against, lock_state, CanBegin}
+use Rattle.hv_telling.specs.hv_house.specs.Steps.{seen_of, fault_outcome}
 use Rattle.hv_telling.specs.Telling.{IsToldHouse, IsWhole, StaysWhole, StillOpens}
 use Rattle.hv_acts.specs.declared.opening.Begun.{Begun}
 use Rattle.hv_acts.specs.declared.fault.BeginFault.{BeginFault}

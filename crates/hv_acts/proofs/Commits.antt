@@ -22,13 +22,13 @@ use Rattle.hv_trail.specs.declared.trail.Reader.TheVariants.{Txn}
 use Rattle.hv_trail.specs.Trail.{book_of, state_at, broken}
 use Rattle.hv_trail.specs.Kept.{trail_of}
 use Rattle.hv_trail.specs.Steps.{Note, Commit, Done, HouseSeen, Step}
-use Rattle.hv_house.specs.declared.fault.HouseFault.{HouseFault}
-use Rattle.hv_house.specs.declared.fault.HouseFault.TheVariants as fault
-use Rattle.hv_house.specs.declared.house.House.{House}
-use Rattle.hv_house.specs.House.{entries_of, IsSmall}
-use Rattle.hv_house.specs.Steps.{seen_of, fault_outcome, IsPutWhole, CanCommit}
+use Rattle.hv_telling.specs.hv_house.specs.declared.fault.HouseFault.{HouseFault}
+use Rattle.hv_telling.specs.hv_house.specs.declared.fault.HouseFault.TheVariants as fault
+use Rattle.hv_telling.specs.hv_house.specs.declared.house.House.{House}
+use Rattle.hv_telling.specs.hv_house.specs.House.{entries_of, IsSmall}
+use Rattle.hv_telling.specs.hv_house.specs.Steps.{seen_of, fault_outcome, IsPutWhole, CanCommit}
 use Rattle.hv_telling.specs.Telling.{IsWhole}
-use Rattle.hv_house.proofs.Steps.{moves-by}
+use Rattle.hv_telling.specs.hv_house.proofs.Steps.{moves-by}
 use Rattle.hv_acts.specs.declared.aborted.Aborted.{Aborted}
 use Rattle.hv_acts.specs.declared.committing.Conflict.{Conflict}
 use Rattle.hv_acts.specs.declared.committing.Committed.TheVariants as committed

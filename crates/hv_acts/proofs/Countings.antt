@@ -8,10 +8,10 @@ use Rattle.hv_counts.specs.declared.due.Due.{Due}
 use Rattle.hv_counts.specs.Counts.{dues_in}
 use Rattle.hv_history.specs.declared.entry.Entry.{Entry}
 use Rattle.hv_history.specs.State.{state_of}
-use Rattle.hv_house.specs.declared.fault.HouseFault.TheVariants as fault
-use Rattle.hv_house.specs.declared.house.House.{House}
-use Rattle.hv_house.specs.House.{entries_of, IsReady}
-use Rattle.hv_house.specs.Steps.{seen_of}
+use Rattle.hv_telling.specs.hv_house.specs.declared.fault.HouseFault.TheVariants as fault
+use Rattle.hv_telling.specs.hv_house.specs.declared.house.House.{House}
+use Rattle.hv_telling.specs.hv_house.specs.House.{entries_of, IsReady}
+use Rattle.hv_telling.specs.hv_house.specs.Steps.{seen_of}
 use Rattle.hv_acts.specs.declared.fault.ActFault.TheVariants as act
 use Rattle.hv_acts.specs.Counting.{AreAsMany, CountStep}
 use Rattle.hv_acts.proofs.Steps.{book-is, asked}

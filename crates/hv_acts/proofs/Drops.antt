@@ -12,8 +12,8 @@ use Rattle.hv_trail.specs.declared.trail.TrailItem.{TrailItem}
 use Rattle.hv_trail.specs.Trail.{book_of, state_at}
 use Rattle.hv_trail.specs.Kept.{trail_of}
 use Rattle.hv_trail.specs.Steps.{Note}
-use Rattle.hv_house.specs.declared.house.House.{House}
-use Rattle.hv_house.specs.Steps.{seen_of}
+use Rattle.hv_telling.specs.hv_house.specs.declared.house.House.{House}
+use Rattle.hv_telling.specs.hv_house.specs.Steps.{seen_of}
 use Rattle.hv_telling.specs.Telling.{IsWhole}
 use Rattle.hv_acts.specs.declared.fault.ActFault.{ActFault}
 use Rattle.hv_acts.specs.Answers.{NoTest, IsLate, EntryStep}

@@ -11,13 +11,13 @@ use Rattle.hv_stands.specs.Running.{Asking, IsOf}
 use Rattle.hv_trail.specs.declared.trail.TrailItem.{TrailItem}
 use Rattle.hv_trail.specs.Kept.{trail_of}
 use Rattle.hv_trail.specs.Steps.{HouseSeen, shuts}
-use Rattle.hv_house.specs.declared.fault.HouseFault.{HouseFault}
-use Rattle.hv_house.specs.declared.fault.HouseFault.TheVariants as fault
-use Rattle.hv_house.specs.declared.listing.GetFault.TheVariants as get_fault
-use Rattle.hv_house.specs.declared.house.House.{House}
-use Rattle.hv_house.specs.Faults.{HasRisen}
-use Rattle.hv_house.specs.House.{entries_of, Leaves, IsHalted, StaysPut}
-use Rattle.hv_house.specs.Steps.{seen_of, fault_outcome}
+use Rattle.hv_telling.specs.hv_house.specs.declared.fault.HouseFault.{HouseFault}
+use Rattle.hv_telling.specs.hv_house.specs.declared.fault.HouseFault.TheVariants as fault
+use Rattle.hv_telling.specs.hv_house.specs.declared.listing.GetFault.TheVariants as get_fault
+use Rattle.hv_telling.specs.hv_house.specs.declared.house.House.{House}
+use Rattle.hv_telling.specs.hv_house.specs.Faults.{HasRisen}
+use Rattle.hv_telling.specs.hv_house.specs.House.{entries_of, Leaves, IsHalted, StaysPut}
+use Rattle.hv_telling.specs.hv_house.specs.Steps.{seen_of, fault_outcome}
 use Rattle.hv_acts.specs.declared.opening.Begun.{Begun}
 use Rattle.hv_acts.specs.declared.fault.BeginFault.{BeginFault}
 use Rattle.hv_acts.specs.declared.fault.BeginFault.TheVariants as hindered

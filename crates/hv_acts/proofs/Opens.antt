@@ -18,14 +18,14 @@ use Rattle.hv_stands.specs.Running.{next_number}
 use Rattle.hv_trail.specs.Trail.{book_of}
 use Rattle.hv_trail.specs.Kept.{trail_of}
 use Rattle.hv_trail.specs.Steps.{Note, Done, Step}
-use Rattle.hv_house.specs.declared.fault.HouseFault.{HouseFault}
-use Rattle.hv_house.specs.declared.house.House.{House}
-use Rattle.hv_house.specs.Faults.{HasRisen}
-use Rattle.hv_house.specs.House.{entries_of, IsReady, IsHalted}
+use Rattle.hv_telling.specs.hv_house.specs.declared.fault.HouseFault.{HouseFault}
+use Rattle.hv_telling.specs.hv_house.specs.declared.house.House.{House}
+use Rattle.hv_telling.specs.hv_house.specs.Faults.{HasRisen}
+use Rattle.hv_telling.specs.hv_house.specs.House.{entries_of, IsReady, IsHalted}
 use Rattle.hv_locks.specs.declared.table.LockState.TheVariants.{Granted, Waiting}
-use Rattle.hv_house.specs.Asking.{holder_against, lock_state}
+use Rattle.hv_telling.specs.hv_house.specs.Asking.{holder_against, lock_state}
 use Rattle.hv_telling.specs.Telling.{IsToldHouse, IsWhole, StaysWhole, StillOpens}
-use Rattle.hv_house.specs.Steps.{seen_of, fault_outcome}
+use Rattle.hv_telling.specs.hv_house.specs.Steps.{seen_of, fault_outcome}
 use Rattle.hv_acts.specs.declared.fault.ActFault.TheVariants as act
 use Rattle.hv_acts.specs.Waiting.{next_txn, next_opened, IsHeld, OpenStep}
 use Rattle.hv_acts.proofs.Steps.{book-is, asked, whole-keeps, keeps-behind}

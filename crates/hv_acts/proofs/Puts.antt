@@ -17,11 +17,11 @@ use Rattle.hv_trail.specs.Trail.{state_at}
 use Rattle.hv_trail.specs.Kept.{trail_of}
 use Rattle.hv_trail.specs.Lasting.{IsGiven}
 use Rattle.hv_trail.specs.Steps.{Put, Done, Step}
-use Rattle.hv_house.specs.declared.house.House.{House}
-use Rattle.hv_house.specs.declared.fault.HouseFault.{HouseFault}
-use Rattle.hv_house.specs.Faults.{HasRisen}
-use Rattle.hv_house.specs.House.{entries_of, StaysPut}
-use Rattle.hv_house.specs.Steps.{seen_of, fault_outcome, HoldsId, IsOwnFile}
+use Rattle.hv_telling.specs.hv_house.specs.declared.house.House.{House}
+use Rattle.hv_telling.specs.hv_house.specs.declared.fault.HouseFault.{HouseFault}
+use Rattle.hv_telling.specs.hv_house.specs.Faults.{HasRisen}
+use Rattle.hv_telling.specs.hv_house.specs.House.{entries_of, StaysPut}
+use Rattle.hv_telling.specs.hv_house.specs.Steps.{seen_of, fault_outcome, HoldsId, IsOwnFile}
 use Rattle.hv_telling.specs.Telling.{IsToldHouse, IsWhole, StaysWhole, StillOpens}
 use Rattle.hv_acts.specs.declared.fault.ActFault.{ActFault}
 use Rattle.hv_acts.specs.declared.fault.ActFault.TheVariants as act

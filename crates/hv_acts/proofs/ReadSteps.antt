@@ -18,17 +18,17 @@ use Rattle.hv_trail.specs.declared.trail.Reader.TheVariants.{Txn}
 use Rattle.hv_trail.specs.Kept.{trail_of}
 use Rattle.hv_trail.specs.Trail.{state_at}
 use Rattle.hv_trail.specs.Steps.{HouseSeen, Call, Outcome, Read, Ask, Done, Step}
-use Rattle.hv_house.specs.declared.fault.HouseFault.{HouseFault}
-use Rattle.hv_house.specs.declared.fault.HouseFault.TheVariants as fault
-use Rattle.hv_house.specs.declared.listing.Listing.{Listing}
-use Rattle.hv_house.specs.declared.listing.GetFault.{GetFault}
-use Rattle.hv_house.specs.declared.listing.GetFault.TheVariants as get_fault
-use Rattle.hv_house.specs.declared.house.House.{House}
-use Rattle.hv_house.specs.House.{entries_of, book_limit, IsReady, IsFaithful, StaysPut}
-use Rattle.hv_house.specs.Seeing.{ids_in}
-use Rattle.hv_house.specs.Steps.{seen_of, fault_outcome}
-use Rattle.hv_house.specs.Faults.{HasRisen}
-use Rattle.hv_house.specs.Listing.{info_in, AreTaken, IsMade, IsNotFound, get_outcome, StaysGot, HasRisenGetting}
+use Rattle.hv_telling.specs.hv_house.specs.declared.fault.HouseFault.{HouseFault}
+use Rattle.hv_telling.specs.hv_house.specs.declared.fault.HouseFault.TheVariants as fault
+use Rattle.hv_telling.specs.hv_house.specs.declared.listing.Listing.{Listing}
+use Rattle.hv_telling.specs.hv_house.specs.declared.listing.GetFault.{GetFault}
+use Rattle.hv_telling.specs.hv_house.specs.declared.listing.GetFault.TheVariants as get_fault
+use Rattle.hv_telling.specs.hv_house.specs.declared.house.House.{House}
+use Rattle.hv_telling.specs.hv_house.specs.House.{entries_of, book_limit, IsReady, IsFaithful, StaysPut}
+use Rattle.hv_telling.specs.hv_house.specs.Seeing.{ids_in}
+use Rattle.hv_telling.specs.hv_house.specs.Steps.{seen_of, fault_outcome}
+use Rattle.hv_telling.specs.hv_house.specs.Faults.{HasRisen}
+use Rattle.hv_telling.specs.hv_house.specs.Listing.{info_in, AreTaken, IsMade, IsNotFound, get_outcome, StaysGot, HasRisenGetting}
 use Rattle.hv_telling.specs.Telling.{IsToldHouse, IsWhole}
 use Rattle.hv_telling.proofs.Told.{also-some, some-told, true-shown}
 use Rattle.hv_telling.proofs.Reading.{reads-keep-whole, reads-still-open}

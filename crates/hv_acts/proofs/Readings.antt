@@ -39,10 +39,10 @@ use Rattle.hv_trail.specs.declared.trail.TrailItem.{TrailItem}
 use Rattle.hv_trail.specs.Trail.{book_of, state_at}
 use Rattle.hv_trail.specs.Steps.{HouseSeen}
 use Rattle.hv_trail.proofs.LastingLaws.{book-append}
-use Rattle.hv_house.specs.declared.listing.Listing.{Listing}
-use Rattle.hv_house.specs.Listing.{info_in, AreTaken}
-use Rattle.hv_house.specs.Seeing.{ids_in}
-use Rattle.hv_house.proofs.Past.{says-committed}
+use Rattle.hv_telling.specs.hv_house.specs.declared.listing.Listing.{Listing}
+use Rattle.hv_telling.specs.hv_house.specs.Listing.{info_in, AreTaken}
+use Rattle.hv_telling.specs.hv_house.specs.Seeing.{ids_in}
+use Rattle.hv_telling.specs.hv_house.proofs.Past.{says-committed}
 use Rattle.hv_telling.specs.Telling.{IsTold}
 use Rattle.hv_acts.specs.Reading.{HasPlace, state_then, HasFittingBook, info_then, IsThere, FilesStand, ReadsOn, HasListed, StandsStill, AllStandStill, AreSameFiles, ReadsOnTold, IsGotStill, AllGotStill}
 

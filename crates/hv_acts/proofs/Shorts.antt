@@ -12,7 +12,7 @@ use Rattle.hv_history.specs.declared.entry.Cause.TheVariants as cause
 use Rattle.hv_history.specs.Spelling.{touch_spelling, entry_spelling}
 use Rattle.hv_bytes.proofs.Lengths.{length-eight, length-text}
 use Rattle.hv_journal.proofs.Lengths.{length-touches}
-use Rattle.hv_house.specs.House.{IsSmall}
+use Rattle.hv_telling.specs.hv_house.specs.House.{IsSmall}
 
 pub short_given : (txn : TxnId) (table : TableId) (write : WriteId) → IsSmall (entry.Given txn table write)
 short_given txn table write = grind (arith, length-append, length-eight)

@@ -14,10 +14,10 @@ use Rattle.hv_trail.specs.declared.trail.TrailItem.{TrailItem}
 use Rattle.hv_trail.specs.Trail.{book_of, state_at}
 use Rattle.hv_trail.specs.Kept.{trail_of}
 use Rattle.hv_trail.specs.Steps.{Note, Done, Step}
-use Rattle.hv_house.specs.declared.house.House.{House}
-use Rattle.hv_house.specs.declared.fault.HouseFault.{HouseFault}
-use Rattle.hv_house.specs.House.{entries_of}
-use Rattle.hv_house.specs.Steps.{seen_of, fault_outcome}
+use Rattle.hv_telling.specs.hv_house.specs.declared.house.House.{House}
+use Rattle.hv_telling.specs.hv_house.specs.declared.fault.HouseFault.{HouseFault}
+use Rattle.hv_telling.specs.hv_house.specs.House.{entries_of}
+use Rattle.hv_telling.specs.hv_house.specs.Steps.{seen_of, fault_outcome}
 use Rattle.hv_telling.specs.Telling.{IsWhole}
 use Rattle.hv_acts.specs.declared.aborted.Aborted.{Aborted}
 use Rattle.hv_acts.specs.declared.starting.Started.TheVariants as started

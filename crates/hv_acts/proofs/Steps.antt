@@ -9,11 +9,11 @@ use Rattle.hv_trail.specs.Trail.{book_of}
 use Rattle.hv_trail.specs.Kept.{trail_of}
 use Rattle.hv_trail.specs.Steps.{HouseSeen, Call, Outcome, Note, Begin, Ask, Closed, Refused, gains, shuts, MayEnd, Changes, IsShutOut, Step}
 use Rattle.hv_trail.proofs.KeptLaws.{trail-book}
-use Rattle.hv_house.specs.declared.fault.HouseFault.{HouseFault}
-use Rattle.hv_house.specs.declared.fault.HouseFault.TheVariants as fault
-use Rattle.hv_house.specs.declared.house.House.{House}
-use Rattle.hv_house.specs.House.{entries_of}
-use Rattle.hv_house.specs.Steps.{seen_of, fault_outcome}
+use Rattle.hv_telling.specs.hv_house.specs.declared.fault.HouseFault.{HouseFault}
+use Rattle.hv_telling.specs.hv_house.specs.declared.fault.HouseFault.TheVariants as fault
+use Rattle.hv_telling.specs.hv_house.specs.declared.house.House.{House}
+use Rattle.hv_telling.specs.hv_house.specs.House.{entries_of}
+use Rattle.hv_telling.specs.hv_house.specs.Steps.{seen_of, fault_outcome}
 use Rattle.hv_telling.specs.Telling.{IsToldHouse, IsWhole, StaysWhole, StillOpens}
 use Rattle.hv_telling.proofs.Told.{told-stays}
 use Rattle.hv_telling.proofs.Opens.{whole-opens}

@@ -27,8 +27,8 @@ use Rattle.hv_trail.specs.declared.trail.Reader.TheVariants.{Txn}
 use Rattle.hv_trail.specs.declared.trail.TrailItem.{TrailItem}
 use Rattle.hv_trail.specs.Trail.{book_of, state_at, HasWritten}
 use Rattle.hv_trail.specs.Kept.{trail_of}
-use Rattle.hv_house.specs.declared.house.House.{House}
-use Rattle.hv_house.specs.House.{entries_of}
+use Rattle.hv_telling.specs.hv_house.specs.declared.house.House.{House}
+use Rattle.hv_telling.specs.hv_house.specs.House.{entries_of}
 use Rattle.hv_telling.specs.Telling.{IsTrueNow, IsMeantFile}
 use Rattle.hv_acts.specs.Answers.{EntryFits}
 use Rattle.hv_acts.specs.Putting.{Runs}

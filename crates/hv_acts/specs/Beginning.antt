@@ -13,12 +13,12 @@ use Rattle.hv_trail.specs.declared.trail.TrailItem.TheVariants.{Noted}
 use Rattle.hv_trail.specs.Trail.{book_of}
 use Rattle.hv_trail.specs.Kept.{trail_of}
 use Rattle.hv_trail.specs.Steps.{HouseSeen, Call, Begin, Ask, Outcome, Done, Refused, Step, begun}
-use Rattle.hv_house.specs.declared.fault.HouseFault.TheVariants as fault
-use Rattle.hv_house.specs.declared.house.House.{House}
-use Rattle.hv_house.specs.House.{Leaves, BeginFits, beginning_of}
-use Rattle.hv_house.specs.Steps.{seen_of, fault_outcome}
+use Rattle.hv_telling.specs.hv_house.specs.declared.fault.HouseFault.TheVariants as fault
+use Rattle.hv_telling.specs.hv_house.specs.declared.house.House.{House}
+use Rattle.hv_telling.specs.hv_house.specs.House.{Leaves, BeginFits, beginning_of}
+use Rattle.hv_telling.specs.hv_house.specs.Steps.{seen_of, fault_outcome}
 use Rattle.hv_acts.specs.Told.{IsWholeOrClosed}
-use Rattle.hv_house.specs.Asking.{holder_against, CanBegin}
+use Rattle.hv_telling.specs.hv_house.specs.Asking.{holder_against, CanBegin}
 use Rattle.hv_acts.specs.declared.opening.Begun.{Begun}
 use Rattle.hv_acts.specs.declared.fault.BeginFault.{BeginFault}
 use Rattle.hv_acts.specs.declared.fault.BeginFault.TheVariants as hindered

@@ -25,8 +25,8 @@ use Rattle.hv_trail.specs.Trail.{book_of, state_at, broken, HasWritten}
 use Rattle.hv_trail.specs.Kept.{trail_of}
 use Rattle.hv_trail.specs.Lasting.{Has, IsGiven}
 use Rattle.hv_trail.specs.Steps.{Call, Note, Commit, Step}
-use Rattle.hv_house.specs.declared.house.House.{House}
-use Rattle.hv_house.specs.Steps.{seen_of}
+use Rattle.hv_telling.specs.hv_house.specs.declared.house.House.{House}
+use Rattle.hv_telling.specs.hv_house.specs.Steps.{seen_of}
 use Rattle.hv_acts.specs.Told.{IsWholeOrClosed}
 use Rattle.hv_acts.specs.Meant.{HasAtMost, RunsWith, places_of_files}
 use Rattle.hv_acts.specs.declared.committing.Committed.{Committed}

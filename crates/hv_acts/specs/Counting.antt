@@ -8,8 +8,8 @@ use Rattle.hv_counts.specs.declared.due.Due.{Due}
 use Rattle.hv_counts.specs.Counts.{dues_in}
 use Rattle.hv_trail.specs.declared.trail.TrailItem.{TrailItem}
 use Rattle.hv_trail.specs.Steps.{HouseSeen, Ask, Step}
-use Rattle.hv_house.specs.declared.house.House.{House}
-use Rattle.hv_house.specs.Steps.{seen_of}
+use Rattle.hv_telling.specs.hv_house.specs.declared.house.House.{House}
+use Rattle.hv_telling.specs.hv_house.specs.Steps.{seen_of}
 use Rattle.hv_acts.specs.declared.fault.ActFault.{ActFault}
 use Rattle.hv_acts.specs.Answers.{answer_outcome}
 use Rattle.hv_acts.specs.Reading.{state_then, HasFittingBook, IsFindWhy}

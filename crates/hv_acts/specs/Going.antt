@@ -6,8 +6,8 @@ use Rattle.hv_history.specs.declared.entry.Entry.{Entry}
 use Rattle.hv_trail.specs.declared.trail.TrailItem.{TrailItem}
 use Rattle.hv_trail.specs.Trail.{book_of}
 use Rattle.hv_actor.specs.Acting.{IsLater, Went}
-use Rattle.hv_house.specs.declared.fault.HouseFault.{HouseFault}
-use Rattle.hv_house.specs.declared.fault.HouseFault.TheVariants as fault
+use Rattle.hv_telling.specs.hv_house.specs.declared.fault.HouseFault.{HouseFault}
+use Rattle.hv_telling.specs.hv_house.specs.declared.fault.HouseFault.TheVariants as fault
 use Rattle.hv_acts.specs.declared.told.ToldHouse.{ToldHouse}
 use Rattle.hv_acts.specs.Told.{IsWholeOrClosed, seen_in, trail_in}
 use Rattle.hv_acts.specs.Answers.{IsCutShort}

@@ -8,8 +8,8 @@ use Rattle.hv_trail.specs.declared.trail.TrailItem.{TrailItem}
 use Rattle.hv_trail.specs.Trail.{book_of}
 use Rattle.hv_trail.specs.Kept.{trail_of}
 use Rattle.hv_trail.specs.Steps.{Note, Step}
-use Rattle.hv_house.specs.declared.house.House.{House}
-use Rattle.hv_house.specs.Steps.{seen_of}
+use Rattle.hv_telling.specs.hv_house.specs.declared.house.House.{House}
+use Rattle.hv_telling.specs.hv_house.specs.Steps.{seen_of}
 use Rattle.hv_acts.specs.Told.{IsWholeOrClosed}
 use Rattle.hv_acts.specs.Meant.{HasAtMost}
 use Rattle.hv_acts.specs.declared.fault.ActFault.{ActFault}

@@ -15,10 +15,10 @@ use Rattle.hv_trail.specs.Trail.{state_at}
 use Rattle.hv_trail.specs.Kept.{trail_of}
 use Rattle.hv_trail.specs.Lasting.{Has, IsGiven}
 use Rattle.hv_trail.specs.Steps.{Put, Step}
-use Rattle.hv_house.specs.declared.house.House.{House}
-use Rattle.hv_house.specs.declared.fault.HouseFault.{HouseFault}
-use Rattle.hv_house.specs.declared.fault.HouseFault.TheVariants as fault
-use Rattle.hv_house.specs.Steps.{seen_of}
+use Rattle.hv_telling.specs.hv_house.specs.declared.house.House.{House}
+use Rattle.hv_telling.specs.hv_house.specs.declared.fault.HouseFault.{HouseFault}
+use Rattle.hv_telling.specs.hv_house.specs.declared.fault.HouseFault.TheVariants as fault
+use Rattle.hv_telling.specs.hv_house.specs.Steps.{seen_of}
 use Rattle.hv_acts.specs.Told.{IsWholeOrClosed}
 use Rattle.hv_acts.specs.Meant.{RunsWith}
 use Rattle.hv_acts.specs.declared.fault.ActFault.{ActFault}

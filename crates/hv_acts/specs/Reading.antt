@@ -21,15 +21,15 @@ use Rattle.hv_trail.specs.declared.trail.Reader.TheVariants.{Txn}
 use Rattle.hv_trail.specs.declared.trail.TrailItem.{TrailItem}
 use Rattle.hv_trail.specs.Trail.{book_of, state_at}
 use Rattle.hv_trail.specs.Steps.{HouseSeen, Read, Ask, Step}
-use Rattle.hv_house.specs.declared.fault.HouseFault.TheVariants as fault
-use Rattle.hv_house.specs.declared.listing.Listing.{Listing}
-use Rattle.hv_house.specs.declared.listing.GetFault.{GetFault}
-use Rattle.hv_house.specs.declared.listing.GetFault.TheVariants as get_fault
-use Rattle.hv_house.specs.declared.house.House.{House}
-use Rattle.hv_house.specs.House.{book_limit}
-use Rattle.hv_house.specs.Seeing.{ids_in}
-use Rattle.hv_house.specs.Steps.{seen_of, broken_by}
-use Rattle.hv_house.specs.Listing.{info_in, AreTaken, get_outcome}
+use Rattle.hv_telling.specs.hv_house.specs.declared.fault.HouseFault.TheVariants as fault
+use Rattle.hv_telling.specs.hv_house.specs.declared.listing.Listing.{Listing}
+use Rattle.hv_telling.specs.hv_house.specs.declared.listing.GetFault.{GetFault}
+use Rattle.hv_telling.specs.hv_house.specs.declared.listing.GetFault.TheVariants as get_fault
+use Rattle.hv_telling.specs.hv_house.specs.declared.house.House.{House}
+use Rattle.hv_telling.specs.hv_house.specs.House.{book_limit}
+use Rattle.hv_telling.specs.hv_house.specs.Seeing.{ids_in}
+use Rattle.hv_telling.specs.hv_house.specs.Steps.{seen_of, broken_by}
+use Rattle.hv_telling.specs.hv_house.specs.Listing.{info_in, AreTaken, get_outcome}
 use Rattle.hv_acts.specs.Told.{IsWholeOrClosed}
 use Rattle.hv_telling.specs.Telling.{IsTold}
 use Rattle.hv_acts.specs.declared.fault.ActFault.{ActFault}

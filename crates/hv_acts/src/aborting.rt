@@ -2,7 +2,7 @@ ghost use Rattle.std.specs.Prelude.{◌≡◌, IfOk, length};
 ghost use Rattle.hv_history.specs.declared.entry.Entry.TheVariants as entry;
 ghost use Rattle.hv_trail.specs.Trail.{book_of};
 ghost use Rattle.hv_trail.specs.Kept.{trail_of};
-ghost use Rattle.hv_house.specs.House.{IsSmall};
+ghost use Rattle.hv_telling.specs.hv_house.specs.House.{IsSmall};
 ghost use Rattle.hv_telling.specs.Telling.{IsToldHouse, IsWhole};
 ghost use Rattle.hv_acts.specs.Meant.{IsAbortDue};
 ghost use Rattle.hv_acts.specs.Answers.{HasItsMark, EntryStep};
@@ -13,8 +13,8 @@ use crate::told::ToldHouse;
 use hv_actor::Act;
 use hv_base::TxnId;
 use hv_history::{Cause, Entry};
-use hv_house::{House, HouseFault};
 use hv_shelf::Shelf;
+use hv_telling::hv_house::{House, HouseFault};
 use std::alloc::Global;
 
 /// Aborts a transaction for a cause that fits, and answers the place of the entry that ended it.
@@ -44,7 +44,7 @@ impl<D: Shelf + Drop> Act<D, ToldHouse<D>> for AbortFor {
     ghost use Rattle.hv_history.specs.declared.entry.Entry.TheVariants as entry;
     ghost use Rattle.hv_trail.specs.Trail.{book_of};
     ghost use Rattle.hv_trail.specs.Steps.{Note};
-    ghost use Rattle.hv_house.specs.House.{IsSmall};
+    ghost use Rattle.hv_telling.specs.hv_house.specs.House.{IsSmall};
     ghost use Rattle.hv_telling.specs.Telling.{IsTold};
     ghost use Rattle.hv_acts.specs.Meant.{IsAbortDue};
     ghost use Rattle.hv_acts.specs.Answers.{HasItsMark, answer_call, answer_outcome, adds_entry, NoTest, EntryFits, Answers, AnswerLeaves};

@@ -7,7 +7,7 @@ ghost use Rattle.hv_conflicts.specs.Clashes.{IsClash};
 ghost use Rattle.hv_trail.specs.declared.trail.Reader.TheVariants.{Txn};
 ghost use Rattle.hv_trail.specs.Trail.{book_of, state_at, broken};
 ghost use Rattle.hv_trail.specs.Kept.{trail_of};
-ghost use Rattle.hv_house.specs.House.{IsSmall};
+ghost use Rattle.hv_telling.specs.hv_house.specs.House.{IsSmall};
 ghost use Rattle.hv_telling.specs.Telling.{IsToldHouse, IsWhole};
 ghost use Rattle.hv_acts.specs.Answers.{EntryFits, HasItsMark};
 ghost use Rattle.hv_acts.specs.Meant.{RunsWith, IsCommitDue, IsCauseTrue};
@@ -21,8 +21,8 @@ use hv_actor::Act;
 use hv_base::{Duplicate, List, NoMemory, Text, Touch, TxnId};
 use hv_conflicts::{Clash, clash};
 use hv_history::{Cause, Entry, conflict_text};
-use hv_house::{House, HouseFault};
 use hv_shelf::{Place, Shelf};
+use hv_telling::hv_house::{House, HouseFault};
 use std::alloc::Global;
 
 /// Commits a transaction with what it wrote in the table of that name, whose files it has put at these places; or aborts it, where a
@@ -223,7 +223,7 @@ fn commit_writes<D: Shelf>(
 
 impl<D: Shelf + Drop> Act<D, ToldHouse<D>> for CommitWrites {
     ghost use Rattle.hv_history.specs.declared.entry.Entry.TheVariants as entry;
-    ghost use Rattle.hv_house.specs.House.{IsSmall};
+    ghost use Rattle.hv_telling.specs.hv_house.specs.House.{IsSmall};
     ghost use Rattle.hv_telling.specs.Telling.{IsTold};
     ghost use Rattle.hv_acts.specs.Meant.{IsCommitDue};
     ghost use Rattle.hv_acts.specs.Answers.{answer_outcome, AnswerLeaves};

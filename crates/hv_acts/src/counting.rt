@@ -1,4 +1,4 @@
-ghost use Rattle.hv_house.specs.House.{IsReady};
+ghost use Rattle.hv_telling.specs.hv_house.specs.House.{IsReady};
 ghost use Rattle.hv_acts.specs.Counting.{CountStep};
 
 use crate::fault::ActFault;
@@ -6,8 +6,8 @@ use crate::told::ToldHouse;
 use hv_actor::Act;
 use hv_base::{NoMemory, TableId};
 use hv_counts::{Due, dues_at};
-use hv_house::{House, HouseFault};
 use hv_shelf::Shelf;
+use hv_telling::hv_house::{House, HouseFault};
 use std::alloc::Global;
 
 /// Asks what the commits of a table say before a place of the book: of each of its write ids, how many rows they inserted and deleted.

@@ -11,8 +11,8 @@ use crate::told::ToldHouse;
 use hv_actor::Act;
 use hv_base::{TableId, TxnId};
 use hv_history::Entry;
-use hv_house::{House, HouseFault};
 use hv_shelf::Shelf;
+use hv_telling::hv_house::{House, HouseFault};
 use std::alloc::Global;
 
 /// Ends a transaction by the drop of the table that its text names, and answers the place of its Drop.

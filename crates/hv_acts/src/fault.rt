@@ -1,5 +1,5 @@
 use hv_base::TxnId;
-use hv_house::HouseFault;
+use hv_telling::hv_house::HouseFault;
 use thiserror::Error;
 
 /// Why an act of a transaction was refused.

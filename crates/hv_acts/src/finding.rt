@@ -1,13 +1,13 @@
-ghost use Rattle.hv_house.specs.House.{IsReady};
+ghost use Rattle.hv_telling.specs.hv_house.specs.House.{IsReady};
 ghost use Rattle.hv_acts.specs.Reading.{FindStep};
 
 use crate::fault::ActFault;
 use crate::told::ToldHouse;
 use hv_actor::Act;
 use hv_base::{NoMemory, Text};
-use hv_house::{House, HouseFault};
 use hv_logic::TableInfo;
 use hv_shelf::Shelf;
+use hv_telling::hv_house::{House, HouseFault};
 use std::alloc::Global;
 
 /// Finds the table of a name as it stood at a place of the book; None where there was none.

@@ -4,8 +4,8 @@ ghost use Rattle.hv_acts.specs.Reading.{GetStep};
 use crate::told::ToldHouse;
 use hv_actor::Act;
 use hv_base::TxnId;
-use hv_house::{GetFault, House, HouseFault};
 use hv_shelf::{Place, Shelf};
+use hv_telling::hv_house::{GetFault, House, HouseFault};
 use std::alloc::Global;
 
 /// Gets, for a transaction, the bytes of the file at a place.
@@ -31,7 +31,7 @@ impl<'a, D: Shelf + Drop> Act<D, ToldHouse<D>> for GetFile<'a> {
     ghost use Rattle.std.specs.Prelude.{Some, IfErr};
     ghost use Rattle.hv_trail.specs.declared.trail.Reader.TheVariants.{Txn};
     ghost use Rattle.hv_trail.specs.Steps.{Read};
-    ghost use Rattle.hv_house.specs.Listing.{get_outcome};
+    ghost use Rattle.hv_telling.specs.hv_house.specs.Listing.{get_outcome};
     ghost use Rattle.hv_acts.specs.Reading.{GetAnswers, adds_getting, GetLeaves, GetRises};
 
     type Answer = Result<Vec<u8>, GetFault>;

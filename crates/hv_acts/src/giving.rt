@@ -14,8 +14,8 @@ use crate::told::ToldHouse;
 use hv_actor::Act;
 use hv_base::{TableId, TxnId, WriteId};
 use hv_history::Entry;
-use hv_house::{House, HouseFault};
 use hv_shelf::Shelf;
+use hv_telling::hv_house::{House, HouseFault};
 use std::alloc::Global;
 
 /// Gives a transaction that has none the next write id of a table, and answers it. Where there is no room for that, aborts it.

@@ -5,8 +5,8 @@ use crate::fault::ActFault;
 use crate::told::ToldHouse;
 use hv_actor::Act;
 use hv_base::{TableId, TxnId};
-use hv_house::{House, HouseFault, Listing};
 use hv_shelf::Shelf;
+use hv_telling::hv_house::{House, HouseFault, Listing};
 use std::alloc::Global;
 
 /// Lists, for a transaction, the files of a table that are taken under the list of its write ids at a place of the book.

@@ -1,7 +1,7 @@
 ghost use Rattle.std.specs.Prelude.{◌≡◌, ◌≤◌, length};
 ghost use Rattle.hv_built.specs.Running.{Runs};
 ghost use Rattle.hv_trail.specs.Kept.{trail_of};
-ghost use Rattle.hv_house.specs.House.{IsReady};
+ghost use Rattle.hv_telling.specs.hv_house.specs.House.{IsReady};
 ghost use Rattle.hv_telling.specs.Telling.{IsWhole};
 ghost use Rattle.hv_acts.specs.Beginning.{IsHindered, BeginStep};
 
@@ -11,10 +11,10 @@ use crate::told::ToldHouse;
 use hv_actor::Act;
 use hv_ast::{Stmt, discard};
 use hv_base::{Text, TxnId};
-use hv_house::{House, HouseFault};
 use hv_locks::LockState;
 use hv_shelf::Shelf;
 use hv_telling::begin;
+use hv_telling::hv_house::{House, HouseFault};
 use std::alloc::Global;
 
 /// Opens a statement and starts it, where no lock is held against it and there is room. `tree` is that of its text.

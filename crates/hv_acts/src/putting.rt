@@ -9,9 +9,9 @@ use crate::noting::{late, runs_with};
 use crate::told::ToldHouse;
 use hv_actor::Act;
 use hv_base::TxnId;
-use hv_house::{House, HouseFault};
 use hv_route::OutFile;
 use hv_shelf::{Place, Shelf};
+use hv_telling::hv_house::{House, HouseFault};
 use hv_telling::put;
 use std::alloc::Global;
 

@@ -9,9 +9,9 @@ ghost use Rattle.hv_history.specs.Lasting.{IsFront};
 ghost use Rattle.hv_trail.specs.declared.trail.TrailItem.{TrailItem};
 ghost use Rattle.hv_trail.specs.Trail.{book_of};
 ghost use Rattle.hv_trail.specs.Steps.{HouseSeen};
-ghost use Rattle.hv_house.specs.Listing.{AreTaken};
-ghost use Rattle.hv_house.specs.declared.listing.Listing.{Listing};
-ghost use Rattle.hv_house.specs.Seeing.{ids_in};
+ghost use Rattle.hv_telling.specs.hv_house.specs.Listing.{AreTaken};
+ghost use Rattle.hv_telling.specs.hv_house.specs.declared.listing.Listing.{Listing};
+ghost use Rattle.hv_telling.specs.hv_house.specs.Seeing.{ids_in};
 ghost use Rattle.hv_acts.specs.Reading.{HasPlace, state_then, HasFittingBook, info_then, IsThere, ReadsOn, AllStandStill, AreSameFiles, ReadsOnTold, HasListed, AllGotStill};
 
 /// A place of a book is one of every longer book, and the entries before it are the same: so are the table of a name there and

@@ -3,8 +3,8 @@ ghost use Rattle.hv_telling.specs.Telling.{IsWhole};
 ghost use Rattle.hv_acts.specs.Told.{IsWholeOrClosed};
 
 use hv_actor::Housed;
-use hv_house::House;
 use hv_shelf::Shelf;
+use hv_telling::hv_house::House;
 
 /// A house that acts keep whole: where the store that it was opened over told a legal book whose files stood, its book is
 /// legal and its files stand, between any two of them.
@@ -40,7 +40,7 @@ impl<D: Shelf> ToldHouse<D> {
 }
 
 impl<D: Shelf + Drop> Housed<D> for ToldHouse<D> {
-    ghost use Rattle.hv_house.specs.Steps.{seen_of};
+    ghost use Rattle.hv_telling.specs.hv_house.specs.Steps.{seen_of};
     ghost use Rattle.hv_acts.specs.Told.{IsWholeOrClosed};
 
     ghost seen = { λ h. seen_of h.house };

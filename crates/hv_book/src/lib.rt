@@ -1,6 +1,8 @@
 //! The book of entries, and what is kept beside them so that nobody walks it.
 #![tactic(auto)]
 
+pub use hv_history;
+
 mod book;
 mod index;
 mod jobs;

@@ -1,3 +1,4 @@
+pub use Rattle.hv_meaning as hv_meaning
 pub mod Spelling
 pub mod Journal
 pub mod State

@@ -1,6 +1,8 @@
 //! The warehouse's history: its entries, what they mean, and how they are spelled.
 #![tactic(auto)]
 
+pub use hv_meaning;
+
 mod answers;
 mod causes;
 mod commits;

@@ -8,13 +8,13 @@ use Rattle.std.specs.declared.cmp.Ordering.{Ordering}
 use Rattle.std.specs.declared.cmp.Ordering.TheVariants.{Less, Equal, Greater}
 use Rattle.std.proofs.lemmas.Bool.{ltb-true, lt-ltb}
 use Rattle.hv_base.specs.declared.ids.Touch.{Touch}
-use Rattle.hv_history.specs.declared.entry.Entry.{Entry}
-use Rattle.hv_history.specs.declared.state.Transaction.{Transaction}
-use Rattle.hv_history.specs.declared.state.Snapshot.{Snapshot}
-use Rattle.hv_history.specs.declared.state.Ending.{Ending}
-use Rattle.hv_history.specs.declared.state.Ending.TheVariants.{Committed, Aborted, Made, Dropped}
-use Rattle.hv_history.specs.State.{State, given_in}
-use Rattle.hv_history.specs.Legal.{CommitFits, IsOwnTouch, Rise, touch_cmp, is_touched, touches_conflict, commits_against, place_of_snapshot}
+use Rattle.hv_book.specs.hv_history.specs.declared.entry.Entry.{Entry}
+use Rattle.hv_book.specs.hv_history.specs.declared.state.Transaction.{Transaction}
+use Rattle.hv_book.specs.hv_history.specs.declared.state.Snapshot.{Snapshot}
+use Rattle.hv_book.specs.hv_history.specs.declared.state.Ending.{Ending}
+use Rattle.hv_book.specs.hv_history.specs.declared.state.Ending.TheVariants.{Committed, Aborted, Made, Dropped}
+use Rattle.hv_book.specs.hv_history.specs.State.{State, given_in}
+use Rattle.hv_book.specs.hv_history.specs.Legal.{CommitFits, IsOwnTouch, Rise, touch_cmp, is_touched, touches_conflict, commits_against, place_of_snapshot}
 use Rattle.hv_book.specs.Briefs.{brief, snapshot_place}
 use Rattle.hv_book.specs.Commits.{commits_so, is_committed, passes_at, pass, touches_at, IsRising}
 use Rattle.hv_meta.specs.Committing.{MayWrite, are_rising, is_own, are_own, are_used, against, place_or, started_place}

@@ -5,10 +5,10 @@ use Rattle.std.specs.Option.{option_map}
 use Rattle.std.specs.Cmp.Lexicographic.{pointwise}
 use Rattle.hv_ast.specs.declared.statement.Stmt.{Stmt}
 use Rattle.hv_ast.specs.declared.statement.Stmt.TheVariants as stmt
-use Rattle.hv_history.specs.declared.state.Table.{Table}
-use Rattle.hv_history.specs.declared.state.Transaction.{Transaction}
-use Rattle.hv_history.specs.State.{State, numbered, opening_tree}
-use Rattle.hv_history.specs.Legal.{Of, IsRunning, DropFits, is_drop, dropped_name, is_named_there}
+use Rattle.hv_book.specs.hv_history.specs.declared.state.Table.{Table}
+use Rattle.hv_book.specs.hv_history.specs.declared.state.Transaction.{Transaction}
+use Rattle.hv_book.specs.hv_history.specs.State.{State, numbered, opening_tree}
+use Rattle.hv_book.specs.hv_history.specs.Legal.{Of, IsRunning, DropFits, is_drop, dropped_name, is_named_there}
 use Rattle.hv_book.specs.Briefs.{brief_table, tree_in}
 use Rattle.hv_book.specs.Names.{name_in}
 use Rattle.hv_meta.specs.States.{is_live_note, drops_table}

@@ -11,10 +11,10 @@ use Rattle.hv_ast.specs.declared.types.ScalarName.TheVariants as scalar
 use Rattle.hv_logic.specs.Shapes.{type_of, column_of}
 use Rattle.hv_route.specs.Back.{is_flat, AreFlat}
 use Rattle.std.proofs.lemmas.Bool.{eq-eqb, eqb-true}
-use Rattle.hv_history.specs.declared.state.Transaction.{Transaction}
-use Rattle.hv_history.specs.declared.state.Table.{Table}
-use Rattle.hv_history.specs.State.{State, numbered, created_shape}
-use Rattle.hv_history.specs.Legal.{IsRunning, CreateFits, is_named, is_create, made_name}
+use Rattle.hv_book.specs.hv_history.specs.declared.state.Transaction.{Transaction}
+use Rattle.hv_book.specs.hv_history.specs.declared.state.Table.{Table}
+use Rattle.hv_book.specs.hv_history.specs.State.{State, numbered, created_shape}
+use Rattle.hv_book.specs.hv_history.specs.Legal.{IsRunning, CreateFits, is_named, is_create, made_name}
 use Rattle.hv_book.specs.Briefs.{brief_table, tree_in}
 use Rattle.hv_meta.specs.States.{is_flat_name, is_flat_definition, made_parts}
 use Rattle.hv_meta.specs.Catalogs.{live_infos, info_in}

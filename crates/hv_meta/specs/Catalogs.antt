@@ -2,7 +2,7 @@
 use Rattle.std.specs.Prelude.{Bool, true, false, Option, Some, None, List, [], ◌∷◌}
 use Rattle.std.specs.List.{flat_map}
 use Rattle.hv_logic.specs.declared.catalog.TableInfo.{TableInfo}
-use Rattle.hv_history.specs.declared.state.Table.{Table}
+use Rattle.hv_book.specs.hv_history.specs.declared.state.Table.{Table}
 
 abbrev pub info_if : Bool → TableInfo → List TableInfo
 info_if true info = info ∷ []

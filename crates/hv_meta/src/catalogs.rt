@@ -1,6 +1,6 @@
 ghost use Rattle.std.specs.Prelude.{◌≡◌, IfOk};
 ghost use Rattle.std.specs.Option.{option_copied};
-ghost use Rattle.hv_history.specs.State.{created_shape};
+ghost use Rattle.hv_book.specs.hv_history.specs.State.{created_shape};
 
 use hv_ast::Stmt;
 use hv_base::{List, NoMemory, Text};

@@ -1,8 +1,8 @@
 ghost use Rattle.std.specs.Prelude.{◌≡◌, ◌↔◌, ◌==◌, IsTrue};
 ghost use Rattle.std.specs.List.{list_any};
-ghost use Rattle.hv_history.specs.declared.state.Transaction.{Transaction};
-ghost use Rattle.hv_history.specs.State.{state_of, numbered};
-ghost use Rattle.hv_history.specs.Legal.{CommitFits, ConflictFits, Of, touch_cmp, touch_conflicts, touches_conflict, commits_against, deletes_in, deleted_behind};
+ghost use Rattle.hv_book.specs.hv_history.specs.declared.state.Transaction.{Transaction};
+ghost use Rattle.hv_book.specs.hv_history.specs.State.{state_of, numbered};
+ghost use Rattle.hv_book.specs.hv_history.specs.Legal.{CommitFits, ConflictFits, Of, touch_cmp, touch_conflicts, touches_conflict, commits_against, deletes_in, deleted_behind};
 ghost use Rattle.hv_book.specs.Briefs.{held_by};
 ghost use Rattle.hv_book.specs.Commits.{passes_at, wrote_in, IsRising};
 ghost use Rattle.hv_meta.specs.Committing.{MayWrite, are_rising, is_own, are_own, is_met, are_used, are_whole, against, started_place, note_behind, wrote_deletes};

@@ -1,7 +1,7 @@
 ghost use Rattle.std.specs.Prelude.{◌≡◌, ◌↔◌, IsTrue};
 ghost use Rattle.std.specs.List.{list_all, list_any};
-ghost use Rattle.hv_history.specs.State.{state_of};
-ghost use Rattle.hv_history.specs.Legal.{CreateFits, Of, is_named};
+ghost use Rattle.hv_book.specs.hv_history.specs.State.{state_of};
+ghost use Rattle.hv_book.specs.hv_history.specs.Legal.{CreateFits, Of, is_named};
 ghost use Rattle.hv_meta.specs.States.{is_flat_definition};
 
 use crate::facts::is_running;

@@ -1,15 +1,15 @@
 ghost use Rattle.std.specs.Prelude.{◌≡◌, ◌↔◌, IsTrue};
 ghost use Rattle.std.specs.Option.{option_copied, option_map};
-ghost use Rattle.hv_history.specs.State.{state_of, numbered};
-ghost use Rattle.hv_history.specs.Legal.{DropFits, Of, is_named_there};
+ghost use Rattle.hv_book.specs.hv_history.specs.State.{state_of, numbered};
+ghost use Rattle.hv_book.specs.hv_history.specs.Legal.{DropFits, Of, is_named_there};
 ghost use Rattle.hv_book.specs.Briefs.{brief_table};
 ghost use Rattle.hv_meta.specs.States.{is_live_note, drops_table};
 
 use crate::facts::is_running;
 use hv_ast::Stmt;
 use hv_base::{TableId, Text, TxnId};
+use hv_book::hv_history::numbered;
 use hv_book::{Book, TableNote};
-use hv_history::numbered;
 
 /// What is kept of the table of this number.
 fn table_note(book: &Book, table: u64) -> Option<TableNote>

@@ -1,13 +1,13 @@
 ghost use Rattle.std.specs.Prelude.{◌≡◌, ◌↔◌, ◌+◌, ◌*◌, ◌^◌, ◌≤◌, IsTrue, IsSomeAnd, length};
 ghost use Rattle.std.specs.Option.{option_map};
-ghost use Rattle.hv_history.specs.State.{state_of, numbered};
-ghost use Rattle.hv_history.specs.Legal.{is_open, IsRunning, load, HasRoom, Of};
+ghost use Rattle.hv_book.specs.hv_history.specs.State.{state_of, numbered};
+ghost use Rattle.hv_book.specs.hv_history.specs.Legal.{is_open, IsRunning, load, HasRoom, Of};
 ghost use Rattle.hv_book.specs.Briefs.{brief};
 ghost use Rattle.hv_meta.specs.States.{state_in, noted_state, is_unended_note, is_running_note};
 
 use hv_base::{Limits, TxnId};
+use hv_book::hv_history::numbered;
 use hv_book::{Book, TransactionNote};
-use hv_history::numbered;
 
 /// How far a transaction has come.
 #[derive(Clone, Copy)]

@@ -1,14 +1,14 @@
 ghost use Rattle.std.specs.Prelude.{◌≡◌, ◌↔◌, IsTrue, ◌==◌};
 ghost use Rattle.std.specs.List.{list_any};
-ghost use Rattle.hv_history.specs.State.{state_of};
+ghost use Rattle.hv_book.specs.hv_history.specs.State.{state_of};
 ghost use Rattle.hv_book.specs.Briefs.{held_by};
 ghost use Rattle.hv_meta.specs.States.{is_next_note, is_held};
-ghost use Rattle.hv_history.specs.Legal.{BootFits, OpenedFits, GivenFits, FullFits, FaultFits, LostFits, IsStatement, Of};
+ghost use Rattle.hv_book.specs.hv_history.specs.Legal.{BootFits, OpenedFits, GivenFits, FullFits, FaultFits, LostFits, IsStatement, Of};
 
 use crate::facts::{has_room, is_running, is_unended, next_txn};
 use hv_base::{Limits, TableId, Text, TxnId, WriteId};
+use hv_book::hv_history::numbered;
 use hv_book::{Book, Held, TableNote};
-use hv_history::numbered;
 
 /// Whether a Boot of this number fits the book.
 pub fn boot_fits(book: &Book, limits: &Limits, run: u64) -> bool

@@ -20,10 +20,10 @@ use Rattle.hv_script.specs.declared.actions.Statement.{Statement}
 use Rattle.hv_stands.specs.Running.{Asking, next_number, opening, AreOf}
 use Rattle.hv_stands.specs.Statements.{AllFitting}
 use Rattle.hv_stands.proofs.Numbers.{numbered-within}
-use Rattle.hv_house.specs.declared.fault.HouseFault.{HouseFault}
-use Rattle.hv_house.specs.declared.fault.HouseFault.TheVariants as fault
-use Rattle.hv_house.specs.declared.house.House.{House}
-use Rattle.hv_house.specs.House.{entries_of, BeginFits, beginning_of, Leaves}
+use Rattle.hv_session.specs.hv_steps.specs.hv_acts.specs.hv_telling.specs.hv_house.specs.declared.fault.HouseFault.{HouseFault}
+use Rattle.hv_session.specs.hv_steps.specs.hv_acts.specs.hv_telling.specs.hv_house.specs.declared.fault.HouseFault.TheVariants as fault
+use Rattle.hv_session.specs.hv_steps.specs.hv_acts.specs.hv_telling.specs.hv_house.specs.declared.house.House.{House}
+use Rattle.hv_session.specs.hv_steps.specs.hv_acts.specs.hv_telling.specs.hv_house.specs.House.{entries_of, BeginFits, beginning_of, Leaves}
 use Rattle.hv_session.specs.hv_steps.specs.hv_acts.specs.hv_telling.specs.Telling.{IsWhole, IsToldHouse, StillOpens}
 use Rattle.hv_session.specs.hv_steps.specs.hv_acts.specs.hv_telling.proofs.Told.{told-stays}
 use Rattle.hv_session.specs.hv_steps.specs.hv_acts.specs.hv_telling.proofs.Opens.{whole-opens}

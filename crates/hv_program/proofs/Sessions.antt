@@ -5,9 +5,9 @@ use Rattle.hv_history.specs.declared.entry.Entry.{Entry}
 use Rattle.hv_trail.specs.declared.trail.TrailItem.{TrailItem}
 use Rattle.hv_stands.specs.Running.{Asking, next_number}
 use Rattle.hv_actor.specs.Acting.{IsLater, Nothing, Untouched}
-use Rattle.hv_house.specs.declared.fault.HouseFault.{HouseFault}
-use Rattle.hv_house.specs.declared.house.House.{House}
-use Rattle.hv_house.specs.House.{entries_of}
+use Rattle.hv_session.specs.hv_steps.specs.hv_acts.specs.hv_telling.specs.hv_house.specs.declared.fault.HouseFault.{HouseFault}
+use Rattle.hv_session.specs.hv_steps.specs.hv_acts.specs.hv_telling.specs.hv_house.specs.declared.house.House.{House}
+use Rattle.hv_session.specs.hv_steps.specs.hv_acts.specs.hv_telling.specs.hv_house.specs.House.{entries_of}
 use Rattle.hv_session.specs.hv_steps.specs.hv_acts.specs.hv_telling.specs.Telling.{IsWhole}
 use Rattle.hv_session.specs.hv_steps.specs.hv_acts.specs.hv_telling.proofs.Opens.{whole-opens}
 use Rattle.hv_session.specs.hv_steps.specs.hv_acts.specs.declared.told.ToldHouse.{ToldHouse}

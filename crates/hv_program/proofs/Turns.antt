@@ -9,11 +9,11 @@ use Rattle.hv_history.specs.declared.entry.Entry.{Entry}
 use Rattle.hv_history.specs.Journal.{Reads}
 use Rattle.hv_history.specs.Legal.{IsLegal, profile}
 use Rattle.hv_script.specs.declared.actions.Action.{Action}
-use Rattle.hv_house.specs.declared.house.House.{House}
-use Rattle.hv_house.specs.declared.fault.HouseFault.{HouseFault}
-use Rattle.hv_house.specs.declared.fault.HouseFault.TheVariants as fault
-use Rattle.hv_house.specs.House.{entries_of, IsFaithful}
-use Rattle.hv_house.specs.Faults.{EndsRun}
+use Rattle.hv_session.specs.hv_steps.specs.hv_acts.specs.hv_telling.specs.hv_house.specs.declared.house.House.{House}
+use Rattle.hv_session.specs.hv_steps.specs.hv_acts.specs.hv_telling.specs.hv_house.specs.declared.fault.HouseFault.{HouseFault}
+use Rattle.hv_session.specs.hv_steps.specs.hv_acts.specs.hv_telling.specs.hv_house.specs.declared.fault.HouseFault.TheVariants as fault
+use Rattle.hv_session.specs.hv_steps.specs.hv_acts.specs.hv_telling.specs.hv_house.specs.House.{entries_of, IsFaithful}
+use Rattle.hv_session.specs.hv_steps.specs.hv_acts.specs.hv_telling.specs.hv_house.specs.Faults.{EndsRun}
 use Rattle.hv_session.specs.hv_steps.specs.hv_acts.specs.hv_telling.specs.Telling.{IsWhole, IsToldHouse, OpensLater, StillOpens}
 use Rattle.hv_session.specs.hv_steps.specs.hv_acts.specs.hv_telling.proofs.Told.{both-some, true-shown, whole-shown, opens-told}
 use Rattle.hv_program.proofs.Blaming.{passed_up}

@@ -7,10 +7,10 @@ use Rattle.hv_history.specs.Answers.{cause_text}
 use Rattle.hv_journal.specs.Appending.{Holds}
 use Rattle.hv_stands.specs.Running.{Asking}
 use Rattle.hv_base.specs.declared.gate.Stage.{Stage}
-use Rattle.hv_house.specs.declared.fault.HouseFault.{HouseFault}
-use Rattle.hv_house.specs.declared.fault.HouseFault.TheVariants as fault
-use Rattle.hv_house.specs.declared.house.House.{House}
-use Rattle.hv_house.specs.House.{entries_of}
+use Rattle.hv_session.specs.hv_steps.specs.hv_acts.specs.hv_telling.specs.hv_house.specs.declared.fault.HouseFault.{HouseFault}
+use Rattle.hv_session.specs.hv_steps.specs.hv_acts.specs.hv_telling.specs.hv_house.specs.declared.fault.HouseFault.TheVariants as fault
+use Rattle.hv_session.specs.hv_steps.specs.hv_acts.specs.hv_telling.specs.hv_house.specs.declared.house.House.{House}
+use Rattle.hv_session.specs.hv_steps.specs.hv_acts.specs.hv_telling.specs.hv_house.specs.House.{entries_of}
 use Rattle.hv_session.specs.hv_steps.specs.declared.ready.Reply.{Reply}
 use Rattle.hv_session.specs.hv_steps.specs.Ending.{AddsOf}
 use Rattle.hv_session.specs.hv_steps.specs.declared.reply.Done.TheVariants as done

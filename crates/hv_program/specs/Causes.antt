@@ -5,7 +5,7 @@ use Rattle.hv_base.specs.Told.{Tells}
 use Rattle.hv_script.specs.Words.{run_of}
 use Rattle.hv_script.specs.Actions.{refused_at}
 use Rattle.hv_history.specs.Legal.{profile}
-use Rattle.hv_house.specs.Booting.{CanOpen}
+use Rattle.hv_session.specs.hv_steps.specs.hv_acts.specs.hv_telling.specs.hv_house.specs.Booting.{CanOpen}
 use Rattle.hv_program.specs.Headline.{Outside}
 use Rattle.hv_program.specs.Refused.{is_one_of}
 

@@ -10,8 +10,8 @@ use Rattle.hv_history.specs.Journal.{Reads}
 use Rattle.hv_journal.specs.Appending.{ReadsMore}
 use Rattle.hv_script.specs.declared.actions.Action.{Action}
 use Rattle.hv_stands.specs.Files.{Stands}
-use Rattle.hv_house.specs.declared.boot.BootFault.TheVariants as fault
-use Rattle.hv_house.specs.Booting.{opening_of, IsCutOpening}
+use Rattle.hv_session.specs.hv_steps.specs.hv_acts.specs.hv_telling.specs.hv_house.specs.declared.boot.BootFault.TheVariants as fault
+use Rattle.hv_session.specs.hv_steps.specs.hv_acts.specs.hv_telling.specs.hv_house.specs.Booting.{opening_of, IsCutOpening}
 use Rattle.hv_session.specs.hv_steps.specs.hv_acts.specs.hv_telling.specs.Telling.{OpensLater}
 use Rattle.hv_program.specs.Doing.{Standing, IsDone, AreDone}
 use Rattle.hv_program.specs.Own.{Grows}

@@ -2,8 +2,8 @@
 ghost use Rattle.std.specs.Prelude.{◌≡◌, ◌≤◌, length, IfOk, IfErr};
 ghost use Rattle.hv_actor.specs.Acting.{IsLater};
 ghost use Rattle.hv_session.specs.hv_steps.specs.hv_acts.specs.Told.{seen_in};
-ghost use Rattle.hv_house.specs.Faults.{EndsRun, FileCause};
-ghost use Rattle.hv_house.specs.House.{entries_of};
+ghost use Rattle.hv_session.specs.hv_steps.specs.hv_acts.specs.hv_telling.specs.hv_house.specs.Faults.{EndsRun, FileCause};
+ghost use Rattle.hv_session.specs.hv_steps.specs.hv_acts.specs.hv_telling.specs.hv_house.specs.House.{entries_of};
 ghost use Rattle.hv_stands.specs.Running.{next_number};
 ghost use Rattle.hv_session.specs.hv_steps.specs.hv_acts.specs.hv_telling.specs.Telling.{IsWhole, IsToldHouse, StillOpens};
 ghost use Rattle.hv_session.specs.hv_steps.specs.declared.reply.Done.TheVariants as done;
@@ -12,8 +12,8 @@ ghost use Rattle.hv_session.specs.hv_steps.specs.Ending.{AddsOf, HasStopped};
 ghost use Rattle.hv_session.specs.Taking.{asked_of, IsHeldBySome, IsTrulyHeld, IsKeptIn, IsTakenAs, IsFinished};
 ghost use Rattle.hv_session.specs.Ways.{IsOwnEnd, StopsTaken};
 
-use hv_house::HouseFault;
 use hv_session::hv_steps::hv_acts::ToldHouse;
+use hv_session::hv_steps::hv_acts::hv_telling::hv_house::HouseFault;
 use hv_session::hv_steps::{Done, Reply};
 use hv_session::{Asking, How, Paused, Taken, finish, take_up};
 use hv_shelf::Shelf;

@@ -1,7 +1,7 @@
 ghost use Rattle.std.specs.Prelude.{◌≡◌, ◌≤◌, [], ◌∷◌, IfOk, IfErr, IsTrue};
 ghost use Rattle.std.specs.List.{AllByRecursion};
 ghost use Rattle.hv_base.specs.Told.{StaysTold};
-ghost use Rattle.hv_house.specs.House.{entries_of};
+ghost use Rattle.hv_session.specs.hv_steps.specs.hv_acts.specs.hv_telling.specs.hv_house.specs.House.{entries_of};
 ghost use Rattle.hv_session.specs.hv_steps.specs.hv_acts.specs.hv_telling.specs.Telling.{IsWhole, IsToldHouse};
 ghost use Rattle.hv_program.specs.Refused.{is_one_of};
 ghost use Rattle.hv_program.specs.Running.{Halts, IsFine, PrintsAll};

@@ -31,11 +31,11 @@ use Rattle.hv_trail.proofs.LastingLaws.{book-append}
 use Rattle.hv_meta.specs.States.{state_in}
 use Rattle.hv_law_next.specs.Order.{CauseInOrder, IsInOrder, AllInOrder}
 use Rattle.hv_actor.specs.Acting.{IsAlone}
-use Rattle.hv_house.specs.declared.fault.HouseFault.{HouseFault}
-use Rattle.hv_house.specs.declared.fault.HouseFault.TheVariants as fault
-use Rattle.hv_house.specs.House.{entries_of, Leaves, BeginFits, beginning_of}
-use Rattle.hv_house.specs.Asking.{CanBegin, holder_against}
-use Rattle.hv_house.proofs.Beginning.{load-behind-opened, holder-behind-opened}
+use Rattle.hv_steps.specs.hv_acts.specs.hv_telling.specs.hv_house.specs.declared.fault.HouseFault.{HouseFault}
+use Rattle.hv_steps.specs.hv_acts.specs.hv_telling.specs.hv_house.specs.declared.fault.HouseFault.TheVariants as fault
+use Rattle.hv_steps.specs.hv_acts.specs.hv_telling.specs.hv_house.specs.House.{entries_of, Leaves, BeginFits, beginning_of}
+use Rattle.hv_steps.specs.hv_acts.specs.hv_telling.specs.hv_house.specs.Asking.{CanBegin, holder_against}
+use Rattle.hv_steps.specs.hv_acts.specs.hv_telling.specs.hv_house.proofs.Beginning.{load-behind-opened, holder-behind-opened}
 use Rattle.hv_steps.specs.hv_acts.specs.hv_telling.proofs.Told.{told-stays}
 use Rattle.hv_steps.specs.hv_acts.specs.declared.told.ToldHouse.{ToldHouse}
 use Rattle.hv_steps.specs.hv_acts.specs.Told.{IsWholeOrClosed, trail_in, book_in}

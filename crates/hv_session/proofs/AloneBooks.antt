@@ -10,7 +10,7 @@ use Rattle.hv_trail.specs.declared.trail.TrailItem.{TrailItem}
 use Rattle.hv_trail.specs.Trail.{book_of}
 use Rattle.hv_trail.proofs.LastingLaws.{book-append}
 use Rattle.hv_actor.specs.Acting.{Went, Woven, Nothing, items_of}
-use Rattle.hv_house.specs.House.{entries_of}
+use Rattle.hv_steps.specs.hv_acts.specs.hv_telling.specs.hv_house.specs.House.{entries_of}
 use Rattle.hv_steps.specs.hv_acts.specs.Told.{trail_in}
 use Rattle.hv_steps.specs.hv_acts.specs.Meant as acts
 use Rattle.hv_steps.specs.hv_acts.specs.declared.told.ToldHouse.{ToldHouse}

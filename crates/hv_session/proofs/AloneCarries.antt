@@ -18,10 +18,10 @@ use Rattle.hv_stands.proofs.Begun.{begins}
 use Rattle.hv_trail.specs.declared.trail.TrailItem.{TrailItem}
 use Rattle.hv_law_next.specs.Order.{AllInOrder}
 use Rattle.hv_law_next.specs.Carrying.{IsAtHold}
-use Rattle.hv_house.specs.declared.fault.HouseFault.{HouseFault}
-use Rattle.hv_house.specs.declared.house.House.{House}
-use Rattle.hv_house.specs.House.{entries_of, beginning_of}
-use Rattle.hv_house.specs.Asking.{CanBegin}
+use Rattle.hv_steps.specs.hv_acts.specs.hv_telling.specs.hv_house.specs.declared.fault.HouseFault.{HouseFault}
+use Rattle.hv_steps.specs.hv_acts.specs.hv_telling.specs.hv_house.specs.declared.house.House.{House}
+use Rattle.hv_steps.specs.hv_acts.specs.hv_telling.specs.hv_house.specs.House.{entries_of, beginning_of}
+use Rattle.hv_steps.specs.hv_acts.specs.hv_telling.specs.hv_house.specs.Asking.{CanBegin}
 use Rattle.hv_steps.specs.hv_acts.specs.hv_telling.proofs.Told.{told-stays}
 use Rattle.hv_steps.specs.hv_acts.specs.declared.told.ToldHouse.{ToldHouse}
 use Rattle.hv_steps.specs.hv_acts.specs.Told.{IsWholeOrClosed}

@@ -7,7 +7,7 @@ use Rattle.hv_history.specs.declared.entry.Cause.{Cause}
 use Rattle.hv_history.specs.declared.entry.Cause.TheVariants as cause
 use Rattle.hv_history.specs.State.{state_of}
 use Rattle.hv_trail.specs.declared.trail.TrailItem.{TrailItem}
-use Rattle.hv_house.specs.House.{entries_of}
+use Rattle.hv_steps.specs.hv_acts.specs.hv_telling.specs.hv_house.specs.House.{entries_of}
 use Rattle.hv_steps.specs.hv_acts.specs.declared.told.ToldHouse.{ToldHouse}
 use Rattle.hv_steps.specs.hv_acts.proofs.Steps.{book-is}
 use Rattle.hv_steps.specs.Ending.{IsUndamaged, HasEndedAt, HasReplied, aborting}

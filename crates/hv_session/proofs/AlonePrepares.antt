@@ -19,7 +19,7 @@ use Rattle.hv_stands.specs.Running.{Asking, IsUnderWay}
 use Rattle.hv_stands.specs.Statements.{AllFitting}
 use Rattle.hv_stands.proofs.Begun.{ids-given}
 use Rattle.hv_trail.specs.declared.trail.TrailItem.{TrailItem}
-use Rattle.hv_house.specs.House.{entries_of}
+use Rattle.hv_steps.specs.hv_acts.specs.hv_telling.specs.hv_house.specs.House.{entries_of}
 use Rattle.hv_steps.specs.hv_acts.specs.declared.told.ToldHouse.{ToldHouse}
 use Rattle.hv_steps.specs.hv_acts.specs.Told.{IsWholeOrClosed}
 use Rattle.hv_steps.specs.hv_acts.proofs.Steps.{book-is}

@@ -7,10 +7,10 @@ use Rattle.hv_history.specs.Legal.{AllFit, profile}
 use Rattle.hv_trail.specs.declared.trail.TrailItem.{TrailItem}
 use Rattle.hv_trail.specs.Trail.{book_of}
 use Rattle.hv_actor.specs.Acting.{IsAlone}
-use Rattle.hv_house.specs.declared.fault.HouseFault.{HouseFault}
-use Rattle.hv_house.specs.declared.fault.HouseFault.TheVariants as fault
-use Rattle.hv_house.specs.Faults.{EndsRun, HasRisen}
-use Rattle.hv_house.specs.House.{entries_of, Leaves}
+use Rattle.hv_steps.specs.hv_acts.specs.hv_telling.specs.hv_house.specs.declared.fault.HouseFault.{HouseFault}
+use Rattle.hv_steps.specs.hv_acts.specs.hv_telling.specs.hv_house.specs.declared.fault.HouseFault.TheVariants as fault
+use Rattle.hv_steps.specs.hv_acts.specs.hv_telling.specs.hv_house.specs.Faults.{EndsRun, HasRisen}
+use Rattle.hv_steps.specs.hv_acts.specs.hv_telling.specs.hv_house.specs.House.{entries_of, Leaves}
 use Rattle.hv_steps.specs.hv_acts.specs.hv_telling.specs.Telling.{IsWhole}
 use Rattle.hv_steps.specs.hv_acts.specs.hv_telling.proofs.Told.{told-stays}
 use Rattle.hv_steps.specs.hv_acts.specs.declared.told.ToldHouse.{ToldHouse}

@@ -27,8 +27,8 @@ use Rattle.hv_trail.specs.declared.trail.TrailItem.{TrailItem}
 use Rattle.hv_trail.specs.Trail.{book_of, state_at}
 use Rattle.hv_trail.specs.Steps.{Note, MayEnd}
 use Rattle.hv_actor.specs.Acting.{IsLater, AreRows}
-use Rattle.hv_house.specs.declared.fault.HouseFault.{HouseFault}
-use Rattle.hv_house.specs.declared.fault.HouseFault.TheVariants as fault
+use Rattle.hv_steps.specs.hv_acts.specs.hv_telling.specs.hv_house.specs.declared.fault.HouseFault.{HouseFault}
+use Rattle.hv_steps.specs.hv_acts.specs.hv_telling.specs.hv_house.specs.declared.fault.HouseFault.TheVariants as fault
 use Rattle.hv_steps.specs.hv_acts.specs.declared.told.ToldHouse.{ToldHouse}
 use Rattle.hv_steps.specs.hv_acts.specs.declared.aborted.Aborted.{Aborted}
 use Rattle.hv_steps.specs.hv_acts.specs.declared.committing.Committed.{Committed}

@@ -25,9 +25,9 @@ use Rattle.hv_trail.specs.Trail.{book_of, state_at}
 use Rattle.hv_trail.specs.Steps.{HouseSeen, Call, Note, Outcome, gains, begun}
 use Rattle.hv_trail.proofs.LastingLaws.{book-append, goes-on-front}
 use Rattle.hv_actor.specs.Acting.{IsLater, Held, Went, AreRows}
-use Rattle.hv_house.specs.declared.fault.HouseFault.{HouseFault}
-use Rattle.hv_house.specs.declared.fault.HouseFault.TheVariants as fault
-use Rattle.hv_house.specs.Faults.{EndsRun}
+use Rattle.hv_steps.specs.hv_acts.specs.hv_telling.specs.hv_house.specs.declared.fault.HouseFault.{HouseFault}
+use Rattle.hv_steps.specs.hv_acts.specs.hv_telling.specs.hv_house.specs.declared.fault.HouseFault.TheVariants as fault
+use Rattle.hv_steps.specs.hv_acts.specs.hv_telling.specs.hv_house.specs.Faults.{EndsRun}
 use Rattle.hv_steps.specs.hv_acts.specs.declared.told.ToldHouse.{ToldHouse}
 use Rattle.hv_steps.specs.hv_acts.specs.declared.opening.Begun.{Begun}
 use Rattle.hv_steps.specs.hv_acts.specs.declared.starting.Started.{Started}

@@ -8,11 +8,11 @@ use Rattle.hv_history.specs.State.{State, state_of}
 use Rattle.hv_history.specs.Legal.{IsLegalFrom, profile}
 use Rattle.hv_stands.specs.Running.{Asking, next_number, IsOf, AreOf}
 use Rattle.hv_stands.specs.Statements.{AllFitting}
-use Rattle.hv_house.specs.declared.fault.HouseFault.{HouseFault}
-use Rattle.hv_house.specs.declared.fault.HouseFault.TheVariants as fault
-use Rattle.hv_house.specs.declared.house.House.{House}
-use Rattle.hv_house.specs.Faults.{FileCause, HasRisen}
-use Rattle.hv_house.specs.House.{entries_of}
+use Rattle.hv_steps.specs.hv_acts.specs.hv_telling.specs.hv_house.specs.declared.fault.HouseFault.{HouseFault}
+use Rattle.hv_steps.specs.hv_acts.specs.hv_telling.specs.hv_house.specs.declared.fault.HouseFault.TheVariants as fault
+use Rattle.hv_steps.specs.hv_acts.specs.hv_telling.specs.hv_house.specs.declared.house.House.{House}
+use Rattle.hv_steps.specs.hv_acts.specs.hv_telling.specs.hv_house.specs.Faults.{FileCause, HasRisen}
+use Rattle.hv_steps.specs.hv_acts.specs.hv_telling.specs.hv_house.specs.House.{entries_of}
 use Rattle.hv_steps.specs.hv_acts.specs.hv_telling.specs.Telling.{IsWhole}
 use Rattle.hv_steps.specs.hv_acts.specs.hv_telling.proofs.Told.{told-stays}
 use Rattle.hv_steps.specs.Ending.{KeepsCount, HasStopped}

@@ -15,7 +15,7 @@ use Rattle.hv_history.specs.State.{state_of}
 use Rattle.hv_history.specs.Legal.{HasRoom, profile}
 use Rattle.hv_stands.specs.Running.{Asking}
 use Rattle.hv_trail.specs.declared.trail.TrailItem.{TrailItem}
-use Rattle.hv_house.specs.declared.fault.HouseFault.{HouseFault}
+use Rattle.hv_steps.specs.hv_acts.specs.hv_telling.specs.hv_house.specs.declared.fault.HouseFault.{HouseFault}
 use Rattle.hv_steps.specs.hv_acts.specs.declared.told.ToldHouse.{ToldHouse}
 use Rattle.hv_steps.specs.hv_acts.specs.Told.{trail_in, book_in}
 use Rattle.hv_steps.specs.declared.ready.Way.{Way}

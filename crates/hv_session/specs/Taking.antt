@@ -21,7 +21,7 @@ use Rattle.hv_stands.specs.Running.{Asking, next_number, opening, starting, AreO
 use Rattle.hv_law_next.specs.Order.{AllInOrder}
 use Rattle.hv_law_next.specs.Carrying.{IsAtHold}
 use Rattle.hv_steps.specs.Ending.{IsUndamaged, EndsUncommitted, CanEnd, EndCanBeNoted, EndIsTrue, aborting, HasReplied}
-use Rattle.hv_house.specs.Asking.{holder_against, CanBegin}
+use Rattle.hv_steps.specs.hv_acts.specs.hv_telling.specs.hv_house.specs.Asking.{holder_against, CanBegin}
 use Rattle.hv_session.specs.Doing.{IsUnrefused}
 use Rattle.hv_session.specs.Faults.{IsFaultLine}
 use Rattle.hv_session.specs.declared.asking.Asking.{Asking as Handed}

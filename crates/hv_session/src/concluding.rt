@@ -1,8 +1,8 @@
 //! The end of a statement that is ready: by its commit, its Create or its Drop, by the abort for a conflict, or by one for want of memory.
 ghost use Rattle.std.specs.Prelude.{◌≡◌, ℕ, List, false, Some, [], IfOk, IfErr};
 ghost use Rattle.hv_history.specs.Answers.{ok_line};
-ghost use Rattle.hv_house.specs.Faults.{EndsRun};
-ghost use Rattle.hv_house.specs.House.{IsSmall};
+ghost use Rattle.hv_steps.specs.hv_acts.specs.hv_telling.specs.hv_house.specs.Faults.{EndsRun};
+ghost use Rattle.hv_steps.specs.hv_acts.specs.hv_telling.specs.hv_house.specs.House.{IsSmall};
 ghost use Rattle.hv_steps.specs.hv_acts.specs.hv_telling.specs.Telling.{IsToldHouse};
 ghost use Rattle.hv_steps.specs.hv_acts.specs.Told.{trail_in, book_in};
 ghost use Rattle.hv_steps.specs.hv_acts.specs.Meant.{IsCommitDue, IsMakeMeant, IsDropMeant};
@@ -17,8 +17,8 @@ ghost use Rattle.hv_steps.specs.Phases.{IsDueSo, CanConclude, Concludes, Answers
 
 use hv_actor::Actor;
 use hv_base::{List, TableId, Text, Touch, TxnId};
-use hv_house::HouseFault;
 use hv_shelf::{Place, Shelf};
+use hv_steps::hv_acts::hv_telling::hv_house::HouseFault;
 use hv_steps::hv_acts::{
     Aborted, ActFault, CommitWrites, Committed, DropTable, Made, MakeTable, ToldHouse,
 };

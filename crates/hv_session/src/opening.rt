@@ -3,7 +3,7 @@ ghost use Rattle.std.specs.Prelude.{◌≡◌, ◌≤◌, ℕ, List, length, Err
 ghost use Rattle.hv_ast.specs.declared.statement.Stmt.{Stmt as Tree};
 ghost use Rattle.hv_built.specs.Running.{Runs};
 ghost use Rattle.hv_stands.specs.Running.{Asking};
-ghost use Rattle.hv_house.specs.Faults.{EndsRun};
+ghost use Rattle.hv_steps.specs.hv_acts.specs.hv_telling.specs.hv_house.specs.Faults.{EndsRun};
 ghost use Rattle.hv_steps.specs.hv_acts.specs.declared.told.ToldHouse.{ToldHouse as House};
 ghost use Rattle.hv_steps.specs.hv_acts.specs.Told.{trail_in};
 ghost use Rattle.hv_steps.specs.Going.{IsOpenHouse, faults_in, GainsSome, WasOpened};
@@ -14,9 +14,9 @@ ghost use Rattle.hv_session.specs.Beginnings.{GoesBeginning, lacking, WasHindere
 use hv_actor::Actor;
 use hv_ast::{Stmt, discard};
 use hv_base::{Duplicate, NoMemory, Text, TxnId};
-use hv_house::HouseFault;
 use hv_reading::read_statement;
 use hv_shelf::Shelf;
+use hv_steps::hv_acts::hv_telling::hv_house::HouseFault;
 use hv_steps::hv_acts::{
     Aborted, ActFault, Begin, BeginFault, Begun, OpenTransaction, StartOrAbort, Started, ToldHouse,
 };

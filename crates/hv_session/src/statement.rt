@@ -1,7 +1,7 @@
 //! A statement from its text to its end, or to the place where it is to be held, over any actor.
 ghost use Rattle.std.specs.Prelude.{◌≡◌, ◌≤◌, false, length, IfOk, IfErr};
 ghost use Rattle.hv_built.specs.Running.{Runs};
-ghost use Rattle.hv_house.specs.Faults.{EndsRun};
+ghost use Rattle.hv_steps.specs.hv_acts.specs.hv_telling.specs.hv_house.specs.Faults.{EndsRun};
 ghost use Rattle.hv_steps.specs.Going.{IsOpenHouse, faults_in, GainsSome};
 ghost use Rattle.hv_steps.specs.Phases.{HaltsBeginning};
 ghost use Rattle.hv_session.specs.Doing.{IsHold, IsSaidFor, WasNeverOpened, TakesText, CanFinishTaken};
@@ -15,11 +15,11 @@ use crate::taking::carry;
 use hv_actor::Actor;
 use hv_ast::{Stmt, discard};
 use hv_base::NoMemory;
-use hv_house::HouseFault;
 use hv_reading::read_statement;
 use hv_shelf::Shelf;
 use hv_steps::Done;
 use hv_steps::hv_acts::ToldHouse;
+use hv_steps::hv_acts::hv_telling::hv_house::HouseFault;
 use std::alloc::Global;
 
 /// What is replied to a statement that was carried so far. Only memory may lack for it, where it was never opened.

@@ -28,7 +28,7 @@ use Rattle.hv_route.specs.declared.files.OutFile.{OutFile}
 use Rattle.hv_route.proofs.RisingLemmas.{all-files-rise}
 use Rattle.hv_route.proofs.NumberedLemmas.{numbered-all, rows-are-numbered}
 use Rattle.hv_route.proofs.StandingLemmas.{files-have-rows}
-use Rattle.hv_meaning.specs.Laws.{SaysParts}
+use Rattle.hv_history.specs.hv_meaning.specs.Laws.{SaysParts}
 use Rattle.hv_stands.specs.Files.{CanStand, IsEncoded}
 use Rattle.hv_stands.specs.Laws.{CanBeFile, HasFile}
 use Rattle.hv_history.specs.State.{written_by}

@@ -24,13 +24,13 @@ use Rattle.hv_base.specs.declared.ids.Touch.{Touch}
 use Rattle.hv_route.specs.Touching.{touched}
 use Rattle.hv_route.specs.declared.fault.RouteFault.{RouteFault}
 use Rattle.hv_route.specs.declared.fault.RouteFault.TheVariants as route_fault
-use Rattle.hv_meaning.specs.Meaning.{info_of, found_in, tables_of, or_none, stored_row, change_effect, changed_in, twice_or, merged_in, unless_limited, meant, meaning_over, meaning_in, meaning_of}
-use Rattle.hv_meaning.specs.Merging.{twice_found, merge_effect}
-use Rattle.hv_meaning.specs.Laws.{MeansSomething, AreOf, IsRowOf, FitsTable}
+use Rattle.hv_history.specs.hv_meaning.specs.Meaning.{info_of, found_in, tables_of, or_none, stored_row, change_effect, changed_in, twice_or, merged_in, unless_limited, meant, meaning_over, meaning_in, meaning_of}
+use Rattle.hv_history.specs.hv_meaning.specs.Merging.{twice_found, merge_effect}
+use Rattle.hv_history.specs.hv_meaning.specs.Laws.{MeansSomething, AreOf, IsRowOf, FitsTable}
 use Rattle.hv_stands.specs.Sound.{HasAllValues}
 use Rattle.hv_stands.proofs.Soundness.{all-mapped}
-use Rattle.hv_meaning.proofs.Forms.{forms-mean}
-use Rattle.hv_meaning.proofs.Meanings.{changes-named}
+use Rattle.hv_history.specs.hv_meaning.proofs.Forms.{forms-mean}
+use Rattle.hv_history.specs.hv_meaning.proofs.Meanings.{changes-named}
 
 -- ---- a change is of a table that is seen, and deletes rows that stand in it
 

@@ -5,7 +5,7 @@ use Rattle.std.proofs.Math.Dec.{eqb-suc-zero, eqb-zero-suc, eqb-suc-suc}
 use Rattle.std.specs.List.{slice_get}
 use Rattle.std.specs.Option.{option_map}
 use Rattle.hv_history.specs.State.{numbered, changed, changed_at}
-use Rattle.hv_meaning.proofs.Meanings.{get-mapped as get-map}
+use Rattle.hv_history.specs.hv_meaning.proofs.Meanings.{get-mapped as get-map}
 
 pub one_value : {A : Type 0} (x y : A) → Some x ≡ Some y → x ≡ y
 one_value x y e = cc

@@ -7,15 +7,15 @@ use Rattle.hv_locks.specs.declared.table.Lock.{Lock}
 use Rattle.hv_ast.specs.declared.statement.Stmt.{Stmt}
 use Rattle.hv_logic.specs.declared.catalog.TableInfo.{TableInfo}
 use Rattle.hv_logic.specs.Names.{names_in}
-use Rattle.hv_meaning.specs.Meaning.{info_of, named_by, its_tables, meaning_in, meaning_of}
+use Rattle.hv_history.specs.hv_meaning.specs.Meaning.{info_of, named_by, its_tables, meaning_in, meaning_of}
 use Rattle.hv_value.specs.declared.row.Row.{Row}
 use Rattle.hv_typing.specs.Columns.{columns_of}
 use Rattle.hv_rowfile.specs.Layout.{RowIsTaken}
 use Rattle.hv_route.specs.Routes.{stored}
 use Rattle.hv_route.specs.Touching.{touched, touches_of}
-use Rattle.hv_meaning.specs.Laws.{reads_rows}
-use Rattle.hv_meaning.proofs.Meanings.{changes-seen}
-use Rattle.hv_meaning.proofs.Unseen.{unseen-in}
+use Rattle.hv_history.specs.hv_meaning.specs.Laws.{reads_rows}
+use Rattle.hv_history.specs.hv_meaning.proofs.Meanings.{changes-seen}
+use Rattle.hv_history.specs.hv_meaning.proofs.Unseen.{unseen-in}
 use Rattle.hv_history.specs.declared.state.Table.{Table}
 use Rattle.hv_logic.specs.declared.seen.Seen.{Seen}
 use Rattle.hv_logic.specs.declared.effect.Effect.{Effect}

@@ -8,8 +8,8 @@ use Rattle.hv_logic.specs.declared.effect.Effect.{Effect}
 use Rattle.hv_logic.specs.declared.seen.Seen.{Seen}
 use Rattle.hv_logic.specs.declared.meaning.Meaning.TheVariants.{Change}
 use Rattle.hv_logic.specs.Tables.{named}
-use Rattle.hv_meaning.specs.Meaning.{meaning_of}
-use Rattle.hv_meaning.specs.Laws.{FitsTable}
+use Rattle.hv_history.specs.hv_meaning.specs.Meaning.{meaning_of}
+use Rattle.hv_history.specs.hv_meaning.specs.Laws.{FitsTable}
 use Rattle.hv_history.specs.declared.state.Table.{Table}
 use Rattle.hv_history.specs.State.{numbered, content_of, seen_table, seen_tables}
 use Rattle.hv_history.specs.Legal.{is_named}

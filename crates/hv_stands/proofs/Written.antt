@@ -11,7 +11,7 @@ use Rattle.hv_logic.specs.declared.meaning.Meaning.TheVariants.{Refused, Listing
 use Rattle.hv_typing.specs.Columns.{columns_of}
 use Rattle.hv_route.specs.Back.{AreFlat, AreHeld}
 use Rattle.hv_route.specs.Routes.{files_of}
-use Rattle.hv_meaning.specs.Meaning.{meaning_of}
+use Rattle.hv_history.specs.hv_meaning.specs.Meaning.{meaning_of}
 use Rattle.hv_history.specs.declared.state.Table.{Table}
 use Rattle.hv_history.specs.declared.state.Written.{Written}
 use Rattle.hv_history.specs.declared.state.Ending.{Ending}

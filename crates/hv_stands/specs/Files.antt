@@ -13,7 +13,7 @@ use Rattle.hv_route.specs.Standing.{records_in_place}
 use Rattle.hv_route.specs.declared.files.OutFile.{OutFile}
 use Rattle.hv_rowfile.specs.declared.record.Rec.{Rec}
 use Rattle.hv_rowfile.specs.Layout.{IsFile, file_spelling}
-use Rattle.hv_meaning.specs.Laws.{SaysParts}
+use Rattle.hv_history.specs.hv_meaning.specs.Laws.{SaysParts}
 use Rattle.hv_history.specs.declared.entry.Entry.{Entry}
 use Rattle.hv_history.specs.declared.entry.Entry.TheVariants as entry
 use Rattle.hv_history.specs.declared.state.Ending.{Ending}

@@ -10,7 +10,7 @@ use Rattle.hv_logic.specs.declared.seen.Seen.{Seen}
 use Rattle.hv_history.specs.declared.state.Table.{Table}
 use Rattle.hv_history.specs.State.{content_of}
 use Rattle.hv_history.specs.Legal.{is_named}
-use Rattle.hv_meaning.specs.Laws.{reads_rows}
+use Rattle.hv_history.specs.hv_meaning.specs.Laws.{reads_rows}
 
 -- the live table of that name: a dropped one has no name
 abbrev pub table_of_name : List ℕ → List Table → Option Table

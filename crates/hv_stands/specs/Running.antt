@@ -10,7 +10,7 @@ use Rattle.hv_built.specs.Running.{Runs}
 use Rattle.hv_logic.specs.declared.catalog.TableInfo.{TableInfo}
 use Rattle.hv_logic.specs.declared.effect.Effect.{Effect}
 use Rattle.hv_logic.specs.declared.meaning.Meaning.{Meaning}
-use Rattle.hv_meaning.specs.Meaning.{meaning_of}
+use Rattle.hv_history.specs.hv_meaning.specs.Meaning.{meaning_of}
 use Rattle.hv_history.specs.declared.entry.Entry.{Entry}
 use Rattle.hv_history.specs.declared.entry.Entry.TheVariants as entry
 use Rattle.hv_history.specs.declared.state.Ending.{Ending}

@@ -14,7 +14,7 @@ use Rattle.hv_logic.specs.declared.catalog.TableInfo.{TableInfo}
 use Rattle.hv_logic.specs.declared.effect.Effect.{Effect}
 use Rattle.hv_logic.specs.declared.meaning.Meaning.TheVariants.{Change}
 use Rattle.hv_typing.specs.Columns.{columns_of}
-use Rattle.hv_meaning.specs.Meaning.{meaning_in}
+use Rattle.hv_history.specs.hv_meaning.specs.Meaning.{meaning_in}
 use Rattle.hv_route.specs.Back.{AreHeld}
 use Rattle.hv_route.specs.Routes.{files_of}
 use Rattle.hv_history.specs.declared.entry.Entry.{Entry}

@@ -9,16 +9,16 @@ use Rattle.hv_base.specs.declared.ids.TableId.{TableId}
 use Rattle.hv_shelf.specs.declared.place.Place.{Place}
 use Rattle.hv_shelf.specs.Disk.{Store}
 use Rattle.hv_logic.specs.declared.catalog.TableInfo.{TableInfo}
-use Rattle.hv_counts.specs.declared.due.Due.{Due}
-use Rattle.hv_counts.specs.Counts.{dues_in}
+use Rattle.hv_viewing.specs.hv_law_dues.specs.hv_counts.specs.declared.due.Due.{Due}
+use Rattle.hv_viewing.specs.hv_law_dues.specs.hv_counts.specs.Counts.{dues_in}
 use Rattle.hv_trail.specs.declared.trail.Reader.TheVariants.{Txn}
 use Rattle.hv_trail.specs.declared.trail.TrailItem.{TrailItem}
 use Rattle.hv_trail.specs.Steps.{Read, Ask, Done, Step}
 use Rattle.hv_actor.specs.Acting.{IsLater, Held}
-use Rattle.hv_house.specs.declared.listing.Listing.{Listing}
-use Rattle.hv_house.specs.declared.listing.GetFault.{GetFault}
-use Rattle.hv_house.specs.declared.listing.GetFault.TheVariants as get_fault
-use Rattle.hv_house.specs.Listing.{get_outcome}
+use Rattle.hv_acts.specs.hv_telling.specs.hv_house.specs.declared.listing.Listing.{Listing}
+use Rattle.hv_acts.specs.hv_telling.specs.hv_house.specs.declared.listing.GetFault.{GetFault}
+use Rattle.hv_acts.specs.hv_telling.specs.hv_house.specs.declared.listing.GetFault.TheVariants as get_fault
+use Rattle.hv_acts.specs.hv_telling.specs.hv_house.specs.Listing.{get_outcome}
 use Rattle.hv_acts.specs.hv_telling.specs.Telling.{IsToldHouse}
 use Rattle.hv_acts.specs.declared.told.ToldHouse.{ToldHouse}
 use Rattle.hv_acts.specs.declared.fault.ActFault.{ActFault}

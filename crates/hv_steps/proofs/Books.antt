@@ -8,7 +8,7 @@ use Rattle.hv_history.specs.declared.entry.Cause.TheVariants as cause
 use Rattle.hv_history.specs.State.{State, after, state_of, nothing_yet}
 use Rattle.hv_history.specs.Legal.{AllFit, AllTruthful, IsTruthful, IsLegalFrom, profile}
 use Rattle.hv_stands.specs.Statements.{AllFitting}
-use Rattle.hv_house.proofs.Faithful.{truthful-from}
+use Rattle.hv_acts.specs.hv_telling.specs.hv_house.proofs.Faithful.{truthful-from}
 use Rattle.hv_steps.specs.Ending.{KeepsCount}
 use Rattle.hv_acts.specs.Meant.{IsNoEnd}
 

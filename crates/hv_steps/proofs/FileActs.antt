@@ -24,7 +24,7 @@ use Rattle.hv_trail.specs.declared.trail.TrailItem.TheVariants.{Marked}
 use Rattle.hv_trail.specs.Trail.{book_of}
 use Rattle.hv_trail.specs.Steps.{HouseSeen, Put}
 use Rattle.hv_actor.specs.Acting.{IsLater, Went, AreRows}
-use Rattle.hv_house.specs.declared.fault.HouseFault.TheVariants as fault
+use Rattle.hv_acts.specs.hv_telling.specs.hv_house.specs.declared.fault.HouseFault.TheVariants as fault
 use Rattle.hv_acts.specs.hv_telling.specs.Telling.{IsTold}
 use Rattle.hv_acts.specs.declared.told.ToldHouse.{ToldHouse}
 use Rattle.hv_acts.specs.declared.fault.ActFault.{ActFault}

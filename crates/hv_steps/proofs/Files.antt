@@ -10,9 +10,9 @@ use Rattle.hv_choosing.specs.Dirs.{span_of}
 use Rattle.hv_law_visible.specs.Members.{IsIn}
 use Rattle.hv_rowfile.specs.declared.record.Rec.{Rec}
 use Rattle.hv_table_rows.specs.Reading.{HoldsAt, Sheet, Reads}
-use Rattle.hv_counts.specs.declared.counted.Counted.{Counted}
+use Rattle.hv_viewing.specs.hv_law_dues.specs.hv_counts.specs.declared.counted.Counted.{Counted}
 use Rattle.hv_trail.specs.Steps.{HouseSeen}
-use Rattle.hv_house.specs.declared.fault.RowFault.{RowFault}
+use Rattle.hv_acts.specs.hv_telling.specs.hv_house.specs.declared.fault.RowFault.{RowFault}
 use Rattle.hv_viewing.specs.Counting.{counted_at, CountsUpTo}
 use Rattle.hv_viewing.specs.Damage.{TellsFile, TellsOne}
 use Rattle.hv_viewing.proofs.Sheets.{reads-none, reads-next, err-told}

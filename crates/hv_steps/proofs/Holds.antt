@@ -11,15 +11,15 @@ use Rattle.hv_trail.specs.Trail.{book_of}
 use Rattle.hv_trail.specs.Steps.{HouseSeen, Call, Read, Ask, Outcome, Done, Closed, Refused, Failed, gains, shuts, Step}
 use Rattle.hv_actor.specs.Acting.{IsLater, Went, Held}
 use Rattle.hv_actor.proofs.Weaving.{later-further}
-use Rattle.hv_house.specs.declared.fault.HouseFault.{HouseFault}
-use Rattle.hv_house.specs.declared.fault.HouseFault.TheVariants as fault
-use Rattle.hv_house.specs.declared.fault.RowFault.{RowFault}
-use Rattle.hv_house.specs.declared.fault.RowFault.TheVariants as row_fault
-use Rattle.hv_house.specs.declared.listing.GetFault.{GetFault}
-use Rattle.hv_house.specs.declared.listing.GetFault.TheVariants as get_fault
-use Rattle.hv_house.specs.Listing.{get_outcome}
-use Rattle.hv_house.specs.Steps.{fault_outcome, broken_by}
-use Rattle.hv_house.proofs.Reading.{contains-last}
+use Rattle.hv_acts.specs.hv_telling.specs.hv_house.specs.declared.fault.HouseFault.{HouseFault}
+use Rattle.hv_acts.specs.hv_telling.specs.hv_house.specs.declared.fault.HouseFault.TheVariants as fault
+use Rattle.hv_acts.specs.hv_telling.specs.hv_house.specs.declared.fault.RowFault.{RowFault}
+use Rattle.hv_acts.specs.hv_telling.specs.hv_house.specs.declared.fault.RowFault.TheVariants as row_fault
+use Rattle.hv_acts.specs.hv_telling.specs.hv_house.specs.declared.listing.GetFault.{GetFault}
+use Rattle.hv_acts.specs.hv_telling.specs.hv_house.specs.declared.listing.GetFault.TheVariants as get_fault
+use Rattle.hv_acts.specs.hv_telling.specs.hv_house.specs.Listing.{get_outcome}
+use Rattle.hv_acts.specs.hv_telling.specs.hv_house.specs.Steps.{fault_outcome, broken_by}
+use Rattle.hv_acts.specs.hv_telling.specs.hv_house.proofs.Reading.{contains-last}
 use Rattle.hv_acts.specs.declared.told.ToldHouse.{ToldHouse}
 use Rattle.hv_acts.specs.declared.fault.ActFault.{ActFault}
 use Rattle.hv_acts.specs.declared.fault.ActFault.TheVariants as act

@@ -18,9 +18,9 @@ use Rattle.hv_trail.proofs.LastingLaws.{book-append, goes-on-front}
 use Rattle.hv_actor.specs.Acting.{IsLater, Held, Went, AreRows}
 use Rattle.hv_actor.specs.Rows.{later_itself}
 use Rattle.hv_actor.proofs.Weaving.{went-more, later-further}
-use Rattle.hv_house.specs.declared.fault.HouseFault.{HouseFault}
-use Rattle.hv_house.specs.declared.fault.HouseFault.TheVariants as fault
-use Rattle.hv_house.specs.Steps.{fault_outcome}
+use Rattle.hv_acts.specs.hv_telling.specs.hv_house.specs.declared.fault.HouseFault.{HouseFault}
+use Rattle.hv_acts.specs.hv_telling.specs.hv_house.specs.declared.fault.HouseFault.TheVariants as fault
+use Rattle.hv_acts.specs.hv_telling.specs.hv_house.specs.Steps.{fault_outcome}
 use Rattle.hv_acts.specs.hv_telling.specs.Telling.{IsTold, IsToldHouse}
 use Rattle.hv_acts.specs.declared.told.ToldHouse.{ToldHouse}
 use Rattle.hv_acts.specs.declared.fault.ActFault.{ActFault}

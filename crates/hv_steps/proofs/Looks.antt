@@ -20,13 +20,13 @@ use Rattle.hv_stands.specs.Statements.{AllFitting}
 use Rattle.hv_stands.proofs.Fitting.{fronts-fit}
 use Rattle.hv_trail.specs.declared.trail.TrailItem.{TrailItem}
 use Rattle.hv_actor.specs.Acting.{AreRows}
-use Rattle.hv_house.specs.declared.fault.HouseFault.TheVariants as fault
-use Rattle.hv_house.specs.declared.fault.RowFault.{RowFault}
-use Rattle.hv_house.specs.declared.fault.RowFault.TheVariants as row_fault
-use Rattle.hv_house.specs.Faults.{IsShortDamage, IsDamage}
-use Rattle.hv_house.specs.Listing.{info_in}
-use Rattle.hv_house.specs.Seeing.{SeesRows, IsSeenOf}
-use Rattle.hv_house.proofs.Seen.{rows-content}
+use Rattle.hv_acts.specs.hv_telling.specs.hv_house.specs.declared.fault.HouseFault.TheVariants as fault
+use Rattle.hv_acts.specs.hv_telling.specs.hv_house.specs.declared.fault.RowFault.{RowFault}
+use Rattle.hv_acts.specs.hv_telling.specs.hv_house.specs.declared.fault.RowFault.TheVariants as row_fault
+use Rattle.hv_acts.specs.hv_telling.specs.hv_house.specs.Faults.{IsShortDamage, IsDamage}
+use Rattle.hv_acts.specs.hv_telling.specs.hv_house.specs.Listing.{info_in}
+use Rattle.hv_acts.specs.hv_telling.specs.hv_house.specs.Seeing.{SeesRows, IsSeenOf}
+use Rattle.hv_acts.specs.hv_telling.specs.hv_house.proofs.Seen.{rows-content}
 use Rattle.hv_acts.specs.hv_telling.specs.Telling.{IsTold, IsToldHouse}
 use Rattle.hv_acts.specs.hv_telling.proofs.Told.{house-book}
 use Rattle.hv_acts.specs.declared.told.ToldHouse.{ToldHouse}

@@ -10,8 +10,8 @@ use Rattle.hv_shelf.specs.declared.place.Place.{Place}
 use Rattle.hv_shelf.specs.Disk.{Store}
 use Rattle.hv_logic.specs.declared.catalog.TableInfo.{TableInfo}
 use Rattle.hv_choosing.specs.declared.listing.DirFile.{DirFile}
-use Rattle.hv_counts.specs.declared.due.Due.{Due}
-use Rattle.hv_counts.specs.Counts.{dues_in}
+use Rattle.hv_viewing.specs.hv_law_dues.specs.hv_counts.specs.declared.due.Due.{Due}
+use Rattle.hv_viewing.specs.hv_law_dues.specs.hv_counts.specs.Counts.{dues_in}
 use Rattle.hv_history.specs.declared.entry.Entry.{Entry}
 use Rattle.hv_history.specs.State.{State, state_of}
 use Rattle.hv_history.specs.Lasting.{IsFront}
@@ -21,9 +21,9 @@ use Rattle.hv_trail.specs.Trail.{book_of}
 use Rattle.hv_trail.specs.Steps.{HouseSeen, Call, Outcome, gains, Step}
 use Rattle.hv_trail.proofs.LastingLaws.{book-append}
 use Rattle.hv_actor.specs.Acting.{IsLater}
-use Rattle.hv_house.specs.declared.listing.Listing.{Listing}
-use Rattle.hv_house.specs.House.{IsFaithful}
-use Rattle.hv_house.specs.Listing.{info_in, AreTaken}
+use Rattle.hv_acts.specs.hv_telling.specs.hv_house.specs.declared.listing.Listing.{Listing}
+use Rattle.hv_acts.specs.hv_telling.specs.hv_house.specs.House.{IsFaithful}
+use Rattle.hv_acts.specs.hv_telling.specs.hv_house.specs.Listing.{info_in, AreTaken}
 use Rattle.hv_acts.specs.hv_telling.specs.Telling.{IsTold, IsToldHouse}
 use Rattle.hv_acts.specs.hv_telling.proofs.Told.{whole-shown, house-book}
 use Rattle.hv_acts.specs.declared.told.ToldHouse.{ToldHouse}

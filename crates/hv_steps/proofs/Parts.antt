@@ -20,9 +20,9 @@ use Rattle.hv_history.specs.Answers.{counts_line, committed_text, ok_line}
 use Rattle.hv_stands.specs.Laws.{changes_in}
 use Rattle.hv_trail.specs.declared.trail.TrailItem.{TrailItem}
 use Rattle.hv_actor.specs.Acting.{AreRows}
-use Rattle.hv_house.specs.declared.fault.HouseFault.{HouseFault}
-use Rattle.hv_house.specs.declared.fault.HouseFault.TheVariants as fault
-use Rattle.hv_house.specs.Faults.{EndsRun}
+use Rattle.hv_acts.specs.hv_telling.specs.hv_house.specs.declared.fault.HouseFault.{HouseFault}
+use Rattle.hv_acts.specs.hv_telling.specs.hv_house.specs.declared.fault.HouseFault.TheVariants as fault
+use Rattle.hv_acts.specs.hv_telling.specs.hv_house.specs.Faults.{EndsRun}
 use Rattle.hv_acts.specs.hv_telling.specs.Telling.{IsToldHouse}
 use Rattle.hv_acts.specs.declared.told.ToldHouse.{ToldHouse}
 use Rattle.hv_acts.specs.declared.fault.ActFault.{ActFault}

@@ -22,7 +22,7 @@ use Rattle.hv_stands.proofs.SeeingEnough.{seeing-enough, tables-stay}
 use Rattle.hv_stands.proofs.FileRecords.{inserts-can-be-put}
 use Rattle.hv_stands.proofs.Meanings.{ComesOfRows, same-or-rows, built-means}
 use Rattle.hv_stands.proofs.SeenTables.{read-infos, CanChangeTable, change-of-seen}
-use Rattle.hv_house.specs.Listing.{info_in}
+use Rattle.hv_acts.specs.hv_telling.specs.hv_house.specs.Listing.{info_in}
 use Rattle.hv_acts.specs.hv_telling.specs.Telling.{IsToldHouse}
 use Rattle.hv_shelf.specs.Disk.{Store}
 use Rattle.hv_acts.specs.declared.told.ToldHouse.{ToldHouse}

@@ -8,9 +8,9 @@ use Rattle.hv_trail.proofs.LastingLaws.{book-append, goes-on-front}
 use Rattle.hv_actor.specs.Acting.{Went, AreRows}
 use Rattle.hv_actor.specs.Rows.{later_itself}
 use Rattle.hv_actor.proofs.Weaving.{went-more, later-further}
-use Rattle.hv_house.specs.declared.fault.HouseFault.TheVariants as house_fault
-use Rattle.hv_house.specs.declared.fault.RowFault.{RowFault}
-use Rattle.hv_house.specs.declared.fault.RowFault.TheVariants as row_fault
+use Rattle.hv_acts.specs.hv_telling.specs.hv_house.specs.declared.fault.HouseFault.TheVariants as house_fault
+use Rattle.hv_acts.specs.hv_telling.specs.hv_house.specs.declared.fault.RowFault.{RowFault}
+use Rattle.hv_acts.specs.hv_telling.specs.hv_house.specs.declared.fault.RowFault.TheVariants as row_fault
 use Rattle.hv_acts.specs.declared.told.ToldHouse.{ToldHouse}
 use Rattle.hv_acts.specs.Told.{seen_in, trail_in}
 use Rattle.hv_acts.specs.Going.{faults_in, IsOpenHouse, AddsOwn}

@@ -7,8 +7,8 @@ use Rattle.hv_shelf.specs.Disk.{Store}
 use Rattle.hv_logic.specs.declared.catalog.TableInfo.{TableInfo}
 use Rattle.hv_logic.specs.declared.effect.Found.{Found}
 use Rattle.hv_logic.specs.Rows.{found_cmp}
-use Rattle.hv_counts.specs.declared.due.Due.{Due}
-use Rattle.hv_counts.specs.Counts.{dues_in}
+use Rattle.hv_viewing.specs.hv_law_dues.specs.hv_counts.specs.declared.due.Due.{Due}
+use Rattle.hv_viewing.specs.hv_law_dues.specs.hv_counts.specs.Counts.{dues_in}
 use Rattle.hv_history.specs.declared.entry.Entry.{Entry}
 use Rattle.hv_history.specs.State.{State, state_of}
 use Rattle.hv_history.specs.Lasting.{IsFront}
@@ -18,11 +18,11 @@ use Rattle.hv_wids.specs.WriteIds.{WriteIds}
 use Rattle.hv_table_rows.specs.Reading.{Reads, AreOnce, AreRows, deleted_in, left_in}
 use Rattle.hv_trail.specs.declared.trail.TrailItem.{TrailItem}
 use Rattle.hv_trail.specs.Trail.{book_of}
-use Rattle.hv_house.specs.declared.fault.RowFault.{RowFault}
-use Rattle.hv_house.specs.declared.listing.Listing.{Listing}
-use Rattle.hv_house.specs.Faults.{IsDamage}
-use Rattle.hv_house.specs.Listing.{info_in, AreTaken}
-use Rattle.hv_house.specs.Seeing.{IsSeenOf}
+use Rattle.hv_acts.specs.hv_telling.specs.hv_house.specs.declared.fault.RowFault.{RowFault}
+use Rattle.hv_acts.specs.hv_telling.specs.hv_house.specs.declared.listing.Listing.{Listing}
+use Rattle.hv_acts.specs.hv_telling.specs.hv_house.specs.Faults.{IsDamage}
+use Rattle.hv_acts.specs.hv_telling.specs.hv_house.specs.Listing.{info_in, AreTaken}
+use Rattle.hv_acts.specs.hv_telling.specs.hv_house.specs.Seeing.{IsSeenOf}
 use Rattle.hv_acts.specs.declared.told.ToldHouse.{ToldHouse}
 use Rattle.hv_acts.specs.Told.{book_in}
 use Rattle.hv_acts.specs.Counting.{AreAsMany}

@@ -14,10 +14,10 @@ use Rattle.hv_history.specs.Spelling.{place_spelling}
 use Rattle.hv_stands.specs.Running.{Asking}
 use Rattle.hv_trail.specs.declared.trail.TrailItem.{TrailItem}
 use Rattle.hv_actor.specs.Acting.{AreRows}
-use Rattle.hv_house.specs.declared.fault.HouseFault.{HouseFault}
-use Rattle.hv_house.specs.declared.fault.HouseFault.TheVariants as fault
-use Rattle.hv_house.specs.declared.fault.RowFault.{RowFault}
-use Rattle.hv_house.specs.House.{IsSmall}
+use Rattle.hv_acts.specs.hv_telling.specs.hv_house.specs.declared.fault.HouseFault.{HouseFault}
+use Rattle.hv_acts.specs.hv_telling.specs.hv_house.specs.declared.fault.HouseFault.TheVariants as fault
+use Rattle.hv_acts.specs.hv_telling.specs.hv_house.specs.declared.fault.RowFault.{RowFault}
+use Rattle.hv_acts.specs.hv_telling.specs.hv_house.specs.House.{IsSmall}
 use Rattle.hv_acts.specs.hv_telling.specs.Telling.{IsToldHouse}
 use Rattle.hv_acts.specs.declared.told.ToldHouse.{ToldHouse}
 use Rattle.hv_acts.specs.Going.{faults_in, IsShutBetween, IsShutNow}

@@ -27,9 +27,9 @@ use Rattle.hv_history.specs.Answers.{committed_text, ok_line}
 use Rattle.hv_stands.specs.Laws.{HasFile, changes_in}
 use Rattle.hv_stands.specs.Running.{Asking, AreOf, meant, IsUnderWay, HasAnswered}
 use Rattle.hv_acts.specs.Meant.{places_of_files, IsNoEnd}
-use Rattle.hv_house.specs.declared.fault.HouseFault.{HouseFault}
-use Rattle.hv_house.specs.declared.house.House.{House}
-use Rattle.hv_house.specs.House.{entries_of, IsSmall, Leaves}
+use Rattle.hv_acts.specs.hv_telling.specs.hv_house.specs.declared.fault.HouseFault.{HouseFault}
+use Rattle.hv_acts.specs.hv_telling.specs.hv_house.specs.declared.house.House.{House}
+use Rattle.hv_acts.specs.hv_telling.specs.hv_house.specs.House.{entries_of, IsSmall, Leaves}
 use Rattle.hv_steps.specs.declared.ready.Ready.{Ready}
 use Rattle.hv_steps.specs.declared.ready.Reply.{Reply}
 use Rattle.hv_steps.specs.declared.ready.End.{End}

@@ -14,8 +14,8 @@ use Rattle.hv_trail.specs.declared.trail.TrailItem.{TrailItem}
 use Rattle.hv_trail.specs.Trail.{book_of, state_at}
 use Rattle.hv_meta.specs.declared.facts.TxnState.TheVariants as standing
 use Rattle.hv_meta.specs.States.{state_in}
-use Rattle.hv_house.specs.declared.fault.HouseFault.{HouseFault}
-use Rattle.hv_house.specs.declared.fault.HouseFault.TheVariants as fault
+use Rattle.hv_acts.specs.hv_telling.specs.hv_house.specs.declared.fault.HouseFault.{HouseFault}
+use Rattle.hv_acts.specs.hv_telling.specs.hv_house.specs.declared.fault.HouseFault.TheVariants as fault
 use Rattle.hv_acts.specs.declared.told.ToldHouse.{ToldHouse}
 pub use Rattle.hv_acts.specs.Going.{faults_in, IsOpenHouse, IsShutHouse, AddsOwn, IsShutBetween, IsShutNow, HaltsFor}
 use Rattle.hv_steps.specs.Ending.{KeepsCount}

@@ -29,13 +29,13 @@ use Rattle.hv_stands.specs.Laws.{HasFile, changes_in}
 use Rattle.hv_stands.specs.Running.{Asking, next_number, opening, starting, meant}
 use Rattle.hv_trail.specs.declared.trail.TrailItem.{TrailItem}
 use Rattle.hv_trail.specs.Trail.{book_of, state_at}
-use Rattle.hv_house.specs.declared.fault.HouseFault.{HouseFault}
-use Rattle.hv_house.specs.declared.fault.HouseFault.TheVariants as fault
+use Rattle.hv_acts.specs.hv_telling.specs.hv_house.specs.declared.fault.HouseFault.{HouseFault}
+use Rattle.hv_acts.specs.hv_telling.specs.hv_house.specs.declared.fault.HouseFault.TheVariants as fault
 use Rattle.hv_acts.specs.declared.told.ToldHouse.{ToldHouse}
 use Rattle.hv_acts.specs.Told.{IsWholeOrClosed, seen_in, trail_in, book_in}
 use Rattle.hv_acts.specs.Beginning.{IsBeginningCut}
-use Rattle.hv_house.specs.House.{IsSmall}
-use Rattle.hv_house.specs.Asking.{CanBegin}
+use Rattle.hv_acts.specs.hv_telling.specs.hv_house.specs.House.{IsSmall}
+use Rattle.hv_acts.specs.hv_telling.specs.hv_house.specs.Asking.{CanBegin}
 use Rattle.hv_acts.specs.Meant.{TouchesNothing, IsChangeDue, IsMakeMeant, IsDropMeant, places_of_files}
 use Rattle.hv_acts.specs.Starting.{IsInItsWay}
 use Rattle.hv_acts.specs.Committing.{CanBePut}

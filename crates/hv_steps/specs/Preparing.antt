@@ -24,8 +24,8 @@ use Rattle.hv_stands.specs.Laws.{HasFile}
 use Rattle.hv_stands.specs.Running.{Asking, meant}
 use Rattle.hv_trail.specs.Trail.{state_at}
 use Rattle.hv_trail.specs.Lasting.{Has, IsGiven}
-use Rattle.hv_house.specs.declared.fault.HouseFault.{HouseFault}
-use Rattle.hv_house.specs.declared.fault.HouseFault.TheVariants as fault
+use Rattle.hv_acts.specs.hv_telling.specs.hv_house.specs.declared.fault.HouseFault.{HouseFault}
+use Rattle.hv_acts.specs.hv_telling.specs.hv_house.specs.declared.fault.HouseFault.TheVariants as fault
 use Rattle.hv_acts.specs.hv_telling.specs.Telling.{IsToldHouse}
 use Rattle.hv_acts.specs.declared.told.ToldHouse.{ToldHouse}
 use Rattle.hv_acts.specs.declared.fault.ActFault.{ActFault}

@@ -18,10 +18,10 @@ use Rattle.hv_stands.specs.Reading.{table_of_name}
 use Rattle.hv_table_rows.specs.Reading.{AreRows}
 use Rattle.hv_trail.specs.declared.trail.TrailItem.{TrailItem}
 use Rattle.hv_trail.specs.Steps.{HouseSeen}
-use Rattle.hv_house.specs.declared.listing.Listing.{Listing}
-use Rattle.hv_house.specs.House.{IsFaithful}
-use Rattle.hv_house.specs.Listing.{info_in, AreTaken}
-use Rattle.hv_house.specs.Seeing.{ids_in, AreRead}
+use Rattle.hv_acts.specs.hv_telling.specs.hv_house.specs.declared.listing.Listing.{Listing}
+use Rattle.hv_acts.specs.hv_telling.specs.hv_house.specs.House.{IsFaithful}
+use Rattle.hv_acts.specs.hv_telling.specs.hv_house.specs.Listing.{info_in, AreTaken}
+use Rattle.hv_acts.specs.hv_telling.specs.hv_house.specs.Seeing.{ids_in, AreRead}
 use Rattle.hv_acts.specs.declared.told.ToldHouse.{ToldHouse}
 use Rattle.hv_acts.specs.Told.{seen_in, book_in}
 use Rattle.hv_acts.specs.Reading.{HasGot, HasMissed, info_then}

@@ -9,10 +9,10 @@ use Rattle.hv_history.specs.declared.entry.Cause.TheVariants as cause
 use Rattle.hv_history.specs.State.{state_of}
 use Rattle.hv_stands.specs.Reading.{table_of_name}
 use Rattle.hv_trail.specs.declared.trail.TrailItem.{TrailItem}
-use Rattle.hv_house.specs.declared.fault.HouseFault.TheVariants as house_fault
-use Rattle.hv_house.specs.declared.fault.RowFault.{RowFault}
-use Rattle.hv_house.specs.declared.fault.RowFault.TheVariants as row_fault
-use Rattle.hv_house.specs.Seeing.{IsSeenOf}
+use Rattle.hv_acts.specs.hv_telling.specs.hv_house.specs.declared.fault.HouseFault.TheVariants as house_fault
+use Rattle.hv_acts.specs.hv_telling.specs.hv_house.specs.declared.fault.RowFault.{RowFault}
+use Rattle.hv_acts.specs.hv_telling.specs.hv_house.specs.declared.fault.RowFault.TheVariants as row_fault
+use Rattle.hv_acts.specs.hv_telling.specs.hv_house.specs.Seeing.{IsSeenOf}
 use Rattle.hv_acts.specs.hv_telling.specs.Telling.{IsToldHouse}
 use Rattle.hv_acts.specs.declared.told.ToldHouse.{ToldHouse}
 use Rattle.hv_acts.specs.Told.{trail_in, book_in}

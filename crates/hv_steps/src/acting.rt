@@ -6,9 +6,9 @@ ghost use Rattle.hv_base.specs.Told.{Tells};
 ghost use Rattle.hv_base.specs.declared.ids.TxnId.{TxnId};
 ghost use Rattle.hv_shelf.specs.Disk.{Store};
 ghost use Rattle.hv_acts.specs.hv_telling.specs.Telling.{IsToldHouse};
-ghost use Rattle.hv_counts.specs.Counts.{dues_in};
-ghost use Rattle.hv_house.specs.declared.fault.HouseFault.{HouseFault};
-ghost use Rattle.hv_house.specs.declared.fault.RowFault.TheVariants as row_fault;
+ghost use Rattle.hv_viewing.specs.hv_law_dues.specs.hv_counts.specs.Counts.{dues_in};
+ghost use Rattle.hv_acts.specs.hv_telling.specs.hv_house.specs.declared.fault.HouseFault.{HouseFault};
+ghost use Rattle.hv_acts.specs.hv_telling.specs.hv_house.specs.declared.fault.RowFault.TheVariants as row_fault;
 ghost use Rattle.hv_acts.specs.declared.fault.ActFault.TheVariants as act_fault;
 ghost use Rattle.hv_acts.specs.Told.{seen_in, trail_in, book_in};
 ghost use Rattle.hv_acts.specs.Counting.{AreAsMany};
@@ -19,12 +19,12 @@ ghost use Rattle.hv_steps.specs.Tables.{LooksOver, IsOfHouse};
 ghost use Rattle.hv_steps.specs.Steady.{IsSteady, bytes_got, HasMoment, IsNamedThen, IsListing};
 
 use hv_actor::Actor;
+use hv_acts::hv_telling::hv_house::{GetFault, HouseFault, Listing, RowFault};
 use hv_acts::{ActFault, CountDues, FindTable, GetFile, ListTable, ToldHouse};
 use hv_base::{TableId, Text, TxnId};
-use hv_counts::Due;
-use hv_house::{GetFault, HouseFault, Listing, RowFault};
 use hv_logic::TableInfo;
 use hv_shelf::{Place, Shelf};
+use hv_viewing::hv_law_dues::hv_counts::Due;
 use std::alloc::Global;
 
 /// What the house answered to an act that makes no test.

@@ -11,9 +11,9 @@ ghost use Rattle.hv_steps.specs.Going.{faults_in, AddsOwn, IsOpenHouse};
 ghost use Rattle.hv_steps.specs.Preparing.{with_place, IsRefusal, IsFileDue, AreFilesDue, HasItsId, IsChangePut};
 
 use hv_actor::Actor;
+use hv_acts::hv_telling::hv_house::HouseFault;
 use hv_acts::{ActFault, PutFile, ToldHouse};
 use hv_base::{Duplicate, List, NoMemory, TableId, TxnId, WriteId};
-use hv_house::HouseFault;
 use hv_logic::{Effect, TableInfo};
 use hv_route::{OutFile, route};
 use hv_shelf::{Place, Shelf};

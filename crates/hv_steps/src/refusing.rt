@@ -2,8 +2,8 @@
 ghost use Rattle.std.specs.Prelude.{◌≡◌, ◌≤◌, ℕ, true, Some, None, [], IfOk, IfErr};
 ghost use Rattle.hv_history.specs.Answers.{cause_text};
 ghost use Rattle.hv_history.specs.declared.entry.Cause.TheVariants.{Memory};
-ghost use Rattle.hv_house.specs.Faults.{EndsRun};
-ghost use Rattle.hv_house.specs.House.{IsSmall};
+ghost use Rattle.hv_acts.specs.hv_telling.specs.hv_house.specs.Faults.{EndsRun};
+ghost use Rattle.hv_acts.specs.hv_telling.specs.hv_house.specs.House.{IsSmall};
 ghost use Rattle.hv_acts.specs.hv_telling.specs.Telling.{IsToldHouse};
 ghost use Rattle.hv_acts.specs.Told.{trail_in, book_in};
 ghost use Rattle.hv_acts.specs.Answers.{HasItsMark, NoTest, IsWhy, EntryFits};
@@ -17,10 +17,10 @@ ghost use Rattle.hv_steps.specs.Phases.{AbortsFor, NoCause};
 use crate::ready::Reply;
 use crate::reply::Done;
 use hv_actor::Actor;
+use hv_acts::hv_telling::hv_house::HouseFault;
 use hv_acts::{AbortFor, ActFault, ToldHouse};
 use hv_base::{List, NoMemory, TxnId};
 use hv_history::{Cause, cause_text};
-use hv_house::HouseFault;
 use hv_shelf::Shelf;
 use std::alloc::Global;
 

@@ -2,7 +2,7 @@
 
 ghost use Rattle.std.specs.Prelude.{◌≡◌, false, [], IfOk, IfErr};
 ghost use Rattle.hv_acts.specs.hv_telling.specs.Telling.{IsToldHouse};
-ghost use Rattle.hv_house.specs.Faults.{IsShortDamage, IsDamage};
+ghost use Rattle.hv_acts.specs.hv_telling.specs.hv_house.specs.Faults.{IsShortDamage, IsDamage};
 ghost use Rattle.hv_acts.specs.Told.{trail_in, book_in};
 ghost use Rattle.hv_acts.specs.Going.{faults_in, IsOpenHouse, AddsOwn};
 ghost use Rattle.hv_acts.specs.Reading.{HasPlace};
@@ -13,8 +13,8 @@ use crate::acting::find_table;
 use crate::reading::read_rows;
 use hv_actor::Actor;
 use hv_acts::ToldHouse;
+use hv_acts::hv_telling::hv_house::RowFault;
 use hv_base::{List, Text, TxnId};
-use hv_house::RowFault;
 use hv_logic::{Found, Seen, TableInfo};
 use hv_shelf::Shelf;
 use std::alloc::Global;

@@ -1,2 +1,3 @@
+pub use Rattle.hv_house as hv_house
 pub mod Telling
 pub mod Laws

@@ -1,6 +1,8 @@
 //! A house whose store tells: what is true of it between two calls, and that its calls keep it.
 #![tactic(auto)]
 
+pub use hv_house;
+
 mod laws;
 mod telling;
 

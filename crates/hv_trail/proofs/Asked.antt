@@ -7,8 +7,8 @@ use Rattle.std.specs.Ordering.{is_eq}
 use Rattle.std.proofs.lemmas.List.Elements.{Contains-append_right}
 use Rattle.hv_shelf.specs.declared.place.Place.{Place}
 use Rattle.hv_shelf.specs.Places.{place_cmp, place_eq, place_ties, place_antisymmetric}
-use Rattle.hv_history.specs.declared.entry.Entry.{Entry}
-use Rattle.hv_history.specs.State.{first_known}
+use Rattle.hv_book.specs.hv_history.specs.declared.entry.Entry.{Entry}
+use Rattle.hv_book.specs.hv_history.specs.State.{first_known}
 use Rattle.hv_trail.specs.declared.trail.Reader.{Reader}
 use Rattle.hv_trail.specs.declared.trail.Reader.TheVariants.{Txn, Job}
 use Rattle.hv_trail.specs.declared.trail.Mark.{Mark}

@@ -1,7 +1,7 @@
 -- A trail of which the book and the marks are kept apart.
 use Rattle.std.proofs.Common.{◌≡◌, ℕ, ◌+◌, ◌-◌, ◌≤◌, List, [], ◌∷◌, ◌++◌, length, map, take, drop, refl, sym, ap, ◌∙◌, subst, append_assoc, arith}
 use Rattle.std.proofs.lemmas.List.{length-append, length-drop, length-map, take-append-drop, take-append-le, drop-append-le, map-append}
-use Rattle.hv_history.specs.declared.entry.Entry.{Entry}
+use Rattle.hv_book.specs.hv_history.specs.declared.entry.Entry.{Entry}
 use Rattle.hv_trail.specs.declared.trail.Mark.{Mark}
 use Rattle.hv_trail.specs.declared.trail.TrailItem.{TrailItem}
 use Rattle.hv_trail.specs.declared.trail.TrailItem.TheVariants.{Noted, Marked}

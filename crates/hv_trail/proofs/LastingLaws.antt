@@ -2,15 +2,15 @@
 use Rattle.std.proofs.Common.{◌≡◌, ℕ, ◌+◌, Bool, true, false, Option, Some, None, List, [], ◌∷◌, ◌++◌, fold, refl, sym, ap, ◌∙◌, subst}
 use Rattle.std.specs.Prelude.{if◌then◌else◌, IsSomeAnd, slice_get, ◌==◌}
 use Rattle.hv_logic.specs.declared.meaning.Meaning.{Meaning}
-use Rattle.hv_history.specs.declared.state.Transaction.{Transaction}
-use Rattle.hv_history.specs.declared.state.Statement.{Statement}
-use Rattle.hv_history.specs.declared.state.Snapshot.{Snapshot}
-use Rattle.hv_history.specs.declared.state.Ending.{Ending}
-use Rattle.hv_history.specs.State.{numbered, given_in, statement_meaning, state_of, after, nothing_yet}
-use Rattle.hv_history.specs.Lasting as kept
-use Rattle.hv_history.specs.Lasting.{IsFront}
-use Rattle.hv_history.proofs.LastingLaws.{goes-on-all}
-use Rattle.hv_history.proofs.StateLaws.{fold-append}
+use Rattle.hv_book.specs.hv_history.specs.declared.state.Transaction.{Transaction}
+use Rattle.hv_book.specs.hv_history.specs.declared.state.Statement.{Statement}
+use Rattle.hv_book.specs.hv_history.specs.declared.state.Snapshot.{Snapshot}
+use Rattle.hv_book.specs.hv_history.specs.declared.state.Ending.{Ending}
+use Rattle.hv_book.specs.hv_history.specs.State.{numbered, given_in, statement_meaning, state_of, after, nothing_yet}
+use Rattle.hv_book.specs.hv_history.specs.Lasting as kept
+use Rattle.hv_book.specs.hv_history.specs.Lasting.{IsFront}
+use Rattle.hv_book.specs.hv_history.proofs.LastingLaws.{goes-on-all}
+use Rattle.hv_book.specs.hv_history.proofs.StateLaws.{fold-append}
 use Rattle.hv_trail.specs.declared.trail.Reader.{Reader}
 use Rattle.hv_trail.specs.declared.trail.Mark.TheVariants.{Wrote, Went, Broke}
 use Rattle.hv_trail.specs.declared.trail.TrailItem.{TrailItem}

@@ -5,13 +5,13 @@ use Rattle.std.specs.Option.{option_map, option_to_list}
 use Rattle.std.proofs.lemmas.Bool.{eqb-true, eq-eqb}
 use Rattle.hv_ast.specs.declared.statement.Stmt.{Stmt}
 use Rattle.hv_grammar.specs.Texts.{tree_of}
-use Rattle.hv_history.specs.declared.entry.Entry.{Entry}
-use Rattle.hv_history.specs.declared.entry.Entry.TheVariants as entry
-use Rattle.hv_history.specs.Lasting.{IsFront}
-use Rattle.hv_history.proofs.LastingLaws.{others-stay}
-use Rattle.hv_history.specs.declared.state.Transaction.{Transaction}
-use Rattle.hv_history.specs.declared.state.Ending.TheVariants.{Aborted, Made, Dropped}
-use Rattle.hv_history.specs.State.{State, nothing_yet, numbered, changed, changed_at, means, meaning_in, meant_in, first_of, first_known, started, given_id, committed, ended, opened, while_open, acted, after}
+use Rattle.hv_book.specs.hv_history.specs.declared.entry.Entry.{Entry}
+use Rattle.hv_book.specs.hv_history.specs.declared.entry.Entry.TheVariants as entry
+use Rattle.hv_book.specs.hv_history.specs.Lasting.{IsFront}
+use Rattle.hv_book.specs.hv_history.proofs.LastingLaws.{others-stay}
+use Rattle.hv_book.specs.hv_history.specs.declared.state.Transaction.{Transaction}
+use Rattle.hv_book.specs.hv_history.specs.declared.state.Ending.TheVariants.{Aborted, Made, Dropped}
+use Rattle.hv_book.specs.hv_history.specs.State.{State, nothing_yet, numbered, changed, changed_at, means, meaning_in, meant_in, first_of, first_known, started, given_id, committed, ended, opened, while_open, acted, after}
 use Rattle.hv_book.proofs.TableLaws.{here_at as changed_at-here}
 use Rattle.hv_trail.specs.declared.trail.TrailItem.{TrailItem}
 use Rattle.hv_trail.specs.declared.trail.TrailItem.TheVariants.{Noted, Marked}

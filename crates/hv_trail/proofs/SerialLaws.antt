@@ -1,8 +1,8 @@
 -- One thread's statements, put together.
 use Rattle.std.proofs.Common.{◌≡◌, ℕ, Some, List, [], ◌∷◌, ◌++◌, refl, ap, ◌∙◌}
-use Rattle.hv_history.specs.Answers.{answer}
-use Rattle.hv_history.specs.State.{state_of}
-use Rattle.hv_history.proofs.StateLaws.{answer-stays}
+use Rattle.hv_book.specs.hv_history.specs.Answers.{answer}
+use Rattle.hv_book.specs.hv_history.specs.State.{state_of}
+use Rattle.hv_book.specs.hv_history.proofs.StateLaws.{answer-stays}
 use Rattle.hv_trail.specs.declared.trail.TrailItem.{TrailItem}
 use Rattle.hv_trail.specs.Trail.{book_of, state_at}
 use Rattle.hv_trail.specs.Serial.{Alone, Serial}

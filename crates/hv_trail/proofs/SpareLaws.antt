@@ -4,13 +4,13 @@ use Rattle.std.specs.Prelude.{◌*◌, not, sum_by, Result, Ok, Err, IsOk, OnOk}
 use Rattle.std.specs.Option.{option_map}
 use Rattle.std.specs.List.{slice_get}
 use Rattle.std.proofs.lemmas.List.Sums.{sum_by-append, sum_by-cons}
-use Rattle.hv_history.specs.declared.entry.Entry.{Entry}
-use Rattle.hv_history.specs.declared.entry.Entry.TheVariants as entry
-use Rattle.hv_history.specs.declared.state.Ending.{Ending}
-use Rattle.hv_history.specs.declared.state.Ending.TheVariants.{Aborted, Made, Dropped}
-use Rattle.hv_history.specs.declared.state.Transaction.{Transaction}
-use Rattle.hv_history.specs.State.{State, changed, changed_at, unless_ended, while_open, opened, started, given_id, committed, ended, acted, after, state_of}
-use Rattle.hv_history.specs.Legal.{is_open, one_if, open_one}
+use Rattle.hv_book.specs.hv_history.specs.declared.entry.Entry.{Entry}
+use Rattle.hv_book.specs.hv_history.specs.declared.entry.Entry.TheVariants as entry
+use Rattle.hv_book.specs.hv_history.specs.declared.state.Ending.{Ending}
+use Rattle.hv_book.specs.hv_history.specs.declared.state.Ending.TheVariants.{Aborted, Made, Dropped}
+use Rattle.hv_book.specs.hv_history.specs.declared.state.Transaction.{Transaction}
+use Rattle.hv_book.specs.hv_history.specs.State.{State, changed, changed_at, unless_ended, while_open, opened, started, given_id, committed, ended, acted, after, state_of}
+use Rattle.hv_book.specs.hv_history.specs.Legal.{is_open, one_if, open_one}
 use Rattle.hv_book.specs.Notes.{is_open_note, note_open}
 use Rattle.hv_book.specs.Briefs.{brief, end_of, open_from}
 use Rattle.hv_book.proofs.BookLaws.{state_of-snoc}

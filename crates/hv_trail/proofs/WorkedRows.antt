@@ -1,8 +1,8 @@
 -- The worked trail, row by row.
 use Rattle.std.proofs.Common.{◌≡◌, Some, None, [], ◌∷◌, refl}
-use Rattle.hv_history.specs.declared.state.Ending.TheVariants.{Committed, Aborted}
-use Rattle.hv_history.specs.State.{acted}
-use Rattle.hv_history.specs.declared.entry.Cause.TheVariants as cause
+use Rattle.hv_book.specs.hv_history.specs.declared.state.Ending.TheVariants.{Committed, Aborted}
+use Rattle.hv_book.specs.hv_history.specs.State.{acted}
+use Rattle.hv_book.specs.hv_history.specs.declared.entry.Cause.TheVariants as cause
 use Rattle.hv_trail.specs.Worked.{both_open, both_ended, record_of, snapshot_at, ids_of, ending_of, wrote}
 use Rattle.hv_trail.specs.Own.{own_places}
 

@@ -2,8 +2,8 @@
 use Rattle.std.specs.Prelude.{if◌then◌else◌, ◌≡◌, ℕ, Bool, true, false, ◌&&◌, ◌+◌, ◌≤◌, Option, Some, None, List, [], ◌∷◌, length}
 use Rattle.hv_shelf.specs.declared.place.Place.{Place}
 use Rattle.hv_shelf.specs.Places.{place_eq}
-use Rattle.hv_history.specs.declared.entry.Entry.{Entry}
-use Rattle.hv_history.specs.State.{first_known}
+use Rattle.hv_book.specs.hv_history.specs.declared.entry.Entry.{Entry}
+use Rattle.hv_book.specs.hv_history.specs.State.{first_known}
 use Rattle.hv_trail.specs.declared.trail.Reader.{Reader}
 use Rattle.hv_trail.specs.declared.trail.Mark.{Mark}
 use Rattle.hv_trail.specs.declared.trail.Mark.TheVariants.{Wrote, Broke}

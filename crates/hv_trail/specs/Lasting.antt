@@ -1,11 +1,11 @@
 -- What is true of every longer trail, whatever its further items are.
 use Rattle.std.specs.Prelude.{◌≡◌, ℕ, Bool, Some, None, IsSomeAnd, List}
 use Rattle.hv_logic.specs.declared.meaning.Meaning.{Meaning}
-use Rattle.hv_history.specs.declared.state.Transaction.{Transaction}
-use Rattle.hv_history.specs.declared.state.Snapshot.{Snapshot}
-use Rattle.hv_history.specs.declared.state.Ending.{Ending}
-use Rattle.hv_history.specs.State.{numbered, given_in, meaning, statement_of}
-use Rattle.hv_history.specs.Lasting as kept
+use Rattle.hv_book.specs.hv_history.specs.declared.state.Transaction.{Transaction}
+use Rattle.hv_book.specs.hv_history.specs.declared.state.Snapshot.{Snapshot}
+use Rattle.hv_book.specs.hv_history.specs.declared.state.Ending.{Ending}
+use Rattle.hv_book.specs.hv_history.specs.State.{numbered, given_in, meaning, statement_of}
+use Rattle.hv_book.specs.hv_history.specs.Lasting as kept
 use Rattle.hv_trail.specs.declared.trail.Reader.{Reader}
 use Rattle.hv_trail.specs.declared.trail.TrailItem.{TrailItem}
 use Rattle.hv_trail.specs.Trail.{book_of, state_at, marks_of, broken}

@@ -1,7 +1,7 @@
 -- What one thread leaves: the items of its statements stand one after another.
 use Rattle.std.specs.Prelude.{◌≡◌, ℕ, Some, List, [], ◌∷◌, ◌++◌}
 use Rattle.std.specs.List.{AllByRecursion}
-use Rattle.hv_history.specs.Answers.{answer}
+use Rattle.hv_book.specs.hv_history.specs.Answers.{answer}
 use Rattle.hv_trail.specs.declared.trail.TrailItem.{TrailItem}
 use Rattle.hv_trail.specs.Trail.{state_at}
 use Rattle.hv_trail.specs.Own.{IsOf}

@@ -1,10 +1,10 @@
 -- The places that a kept trail has ready: one entry for each transaction that is open, which ends it. Source: this project's profile.
 use Rattle.std.specs.Prelude.{◌≡◌, ℕ, ◌+◌, ◌*◌, ◌≤◌, ◌||◌, not, nat_lt, Bool, true, false, List, sum_by, map}
-use Rattle.hv_history.specs.declared.entry.Entry.{Entry}
-use Rattle.hv_history.specs.declared.entry.Entry.TheVariants as entry
-use Rattle.hv_history.specs.declared.state.Transaction.{Transaction}
-use Rattle.hv_history.specs.State.{numbered, state_of}
-use Rattle.hv_history.specs.Legal.{open_one}
+use Rattle.hv_book.specs.hv_history.specs.declared.entry.Entry.{Entry}
+use Rattle.hv_book.specs.hv_history.specs.declared.entry.Entry.TheVariants as entry
+use Rattle.hv_book.specs.hv_history.specs.declared.state.Transaction.{Transaction}
+use Rattle.hv_book.specs.hv_history.specs.State.{numbered, state_of}
+use Rattle.hv_book.specs.hv_history.specs.Legal.{open_one}
 use Rattle.hv_book.specs.Notes.{is_open_note}
 use Rattle.hv_book.specs.Briefs.{brief}
 

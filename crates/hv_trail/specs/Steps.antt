@@ -12,10 +12,10 @@ use Rattle.hv_base.specs.declared.ids.Limits.{Limits}
 use Rattle.hv_shelf.specs.declared.place.Place.{Place}
 use Rattle.hv_shelf.specs.declared.place.DirAt.{DirAt}
 use Rattle.hv_shelf.specs.Disk.{Store, HasFile, TornFile, IsRemoved, TornRemove}
-use Rattle.hv_history.specs.declared.entry.Entry.{Entry}
-use Rattle.hv_history.specs.declared.entry.Entry.TheVariants as entry
-use Rattle.hv_history.specs.declared.entry.Cause.TheVariants as cause
-use Rattle.hv_history.specs.Journal.{IsJournal}
+use Rattle.hv_book.specs.hv_history.specs.declared.entry.Entry.{Entry}
+use Rattle.hv_book.specs.hv_history.specs.declared.entry.Entry.TheVariants as entry
+use Rattle.hv_book.specs.hv_history.specs.declared.entry.Cause.TheVariants as cause
+use Rattle.hv_book.specs.hv_history.specs.Journal.{IsJournal}
 use Rattle.hv_trail.specs.declared.trail.Reader.{Reader}
 use Rattle.hv_trail.specs.declared.trail.Mark.TheVariants.{Wrote, Went, Broke}
 use Rattle.hv_trail.specs.declared.trail.TrailItem.{TrailItem}

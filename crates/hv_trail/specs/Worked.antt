@@ -5,12 +5,12 @@ use Rattle.hv_base.specs.declared.ids.TxnId.{TxnId}
 use Rattle.hv_base.specs.declared.ids.TableId.{TableId}
 use Rattle.hv_base.specs.declared.ids.Touch.{Touch}
 use Rattle.hv_shelf.specs.declared.place.Place.{Place}
-use Rattle.hv_history.specs.declared.entry.Entry.TheVariants as entry
-use Rattle.hv_history.specs.declared.entry.Cause.TheVariants as cause
-use Rattle.hv_history.specs.declared.state.Transaction.{Transaction}
-use Rattle.hv_history.specs.declared.state.Snapshot.{Snapshot}
-use Rattle.hv_history.specs.declared.state.Ending.{Ending}
-use Rattle.hv_history.specs.State.{numbered}
+use Rattle.hv_book.specs.hv_history.specs.declared.entry.Entry.TheVariants as entry
+use Rattle.hv_book.specs.hv_history.specs.declared.entry.Cause.TheVariants as cause
+use Rattle.hv_book.specs.hv_history.specs.declared.state.Transaction.{Transaction}
+use Rattle.hv_book.specs.hv_history.specs.declared.state.Snapshot.{Snapshot}
+use Rattle.hv_book.specs.hv_history.specs.declared.state.Ending.{Ending}
+use Rattle.hv_book.specs.hv_history.specs.State.{numbered}
 use Rattle.hv_trail.specs.declared.trail.Reader.TheVariants.{Txn}
 use Rattle.hv_trail.specs.declared.trail.Mark.TheVariants.{Wrote, Broke}
 use Rattle.hv_trail.specs.declared.trail.TrailItem.{TrailItem}

@@ -1,6 +1,6 @@
 ghost use Rattle.std.specs.Prelude.{◌≡◌, ◌↔◌, ◌+◌, ◌^◌, ◌≤◌, ◌<◌, List, ◌++◌, ◌∷◌, [], length, vec_len, vec_capacity, OnOk, OnErr, IsOk, IsTrue, Some, ◌&&◌, not, true, false, slice_get};
-ghost use Rattle.hv_history.specs.declared.entry.Entry.{Entry};
-ghost use Rattle.hv_history.specs.Book.{tree_of_entry};
+ghost use Rattle.hv_book.specs.hv_history.specs.declared.entry.Entry.{Entry};
+ghost use Rattle.hv_book.specs.hv_history.specs.Book.{tree_of_entry};
 ghost use Rattle.hv_trail.specs.declared.trail.TrailItem.TheVariants as item;
 ghost use Rattle.hv_trail.specs.Trail.{is_reader, woven_from, broken, HasWritten};
 ghost use Rattle.hv_trail.specs.Kept.{trail_of, is_fault, fault_of, broken_in, wrote_at, is_written};
@@ -9,8 +9,8 @@ ghost use Rattle.hv_trail.specs.Spare.{open_count, ends_open, needs_room, HavePl
 use crate::trail::{Mark, Reader};
 use hv_ast::Stmt;
 use hv_base::NoMemory;
+use hv_book::hv_history::Entry;
 use hv_book::{Book, is_open};
-use hv_history::Entry;
 use hv_shelf::Place;
 use std::alloc::Global;
 use std::marker::Model;

@@ -2,11 +2,11 @@ ghost use Rattle.std.specs.Prelude.{◌≡◌, ℕ, Bool, Some, List, [], ◌∷
 ghost use Rattle.hv_shelf.specs.declared.place.Place.{Place};
 ghost use Rattle.hv_shelf.specs.declared.place.DirAt.{DirAt};
 ghost use Rattle.hv_logic.specs.declared.meaning.Meaning.{Meaning};
-ghost use Rattle.hv_history.specs.declared.state.Transaction.{Transaction};
-ghost use Rattle.hv_history.specs.declared.state.Snapshot.{Snapshot};
-ghost use Rattle.hv_history.specs.declared.state.Ending.{Ending};
-ghost use Rattle.hv_history.specs.State.{numbered};
-ghost use Rattle.hv_history.specs.Lasting.{IsFront};
+ghost use Rattle.hv_book.specs.hv_history.specs.declared.state.Transaction.{Transaction};
+ghost use Rattle.hv_book.specs.hv_history.specs.declared.state.Snapshot.{Snapshot};
+ghost use Rattle.hv_book.specs.hv_history.specs.declared.state.Ending.{Ending};
+ghost use Rattle.hv_book.specs.hv_history.specs.State.{numbered};
+ghost use Rattle.hv_book.specs.hv_history.specs.Lasting.{IsFront};
 ghost use Rattle.hv_trail.specs.declared.trail.Reader.{Reader};
 ghost use Rattle.hv_trail.specs.declared.trail.TrailItem.{TrailItem};
 ghost use Rattle.hv_trail.specs.Trail.{state_at, broken, HasWritten, HasGone};

@@ -1,5 +1,5 @@
 ghost use Rattle.std.specs.Prelude.{◌≡◌, List, [], ◌∷◌, ◌++◌, length, map};
-ghost use Rattle.hv_history.specs.declared.entry.Entry.{Entry};
+ghost use Rattle.hv_book.specs.hv_history.specs.declared.entry.Entry.{Entry};
 ghost use Rattle.hv_trail.specs.declared.trail.Mark.{Mark};
 ghost use Rattle.hv_trail.specs.declared.trail.TrailItem.{TrailItem};
 ghost use Rattle.hv_trail.specs.declared.trail.TrailItem.TheVariants as item;

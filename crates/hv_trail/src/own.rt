@@ -1,6 +1,6 @@
 ghost use Rattle.std.specs.Prelude.{◌≡◌, ℕ, None, List, ◌++◌, length};
-ghost use Rattle.hv_history.specs.State.{numbered};
-ghost use Rattle.hv_history.specs.Lasting.{IsFront};
+ghost use Rattle.hv_book.specs.hv_history.specs.State.{numbered};
+ghost use Rattle.hv_book.specs.hv_history.specs.Lasting.{IsFront};
 ghost use Rattle.hv_trail.specs.declared.trail.TrailItem.{TrailItem};
 ghost use Rattle.hv_trail.specs.Trail.{state_at};
 ghost use Rattle.hv_trail.specs.Own.{RiseWithin, items_at, own_places, own_moments, record_from};

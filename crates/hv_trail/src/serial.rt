@@ -1,5 +1,5 @@
 ghost use Rattle.std.specs.Prelude.{◌≡◌, ℕ, Some, List, [], ◌∷◌, ◌++◌};
-ghost use Rattle.hv_history.specs.Answers.{answer};
+ghost use Rattle.hv_book.specs.hv_history.specs.Answers.{answer};
 ghost use Rattle.hv_trail.specs.declared.trail.TrailItem.{TrailItem};
 ghost use Rattle.hv_trail.specs.Trail.{state_at};
 ghost use Rattle.hv_trail.specs.Serial.{Alone, Serial};

@@ -1,5 +1,5 @@
 use hv_base::{JobId, TxnId};
-use hv_history::Entry;
+use hv_book::hv_history::Entry;
 use hv_shelf::{DirAt, Place};
 
 /// Who reads and writes files: a transaction, or a compaction job.

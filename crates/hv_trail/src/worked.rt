@@ -1,6 +1,6 @@
 ghost use Rattle.std.specs.Prelude.{◌≡◌, ℕ, true, Some, None, List, [], ◌∷◌, length};
-ghost use Rattle.hv_history.specs.declared.state.Ending.TheVariants.{Committed, Aborted};
-ghost use Rattle.hv_history.specs.declared.entry.Cause.TheVariants as cause;
+ghost use Rattle.hv_book.specs.hv_history.specs.declared.state.Ending.TheVariants.{Committed, Aborted};
+ghost use Rattle.hv_book.specs.hv_history.specs.declared.entry.Cause.TheVariants as cause;
 ghost use Rattle.hv_trail.specs.declared.trail.Reader.TheVariants as reader;
 ghost use Rattle.hv_trail.specs.declared.trail.Mark.TheVariants as mark;
 ghost use Rattle.hv_trail.specs.declared.trail.TrailItem.TheVariants as item;
@@ -8,7 +8,7 @@ ghost use Rattle.hv_trail.specs.Trail.{book_of, marks_of, broken};
 ghost use Rattle.hv_trail.specs.Own.{own_places};
 ghost use Rattle.hv_trail.specs.Steps as step;
 ghost use Rattle.hv_trail.specs.Steps.{gains};
-ghost use Rattle.hv_history.specs.declared.entry.Entry.TheVariants as entry;
+ghost use Rattle.hv_book.specs.hv_history.specs.declared.entry.Entry.TheVariants as entry;
 ghost use Rattle.hv_trail.specs.Worked.{both_open, both_ended, made, put_at, wrote, record_of, snapshot_at, ids_of, ending_of};
 
 /// The worked trail of fourteen items: its twelve entries and two marks, and who was broken.

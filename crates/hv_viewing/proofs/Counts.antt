@@ -15,11 +15,11 @@ use Rattle.hv_choosing.specs.Taken.{files_taken}
 use Rattle.hv_rowfile.specs.declared.record.Rec.{Rec}
 use Rattle.hv_history.specs.declared.entry.FilePlace.{FilePlace}
 use Rattle.hv_table_rows.specs.Reading.{HoldsAt, Sheet, sheet_file, Reads}
-use Rattle.hv_counts.specs.declared.counted.Counted.{Counted}
-use Rattle.hv_counts.specs.declared.due.Due.{Due}
-use Rattle.hv_counts.specs.Counts.{AreOwn, IsCounted, due_at}
-use Rattle.hv_counts.specs.Miscounts.{counted_of, AreCounted, IsMiscounted}
-use Rattle.hv_counts.specs.Files.{AreSheets, IsUncounted, IsToldUncounted}
+use Rattle.hv_law_dues.specs.hv_counts.specs.declared.counted.Counted.{Counted}
+use Rattle.hv_law_dues.specs.hv_counts.specs.declared.due.Due.{Due}
+use Rattle.hv_law_dues.specs.hv_counts.specs.Counts.{AreOwn, IsCounted, due_at}
+use Rattle.hv_law_dues.specs.hv_counts.specs.Miscounts.{counted_of, AreCounted, IsMiscounted}
+use Rattle.hv_law_dues.specs.hv_counts.specs.Files.{AreSheets, IsUncounted, IsToldUncounted}
 use Rattle.hv_house.specs.declared.fault.RowFault.{RowFault}
 use Rattle.hv_house.specs.declared.fault.RowFault.TheVariants as fault
 use Rattle.hv_house.specs.Faults.{IsDamage}

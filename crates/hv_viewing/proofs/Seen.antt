@@ -7,7 +7,7 @@ use Rattle.hv_logic.specs.declared.effect.Found.{Found}
 use Rattle.hv_history.specs.declared.state.Table.{Table}
 use Rattle.hv_history.specs.State.{State}
 use Rattle.hv_stands.specs.Reading.{table_of_name}
-use Rattle.hv_counts.specs.Counts.{dues_in}
+use Rattle.hv_law_dues.specs.hv_counts.specs.Counts.{dues_in}
 use Rattle.hv_house.specs.Listing.{info_in}
 use Rattle.hv_house.specs.Seeing.{ids_in, AreRead, IsSeenOf}
 use Rattle.hv_viewing.specs.Counting.{IsAmissOf, IsAmiss}

@@ -39,7 +39,7 @@ pub none-amiss : (book : List Entry) (place : ℕ) (store : Store) → IsLegal p
     → IsAmiss (Some store) (state_of (take place book)) → ⊥
 none-amiss book place store legal few stands is = by is.amiss
   where
-    by : IsAmissOf is.table.info (ids_in (state_of (take place book)) is.table.info.table.0) store.tree (Rattle.hv_counts.specs.Counts.dues_in (state_of (take place book)) is.table.info.table.0) → ⊥
+    by : IsAmissOf is.table.info (ids_in (state_of (take place book)) is.table.info.table.0) store.tree (Rattle.hv_law_dues.specs.hv_counts.specs.Counts.dues_in (state_of (take place book)) is.table.info.table.0) → ⊥
     by (inl spoiled) = none-spoiled book place store.tree is.name is.table legal.fit few stands is.named spoiled
     by (inr uncounted) =
         let read = uncounted.read in

@@ -15,11 +15,11 @@ use Rattle.hv_rowfile.specs.declared.record.Rec.{Rec}
 use Rattle.hv_rowfile.specs.Layout.{file_spelling}
 use Rattle.hv_table_rows.specs.Reading.{Sheet, sheet_file, IsSheet, Reads, IsSpoiled as IsSpoiledOf}
 use Rattle.hv_table_rows.specs.Damage.{told_place, IsOneDamaged}
-use Rattle.hv_counts.specs.declared.counted.Counted.{Counted}
-use Rattle.hv_counts.specs.declared.due.Due.{Due}
-use Rattle.hv_counts.specs.Counts.{AreOwn, IsCounted, dues_in}
-use Rattle.hv_counts.specs.Miscounts.{counted_of, IsMiscounted}
-use Rattle.hv_counts.specs.Files.{IsUncounted}
+use Rattle.hv_law_dues.specs.hv_counts.specs.declared.counted.Counted.{Counted}
+use Rattle.hv_law_dues.specs.hv_counts.specs.declared.due.Due.{Due}
+use Rattle.hv_law_dues.specs.hv_counts.specs.Counts.{AreOwn, IsCounted, dues_in}
+use Rattle.hv_law_dues.specs.hv_counts.specs.Miscounts.{counted_of, IsMiscounted}
+use Rattle.hv_law_dues.specs.hv_counts.specs.Files.{IsUncounted}
 use Rattle.hv_house.specs.declared.fault.RowFault.{RowFault}
 use Rattle.hv_house.specs.declared.fault.RowFault.TheVariants as fault
 use Rattle.hv_house.specs.Seeing.{ids_in}

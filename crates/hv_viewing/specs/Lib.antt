@@ -1,2 +1,3 @@
+pub use Rattle.hv_law_dues as hv_law_dues
 pub mod Counting
 pub mod Damage

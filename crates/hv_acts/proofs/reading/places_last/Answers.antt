@@ -1,8 +1,8 @@
 use Rattle.std.proofs.Common.{ap, option_map}
 use Rattle.hv_history.specs.State.{State}
 use Rattle.hv_stands.specs.Reading.{table_of_name}
-use Rattle.hv_house.specs.Listing.{info_in}
-use Rattle.hv_house.specs.Seeing.{ids_in}
+use Rattle.hv_telling.specs.hv_house.specs.Listing.{info_in}
+use Rattle.hv_telling.specs.hv_house.specs.Seeing.{ids_in}
 use Rattle.hv_acts.proofs.Readings.{place-lasts, front-same, then-same}
 use Rattle.hv_acts.proofs.reading.places_last.Goals as goal
 

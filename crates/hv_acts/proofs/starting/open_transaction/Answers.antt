@@ -1,5 +1,5 @@
 use Rattle.std.proofs.Common.{rules, sym}
-use Rattle.hv_house.proofs.Lengths.{short_opened}
+use Rattle.hv_telling.specs.hv_house.proofs.Lengths.{short_opened}
 use Rattle.hv_acts.proofs.Notes.{no-true}
 use Rattle.hv_acts.proofs.Opens.{next-of, open-done, open-full, open-failed}
 use Rattle.hv_acts.proofs.starting.open_transaction.Goals as goal

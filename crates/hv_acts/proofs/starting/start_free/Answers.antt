@@ -1,4 +1,4 @@
-use Rattle.hv_house.proofs.Lengths.{short_start}
+use Rattle.hv_telling.specs.hv_house.proofs.Lengths.{short_start}
 use Rattle.hv_acts.proofs.Starts.{go-noted, go-refused}
 use Rattle.hv_acts.proofs.starting.start_free.Goals as goal
 

@@ -1,4 +1,4 @@
-use Rattle.hv_house.proofs.Lengths.{short_start}
+use Rattle.hv_telling.specs.hv_house.proofs.Lengths.{short_start}
 use Rattle.hv_acts.proofs.Starts.{start-short, start-noted, start-refused}
 use Rattle.hv_acts.proofs.starting.start_in_room.Goals as goal
 

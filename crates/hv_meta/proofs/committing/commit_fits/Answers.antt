@@ -1,7 +1,7 @@
 use Rattle.std.proofs.Common.{sym, ap, ◌∙◌, subst}
 use Rattle.std.specs.Prelude.{Bool, not, ◌&&◌, ◌↔◌, IsTrue}
-use Rattle.hv_history.specs.State.{state_of, numbered}
-use Rattle.hv_history.specs.Legal.{CommitFits, Of}
+use Rattle.hv_book.specs.hv_history.specs.State.{state_of, numbered}
+use Rattle.hv_book.specs.hv_history.specs.Legal.{CommitFits, Of}
 use Rattle.hv_meta.specs.Committing.{started_place}
 use Rattle.hv_meta.proofs.CommitLemmas.{commit-law}
 use Rattle.hv_meta.proofs.committing.commit_fits.Goals as goal

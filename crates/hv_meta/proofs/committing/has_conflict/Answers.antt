@@ -1,5 +1,5 @@
 use Rattle.std.proofs.Common.{sym, ◌∙◌}
-use Rattle.hv_history.specs.State.{state_of}
+use Rattle.hv_book.specs.hv_history.specs.State.{state_of}
 use Rattle.hv_meta.specs.Committing.{against}
 use Rattle.hv_meta.proofs.CommitLemmas.{all-against}
 use Rattle.hv_meta.proofs.committing.has_conflict.Goals as goal

@@ -1,5 +1,5 @@
 use Rattle.std.proofs.Common.{◌≡◌, drop}
-use Rattle.hv_history.specs.Legal.{touches_conflict}
+use Rattle.hv_book.specs.hv_history.specs.Legal.{touches_conflict}
 use Rattle.hv_meta.proofs.committing.touches_conflict.Given as goal
 
 abbrev pub invariant-loop-touch : goal.invariant-loop-touch

@@ -1,7 +1,7 @@
 use Rattle.std.proofs.Common.{Some, sym, ap, ◌∙◌, refl}
 use Rattle.std.specs.List.{list_all}
 use Rattle.hv_ast.specs.declared.statement.Stmt.TheVariants as stmt
-use Rattle.hv_history.specs.State.{state_of, numbered}
+use Rattle.hv_book.specs.hv_history.specs.State.{state_of, numbered}
 use Rattle.hv_meta.specs.States.{is_flat_definition}
 use Rattle.hv_meta.proofs.FactLemmas.{create-next, unflat}
 use Rattle.hv_meta.proofs.creating.create_fits.Goals as goal

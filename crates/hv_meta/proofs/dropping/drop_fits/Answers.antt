@@ -1,5 +1,5 @@
 use Rattle.std.proofs.Common.{true, refl}
-use Rattle.hv_history.specs.State.{state_of}
+use Rattle.hv_book.specs.hv_history.specs.State.{state_of}
 use Rattle.hv_meta.proofs.DropLemmas.{drop-law, idle-law}
 use Rattle.hv_meta.proofs.dropping.drop_fits.Goals as goal
 

@@ -1,6 +1,6 @@
 use Rattle.std.proofs.Common.{Bool, sym, ap, ◌∙◌}
 use Rattle.std.specs.Prelude.{◌&&◌}
-use Rattle.hv_history.specs.State.{state_of, numbered}
+use Rattle.hv_book.specs.hv_history.specs.State.{state_of, numbered}
 use Rattle.hv_meta.specs.States.{is_live_note}
 use Rattle.hv_meta.proofs.DropLemmas.{named-law}
 use Rattle.hv_meta.proofs.dropping.is_named.Goals as goal

@@ -3,7 +3,7 @@ use Rattle.hv_base.specs.declared.gate.Stage.{Stage}
 use Rattle.hv_stands.specs.Running.{Asking}
 use Rattle.hv_actor.specs.Rows.{later_itself}
 use Rattle.hv_session.specs.hv_steps.specs.hv_acts.specs.Told.{seen_in}
-use Rattle.hv_house.specs.House.{entries_of}
+use Rattle.hv_session.specs.hv_steps.specs.hv_acts.specs.hv_telling.specs.hv_house.specs.House.{entries_of}
 use Rattle.hv_session.specs.Doing.{IsHold}
 use Rattle.hv_session.specs.Taking.{asked_of, IsKeptIn, IsTakenAs}
 use Rattle.hv_session.specs.Ways.{StopsTaken}

@@ -1,4 +1,4 @@
-use Rattle.hv_house.specs.House.{entries_of}
+use Rattle.hv_session.specs.hv_steps.specs.hv_acts.specs.hv_telling.specs.hv_house.specs.House.{entries_of}
 use Rattle.hv_program.proofs.Sessions.{acts-alone, whole-keeps, own-finished}
 use Rattle.hv_program.proofs.alone.finish_alone.Goals as goal
 

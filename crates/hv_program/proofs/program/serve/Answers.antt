@@ -5,9 +5,9 @@ use Rattle.hv_session.specs.hv_steps.specs.hv_acts.specs.hv_telling.proofs.Openi
 use Rattle.hv_program.proofs.Ends.{Serves-run, Serves-store, Serves-memory, Serves-full}
 use Rattle.hv_program.proofs.Refusing.{opens-run, opens-store, opens-memory, opens-bad, opens-full, full-found}
 use Rattle.hv_program.proofs.Blaming.{blames-run, blames-store, blames-memory}
-use Rattle.hv_house.specs.House.{entries_of}
-use Rattle.hv_house.specs.Steps.{IsOpenedOver}
-use Rattle.hv_house.specs.Booting.{Opens}
+use Rattle.hv_session.specs.hv_steps.specs.hv_acts.specs.hv_telling.specs.hv_house.specs.House.{entries_of}
+use Rattle.hv_session.specs.hv_steps.specs.hv_acts.specs.hv_telling.specs.hv_house.specs.Steps.{IsOpenedOver}
+use Rattle.hv_session.specs.hv_steps.specs.hv_acts.specs.hv_telling.specs.hv_house.specs.Booting.{Opens}
 use Rattle.hv_session.specs.hv_steps.specs.hv_acts.specs.hv_telling.specs.Telling.{IsWhole}
 use Rattle.hv_program.proofs.Sessions.{again}
 use Rattle.hv_program.proofs.program.serve.Goals as goal

@@ -1,5 +1,5 @@
 use Rattle.std.proofs.Common.{sym, subst, Result, Err}
-use Rattle.hv_house.specs.declared.fault.HouseFault.{HouseFault}
+use Rattle.hv_steps.specs.hv_acts.specs.hv_telling.specs.hv_house.specs.declared.fault.HouseFault.{HouseFault}
 use Rattle.hv_steps.specs.hv_acts.specs.declared.fault.BeginFault.{BeginFault}
 use Rattle.hv_steps.specs.declared.reply.Opened.{Opened}
 use Rattle.hv_session.specs.Beginnings.{GoesBeginning, BeginsAtOnce, IsLeftRunning}

@@ -1,5 +1,5 @@
 use Rattle.std.proofs.Common.{inl, sym, subst, Result}
-use Rattle.hv_house.specs.declared.fault.HouseFault.{HouseFault}
+use Rattle.hv_steps.specs.hv_acts.specs.hv_telling.specs.hv_house.specs.declared.fault.HouseFault.{HouseFault}
 use Rattle.hv_steps.specs.declared.reply.Opened.{Opened}
 use Rattle.hv_session.specs.Beginnings.{GoesBeginning}
 use Rattle.hv_session.proofs.opening.open_and_start.Goals as goal

@@ -1,5 +1,5 @@
 use Rattle.std.proofs.Common.{Err, ap, ◌∙◌}
-use Rattle.hv_house.specs.declared.listing.GetFault.{GetFault}
+use Rattle.hv_acts.specs.hv_telling.specs.hv_house.specs.declared.listing.GetFault.{GetFault}
 use Rattle.hv_acts.specs.Reading.{GetAnswers}
 use Rattle.hv_steps.proofs.Holds.{got, missed, ungot}
 use Rattle.hv_steps.proofs.Acts.{got-then, missed-then}

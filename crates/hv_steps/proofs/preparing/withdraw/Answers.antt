@@ -1,7 +1,7 @@
 use Rattle.std.proofs.Common.{Result, sym, subst}
 use Rattle.hv_history.specs.declared.entry.Cause.{Cause}
-use Rattle.hv_house.specs.declared.fault.HouseFault.{HouseFault}
-use Rattle.hv_house.specs.Faults.{EndsRun}
+use Rattle.hv_acts.specs.hv_telling.specs.hv_house.specs.declared.fault.HouseFault.{HouseFault}
+use Rattle.hv_acts.specs.hv_telling.specs.hv_house.specs.Faults.{EndsRun}
 use Rattle.std.specs.Prelude.{IfErr, ◌≡◌}
 use Rattle.hv_steps.specs.declared.reply.Prepared.{Prepared}
 use Rattle.hv_steps.specs.Going.{Goes}

@@ -2,7 +2,7 @@ use Rattle.std.proofs.Common.{true, false, [], Ok, List, IsPermutation, sym, sub
 use Rattle.hv_base.specs.Told.{Tells}
 use Rattle.hv_choosing.specs.declared.listing.DirFile.{DirFile}
 use Rattle.hv_table_rows.specs.Reading.{Reads, deleted_in, left_in}
-use Rattle.hv_house.specs.Faults.{IsDamage}
+use Rattle.hv_acts.specs.hv_telling.specs.hv_house.specs.Faults.{IsDamage}
 use Rattle.hv_acts.specs.Told.{seen_in}
 use Rattle.hv_viewing.specs.Counting.{TellsKind, IsAmissOf}
 use Rattle.hv_viewing.proofs.Counts.{err-up}

@@ -1,6 +1,6 @@
 use Rattle.std.proofs.Common.{[], Ok, Some, List, sym, subst, take}
-use Rattle.hv_counts.specs.declared.due.Due.{Due}
-use Rattle.hv_counts.specs.Counts.{dues_in}
+use Rattle.hv_viewing.specs.hv_law_dues.specs.hv_counts.specs.declared.due.Due.{Due}
+use Rattle.hv_viewing.specs.hv_law_dues.specs.hv_counts.specs.Counts.{dues_in}
 use Rattle.hv_history.specs.State.{state_of}
 use Rattle.hv_acts.specs.Counting.{AreAsMany}
 use Rattle.hv_acts.specs.Told.{seen_in, trail_in, book_in}

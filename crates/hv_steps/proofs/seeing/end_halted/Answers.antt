@@ -1,6 +1,6 @@
 use Rattle.std.proofs.Common.{inl, inr, refl, subst}
-use Rattle.hv_house.specs.declared.fault.HouseFault.TheVariants as fault
-use Rattle.hv_house.specs.declared.fault.RowFault.TheVariants as row_fault
+use Rattle.hv_acts.specs.hv_telling.specs.hv_house.specs.declared.fault.HouseFault.TheVariants as fault
+use Rattle.hv_acts.specs.hv_telling.specs.hv_house.specs.declared.fault.RowFault.TheVariants as row_fault
 use Rattle.hv_history.specs.declared.entry.Cause.TheVariants as cause
 use Rattle.hv_acts.specs.Going.{faults_in}
 use Rattle.hv_steps.specs.Tables.{RisesTo}

@@ -1,5 +1,5 @@
 use Rattle.std.proofs.Common.{sym, ◌∙◌}
-use Rattle.hv_house.specs.Steps.{seen_of}
+use Rattle.hv_telling.specs.hv_house.specs.Steps.{seen_of}
 use Rattle.hv_acts.proofs.Steps.{shut-begin}
 use Rattle.hv_acts.proofs.opening.BeginActToldHouse.act.Goals as goal
 

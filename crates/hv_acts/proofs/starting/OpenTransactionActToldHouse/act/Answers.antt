@@ -1,5 +1,5 @@
 use Rattle.std.proofs.Common.{sym, ◌∙◌}
-use Rattle.hv_house.specs.Steps.{seen_of}
+use Rattle.hv_telling.specs.hv_house.specs.Steps.{seen_of}
 use Rattle.hv_acts.proofs.Steps.{shut-note}
 use Rattle.hv_acts.proofs.starting.OpenTransactionActToldHouse.act.Goals as goal
 
