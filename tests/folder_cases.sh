@@ -214,6 +214,36 @@ killed_at_each_call() {
     echo "killed at each ${every}th of $number calls of the system"
 }
 
+# is_gone_or_whole: of seven rows all are there, or their table is gone, which it is where that was printed.
+is_gone_or_whole() {
+    case $(rows wh) in
+    0) true ;;
+    7) [ ! -s first ] ;;
+    *) false ;;
+    esac
+}
+
+# killed_while_dropping: a run that drops a table is killed at its calls, and the next one opens what it left.
+killed_while_dropping() {
+    local number=1
+    while :; do
+        fresh
+        store wh
+        sums wh/tables >wanted
+        echo 'DROP TABLE t;' >script
+        strace -f -qqq -o /dev/null -e inject=all:signal=KILL:when=$number "$program" wh run <script >out 2>err
+        status=$?
+        is_status 0 && break
+        cp out first
+        so "the table is there with all its rows, or gone, behind a kill at call $number" is_gone_or_whole
+        so "and its files stand at call $number" [ "$(sums wh/tables)" = "$(cat wanted)" ]
+        number=$((number + every))
+    done
+    so "a run that drops a table was killed at some calls" [ $number -gt 50 ]
+    so "one that isn't killed drops it" [ "$(rows wh)" = 0 ]
+    echo "killed at each ${every}th of $number calls of a run that drops a table"
+}
+
 if [ "$every" -gt 0 ] && command -v strace >/dev/null; then
     echo "== exchanged at a call of the system"
     for kind in standing new; do
@@ -223,6 +253,7 @@ if [ "$every" -gt 0 ] && command -v strace >/dev/null; then
     done
     echo "== killed at a call of the system"
     killed_at_each_call
+    killed_while_dropping
 fi
 
 if [ "$every" -gt 0 ]; then
