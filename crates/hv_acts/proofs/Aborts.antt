@@ -43,6 +43,7 @@ abort-marked house txn cause.RowLimit is = tt
 abort-marked house txn cause.PartitionLimit is = tt
 abort-marked house txn cause.Memory is = tt
 abort-marked house txn cause.Lost is = tt
+abort-marked house txn cause.Rollback is = tt
 
 pub abort-true : {D : Type 0} (house : House D) (txn : TxnId) (why : Cause) → IsCauseTrue (trail_of house.trail) txn why
     → IsTrueNow (entries_of house) (trail_of house.trail) (entry.Abort txn why)

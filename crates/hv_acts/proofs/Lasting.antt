@@ -57,6 +57,7 @@ module _ (before now : List TrailItem) (front : IsFront before now) where
   mark-lasts txn cause.PartitionLimit has = tt
   mark-lasts txn cause.Memory has = tt
   mark-lasts txn cause.Lost has = tt
+  mark-lasts txn cause.Rollback has = tt
 
   pub id-lasts : (by : TxnId) (place : Place) (file : OutFile) → HasIdFor before by place file → HasIdFor now by place file
   id-lasts by place file has = record {
@@ -147,3 +148,4 @@ module _ (before now : List TrailItem) (front : IsFront before now) where
   abort-lasts txn (cause.Twice partition row) is = meant-lasts txn [] (Twice partition row) is
   abort-lasts txn (cause.Blocked holder) is = absurd is
   abort-lasts txn cause.Lost is = absurd is
+  abort-lasts txn cause.Rollback is = absurd is

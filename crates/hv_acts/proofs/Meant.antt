@@ -90,6 +90,9 @@ module _ (asking : Asking) (means : Meaning) (snapshot : Snapshot) (given : List
   entry-goes state (entry.Published job low high mark) n t e = there (numbered state.transactions n) t e
   entry-goes state (entry.Empty job) n t e = there (numbered state.transactions n) t e
   entry-goes state (entry.Cleaned job) n t e = there (numbered state.transactions n) t e
+  entry-goes state (entry.Next txn statement number text) n t e = there (numbered state.transactions n) t e
+  entry-goes state (entry.Did txn statement wrote) n t e = there (numbered state.transactions n) t e
+  entry-goes state (entry.Alter txn table) n t e = there (numbered state.transactions n) t e
   entry-goes state (entry.Failed job cause) n t e = there (numbered state.transactions n) t e
   entry-goes state (entry.Forgot table write) n t e = there (numbered state.transactions n) t e
 

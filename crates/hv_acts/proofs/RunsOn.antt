@@ -71,6 +71,9 @@ one-more state (entry.Picked job watermark) n t stays e runs = there (numbered s
 one-more state (entry.Published job low high mark) n t stays e runs = there (numbered state.transactions n) t e runs
 one-more state (entry.Empty job) n t stays e runs = there (numbered state.transactions n) t e runs
 one-more state (entry.Cleaned job) n t stays e runs = there (numbered state.transactions n) t e runs
+one-more state (entry.Next txn statement number text) n t stays e runs = there (numbered state.transactions n) t e runs
+one-more state (entry.Did txn statement wrote) n t stays e runs = there (numbered state.transactions n) t e runs
+one-more state (entry.Alter txn table) n t stays e runs = there (numbered state.transactions n) t e runs
 one-more state (entry.Failed job cause) n t stays e runs = there (numbered state.transactions n) t e runs
 one-more state (entry.Forgot table write) n t stays e runs = there (numbered state.transactions n) t e runs
 

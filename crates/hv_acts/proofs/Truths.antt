@@ -229,6 +229,7 @@ abort-true trail txn cause.Full fits is = absurd is
 abort-true trail txn (cause.Twice partition row) fits is = meant-here trail txn (Twice partition row) (λ m. m ≡ Some (Twice partition row)) fits is refl
 abort-true trail txn (cause.Blocked holder) fits is = absurd is
 abort-true trail txn cause.Lost fits is = absurd is
+abort-true trail txn cause.Rollback fits is = absurd is
 
 -- ---- a house
 

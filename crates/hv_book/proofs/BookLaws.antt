@@ -135,6 +135,9 @@ below-next place (entry.Picked job watermark) notes h = below-more place (place 
 below-next place (entry.Published job low high mark) notes h = below-more place (place + 1) (omega arith) notes.tables h
 below-next place (entry.Empty job) notes h = below-more place (place + 1) (omega arith) notes.tables h
 below-next place (entry.Cleaned job) notes h = below-more place (place + 1) (omega arith) notes.tables h
+below-next place (entry.Next txn statement number text) notes h = below-more place (place + 1) (omega arith) notes.tables h
+below-next place (entry.Did txn statement wrote) notes h = below-more place (place + 1) (omega arith) notes.tables h
+below-next place (entry.Alter txn table) notes h = below-more place (place + 1) (omega arith) notes.tables h
 below-next place (entry.Failed job cause) notes h = below-more place (place + 1) (omega arith) notes.tables h
 below-next place (entry.Forgot table write) notes h = below-more place (place + 1) (omega arith) notes.tables h
 
@@ -148,6 +151,7 @@ high-below xs = subst (λ n. AreBelow n (notes_of xs).tables) (counted xs) (belo
 
 aborts : (cause : Cause) (openings : Openings) → (aborting cause openings).count ≡ openings.count
 aborts cause.Lost openings = refl
+aborts cause.Rollback openings = refl
 aborts (cause.ReadFault count) openings = refl
 aborts (cause.WriteFault count) openings = refl
 aborts (cause.Refused number) openings = refl
@@ -184,6 +188,9 @@ boots-next place (entry.Picked job watermark) openings h = omega (arith, h)
 boots-next place (entry.Published job low high mark) openings h = omega (arith, h)
 boots-next place (entry.Empty job) openings h = omega (arith, h)
 boots-next place (entry.Cleaned job) openings h = omega (arith, h)
+boots-next place (entry.Next txn statement number text) openings h = omega (arith, h)
+boots-next place (entry.Did txn statement wrote) openings h = omega (arith, h)
+boots-next place (entry.Alter txn table) openings h = omega (arith, h)
 boots-next place (entry.Forgot table write) openings h = omega (arith, h)
 
 boots-all : (xs : List Entry) (state : State) → state.openings.count ≤ state.entries → (fold after state xs).openings.count ≤ (fold after state xs).entries

@@ -267,6 +267,9 @@ commits-next done state notes (entry.Picked job watermark) at same h = stay done
 commits-next done state notes (entry.Published job low high mark) at same h = stay done (entry.Published job low high mark) state.transactions notes.commits h
 commits-next done state notes (entry.Empty job) at same h = stay done (entry.Empty job) state.transactions notes.commits h
 commits-next done state notes (entry.Cleaned job) at same h = stay done (entry.Cleaned job) state.transactions notes.commits h
+commits-next done state notes (entry.Next txn statement number text) at same h = stay done (entry.Next txn statement number text) state.transactions notes.commits h
+commits-next done state notes (entry.Did txn statement wrote) at same h = stay done (entry.Did txn statement wrote) state.transactions notes.commits h
+commits-next done state notes (entry.Alter txn table) at same h = stay done (entry.Alter txn table) state.transactions notes.commits h
 commits-next done state notes (entry.Failed job cause) at same h = stay done (entry.Failed job cause) state.transactions notes.commits h
 commits-next done state notes (entry.Forgot table write) at same h = stay done (entry.Forgot table write) state.transactions notes.commits h
 

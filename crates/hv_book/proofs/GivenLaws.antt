@@ -55,6 +55,9 @@ given-early position table place early notes (entry.Picked job watermark) past =
 given-early position table place early notes (entry.Published job low high mark) past = refl
 given-early position table place early notes (entry.Empty job) past = refl
 given-early position table place early notes (entry.Cleaned job) past = refl
+given-early position table place early notes (entry.Next txn statement number text) past = refl
+given-early position table place early notes (entry.Did txn statement wrote) past = refl
+given-early position table place early notes (entry.Alter txn its_table) past = refl
 given-early position table place early notes (entry.Failed job cause) past = refl
 
 more-late : (position table place txn other : ℕ) → place < position → (o : Option Table) (given : List PlacedId)
@@ -109,6 +112,9 @@ given-late position table place late state notes (entry.Published job low high m
     same ∙ ap length (owners-next table state (entry.Published job low high mark))
 given-late position table place late state notes (entry.Empty job) past follow same = same ∙ ap length (owners-next table state (entry.Empty job))
 given-late position table place late state notes (entry.Cleaned job) past follow same = same ∙ ap length (owners-next table state (entry.Cleaned job))
+given-late position table place late state notes (entry.Next txn statement number text) past follow same = same ∙ ap length (owners-next table state (entry.Next txn statement number text))
+given-late position table place late state notes (entry.Did txn statement wrote) past follow same = same ∙ ap length (owners-next table state (entry.Did txn statement wrote))
+given-late position table place late state notes (entry.Alter txn its_table) past follow same = same ∙ ap length (owners-next table state (entry.Alter txn its_table))
 given-late position table place late state notes (entry.Failed job cause) past follow same = same ∙ ap length (owners-next table state (entry.Failed job cause))
 
 more-below : (place txn table : ℕ) (o : Option TableNote) (given : List PlacedId) → AllByRecursion (IsBehind place) given
@@ -136,6 +142,9 @@ given-below place notes event past h = by event (all-more (IsBehind place) (IsBe
     by (entry.Published job low high mark) k = k
     by (entry.Empty job) k = k
     by (entry.Cleaned job) k = k
+    by (entry.Next txn statement number text) k = k
+    by (entry.Did txn statement wrote) k = k
+    by (entry.Alter txn table) k = k
     by (entry.Failed job cause) k = k
     by (entry.Forgot table write) k = k
 
@@ -164,5 +173,8 @@ given-rising place notes (entry.Picked job watermark) past below h = h
 given-rising place notes (entry.Published job low high mark) past below h = h
 given-rising place notes (entry.Empty job) past below h = h
 given-rising place notes (entry.Cleaned job) past below h = h
+given-rising place notes (entry.Next txn statement number text) past below h = h
+given-rising place notes (entry.Did txn statement wrote) past below h = h
+given-rising place notes (entry.Alter txn table) past below h = h
 given-rising place notes (entry.Failed job cause) past below h = h
 given-rising place notes (entry.Forgot table write) past below h = h

@@ -8,7 +8,7 @@ use Rattle.hv_history.specs.declared.state.Ending.{Ending}
 use Rattle.hv_history.specs.State.{Job}
 use Rattle.hv_history.specs.Legal.{open_one, one_if, is_working, working_one}
 use Rattle.hv_book.specs.Jobs.{is_working_note, working_note}
-use Rattle.hv_book.specs.Briefs.{brief, brief_job, end_of, open_from, open_next}
+use Rattle.hv_book.specs.Briefs.{brief, brief_range, brief_job, end_of, open_from, open_next}
 
 pub open-count : (m : ℕ) (ts : List Transaction) → length (open_from m (map brief ts)) ≡ sum_by open_one ts
 open-count m [] = refl
@@ -29,9 +29,13 @@ some-none : {A : Type 0} (o : Option A) → not (is_some o) ≡ is_none o
 some-none None = refl
 some-none (Some x) = refl
 
-working-same : (j : Job) → is_working_note (brief_job j) ≡ is_working j
+none-mapped : {A B : Type 0} (f : A → B) (o : Option A) → is_none (option_map f o) ≡ is_none o
+none-mapped f None = refl
+none-mapped f (Some x) = refl
+
+pub working-same : (j : Job) → is_working_note (brief_job j) ≡ is_working j
 working-same j =
-    ap (λ b. is_some j.watermark && (b && (not j.is_empty && not (is_some j.failure)))) (some-none j.published)
+    ap (λ b. is_some j.watermark && (b && (not j.is_empty && not (is_some j.failure)))) (none-mapped brief_range j.published)
     ∙ ap (λ b. is_some j.watermark && (is_none j.published && (not j.is_empty && b))) (some-none j.failure)
 
 pub working-count : (js : List Job) → sum_by working_note (map brief_job js) ≡ sum_by working_one js

@@ -445,6 +445,9 @@ names-next state (entry.Picked job watermark) numbers at next h le is place = h
 names-next state (entry.Published job low high mark) numbers at next h le is place = h
 names-next state (entry.Empty job) numbers at next h le is place = h
 names-next state (entry.Cleaned job) numbers at next h le is place = h
+names-next state (entry.Next txn statement number text) numbers at next h le is place = h
+names-next state (entry.Did txn statement wrote) numbers at next h le is place = h
+names-next state (entry.Alter txn table) numbers at next h le is place = h
 names-next state (entry.Failed job cause) numbers at next h le is place = h
 
 pub names-none : IsNamed [] []

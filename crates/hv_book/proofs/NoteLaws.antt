@@ -9,16 +9,16 @@ use Rattle.hv_history.specs.declared.entry.Entry.{Entry}
 use Rattle.hv_history.specs.declared.entry.Entry.TheVariants as entry
 use Rattle.hv_book.specs.declared.notes.TransactionNote.{TransactionNote}
 use Rattle.hv_book.specs.declared.jobs.Step.TheVariants as step
-use Rattle.hv_book.specs.Jobs.{stepped}
+use Rattle.hv_book.specs.Jobs.{new_job, stepped}
 use Rattle.hv_history.specs.declared.state.Transaction.{Transaction}
 use Rattle.hv_history.specs.declared.state.Table.{Table}
 use Rattle.hv_history.specs.declared.state.Snapshot.{Snapshot}
 use Rattle.hv_history.specs.declared.state.Ending.{Ending}
 use Rattle.hv_history.specs.declared.state.Written.{Written}
 use Rattle.hv_history.specs.declared.state.Ending.TheVariants.{Aborted, Made, Dropped}
-use Rattle.hv_history.specs.State.{State, Job, numbered, changed, changed_at, while_open, unless_ended, started, given_id, committed, ended, first_of, owned, dropped, forgot, written_to, tables_behind, commits, opened, made_by, asked, acted, after}
+use Rattle.hv_history.specs.State.{State, Job, numbered, changed, changed_at, while_open, unless_ended, started, given_id, committed, ended, first_of, owned, dropped, forgot, written_to, tables_behind, commits, opened, made_by, asked_job, picked, published_at, empty_at, failed_at, cleaned, acted, after}
 use Rattle.hv_book.specs.Notes.{Notes, noted, while_unended, unended, started_at, ended_at, start_note, end_note, ending, one_more, gone, other_than, note_open}
-use Rattle.hv_book.specs.Briefs.{brief, brief_table, brief_job, end_of, snapshot_place, open_from, open_next}
+use Rattle.hv_book.specs.Briefs.{brief, brief_table, brief_range, brief_job, end_of, snapshot_place, open_from, open_next}
 
 -- ---- a map over what is changed
 
@@ -98,6 +98,9 @@ transactions-follow state (entry.Picked job watermark) notes h = h
 transactions-follow state (entry.Published job low high mark) notes h = h
 transactions-follow state (entry.Empty job) notes h = h
 transactions-follow state (entry.Cleaned job) notes h = h
+transactions-follow state (entry.Next txn statement number text) notes h = h
+transactions-follow state (entry.Did txn statement wrote) notes h = h
+transactions-follow state (entry.Alter txn table) notes h = h
 transactions-follow state (entry.Failed job cause) notes h = h
 transactions-follow state (entry.Forgot table write) notes h = h
 
@@ -134,6 +137,9 @@ tables-follow state (entry.Picked job watermark) notes h = h
 tables-follow state (entry.Published job low high mark) notes h = h
 tables-follow state (entry.Empty job) notes h = h
 tables-follow state (entry.Cleaned job) notes h = h
+tables-follow state (entry.Next txn statement number text) notes h = h
+tables-follow state (entry.Did txn statement wrote) notes h = h
+tables-follow state (entry.Alter txn table) notes h = h
 tables-follow state (entry.Failed job cause) notes h = h
 tables-follow state (entry.Forgot table write) notes h = h ∙ sym (map-same brief_table (forgot write.0) (λ t. refl) state.tables table.0)
 
@@ -145,6 +151,10 @@ JobsFollow state notes = notes.jobs ≡ map brief_job state.jobs
 once : {A : Type 0} (o : Option A) (x : A) → is_some (first_of o x) ≡ true
 once None x = refl
 once (Some y) x = refl
+
+first-mapped : {A B : Type 0} (f : A → B) (o : Option A) (x : A) → option_map f (first_of o x) ≡ first_of (option_map f o) (f x)
+first-mapped f None x = refl
+first-mapped f (Some y) x = refl
 
 pub jobs-follow : (state : State) (event : Entry) (notes : Notes) → JobsFollow state notes
     → JobsFollow (after state event) (noted state.entries event notes)
@@ -158,26 +168,31 @@ jobs-follow state (entry.Abort txn cause) notes h = h
 jobs-follow state (entry.Create txn table) notes h = h
 jobs-follow state (entry.Drop txn table) notes h = h
 jobs-follow state (entry.Asked job table partition kind by) notes h =
-    ap (λ js. js ++ record { is_picked = false; is_published = false; is_empty = false; is_failed = false } ∷ []) h
-    ∙ sym (map-append brief_job state.jobs (asked table.0 partition kind by ∷ []))
+    ap (λ js. js ++ new_job table.0 kind state.entries ∷ []) h
+    ∙ sym (map-append brief_job state.jobs (asked_job state.entries table.0 partition kind by ∷ []))
 jobs-follow state (entry.Picked job watermark) notes h =
-    ap (λ js. changed (stepped step.Picked) js job.0) h
-    ∙ sym (map-changed brief_job (λ (j : Job). record j { watermark = first_of j.watermark watermark.0 }) (stepped step.Picked)
-    (λ (j : Job). ap (λ b. record (brief_job j) { is_picked = b }) (once j.watermark watermark.0)) state.jobs job.0)
+    ap (λ js. changed (stepped (step.Picked watermark.0)) js job.0) h
+    ∙ sym (map-changed brief_job (picked watermark.0) (stepped (step.Picked watermark.0)) (λ (j : Job). refl) state.jobs job.0)
 jobs-follow state (entry.Published job low high mark) notes h =
-    ap (λ js. changed (stepped step.Published) js job.0) h
-    ∙ sym (map-changed brief_job (λ (j : Job). record j { published = first_of j.published (low.0, high.0, mark.0) }) (stepped step.Published)
-    (λ (j : Job). ap (λ b. record (brief_job j) { is_published = b }) (once j.published (low.0, high.0, mark.0))) state.jobs job.0)
+    let range : ℕ × ℕ × ℕ = (low.0, high.0, mark.0) in
+    let does = step.Published state.entries (brief_range range) in
+    ap (λ js. changed (stepped does) js job.0) h
+    ∙ sym (map-changed brief_job (published_at state.entries range) (stepped does)
+    (λ (j : Job). ap (λ o. record (brief_job j) { published = o; ended = first_of j.ended state.entries }) (first-mapped brief_range j.published range)) state.jobs job.0)
 jobs-follow state (entry.Empty job) notes h =
-    ap (λ js. changed (stepped step.Empty) js job.0) h
-    ∙ sym (map-changed brief_job (λ (j : Job). record j { is_empty = true }) (stepped step.Empty) (λ (j : Job). refl) state.jobs job.0)
+    ap (λ js. changed (stepped (step.Empty state.entries)) js job.0) h
+    ∙ sym (map-changed brief_job (empty_at state.entries) (stepped (step.Empty state.entries)) (λ (j : Job). refl) state.jobs job.0)
 jobs-follow state (entry.Cleaned job) notes h =
-    h ∙ sym (map-same brief_job (λ (j : Job). record j { is_cleaned = true }) (λ (j : Job). refl) state.jobs job.0)
+    ap (λ js. changed (stepped step.Cleaned) js job.0) h
+    ∙ sym (map-changed brief_job cleaned (stepped step.Cleaned) (λ (j : Job). refl) state.jobs job.0)
 jobs-follow state (entry.Failed job cause) notes h =
-    ap (λ js. changed (stepped step.Failed) js job.0) h
-    ∙ sym (map-changed brief_job (λ (j : Job). record j { failure = first_of j.failure cause }) (stepped step.Failed)
-    (λ (j : Job). ap (λ b. record (brief_job j) { is_failed = b }) (once j.failure cause)) state.jobs job.0)
+    ap (λ js. changed (stepped (step.Failed state.entries)) js job.0) h
+    ∙ sym (map-changed brief_job (failed_at state.entries cause) (stepped (step.Failed state.entries))
+    (λ (j : Job). ap (λ b. record (brief_job j) { is_failed = b; ended = first_of j.ended state.entries }) (once j.failure cause)) state.jobs job.0)
 jobs-follow state (entry.Forgot table write) notes h = h
+jobs-follow state (entry.Next txn statement number text) notes h = h
+jobs-follow state (entry.Did txn statement wrote) notes h = h
+jobs-follow state (entry.Alter txn table) notes h = h
 
 -- ---- what is open
 
@@ -295,5 +310,8 @@ open-follows place (entry.Picked job watermark) notes h = h
 open-follows place (entry.Published job low high mark) notes h = h
 open-follows place (entry.Empty job) notes h = h
 open-follows place (entry.Cleaned job) notes h = h
+open-follows place (entry.Next txn statement number text) notes h = h
+open-follows place (entry.Did txn statement wrote) notes h = h
+open-follows place (entry.Alter txn table) notes h = h
 open-follows place (entry.Failed job cause) notes h = h
 open-follows place (entry.Forgot table write) notes h = h

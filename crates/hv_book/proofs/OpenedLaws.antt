@@ -36,6 +36,9 @@ opens-next state (entry.Picked job watermark) = omega arith
 opens-next state (entry.Published job low high mark) = omega arith
 opens-next state (entry.Empty job) = omega arith
 opens-next state (entry.Cleaned job) = omega arith
+opens-next state (entry.Next txn statement number text) = omega arith
+opens-next state (entry.Did txn statement wrote) = omega arith
+opens-next state (entry.Alter txn table) = omega arith
 opens-next state (entry.Failed job cause) = omega arith
 opens-next state (entry.Forgot table write) = omega arith
 
@@ -114,6 +117,9 @@ opened-next done (entry.Picked job watermark) notes h = stays done (entry.Picked
 opened-next done (entry.Published job low high mark) notes h = stays done (entry.Published job low high mark) notes.opened refl h
 opened-next done (entry.Empty job) notes h = stays done (entry.Empty job) notes.opened refl h
 opened-next done (entry.Cleaned job) notes h = stays done (entry.Cleaned job) notes.opened refl h
+opened-next done (entry.Next txn statement number text) notes h = stays done (entry.Next txn statement number text) notes.opened refl h
+opened-next done (entry.Did txn statement wrote) notes h = stays done (entry.Did txn statement wrote) notes.opened refl h
+opened-next done (entry.Alter txn table) notes h = stays done (entry.Alter txn table) notes.opened refl h
 opened-next done (entry.Failed job cause) notes h = stays done (entry.Failed job cause) notes.opened refl h
 opened-next done (entry.Forgot table write) notes h = stays done (entry.Forgot table write) notes.opened refl h
 

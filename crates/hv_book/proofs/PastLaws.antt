@@ -71,6 +71,9 @@ ids-next place state notes (entry.Published job low high mark) past same h table
     sym (ap (total_from weight 1) (owners-next table state (entry.Published job low high mark))) ∙ h table weight
 ids-next place state notes (entry.Empty job) past same h table weight = sym (ap (total_from weight 1) (owners-next table state (entry.Empty job))) ∙ h table weight
 ids-next place state notes (entry.Cleaned job) past same h table weight = sym (ap (total_from weight 1) (owners-next table state (entry.Cleaned job))) ∙ h table weight
+ids-next place state notes (entry.Next txn statement number text) past same h table weight = sym (ap (total_from weight 1) (owners-next table state (entry.Next txn statement number text))) ∙ h table weight
+ids-next place state notes (entry.Did txn statement wrote) past same h table weight = sym (ap (total_from weight 1) (owners-next table state (entry.Did txn statement wrote))) ∙ h table weight
+ids-next place state notes (entry.Alter txn its_table) past same h table weight = sym (ap (total_from weight 1) (owners-next table state (entry.Alter txn its_table))) ∙ h table weight
 ids-next place state notes (entry.Failed job cause) past same h table weight = sym (ap (total_from weight 1) (owners-next table state (entry.Failed job cause))) ∙ h table weight
 ids-next place state notes (entry.Forgot other write) past same h table weight = sym (ap (total_from weight 1) (owners-next table state (entry.Forgot other write))) ∙ h table weight
 
@@ -166,6 +169,9 @@ settled-next place state notes event past at same h = by event (all-more (IsSett
     by (entry.Published job low high mark) k = k
     by (entry.Empty job) k = k
     by (entry.Cleaned job) k = k
+    by (entry.Next txn statement number text) k = k
+    by (entry.Did txn statement wrote) k = k
+    by (entry.Alter txn table) k = k
     by (entry.Failed job cause) k = k
     by (entry.Forgot table write) k = k
 
@@ -195,6 +201,9 @@ below-next place notes event past h = by event (all-more (IsBehind place) (IsBeh
     by (entry.Published job low high mark) k = k
     by (entry.Empty job) k = k
     by (entry.Cleaned job) k = k
+    by (entry.Next txn statement number text) k = k
+    by (entry.Did txn statement wrote) k = k
+    by (entry.Alter txn table) k = k
     by (entry.Failed job cause) k = k
     by (entry.Forgot table write) k = k
 
@@ -235,6 +244,9 @@ rising-next place notes (entry.Picked job watermark) past below h = h
 rising-next place notes (entry.Published job low high mark) past below h = h
 rising-next place notes (entry.Empty job) past below h = h
 rising-next place notes (entry.Cleaned job) past below h = h
+rising-next place notes (entry.Next txn statement number text) past below h = h
+rising-next place notes (entry.Did txn statement wrote) past below h = h
+rising-next place notes (entry.Alter txn table) past below h = h
 rising-next place notes (entry.Failed job cause) past below h = h
 rising-next place notes (entry.Forgot table write) past below h = h
 
@@ -263,6 +275,9 @@ count-next place state notes (entry.Picked job watermark) past h = h
 count-next place state notes (entry.Published job low high mark) past h = h
 count-next place state notes (entry.Empty job) past h = h
 count-next place state notes (entry.Cleaned job) past h = h
+count-next place state notes (entry.Next txn statement number text) past h = h
+count-next place state notes (entry.Did txn statement wrote) past h = h
+count-next place state notes (entry.Alter txn table) past h = h
 count-next place state notes (entry.Failed job cause) past h = h
 
 limit-more : (place : ℕ) (o : Option ℕ) → IsBelowLimit place o → IsBelowLimit (place + 1) o
@@ -299,6 +314,9 @@ dropped-next place notes event past h = by event (all-more (IsDroppedBelow place
     by (entry.Published job low high mark) k = k
     by (entry.Empty job) k = k
     by (entry.Cleaned job) k = k
+    by (entry.Next txn statement number text) k = k
+    by (entry.Did txn statement wrote) k = k
+    by (entry.Alter txn table) k = k
     by (entry.Failed job cause) k = k
     by (entry.Forgot table write) k = k
 
@@ -328,6 +346,9 @@ live-early position place early notes (entry.Picked job watermark) past n = refl
 live-early position place early notes (entry.Published job low high mark) past n = refl
 live-early position place early notes (entry.Empty job) past n = refl
 live-early position place early notes (entry.Cleaned job) past n = refl
+live-early position place early notes (entry.Next txn statement number text) past n = refl
+live-early position place early notes (entry.Did txn statement wrote) past n = refl
+live-early position place early notes (entry.Alter txn table) past n = refl
 live-early position place early notes (entry.Failed job cause) past n = refl
 live-early position place early notes (entry.Forgot table write) past n = refl
 
@@ -406,6 +427,9 @@ live-late position place late state notes (entry.Picked job watermark) past coun
 live-late position place late state notes (entry.Published job low high mark) past count below same n = same n
 live-late position place late state notes (entry.Empty job) past count below same n = same n
 live-late position place late state notes (entry.Cleaned job) past count below same n = same n
+live-late position place late state notes (entry.Next txn statement number text) past count below same n = same n
+live-late position place late state notes (entry.Did txn statement wrote) past count below same n = same n
+live-late position place late state notes (entry.Alter txn table) past count below same n = same n
 live-late position place late state notes (entry.Failed job cause) past count below same n = same n
 
 -- ---- ids that were forgotten
@@ -456,6 +480,9 @@ forgotten-early position table place early notes (entry.Picked job watermark) pa
 forgotten-early position table place early notes (entry.Published job low high mark) past = refl
 forgotten-early position table place early notes (entry.Empty job) past = refl
 forgotten-early position table place early notes (entry.Cleaned job) past = refl
+forgotten-early position table place early notes (entry.Next txn statement number text) past = refl
+forgotten-early position table place early notes (entry.Did txn statement wrote) past = refl
+forgotten-early position table place early notes (entry.Alter txn its_table) past = refl
 forgotten-early position table place early notes (entry.Failed job cause) past = refl
 
 some-mapped : {A B : Type 0} (f : A → B) (o : Option A) → is_some (option_map f o) ≡ is_some o
@@ -517,6 +544,9 @@ forgotten-late position table place late state notes (entry.Published job low hi
     same ∙ forgotten-next table state (entry.Published job low high mark)
 forgotten-late position table place late state notes (entry.Empty job) past follow same = same ∙ forgotten-next table state (entry.Empty job)
 forgotten-late position table place late state notes (entry.Cleaned job) past follow same = same ∙ forgotten-next table state (entry.Cleaned job)
+forgotten-late position table place late state notes (entry.Next txn statement number text) past follow same = same ∙ forgotten-next table state (entry.Next txn statement number text)
+forgotten-late position table place late state notes (entry.Did txn statement wrote) past follow same = same ∙ forgotten-next table state (entry.Did txn statement wrote)
+forgotten-late position table place late state notes (entry.Alter txn its_table) past follow same = same ∙ forgotten-next table state (entry.Alter txn its_table)
 forgotten-late position table place late state notes (entry.Failed job cause) past follow same = same ∙ forgotten-next table state (entry.Failed job cause)
 
 -- ---- one entry more

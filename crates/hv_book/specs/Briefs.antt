@@ -5,6 +5,7 @@ use Rattle.hv_book.specs.declared.notes.End.{End}
 use Rattle.hv_book.specs.declared.notes.TransactionNote.{TransactionNote}
 use Rattle.hv_book.specs.declared.notes.TableNote.{TableNote}
 use Rattle.hv_book.specs.declared.jobs.JobNote.{JobNote}
+use Rattle.hv_book.specs.declared.jobs.JobRange.{JobRange}
 use Rattle.hv_book.specs.declared.notes.Held.{Held}
 use Rattle.hv_history.specs.declared.state.Transaction.{Transaction}
 use Rattle.hv_history.specs.declared.state.Table.{Table}
@@ -35,13 +36,22 @@ brief transaction = record { started = option_map snapshot_place transaction.sna
 abbrev pub brief_table : Table → TableNote
 brief_table table = record { id = table.info.table.0; is_live = table.is_live; high = length table.owners }
 
+abbrev pub brief_range : ℕ × ℕ × ℕ → JobRange
+brief_range range = record { low = range.0; high = range.1; mark = range.2 }
+
+-- all of a job but its partition, which its Asked has, and the cause of its failure
 abbrev pub brief_job : Job → JobNote
 brief_job job =
     record {
-      is_picked = is_some job.watermark;
-      is_published = is_some job.published;
+      table = job.table;
+      kind = job.kind;
+      asked = job.asked;
+      watermark = job.watermark;
+      published = option_map brief_range job.published;
       is_empty = job.is_empty;
+      is_cleaned = job.is_cleaned;
       is_failed = is_some job.failure;
+      ended = job.ended;
     }
 
 abbrev pub open_next : Bool → ℕ → List ℕ → List ℕ

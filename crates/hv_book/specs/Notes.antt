@@ -3,6 +3,7 @@
 use Rattle.std.specs.Prelude.{ℕ, ◌+◌, ◌==◌, Bool, true, false, not, is_none, Option, Some, None, List, [], ◌∷◌, ◌++◌, length, filter, fold}
 use Rattle.hv_history.specs.declared.entry.Entry.{Entry}
 use Rattle.hv_history.specs.declared.entry.Entry.TheVariants as entry
+use Rattle.hv_history.specs.declared.entry.JobKind.{JobKind}
 use Rattle.hv_book.specs.declared.notes.End.{End}
 use Rattle.hv_book.specs.declared.notes.TransactionNote.{TransactionNote}
 use Rattle.hv_book.specs.declared.notes.TableNote.{TableNote}
@@ -129,8 +130,8 @@ noted_create place txn table notes = record (ending place true txn notes) {
 abbrev pub noted_drop : ℕ → ℕ → ℕ → Notes → Notes
 noted_drop place txn table notes = record (ending place true txn notes) { tables = changed gone notes.tables table }
 
-abbrev pub noted_asked : Notes → Notes
-noted_asked notes = record notes { jobs = notes.jobs ++ new_job ∷ [] }
+abbrev pub noted_asked : ℕ → ℕ → JobKind → Notes → Notes
+noted_asked place table kind notes = record notes { jobs = notes.jobs ++ new_job table kind place ∷ [] }
 
 abbrev pub noted_job : (JobNote → JobNote) → ℕ → Notes → Notes
 noted_job f job notes = record notes { jobs = changed f notes.jobs job }
@@ -143,11 +144,13 @@ noted place (entry.Commit txn wrote) notes = noted_commit place txn.0 notes
 noted place (entry.Abort txn cause) notes = ending place false txn.0 notes
 noted place (entry.Create txn table) notes = noted_create place txn.0 table.0 notes
 noted place (entry.Drop txn table) notes = noted_drop place txn.0 table.0 notes
-noted place (entry.Asked job table partition kind by) notes = noted_asked notes
-noted place (entry.Picked job watermark) notes = noted_job (stepped step.Picked) job.0 notes
-noted place (entry.Published job low high mark) notes = noted_job (stepped step.Published) job.0 notes
-noted place (entry.Empty job) notes = noted_job (stepped step.Empty) job.0 notes
-noted place (entry.Failed job cause) notes = noted_job (stepped step.Failed) job.0 notes
+noted place (entry.Asked job table partition kind by) notes = noted_asked place table.0 kind notes
+noted place (entry.Picked job watermark) notes = noted_job (stepped (step.Picked watermark.0)) job.0 notes
+noted place (entry.Published job low high mark) notes =
+    noted_job (stepped (step.Published place (record { low = low.0; high = high.0; mark = mark.0 }))) job.0 notes
+noted place (entry.Empty job) notes = noted_job (stepped (step.Empty place)) job.0 notes
+noted place (entry.Cleaned job) notes = noted_job (stepped step.Cleaned) job.0 notes
+noted place (entry.Failed job cause) notes = noted_job (stepped (step.Failed place)) job.0 notes
 noted place _ notes = notes
 
 -- ---- a book's notes

@@ -1,6 +1,6 @@
 ghost use Rattle.std.specs.Prelude.{◌≡◌};
 
-use crate::jobs::{Jobs, Step};
+use crate::jobs::{JobRange, Jobs, Step};
 use crate::notes::{
     End, Held, TableNote, TransactionNote, append, close, count_one, drop_table, finish, is_open,
     let_go, start,
@@ -26,7 +26,9 @@ pub struct Index {
 impl Index {
     ghost use Rattle.std.specs.Prelude.{◌≡◌, ◌≤◌, ◌<◌, ◌+◌, ◌-◌, ◌^◌, ◌++◌, ◌∷◌, [], false, max, IsOk, OnOk};
     ghost use Rattle.std.specs.List.{AllByRecursion};
-    ghost use Rattle.hv_book.specs.Notes.{no_notes, noted, noted_opened, noted_start, noted_given, noted_commit, noted_create, noted_drop, ending};
+    ghost use Rattle.hv_book.specs.Notes.{no_notes, noted, noted_opened, noted_start, noted_given, noted_commit, noted_create, noted_drop, noted_job, ending};
+    ghost use Rattle.hv_book.specs.Jobs.{stepped};
+    ghost use Rattle.hv_book.specs.declared.jobs.Step.TheVariants as step;
     ghost use Rattle.hv_book.specs.Index.{notes_in, Spares};
 
     /// The index of no entries. It takes no memory.
@@ -170,6 +172,18 @@ impl Index {
         drop_table(&mut self.tables, table);
     }
 
+    fn note_published(&mut self, place: u64, job: u64, low: u64, high: u64, mark: u64)
+        requires spares { Spares self.old.room self.old }
+        ensures notes { notes_in self.new ≡ noted_job
+            (stepped (step.Published place (record { low = low; high = high; mark = mark })))
+            job (notes_in self.old) }
+        ensures spares { Spares self.old.room self.new }
+        ensures room { self.new.room ≡ self.old.room }
+    {
+        let range = JobRange { low, high, mark };
+        self.jobs.change(job, Step::Published { place, range });
+    }
+
     /// Notes an entry at its place, and leaves the room to be lowered.
     fn act(&mut self, place: u64, entry: &Entry)
         requires spares { Spares self.old.room self.old }
@@ -188,12 +202,22 @@ impl Index {
             Entry::Abort { txn, .. } => self.note_end(place, false, txn.0),
             Entry::Create { txn, table } => self.note_create(place, txn.0, table.0),
             Entry::Drop { txn, table } => self.note_drop(place, txn.0, table.0),
-            Entry::Asked { .. } => self.jobs.add(),
-            Entry::Picked { job, .. } => self.jobs.change(job.0, Step::Picked),
-            Entry::Published { job, .. } => self.jobs.change(job.0, Step::Published),
-            Entry::Empty { job } => self.jobs.change(job.0, Step::Empty),
-            Entry::Failed { job, .. } => self.jobs.change(job.0, Step::Failed),
-            Entry::Boot { .. } | Entry::Cleaned { .. } | Entry::Forgot { .. } => {}
+            Entry::Asked { table, kind, .. } => self.jobs.add(table.0, *kind, place),
+            Entry::Picked { job, watermark } => {
+                let watermark = watermark.0;
+                self.jobs.change(job.0, Step::Picked { watermark });
+            }
+            Entry::Published {
+                job,
+                low,
+                high,
+                mark,
+            } => self.note_published(place, job.0, low.0, high.0, mark.0),
+            Entry::Empty { job } => self.jobs.change(job.0, Step::Empty { place }),
+            Entry::Cleaned { job } => self.jobs.change(job.0, Step::Cleaned),
+            Entry::Failed { job, .. } => self.jobs.change(job.0, Step::Failed { place }),
+            Entry::Boot { .. } | Entry::Forgot { .. } => {}
+            Entry::Next { .. } | Entry::Did { .. } | Entry::Alter { .. } => {}
         }
     }
 

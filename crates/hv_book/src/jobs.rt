@@ -2,26 +2,42 @@ ghost use Rattle.std.specs.Prelude.{◌≡◌, ◌+◌, ◌<◌, ◌≤◌, ◌+
 ghost use Rattle.hv_book.specs.Jobs.{stepped, is_working_note, working_note};
 
 use hv_base::NoMemory;
-use hv_history::place_of;
+use hv_history::{JobKind, place_of};
 use std::alloc::Global;
 use std::marker::Model;
 
-/// How far a compaction job has come.
+/// The write ids that a published job merged, from `low` to `high`, and its mark: transactions from there on
+/// don't need what it covers.
 #[derive(Clone, Copy)]
-pub struct JobNote {
-    pub is_picked: bool,
-    pub is_published: bool,
-    pub is_empty: bool,
-    pub is_failed: bool,
+pub struct JobRange {
+    pub low: u64,
+    pub high: u64,
+    pub mark: u64,
 }
 
-/// What happened to a job.
+/// How far a compaction job has come. `asked` is the place of its Asked, which has its partition, and `ended` that
+/// of the first entry that ended its work.
+#[derive(Clone, Copy)]
+pub struct JobNote {
+    pub table: u64,
+    pub kind: JobKind,
+    pub asked: u64,
+    pub watermark: Option<u64>,
+    pub published: Option<JobRange>,
+    pub is_empty: bool,
+    pub is_cleaned: bool,
+    pub is_failed: bool,
+    pub ended: Option<u64>,
+}
+
+/// What happened to a job, and at which place where that ended its work.
 #[derive(Clone, Copy)]
 pub enum Step {
-    Picked,
-    Published,
-    Empty,
-    Failed,
+    Picked { watermark: u64 },
+    Published { place: u64, range: JobRange },
+    Empty { place: u64 },
+    Cleaned,
+    Failed { place: u64 },
 }
 
 /// The jobs, by number from 1, and beside them how many are at work. Contracts see the jobs, and how many
@@ -61,10 +77,20 @@ fn stepped(job: JobNote, step: Step) -> JobNote
 {
     let mut next = job;
     match step {
-        Step::Picked => next.is_picked = true,
-        Step::Published => next.is_published = true,
-        Step::Empty => next.is_empty = true,
-        Step::Failed => next.is_failed = true,
+        Step::Picked { watermark } => next.watermark = job.watermark.or(Some(watermark)),
+        Step::Published { place, range } => {
+            next.published = job.published.or(Some(range));
+            next.ended = job.ended.or(Some(place));
+        }
+        Step::Empty { place } => {
+            next.is_empty = true;
+            next.ended = job.ended.or(Some(place));
+        }
+        Step::Cleaned => next.is_cleaned = true,
+        Step::Failed { place } => {
+            next.is_failed = true;
+            next.ended = job.ended.or(Some(place));
+        }
     }
     next
 }
@@ -73,7 +99,7 @@ fn stepped(job: JobNote, step: Step) -> JobNote
 fn is_working(job: JobNote) -> bool
     ensures { result ≡ is_working_note job }
 {
-    job.is_picked && !job.is_published && !job.is_empty && !job.is_failed
+    job.watermark.is_some() && job.published.is_none() && !job.is_empty && !job.is_failed
 }
 
 /// 1 where the job is at work, or 0.
@@ -108,19 +134,24 @@ impl Jobs {
         Ok(())
     }
 
-    /// Notes a job that was asked for.
-    pub fn add(&mut self)
+    /// Notes a job of that table and kind that was asked for at this place.
+    pub fn add(&mut self, table: u64, kind: JobKind, place: u64)
         requires room { 0 < self.old.room }
-        ensures notes { self.new.notes ≡ self.old.notes ++ new_job ∷ [] }
+        ensures notes { self.new.notes ≡ self.old.notes ++ new_job table kind place ∷ [] }
         ensures room { self.old.room ≤ self.new.room + 1 }
     {
         append(
             &mut self.notes,
             JobNote {
-                is_picked: false,
-                is_published: false,
+                table,
+                kind,
+                asked: place,
+                watermark: None,
+                published: None,
                 is_empty: false,
+                is_cleaned: false,
                 is_failed: false,
+                ended: None,
             },
         );
     }

@@ -12,7 +12,7 @@ mod openings;
 mod past;
 
 pub use book::Book;
-pub use jobs::{JobNote, Jobs, Step};
+pub use jobs::{JobNote, JobRange, Jobs, Step};
 pub use notes::{End, Held, TableNote, TransactionNote, is_open};
 pub use openings::OpeningNotes;
 pub use past::{ForgotNote, PastNotes, SpanNote};

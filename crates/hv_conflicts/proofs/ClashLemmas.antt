@@ -155,6 +155,9 @@ met-is wrote (Some (entry.Picked job watermark)) clash e = cc
 met-is wrote (Some (entry.Published job low high mark)) clash e = cc
 met-is wrote (Some (entry.Empty job)) clash e = cc
 met-is wrote (Some (entry.Cleaned job)) clash e = cc
+met-is wrote (Some (entry.Next txn statement number text)) clash e = cc
+met-is wrote (Some (entry.Did txn statement its_wrote)) clash e = cc
+met-is wrote (Some (entry.Alter txn table)) clash e = cc
 met-is wrote (Some (entry.Failed job cause)) clash e = cc
 met-is wrote (Some (entry.Forgot table write)) clash e = cc
 
@@ -177,6 +180,9 @@ unmet wrote (Some (entry.Picked job watermark)) e = refl
 unmet wrote (Some (entry.Published job low high mark)) e = refl
 unmet wrote (Some (entry.Empty job)) e = refl
 unmet wrote (Some (entry.Cleaned job)) e = refl
+unmet wrote (Some (entry.Next txn statement number text)) e = refl
+unmet wrote (Some (entry.Did txn statement its_wrote)) e = refl
+unmet wrote (Some (entry.Alter txn table)) e = refl
 unmet wrote (Some (entry.Failed job cause)) e = refl
 unmet wrote (Some (entry.Forgot table write)) e = refl
 

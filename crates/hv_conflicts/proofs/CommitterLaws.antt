@@ -116,6 +116,9 @@ named-next done state (entry.Picked job watermark) at h = all-front done (entry.
 named-next done state (entry.Published job low high mark) at h = all-front done (entry.Published job low high mark) state.transactions h
 named-next done state (entry.Empty job) at h = all-front done (entry.Empty job) state.transactions h
 named-next done state (entry.Cleaned job) at h = all-front done (entry.Cleaned job) state.transactions h
+named-next done state (entry.Next txn statement number text) at h = all-front done (entry.Next txn statement number text) state.transactions h
+named-next done state (entry.Did txn statement wrote) at h = all-front done (entry.Did txn statement wrote) state.transactions h
+named-next done state (entry.Alter txn table) at h = all-front done (entry.Alter txn table) state.transactions h
 named-next done state (entry.Failed job cause) at h = all-front done (entry.Failed job cause) state.transactions h
 named-next done state (entry.Forgot table write) at h = all-front done (entry.Forgot table write) state.transactions h
 

@@ -101,6 +101,9 @@ module _ (position : ℕ) where
   then-next state (entry.Published job low high mark) late = nothing-opened state.transactions state.transactions refl
   then-next state (entry.Empty job) late = nothing-opened state.transactions state.transactions refl
   then-next state (entry.Cleaned job) late = nothing-opened state.transactions state.transactions refl
+  then-next state (entry.Next txn statement number text) late = nothing-opened state.transactions state.transactions refl
+  then-next state (entry.Did txn statement wrote) late = nothing-opened state.transactions state.transactions refl
+  then-next state (entry.Alter txn table) late = nothing-opened state.transactions state.transactions refl
   then-next state (entry.Failed job cause) late = nothing-opened state.transactions state.transactions refl
   then-next state (entry.Forgot table write) late = nothing-opened state.transactions state.transactions refl
 

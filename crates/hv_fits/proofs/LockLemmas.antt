@@ -76,6 +76,9 @@ texts-next limits state (entry.Picked job watermark) fits h = h
 texts-next limits state (entry.Published job low high mark) fits h = h
 texts-next limits state (entry.Empty job) fits h = h
 texts-next limits state (entry.Cleaned job) fits h = h
+texts-next limits state (entry.Next txn statement number text) fits h = h
+texts-next limits state (entry.Did txn statement wrote) fits h = h
+texts-next limits state (entry.Alter txn table) fits h = h
 texts-next limits state (entry.Failed job cause) fits h = h
 texts-next limits state (entry.Forgot table write) fits h = h
 

@@ -49,6 +49,7 @@ fn abort_fits(book: &Book, limits: &Limits, txn: TxnId, cause: &Cause) -> bool
         Cause::WriteFault { count } => fault_fits(book, txn, *count),
         Cause::Memory => is_unended(book, txn),
         Cause::Lost => lost_fits(book, txn),
+        Cause::Rollback => false,
     }
 }
 
@@ -70,6 +71,7 @@ fn is_fitting(book: &Book, limits: &Limits, entry: &Entry, tree: Option<&Stmt>) 
         Entry::Asked { .. } | Entry::Picked { .. } => false,
         Entry::Published { .. } | Entry::Empty { .. } | Entry::Cleaned { .. } => false,
         Entry::Failed { .. } | Entry::Forgot { .. } => false,
+        Entry::Next { .. } | Entry::Did { .. } | Entry::Alter { .. } => false,
     }
 }
 

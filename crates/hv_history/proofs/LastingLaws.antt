@@ -210,6 +210,9 @@ transactions-later state (entry.Empty job) n t e = there Later transaction-same 
 transactions-later state (entry.Cleaned job) n t e = there Later transaction-same (numbered state.transactions n) t e
 transactions-later state (entry.Failed job cause) n t e = there Later transaction-same (numbered state.transactions n) t e
 transactions-later state (entry.Forgot table write) n t e = there Later transaction-same (numbered state.transactions n) t e
+transactions-later state (entry.Next txn statement number text) n t e = there Later transaction-same (numbered state.transactions n) t e
+transactions-later state (entry.Did txn statement wrote) n t e = there Later transaction-same (numbered state.transactions n) t e
+transactions-later state (entry.Alter txn table) n t e = there Later transaction-same (numbered state.transactions n) t e
 
 tables-later : (state : State) (event : Entry) (n : ℕ) (t : Table) → numbered state.tables n ≡ Some t
     → IsSomeAnd (numbered (after state event).tables n) (TableLater t)
@@ -229,6 +232,9 @@ tables-later state (entry.Published job low high mark) n t e = there TableLater 
 tables-later state (entry.Empty job) n t e = there TableLater table-same (numbered state.tables n) t e
 tables-later state (entry.Cleaned job) n t e = there TableLater table-same (numbered state.tables n) t e
 tables-later state (entry.Failed job cause) n t e = there TableLater table-same (numbered state.tables n) t e
+tables-later state (entry.Next txn statement number text) n t e = there TableLater table-same (numbered state.tables n) t e
+tables-later state (entry.Did txn statement wrote) n t e = there TableLater table-same (numbered state.tables n) t e
+tables-later state (entry.Alter txn table) n t e = there TableLater table-same (numbered state.tables n) t e
 
 pub goes-on : (state : State) (event : Entry) → GoesOn state (after state event)
 goes-on state event = record { transactions = transactions-later state event; tables = tables-later state event }
@@ -293,3 +299,6 @@ others-stay state (entry.Empty job) n t other e = e
 others-stay state (entry.Cleaned job) n t other e = e
 others-stay state (entry.Failed job cause) n t other e = e
 others-stay state (entry.Forgot table write) n t other e = e
+others-stay state (entry.Next txn statement number text) n t other e = e
+others-stay state (entry.Did txn statement wrote) n t other e = e
+others-stay state (entry.Alter txn table) n t other e = e

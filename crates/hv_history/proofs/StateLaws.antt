@@ -79,6 +79,9 @@ ended-stays state (entry.Empty job) n t d e h = e
 ended-stays state (entry.Cleaned job) n t d e h = e
 ended-stays state (entry.Failed job cause) n t d e h = e
 ended-stays state (entry.Forgot table write) n t d e h = e
+ended-stays state (entry.Next txn statement number text) n t d e h = e
+ended-stays state (entry.Did txn statement wrote) n t d e h = e
+ended-stays state (entry.Alter txn table) n t d e h = e
 
 pub ended-stays-all : (more : List Entry) (state : State) (n : ℕ) (transaction : Transaction) (ending : Ending)
     → numbered state.transactions n ≡ Some transaction → transaction.ending ≡ Some ending
@@ -160,6 +163,9 @@ rows-change_at_commits state (entry.Empty job) table h = refl
 rows-change_at_commits state (entry.Cleaned job) table h = refl
 rows-change_at_commits state (entry.Failed job cause) table h = refl
 rows-change_at_commits state (entry.Forgot forgotten write) table h = content-changed (forgot write.0) (λ t. refl) state.tables forgotten.0 table
+rows-change_at_commits state (entry.Next txn statement number text) table h = refl
+rows-change_at_commits state (entry.Did txn statement wrote) table h = refl
+rows-change_at_commits state (entry.Alter txn altered) table h = refl
 
 -- ---- identifiers
 

@@ -118,6 +118,8 @@ cause_text snapshot cause.PartitionLimit = refused_line refusal.PartitionLimit [
 cause_text snapshot cause.Memory = refused_line refusal.NoMemory []
 -- a run that stopped prints nothing, so this one is never shown
 cause_text snapshot cause.Lost = []
+-- and so is this one: the ROLLBACK prints its own line
+cause_text snapshot cause.Rollback = []
 
 -- ---- the answer
 

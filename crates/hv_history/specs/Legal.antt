@@ -280,8 +280,10 @@ CauseFits limits state txn cause.RowLimit transaction = IsRunning transaction
 CauseFits limits state txn cause.PartitionLimit transaction = IsRunning transaction
 CauseFits limits state txn cause.Memory transaction = IsTrue (is_open transaction)
 CauseFits limits state txn cause.Lost transaction = LostFits state transaction
+CauseFits limits state txn cause.Rollback transaction = ⊥
 
--- the entry fits a book that leaves this state; those of compaction and of forgetting come later
+-- the entry fits a book that leaves this state; those of compaction, of forgetting, of transactions of several statements and of added
+-- columns come later
 abbrev pub Fits : Limits → State → Entry → Type 0
 Fits limits state (entry.Boot run) = BootFits limits state run
 Fits limits state (entry.Opened txn session number text) = OpenedFits limits state txn.0 text

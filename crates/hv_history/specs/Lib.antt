@@ -4,6 +4,10 @@ pub mod Journal
 pub mod State
 pub mod Answers
 pub mod Legal
+pub mod Thresholds
+pub mod Jobs
+pub mod JobsFit
+pub mod JobsTrue
 pub mod Book
 pub mod Places
 pub mod Lasting

@@ -45,6 +45,7 @@ cause_spelling cause.RowLimit = 10 ∷ []
 cause_spelling cause.PartitionLimit = 11 ∷ []
 cause_spelling cause.Memory = 12 ∷ []
 cause_spelling cause.Lost = 13 ∷ []
+cause_spelling cause.Rollback = 15 ∷ []
 
 -- a job's causes keep the numbers of the same causes of a transaction; Gone has one of its own
 abbrev pub job_cause_spelling : JobCause → List ℕ
@@ -74,6 +75,10 @@ entry_spelling (entry.Empty job) = 12 ∷ eight_bytes job.0
 entry_spelling (entry.Cleaned job) = 13 ∷ eight_bytes job.0
 entry_spelling (entry.Failed job cause) = 14 ∷ eight_bytes job.0 ++ job_cause_spelling cause
 entry_spelling (entry.Forgot table write) = 15 ∷ eight_bytes table.0 ++ eight_bytes write.0
+entry_spelling (entry.Next txn statement number said) =
+    16 ∷ eight_bytes txn.0 ++ four_bytes statement ++ eight_bytes number ++ text_spelling said
+entry_spelling (entry.Did txn statement wrote) = 17 ∷ eight_bytes txn.0 ++ four_bytes statement ++ touches_spelling wrote
+entry_spelling (entry.Alter txn table) = 18 ∷ eight_bytes txn.0 ++ eight_bytes table.0
 
 -- What has a spelling: numbers within their widths, texts in UTF-8 and with lists below 2 ^ 32 long. Of
 -- what an entry of the code holds only the lengths are in doubt.
@@ -114,6 +119,7 @@ CauseHasSpelling cause.RowLimit = Unit {0}
 CauseHasSpelling cause.PartitionLimit = Unit {0}
 CauseHasSpelling cause.Memory = Unit {0}
 CauseHasSpelling cause.Lost = Unit {0}
+CauseHasSpelling cause.Rollback = Unit {0}
 
 abbrev pub JobCauseHasSpelling : JobCause → Type 0
 JobCauseHasSpelling (job_cause.ReadFault count) = IsU64 count
@@ -142,3 +148,6 @@ HasSpelling (entry.Empty job) = IsU64 job.0
 HasSpelling (entry.Cleaned job) = IsU64 job.0
 HasSpelling (entry.Failed job cause) = IsU64 job.0 × JobCauseHasSpelling cause
 HasSpelling (entry.Forgot table write) = IsU64 table.0 × IsU64 write.0
+HasSpelling (entry.Next txn statement number said) = IsU64 txn.0 × IsU32 statement × IsU64 number × IsText said
+HasSpelling (entry.Did txn statement wrote) = IsU64 txn.0 × IsU32 statement × TouchesHaveSpelling wrote
+HasSpelling (entry.Alter txn table) = IsU64 txn.0 × IsU64 table.0

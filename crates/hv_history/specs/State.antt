@@ -36,17 +36,20 @@ pub use Rattle.hv_history.specs.declared.state.Ending.{Ending}
 pub use Rattle.hv_history.specs.declared.state.Ending.TheVariants.{Committed, Aborted, Made, Dropped}
 pub use Rattle.hv_history.specs.declared.state.Transaction.{Transaction}
 
--- a compaction job, with what it was asked, and each step that it made
+-- A compaction job, with what it was asked, and each step that it made: `asked` is the place of its Asked, and `ended` that of
+-- the first entry that ended its work, which is a Published, an Empty or a Failed.
 pub record Job : Type 0 where
   pub table : ℕ
   pub partition : List ℕ
   pub kind : JobKind
   pub by : ℕ
+  pub asked : ℕ
   pub watermark : Option ℕ
   pub published : Option (ℕ × ℕ × ℕ)
   pub is_empty : Bool
   pub is_cleaned : Bool
   pub failure : Option JobCause
+  pub ended : Option ℕ
 
 -- The openings of the store: how many there were, where the last one's Boot stands, whether only Losts came behind it,
 -- and which counts of faults were kept since.
@@ -260,18 +263,38 @@ dropped table = record table { is_live = false }
 abbrev pub forgot : ℕ → Table → Table
 forgot write table = record table { forgotten = table.forgotten ++ write ∷ [] }
 
-abbrev pub asked : ℕ → List ℕ → JobKind → ℕ → Job
-asked table partition kind by = record {
+-- a job that is asked for at this place
+abbrev pub asked_job : ℕ → ℕ → List ℕ → JobKind → ℕ → Job
+asked_job place table partition kind by = record {
   table = table;
   partition = partition;
   kind = kind;
   by = by;
+  asked = place;
   watermark = None;
   published = None;
   is_empty = false;
   is_cleaned = false;
   failure = None;
+  ended = None;
 }
+
+-- its steps, each once: what comes later changes nothing
+abbrev pub picked : ℕ → Job → Job
+picked watermark job = record job { watermark = first_of job.watermark watermark }
+
+-- as ended at this place
+abbrev pub published_at : ℕ → ℕ × ℕ × ℕ → Job → Job
+published_at place range job = record job { published = first_of job.published range; ended = first_of job.ended place }
+
+abbrev pub empty_at : ℕ → Job → Job
+empty_at place job = record job { is_empty = true; ended = first_of job.ended place }
+
+abbrev pub failed_at : ℕ → JobCause → Job → Job
+failed_at place cause job = record job { failure = first_of job.failure cause; ended = first_of job.ended place }
+
+abbrev pub cleaned : Job → Job
+cleaned job = record job { is_cleaned = true }
 
 abbrev pub with_transaction : (Transaction → Transaction) → State → ℕ → State
 with_transaction f state txn = record state { transactions = changed (while_open f) state.transactions txn }
@@ -327,14 +350,18 @@ acted state (entry.Create txn table) =
 acted state (entry.Drop txn table) =
     record (with_transaction (ended (Dropped state.entries table.0)) state txn.0) { tables = changed dropped state.tables table.0 }
 acted state (entry.Asked job table partition kind by) =
-    record state { jobs = state.jobs ++ asked table.0 partition kind by ∷ [] }
-acted state (entry.Picked job watermark) = with_job (λ (j : Job). record j { watermark = first_of j.watermark watermark.0 }) state job.0
+    record state { jobs = state.jobs ++ asked_job state.entries table.0 partition kind by ∷ [] }
+acted state (entry.Picked job watermark) = with_job (picked watermark.0) state job.0
 acted state (entry.Published job low high mark) =
-    with_job (λ (j : Job). record j { published = first_of j.published (low.0, high.0, mark.0) }) state job.0
-acted state (entry.Empty job) = with_job (λ (j : Job). record j { is_empty = true }) state job.0
-acted state (entry.Cleaned job) = with_job (λ (j : Job). record j { is_cleaned = true }) state job.0
-acted state (entry.Failed job cause) = with_job (λ (j : Job). record j { failure = first_of j.failure cause }) state job.0
+    with_job (published_at state.entries (low.0, high.0, mark.0)) state job.0
+acted state (entry.Empty job) = with_job (empty_at state.entries) state job.0
+acted state (entry.Cleaned job) = with_job cleaned state job.0
+acted state (entry.Failed job cause) = with_job (failed_at state.entries cause) state job.0
 acted state (entry.Forgot table write) = record state { tables = changed (forgot write.0) state.tables table.0 }
+-- no book that fits has one of these yet
+acted state (entry.Next txn statement number text) = state
+acted state (entry.Did txn statement wrote) = state
+acted state (entry.Alter txn table) = state
 
 abbrev pub after : State → Entry → State
 after state event = record (acted state event) { entries = state.entries + 1; openings = openings_behind state.entries event state.openings }

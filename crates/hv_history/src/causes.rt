@@ -162,6 +162,6 @@ pub fn cause_text(
         Cause::RowLimit => refused_line(alloc, Refusal::RowLimit, ""),
         Cause::PartitionLimit => refused_line(alloc, Refusal::PartitionLimit, ""),
         Cause::Memory => refused_line(alloc, Refusal::NoMemory, ""),
-        Cause::Lost => Ok(Vec::new(alloc)),
+        Cause::Lost | Cause::Rollback => Ok(Vec::new(alloc)),
     }
 }

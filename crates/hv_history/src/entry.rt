@@ -85,6 +85,24 @@ pub enum Entry {
         table: TableId,
         write: WriteId,
     },
+    /// A session's statement was taken up inside its transaction, as the one of this number in it.
+    Next {
+        txn: TxnId,
+        statement: u32,
+        number: u64,
+        text: Text,
+    },
+    /// That statement is done, with its rows counted by table and partition, rising.
+    Did {
+        txn: TxnId,
+        statement: u32,
+        wrote: List<Touch>,
+    },
+    /// An ALTER TABLE committed, and columns were added to this table.
+    Alter {
+        txn: TxnId,
+        table: TableId,
+    },
 }
 
 /// The two compactions of Hive: a minor one merges deltas, a major one makes a base.
@@ -152,6 +170,8 @@ pub enum Cause {
     Memory,
     /// The run that held it stopped.
     Lost,
+    /// A ROLLBACK ended it, or the end of its session.
+    Rollback,
 }
 
 /// Why a compaction job ended without its directories.
@@ -207,6 +227,7 @@ impl Duplicate for Cause {
             Cause::PartitionLimit => Ok(Cause::PartitionLimit),
             Cause::Memory => Ok(Cause::Memory),
             Cause::Lost => Ok(Cause::Lost),
+            Cause::Rollback => Ok(Cause::Rollback),
         }
     }
 }
@@ -303,6 +324,30 @@ impl Duplicate for Entry {
             Entry::Forgot { table, write } => Ok(Entry::Forgot {
                 table: *table,
                 write: *write,
+            }),
+            Entry::Next {
+                txn,
+                statement,
+                number,
+                text,
+            } => Ok(Entry::Next {
+                txn: *txn,
+                statement: *statement,
+                number: *number,
+                text: text.duplicate(alloc)?,
+            }),
+            Entry::Did {
+                txn,
+                statement,
+                wrote,
+            } => Ok(Entry::Did {
+                txn: *txn,
+                statement: *statement,
+                wrote: wrote.duplicate(alloc)?,
+            }),
+            Entry::Alter { txn, table } => Ok(Entry::Alter {
+                txn: *txn,
+                table: *table,
             }),
         }
     }

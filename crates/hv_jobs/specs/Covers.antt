@@ -1,25 +1,14 @@
 -- What a compaction makes and which directories it covers, by its entries alone: the directories of its range, and those of earlier
 -- write ids in whose place they are read. What is covered is kept for whoever was there before the compaction was published.
 -- Source: Hive Transactions, base and delta directories, compactor, and cleaner.
-use Rattle.std.specs.Prelude.{if◌then◌else◌, ℕ, ◌+◌, ◌==◌, ◌&&◌, nat_eq, nat_lt, nat_le, not, is_none, Bool, true, false, Option, Some, None, List, [], ◌∷◌, filter}
-use Rattle.std.specs.Cmp.Lexicographic.{pointwise}
+use Rattle.std.specs.Prelude.{ℕ, ◌==◌, ◌&&◌, nat_lt, nat_le, not, Bool, true, false, Option, Some, None, List, [], ◌∷◌}
 use Rattle.std.specs.List.{list_any}
 use Rattle.hv_dirs.specs.declared.names.DirName.{DirName}
 use Rattle.hv_dirs.specs.declared.names.DirName.TheVariants as dir
 use Rattle.hv_history.specs.declared.entry.JobKind.{JobKind}
 use Rattle.hv_history.specs.declared.entry.JobKind.TheVariants as kind
-use Rattle.hv_history.specs.declared.state.Transaction.{Transaction}
 use Rattle.hv_history.specs.State.{State, Job}
-use Rattle.hv_history.specs.Legal.{is_open}
-
--- ---- the jobs of a partition
-
-abbrev pub is_job_of : ℕ → List ℕ → Job → Bool
-is_job_of table partition job = (job.table == table) && pointwise nat_eq job.partition partition
-
--- in the order in which they were asked for
-abbrev pub jobs_of : ℕ → List ℕ → List Job → List Job
-jobs_of table partition jobs = filter (is_job_of table partition) jobs
+use Rattle.hv_history.specs.Jobs.{is_past}
 
 -- ---- what a job makes, published with a range and a mark: two wide deltas, or a base
 
@@ -55,30 +44,6 @@ covers_by kind (Some range) name = covers_range kind range.0 range.1 name
 -- of a job that isn't published it is false
 abbrev pub covers : Job → DirName → Bool
 covers job name = covers_by job.kind job.published name
-
--- ---- who still needs that: the open transactions below the mark
-
--- the number of the first one that is open, where the first one's is given
-abbrev pub first_open : ℕ → List Transaction → Option ℕ
-first_open number [] = None
-first_open number (transaction ∷ transactions) =
-    if is_open transaction then Some number else first_open (number + 1) transactions
-
-abbrev pub if_below : ℕ → Option ℕ → Option ℕ
-if_below mark None = None
-if_below mark (Some txn) = if nat_lt txn mark then Some txn else None
-
--- the lowest open transaction below a mark
-abbrev pub holder : State → ℕ → Option ℕ
-holder state mark = if_below mark (first_open 1 state.transactions)
-
-abbrev pub is_past_by : State → Option (ℕ × ℕ × ℕ) → Bool
-is_past_by state None = false
-is_past_by state (Some range) = is_none (holder state range.2)
-
--- it is published, and no transaction below its mark is open
-abbrev pub is_past : State → Job → Bool
-is_past state job = is_past_by state job.published
 
 -- ---- directories that nobody needs any more
 

@@ -19,7 +19,7 @@ use Rattle.hv_history.specs.declared.entry.JobKind.TheVariants as kind
 use Rattle.hv_history.specs.declared.entry.FilePlace.{FilePlace}
 use Rattle.hv_history.specs.Spelling.{touch_spelling, touches_spelling, row_spelling, place_spelling, kind_spelling, cause_spelling, job_cause_spelling, entry_spelling, TouchHasSpelling, TouchesHaveSpelling, RowHasSpelling, PlaceHasSpelling, CauseHasSpelling, JobCauseHasSpelling, HasSpelling}
 use Rattle.hv_history.specs.Journal.{record_of, HasRecord}
-use Rattle.hv_journal.specs.Reading.{touch_at, touches_at, row_at, place_at, kind_at, refused_at, conflict_at, request_at, twice_at, blocked_at, read_fault_at, write_fault_at, damaged_at, cause_at, job_read_fault_at, job_write_fault_at, job_damaged_at, job_cause_at, boot_at, opened_at, start_at, given_at, commit_at, abort_at, create_at, drop_at as dropped_at, asked_at, picked_at, published_at, empty_at, cleaned_at, failed_at, forgot_at, entry_at, whole_of, record_at}
+use Rattle.hv_journal.specs.Reading.{touch_at, touches_at, row_at, place_at, kind_at, refused_at, conflict_at, request_at, twice_at, blocked_at, read_fault_at, write_fault_at, damaged_at, cause_at, job_read_fault_at, job_write_fault_at, job_damaged_at, job_cause_at, boot_at, opened_at, start_at, given_at, commit_at, abort_at, create_at, drop_at as dropped_at, asked_at, picked_at, published_at, empty_at, cleaned_at, failed_at, forgot_at, next_at, did_at, alter_at, entry_at, whole_of, record_at}
 
 pub touch_again : (t : Touch) (rest : List ℕ) → TouchHasSpelling t → touch_at (touch_spelling t ++ rest) ≡ Some (t, rest)
 unfolding touch_at touch_spelling
@@ -65,6 +65,7 @@ cause_again cause.RowLimit rest h = refl
 cause_again cause.PartitionLimit rest h = refl
 cause_again cause.Memory rest h = refl
 cause_again cause.Lost rest h = refl
+cause_again cause.Rollback rest h = refl
 
 pub job_cause_again : (e : JobCause) (rest : List ℕ) → JobCauseHasSpelling e → job_cause_at (job_cause_spelling e ++ rest) ≡ Some (e, rest)
 unfolding job_cause_at job_read_fault_at job_write_fault_at job_damaged_at
@@ -123,6 +124,18 @@ forgot_again : (table : ℕ) (write : ℕ) (rest : List ℕ) → IsU64 table →
 unfolding forgot_at
 forgot_again table write rest h0 h1 = simp append_assoc (rw (eight_again table _ h0, eight_again write _ h1) refl)
 
+next_again : (txn : ℕ) (statement : ℕ) (number : ℕ) (said : List ℕ) (rest : List ℕ) → IsU64 txn → IsU32 statement → IsU64 number → IsText said → next_at ((eight_bytes txn ++ four_bytes statement ++ eight_bytes number ++ text_spelling said) ++ rest) ≡ Some (entry.Next (record { 0 = txn }) statement number said, rest)
+unfolding next_at
+next_again txn statement number said rest h0 h1 h2 h3 = simp append_assoc (rw (eight_again txn _ h0, four_again statement _ h1, eight_again number _ h2, text_again said _ h3) refl)
+
+did_again : (txn : ℕ) (statement : ℕ) (wrote : List Touch) (rest : List ℕ) → IsU64 txn → IsU32 statement → TouchesHaveSpelling wrote → did_at ((eight_bytes txn ++ four_bytes statement ++ touches_spelling wrote) ++ rest) ≡ Some (entry.Did (record { 0 = txn }) statement wrote, rest)
+unfolding did_at
+did_again txn statement wrote rest h0 h1 h2 = simp append_assoc (rw (eight_again txn _ h0, four_again statement _ h1, touches_again wrote _ h2) refl)
+
+alter_again : (txn : ℕ) (table : ℕ) (rest : List ℕ) → IsU64 txn → IsU64 table → alter_at ((eight_bytes txn ++ eight_bytes table) ++ rest) ≡ Some (entry.Alter (record { 0 = txn }) (record { 0 = table }), rest)
+unfolding alter_at
+alter_again txn table rest h0 h1 = simp append_assoc (rw (eight_again txn _ h0, eight_again table _ h1) refl)
+
 pub entry_again : (e : Entry) (rest : List ℕ) → HasSpelling e → entry_at (entry_spelling e ++ rest) ≡ Some (e, rest)
 unfolding entry_at boot_at empty_at cleaned_at
 entry_again (entry.Boot run) rest h = rw (eight_again run rest h) refl
@@ -140,6 +153,9 @@ entry_again (entry.Empty job) rest h = rw (eight_again job.0 rest h) refl
 entry_again (entry.Cleaned job) rest h = rw (eight_again job.0 rest h) refl
 entry_again (entry.Failed job cause) rest h = failed_again job.0 cause rest h.0 h.1
 entry_again (entry.Forgot table write) rest h = forgot_again table.0 write.0 rest h.0 h.1
+entry_again (entry.Next txn statement number said) rest h = next_again txn.0 statement number said rest h.0 h.1 h.2 h.3
+entry_again (entry.Did txn statement wrote) rest h = did_again txn.0 statement wrote rest h.0 h.1 h.2
+entry_again (entry.Alter txn table) rest h = alter_again txn.0 table.0 rest h.0 h.1
 
 pub whole_again : (e : Entry) → HasSpelling e → whole_of (entry_spelling e) ≡ Some e
 unfolding whole_of

@@ -111,7 +111,8 @@ cause_fields_at tag rest =
     else (if tag == 11 then Some (cause.PartitionLimit, rest)
     else (if tag == 12 then Some (cause.Memory, rest)
     else (if tag == 13 then Some (cause.Lost, rest)
-    else None))))))))))))
+    else (if tag == 15 then Some (cause.Rollback, rest)
+    else None)))))))))))))
 
 unfoldable pub cause_at : List ℕ → Option (Cause × List ℕ)
 cause_at [] = None
@@ -242,6 +243,27 @@ forgot_at bytes = do
   write ← eight_at table.1
   Some (entry.Forgot (record { 0 = table.0 }) (record { 0 = write.0 }), write.1)
 
+unfoldable pub next_at : List ℕ → Option (Entry × List ℕ)
+next_at bytes = do
+  txn ← eight_at bytes
+  statement ← four_at txn.1
+  number ← eight_at statement.1
+  said ← text_at number.1
+  Some (entry.Next (record { 0 = txn.0 }) statement.0 number.0 said.0, said.1)
+
+unfoldable pub did_at : List ℕ → Option (Entry × List ℕ)
+did_at bytes = do
+  txn ← eight_at bytes
+  statement ← four_at txn.1
+  wrote ← touches_at statement.1
+  Some (entry.Did (record { 0 = txn.0 }) statement.0 wrote.0, wrote.1)
+
+unfoldable pub alter_at : List ℕ → Option (Entry × List ℕ)
+alter_at bytes = do
+  txn ← eight_at bytes
+  table ← eight_at txn.1
+  Some (entry.Alter (record { 0 = txn.0 }) (record { 0 = table.0 }), table.1)
+
 -- the fields behind an entry's tag
 abbrev pub fields_at : ℕ → List ℕ → Option (Entry × List ℕ)
 fields_at tag rest =
@@ -260,7 +282,10 @@ fields_at tag rest =
     else (if tag == 13 then cleaned_at rest
     else (if tag == 14 then failed_at rest
     else (if tag == 15 then forgot_at rest
-    else None))))))))))))))
+    else (if tag == 16 then next_at rest
+    else (if tag == 17 then did_at rest
+    else (if tag == 18 then alter_at rest
+    else None)))))))))))))))))
 
 unfoldable pub entry_at : List ℕ → Option (Entry × List ℕ)
 entry_at [] = None

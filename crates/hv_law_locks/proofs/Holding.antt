@@ -200,6 +200,9 @@ holds-after limits state (entry.Empty job) fits hold = absurd fits
 holds-after limits state (entry.Cleaned job) fits hold = absurd fits
 holds-after limits state (entry.Failed job cause) fits hold = absurd fits
 holds-after limits state (entry.Forgot table write) fits hold = absurd fits
+holds-after limits state (entry.Next txn statement number text) fits hold = absurd fits
+holds-after limits state (entry.Did txn statement wrote) fits hold = absurd fits
+holds-after limits state (entry.Alter txn table) fits hold = absurd fits
 
 -- ---- every book whose entries fit
 

@@ -29,7 +29,8 @@ use Rattle.hv_stands.specs.Files.{AreEncoded, IsLoose, IsOwn, ending_of, records
 use Rattle.hv_stands.specs.Sound.{IsOfCommitted}
 use Rattle.hv_stands.proofs.Numbers.{same_one}
 use Rattle.hv_stands.proofs.Soundness.{all-numbered}
-use Rattle.hv_jobs.specs.Covers.{is_job_of, jobs_of, names_by, job_names, covers_by, covers, is_freed, cleans, is_cleaned_away}
+use Rattle.hv_history.specs.Jobs.{is_job_of, jobs_of}
+use Rattle.hv_jobs.specs.Covers.{names_by, job_names, covers_by, covers, is_freed, cleans, is_cleaned_away}
 use Rattle.hv_law_made.specs.Made.{has_written, rec_cmp, delta_recs, is_up_to, rows_up_to, base_recs, in_partition, if_bare, some_or, name_file, write_names, names_in, has_events, is_made, jobs_at, made_recs, is_gone}
 use Rattle.hv_law_made.specs.Named.{HasNames, AllHaveNames}
 use Rattle.hv_law_made.specs.Standing.{IsStagedAt, is_live_table, is_live_at, Standing}

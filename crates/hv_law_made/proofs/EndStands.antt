@@ -17,7 +17,7 @@ use Rattle.hv_history.specs.State.{State, Job, numbered, acted, after, changed, 
 use Rattle.hv_history.specs.Legal.{is_open}
 use Rattle.hv_stands.specs.Files.{AreEncoded, IsLoose, IsOwn, IsUndone, ending_of}
 use Rattle.hv_stands.proofs.Numbers.{either, numbered-more}
-use Rattle.hv_jobs.specs.Covers.{is_past_by, is_past}
+use Rattle.hv_history.specs.Jobs.{is_past_by, is_past}
 use Rattle.hv_law_made.specs.Made.{made_recs, is_gone}
 use Rattle.hv_law_made.specs.Named.{AllHaveNames}
 use Rattle.hv_law_made.specs.Standing.{is_live_table, is_live_at, Standing}

@@ -14,3 +14,10 @@ pub mod PastLemmas
 pub mod EndStands
 pub mod CommitStands
 pub mod OpenStands
+pub mod NewNames
+pub mod NameBounds
+pub mod BookLemmas
+pub mod EntryStands
+pub mod RenameStands
+pub mod RecoverStands
+pub mod OpeningStands

@@ -75,7 +75,7 @@ module _ (shape : Shape) (writes : List Written) (place : Place) where
 
 -- ---- the names are of the format
 
-range-name : (k : JobKind) (o : Option (ℕ × ℕ × ℕ)) (name : DirName) → HasNamedRange o → IsIn name (names_by k o) → IsName name
+pub range-name : (k : JobKind) (o : Option (ℕ × ℕ × ℕ)) (name : DirName) → HasNamedRange o → IsIn name (names_by k o) → IsName name
 range-name k None name has at = absurd at
 range-name kind.Minor (Some range) name has (inl e) = subst IsName e has
 range-name kind.Minor (Some range) name has (inr (inl e)) = subst IsName e has

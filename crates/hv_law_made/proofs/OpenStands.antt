@@ -102,3 +102,6 @@ quiet-entries-stand state (entry.Empty j) files e standing = cc
 quiet-entries-stand state (entry.Failed j cause) files e standing = cc
 quiet-entries-stand state (entry.Cleaned j) files e standing = cc
 quiet-entries-stand state (entry.Forgot table write) files e standing = cc
+quiet-entries-stand state (entry.Next txn statement n text) files e standing = cc
+quiet-entries-stand state (entry.Did txn statement wrote) files e standing = cc
+quiet-entries-stand state (entry.Alter txn table) files e standing = cc

@@ -5,7 +5,7 @@ use Rattle.std.specs.List.{slice_get}
 use Rattle.hv_history.specs.declared.state.Transaction.{Transaction}
 use Rattle.hv_history.specs.State.{State, changed, changed_at}
 use Rattle.hv_history.specs.Legal.{is_open}
-use Rattle.hv_jobs.specs.Covers.{first_open, if_below, is_past_by}
+use Rattle.hv_history.specs.Jobs.{first_open, if_below, is_past_by}
 use Rattle.hv_law_made.specs.Laws.{IsMarked}
 
 abbrev pub is_open_one : Option Transaction → Bool

@@ -18,7 +18,8 @@ use Rattle.hv_history.specs.State.{State, Job, numbered, acted, after, changed, 
 use Rattle.hv_stands.specs.Files.{AreEncoded}
 use Rattle.hv_stands.proofs.Numbers.{same_one, changed-here}
 use Rattle.hv_stands.proofs.Soundness.{all-numbered}
-use Rattle.hv_jobs.specs.Covers.{is_job_of, jobs_of, is_past_by, range_names, names_by, job_names, covers, frees, is_freed, cleans, is_cleaned_away}
+use Rattle.hv_history.specs.Jobs.{is_job_of, jobs_of, is_past_by}
+use Rattle.hv_jobs.specs.Covers.{range_names, names_by, job_names, covers, frees, is_freed, cleans, is_cleaned_away}
 use Rattle.hv_law_made.specs.Made.{write_names, names_in, jobs_at, made_recs, is_gone}
 use Rattle.hv_law_made.specs.Named.{IsOfTable, HasNames, AllHaveNames}
 use Rattle.hv_law_made.specs.Standing.{Standing}

@@ -7,7 +7,8 @@ use Rattle.std.specs.List.{flat_map, list_any, slice_get}
 use Rattle.hv_dirs.specs.declared.names.DirName.{DirName}
 use Rattle.hv_history.specs.declared.state.Transaction.{Transaction}
 use Rattle.hv_history.specs.State.{State, Job, numbered, changed, changed_at}
-use Rattle.hv_jobs.specs.Covers.{is_job_of, jobs_of, first_open, if_below, is_past_by, names_by, job_names, covers_by, covers, frees, is_freed}
+use Rattle.hv_history.specs.Jobs.{is_job_of, jobs_of, first_open, if_below, is_past_by}
+use Rattle.hv_jobs.specs.Covers.{names_by, job_names, covers_by, covers, frees, is_freed}
 use Rattle.hv_law_visible.specs.Members.{IsIn}
 
 -- ---- a list of which one element is changed, or to which one comes

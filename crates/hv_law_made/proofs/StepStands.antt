@@ -13,7 +13,8 @@ use Rattle.hv_history.specs.declared.entry.Entry.TheVariants as entry
 use Rattle.hv_history.specs.declared.state.Table.{Table}
 use Rattle.hv_history.specs.State.{State, Job, numbered, acted, after, changed, first_of}
 use Rattle.hv_stands.specs.Files.{AreEncoded}
-use Rattle.hv_jobs.specs.Covers.{is_job_of, jobs_of, is_past_by, is_past, names_by, job_names, covers, frees, is_freed, cleans, is_cleaned_away}
+use Rattle.hv_history.specs.Jobs.{is_job_of, jobs_of, is_past_by, is_past}
+use Rattle.hv_jobs.specs.Covers.{names_by, job_names, covers, frees, is_freed, cleans, is_cleaned_away}
 use Rattle.hv_stands.proofs.Numbers.{same_one, numbered-more}
 use Rattle.hv_stands.proofs.Soundness.{all-numbered}
 use Rattle.hv_law_made.specs.Made.{names_in, is_made, jobs_at, is_spare}
@@ -108,6 +109,9 @@ job-steps-stand state (entry.Asked j table partition kind by) number job files e
 job-steps-stand state (entry.Published j low high mark) number job files e is names standing = cc
 job-steps-stand state (entry.Cleaned j) number job files e is names standing = cc
 job-steps-stand state (entry.Forgot table write) number job files e is names standing = cc
+job-steps-stand state (entry.Next txn statement n text) number job files e is names standing = cc
+job-steps-stand state (entry.Did txn statement wrote) number job files e is names standing = cc
+job-steps-stand state (entry.Alter txn table) number job files e is names standing = cc
 
 -- ---- a job that is asked for
 

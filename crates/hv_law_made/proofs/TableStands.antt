@@ -16,7 +16,7 @@ use Rattle.hv_history.specs.State.{State, Job, numbered, acted, after, changed, 
 use Rattle.hv_history.specs.Legal.{is_open}
 use Rattle.hv_stands.specs.Files.{AreEncoded, IsLoose, IsOwn, IsUndone, ending_of, own_dir}
 use Rattle.hv_stands.proofs.Numbers.{either, same_one, numbered-more}
-use Rattle.hv_jobs.specs.Covers.{first_open, if_below, is_past_by, is_past}
+use Rattle.hv_history.specs.Jobs.{first_open, if_below, is_past_by, is_past}
 use Rattle.hv_law_made.specs.Made.{made_recs}
 use Rattle.hv_law_made.specs.Named.{AllHaveNames}
 use Rattle.hv_law_made.specs.Standing.{is_live_table, is_live_at, Standing}

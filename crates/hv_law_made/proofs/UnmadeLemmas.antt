@@ -21,7 +21,8 @@ use Rattle.hv_stands.specs.Files.{ending_of, own_dir}
 use Rattle.hv_stands.specs.Sound.{IsDone, IsOfCommitted}
 use Rattle.hv_stands.proofs.Numbers.{same_one}
 use Rattle.hv_stands.proofs.Soundness.{all-numbered}
-use Rattle.hv_jobs.specs.Covers.{is_job_of, names_by, job_names}
+use Rattle.hv_history.specs.Jobs.{is_job_of}
+use Rattle.hv_jobs.specs.Covers.{names_by, job_names}
 use Rattle.hv_law_made.specs.Made.{write_names, names_in, jobs_at, recs_in, made_recs, is_spare_in, is_spare, is_gone_in, is_gone}
 use Rattle.hv_law_made.specs.Named.{HasNames}
 use Rattle.hv_law_made.specs.Standing.{IsStagedAt}

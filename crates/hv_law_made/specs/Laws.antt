@@ -19,7 +19,10 @@ use Rattle.hv_history.specs.declared.state.Table.{Table}
 use Rattle.hv_history.specs.declared.state.Written.{Written}
 use Rattle.hv_history.specs.State.{State, Job, numbered, after}
 use Rattle.hv_stands.specs.Files.{AreEncoded, IsLoose, IsOwn, IsUndone, ending_of, own_dir}
-use Rattle.hv_jobs.specs.Covers.{is_job_of, range_names, job_names, covers, is_past}
+use Rattle.hv_history.specs.Jobs.{is_job_of, is_past}
+use Rattle.hv_history.specs.JobsFit.{PublishedFits}
+use Rattle.hv_jobs.specs.Covers.{range_names, job_names, covers}
+use Rattle.hv_law_jobs.specs.Sound.{AreSoundJobs}
 use Rattle.hv_law_made.specs.Made.{made_recs, made_names, names_in, is_spare, is_gone, jobs_at}
 use Rattle.hv_law_made.specs.Named.{AllHaveNames}
 use Rattle.hv_law_made.specs.Standing.{HasFile, MayHold, IsStagedAt, is_live_at, Standing}
@@ -232,6 +235,12 @@ PublishedStands =
     → KeepsNames state (entry.Published job low high mark) → AreButFor (AsksAt (entry.Published job low high mark) state) before files
     → IsFiledFor (entry.Published job low high mark) state files
     → Standing state before → Standing (after state (entry.Published job low high mark)) files
+
+-- So it is of each job that may be published in a book whose entries fit.
+abbrev pub PublishedNamesAreNew : Type 0
+PublishedNamesAreNew =
+    (state : State) (number low high mark : ℕ) (job : Job) → AreSoundJobs state → numbered state.jobs number ≡ Some job → PublishedFits state low high mark job
+    → IsToPublish state number low high job
 
 -- ---- a write id, an aborted id, a table
 

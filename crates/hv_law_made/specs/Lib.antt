@@ -2,3 +2,4 @@ pub mod Made
 pub mod Standing
 pub mod Named
 pub mod Laws
+pub mod Entries

@@ -12,7 +12,7 @@ use Rattle.hv_dirs.specs.Names.{IsStagedAs, text_of}
 use Rattle.hv_history.specs.declared.state.Table.{Table}
 use Rattle.hv_history.specs.State.{State, Job, numbered}
 use Rattle.hv_stands.specs.Files.{AreEncoded, IsLoose}
-use Rattle.hv_jobs.specs.Covers.{is_job_of}
+use Rattle.hv_history.specs.Jobs.{is_job_of}
 use Rattle.hv_law_made.specs.Made.{made_recs, is_spare, is_gone}
 
 -- ---- files

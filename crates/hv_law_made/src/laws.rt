@@ -1,4 +1,5 @@
-ghost use Rattle.hv_law_made.specs.Laws.{ChangesStand, PutsAreUnmade, QuietStands, NewNamesAreFree, JobStepsStand, CleanedStands, AskedStands, PublishedStands, GivenStands, ForgottenStands, DroppedStands, CreatedStands, CommittedStands, OpenedStands, QuietEntriesStand};
+ghost use Rattle.hv_law_made.specs.Entries.{BooksGoOn, BooksAreSound, BooksHaveNames, StandingGoesOn, RenamesStand, FrontsRecover, RecoveredGoOn};
+ghost use Rattle.hv_law_made.specs.Laws.{ChangesStand, PutsAreUnmade, QuietStands, NewNamesAreFree, JobStepsStand, CleanedStands, AskedStands, PublishedStands, GivenStands, ForgottenStands, DroppedStands, CreatedStands, CommittedStands, OpenedStands, PublishedNamesAreNew, QuietEntriesStand};
 
 /// The book makes nothing where writes and jobs put.
 pub fn puts_are_unmade()
@@ -73,4 +74,44 @@ pub fn opened_stands()
 /// And so do an opening of the store, a start, an abort.
 pub fn quiet_entries_stand()
     ensures law { QuietEntriesStand }
+{}
+
+/// What a job is about to publish has new names.
+pub fn published_names_are_new()
+    ensures law { PublishedNamesAreNew }
+{}
+
+/// A book of few enough entries has names for all its directories.
+pub fn books_have_names()
+    ensures law { BooksHaveNames }
+{}
+
+/// What is said of books with jobs holds behind each entry that fits.
+pub fn books_go_on()
+    ensures law { BooksGoOn }
+{}
+
+/// So it holds of every book whose entries fit.
+pub fn books_are_sound()
+    ensures law { BooksAreSound }
+{}
+
+/// Each entry that fits keeps the files standing, where they are as it asks.
+pub fn standing_goes_on()
+    ensures law { StandingGoesOn }
+{}
+
+/// Staged directories that get their names have what they are to have, and the book may be told.
+pub fn renames_stand()
+    ensures law { RenamesStand }
+{}
+
+/// A front of the renames leaves what an opening accepts.
+pub fn fronts_recover()
+    ensures law { FrontsRecover }
+{}
+
+/// An opening that finds all directories of a job tells the book, and goes on so for the others.
+pub fn recovered_go_on()
+    ensures law { RecoveredGoOn }
 {}

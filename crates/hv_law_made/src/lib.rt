@@ -4,7 +4,9 @@
 mod laws;
 
 pub use laws::{
-    asked_stands, changes_stand, cleaned_stands, committed_stands, created_stands, dropped_stands,
-    forgotten_stands, given_stands, job_steps_stand, new_names_are_free, opened_stands,
-    published_stands, puts_are_unmade, quiet_entries_stand, quiet_stands,
+    asked_stands, books_are_sound, books_go_on, books_have_names, changes_stand, cleaned_stands,
+    committed_stands, created_stands, dropped_stands, forgotten_stands, fronts_recover,
+    given_stands, job_steps_stand, new_names_are_free, opened_stands, published_names_are_new,
+    published_stands, puts_are_unmade, quiet_entries_stand, quiet_stands, recovered_go_on,
+    renames_stand, standing_goes_on,
 };

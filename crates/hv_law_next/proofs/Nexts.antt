@@ -354,6 +354,7 @@ module _ (book : List Entry) (txn : ℕ) (t : Transaction) (at : numbered (state
   abort-next cause.PartitionLimit sound running fits truth steady order = means (abort txn cause.PartitionLimit) fits (Some PartitionLimit) truth refl
   abort-next cause.Memory sound running fits truth steady order = absurd steady
   abort-next cause.Lost sound running fits truth steady order = absurd (never s.openings.only_lost running fits.behind)
+  abort-next cause.Rollback sound running fits truth steady order = absurd fits
 
   -- ---- how many are left
 

@@ -1,5 +1,5 @@
 -- What is so of a transaction from its snapshot on, from entry to entry.
-use Rattle.std.proofs.Common.{refl, ◌≡◌, ◌⊎◌, inl, inr, ℕ, ◌+◌, ◌==◌, ◌<◌, ◌≤◌, not, is_some, Option, Some, None, List, [], ◌∷◌, ◌++◌, length, map, filter, sym, ap, ◌∙◌, subst, arith, append_assoc, length-append}
+use Rattle.std.proofs.Common.{refl, ◌≡◌, inl, inr, ℕ, ◌+◌, ◌<◌, ◌≤◌, not, is_some, Option, Some, None, List, [], ◌∷◌, ◌++◌, length, map, filter, sym, ap, ◌∙◌, subst, arith, append_assoc, length-append}
 use Rattle.std.specs.Prelude.{IsTrue, IsFalse}
 use Rattle.std.specs.List.{slice_get, flat_map, AllByRecursion}
 use Rattle.std.proofs.lemmas.List.{append-nil}
@@ -21,15 +21,16 @@ use Rattle.hv_history.specs.declared.state.Table.{Table}
 use Rattle.hv_history.specs.declared.state.Transaction.{Transaction}
 use Rattle.hv_history.specs.declared.state.Written.{Written}
 use Rattle.hv_history.specs.Lasting.{IsFront, TableLater}
-use Rattle.hv_history.specs.Legal.{StartFits, GivenFits, Fits}
+use Rattle.hv_history.specs.Legal.{StartFits, GivenFits}
+use Rattle.hv_history.specs.JobsFit.{JobFits}
 use Rattle.hv_history.specs.State.{State, numbered, changed_at, content_of, is_deleted, given_in, first_of, first_known, meaning, statement_meaning, meaning_in, means, meant_in, wrote_as, while_open, opened, started, given_id, committed, ended, acted, after}
 use Rattle.hv_history.proofs.LastingLaws.{goes-on}
 use Rattle.hv_stands.specs.Files.{ending_of}
-use Rattle.hv_stands.specs.Sound.{IsRoutedWrite, HasSoundWrites, IsOfCommitted, AreOfCommitted, IsSingle, info_in, IsSound}
+use Rattle.hv_stands.specs.Sound.{IsRoutedWrite, HasSoundWrites, IsOfCommitted, AreOfCommitted, IsSingle, info_in, IsSoundBase}
 use Rattle.hv_stands.proofs.Numbers.{same_one, none_is, found, numbered-within}
 use Rattle.hv_stands.proofs.Soundness.{all-mapped, all-more, all-numbered, all-changed}
 use Rattle.hv_stands.proofs.Keeping.{open-by, all-open}
-use Rattle.hv_stands.proofs.Written.{of-tables}
+use Rattle.hv_stands.proofs.Written.{of-base}
 use Rattle.hv_law_visible.proofs.SortingLemmas.{from-sorted}
 use Rattle.hv_law_visible.specs.Members.{IsIn}
 use Rattle.hv_law_visible.specs.History.{write_of}
@@ -84,7 +85,7 @@ KnowsBy tables (Some snapshot) given m = KnowsSince tables snapshot.tables given
 abbrev pub Knows : List Table → Transaction → Type 0
 Knows tables t = KnowsBy tables t.snapshot t.given (meaning t)
 
-knows-later : (tables next : List Table) → TablesGoOn tables next → (o : Option Snapshot) (given : List (ℕ × ℕ)) (m : Option Meaning)
+pub knows-later : (tables next : List Table) → TablesGoOn tables next → (o : Option Snapshot) (given : List (ℕ × ℕ)) (m : Option Meaning)
     → KnowsBy tables o given m → KnowsBy next o given m
 knows-later tables next on None given m h = h
 knows-later tables next on (Some snapshot) given m h = record {
@@ -95,7 +96,7 @@ knows-later tables next on (Some snapshot) given m h = record {
 
 -- ---- at its Start
 
-content-below : (s : State) (number : ℕ) (table : Table) → IsSound s → numbered s.tables number ≡ Some table
+content-below : (s : State) (number : ℕ) (table : Table) → IsSoundBase s → numbered s.tables number ≡ Some table
     → (row : Found) → IsIn row (content_of table.writes) → write_of row.id ≤ length table.owners
 unfolding content_of
 content-below s number table sound is row at =
@@ -110,7 +111,7 @@ content-below s number table sound is row at =
     let one = all-in (IsOfCommitted (map ending_of s.transactions) table.owners) table.writes k.0 all k.1 in
     subst (λ n. n ≤ length table.owners) (sym write_is) (numbered-within table.owners k.0.write one.0 one.1).1
 
-deletes-stood : (s : State) (text : List ℕ) (info : TableInfo) (effect : Effect) → IsSound s → meaning_in s text ≡ Some (Change info effect)
+deletes-stood : (s : State) (text : List ℕ) (info : TableInfo) (effect : Effect) → IsSoundBase s → meaning_in s text ≡ Some (Change info effect)
     → (before : Table) × (numbered s.tables info.table.0 ≡ Some before) × StoodIn before effect
 unfolding meaning_in
 deletes-stood s text info effect sound = by (tree_of text)
@@ -118,7 +119,7 @@ deletes-stood s text info effect sound = by (tree_of text)
     by : (o : Option Stmt) → means s o ≡ Some (Change info effect) → (before : Table) × (numbered s.tables info.table.0 ≡ Some before) × StoodIn before effect
     by None e = cc
     by (Some tree) e =
-        let there = of-tables s tree info effect sound e in
+        let there = of-base s tree info effect sound e in
         let table : Table = there.change.table in (
           table,
           there.change.here,
@@ -130,7 +131,7 @@ deletes-stood s text info effect sound = by (tree_of text)
 pub meaning-single : (t : Transaction) (statement : Statement) → t.statements ≡ statement ∷ [] → meaning t ≡ statement.meaning
 meaning-single t statement one = ap (λ ss. statement_meaning (slice_get ss 0)) one
 
-start-since : (s : State) (t : Transaction) → IsSound s → IsSingle (map info_in s.tables) t → (t.given ≡ []) × (meaning t ≡ None)
+start-since : (s : State) (t : Transaction) → IsSoundBase s → IsSingle (map info_in s.tables) t → (t.given ≡ []) × (meaning t ≡ None)
     → KnowsSince s.tables s.tables t.given (meaning (started s 0 t))
 start-since s t sound single none =
     let statement : Statement = single.statement in
@@ -148,7 +149,7 @@ none-some : {A : Type 0} (o : Option A) → IsFalse (is_some o) → o ≡ None
 none-some None h = refl
 none-some (Some x) h = cc
 
-start-knows : (s : State) (t : Transaction) → IsSound s → IsSingle (map info_in s.tables) t → t.snapshot ≡ None → Knows s.tables t → Knows s.tables (started s 0 t)
+start-knows : (s : State) (t : Transaction) → IsSoundBase s → IsSingle (map info_in s.tables) t → t.snapshot ≡ None → Knows s.tables t → Knows s.tables (started s 0 t)
 start-knows s t sound single none h =
     let snapshot : Snapshot = record { place = s.entries; tables = s.tables } in
     subst (λ o. KnowsBy s.tables (first_of o snapshot) t.given (meaning (started s 0 t))) (sym none)
@@ -180,7 +181,7 @@ meaning-wrote : (given : List (ℕ × ℕ)) (ss : List Statement) → statement_
 meaning-wrote given [] = refl
 meaning-wrote given (statement ∷ ss) = refl
 
-pub knows-after : (limits : Limits) (s : State) (event : Entry) → Fits limits s event → IsSound s → AllByRecursion (Knows s.tables) s.transactions
+pub knows-after : (limits : Limits) (s : State) (event : Entry) → JobFits limits s event → IsSoundBase s → AllByRecursion (Knows s.tables) s.transactions
     → AllByRecursion (Knows (after s event).tables) (after s event).transactions
 unfolding acted
 knows-after limits s (entry.Boot run) fits sound h = h
@@ -223,4 +224,14 @@ knows-after limits s (entry.Drop txn table) fits sound h =
     let on : TablesGoOn s.tables next = tables-go-on s (entry.Drop txn table) in
     all-open (Knows next) (ended (Dropped s.entries table.0)) (λ t k. k) s.transactions txn.0
     (all-mapped (Knows s.tables) (Knows next) (λ u k. knows-later s.tables next on u.snapshot u.given (meaning u) k) s.transactions h)
+knows-after limits s (entry.Asked job table partition kind by) fits sound h = h
+knows-after limits s (entry.Picked job mark) fits sound h = h
+knows-after limits s (entry.Published job low high mark) fits sound h = h
+knows-after limits s (entry.Empty job) fits sound h = h
+knows-after limits s (entry.Cleaned job) fits sound h = h
+knows-after limits s (entry.Failed job cause) fits sound h = h
+knows-after limits s (entry.Forgot table write) fits sound h =
+    all-mapped (Knows s.tables) (Knows (after s (entry.Forgot table write)).tables)
+    (λ t known. knows-later s.tables (after s (entry.Forgot table write)).tables (tables-go-on s (entry.Forgot table write)) t.snapshot t.given (meaning t) known)
+    s.transactions h
 knows-after limits s event fits sound h = absurd fits

@@ -20,13 +20,15 @@ use Rattle.hv_history.specs.declared.state.Table.{Table}
 use Rattle.hv_history.specs.declared.state.Transaction.{Transaction}
 use Rattle.hv_history.specs.declared.state.Written.{Written}
 use Rattle.hv_history.specs.Lasting.{IsFront, Later}
-use Rattle.hv_history.specs.Legal.{CommitFits, Fits, AllFit}
-use Rattle.hv_history.specs.State.{State, numbered, changed, changed_at, nothing_yet, state_of, given_in, meaning, wrote_as, writes_of, written_by, owned, dropped, written_to, commits, tables_behind, made_by, acted, after}
+use Rattle.hv_history.specs.Legal.{CommitFits}
+use Rattle.hv_history.specs.JobsFit.{JobFits, AllJobsFit}
+use Rattle.hv_history.specs.State.{State, numbered, changed, changed_at, forgot, nothing_yet, state_of, given_in, meaning, wrote_as, writes_of, written_by, owned, dropped, written_to, commits, tables_behind, made_by, acted, after}
 use Rattle.hv_history.proofs.LastingLaws.{kept-more, goes-on}
-use Rattle.hv_stands.specs.Sound.{info_in, given_of, owners_of, given_among, IsSingle, IsSound}
+use Rattle.hv_stands.specs.Sound.{info_in, given_of, owners_of, given_among, IsSingle, IsSoundBase}
 use Rattle.hv_stands.proofs.Numbers.{one_value, same_one, found, numbered-map, numbered-or-last}
 use Rattle.hv_stands.proofs.Soundness.{all-numbered}
-use Rattle.hv_stands.proofs.Keeping.{owner-table, sound-after, nothing-sound}
+use Rattle.hv_stands.proofs.Keeping.{owner-table}
+use Rattle.hv_stands.proofs.JobKeeping.{base-next, nothing-base, all-fit-so}
 use Rattle.hv_law_visible.specs.Members.{IsIn}
 use Rattle.hv_law_visible.specs.History.{Write, write_of}
 use Rattle.hv_law_visible.proofs.MemberLemmas.{in-either, from-map}
@@ -78,7 +80,7 @@ changed-slice f (x ∷ xs) (suc n) (suc k) y e =
     let m = changed-slice f xs n k y e in
     (m.0, m.1, elim m.2 [ inl same ↦ inl same | inr new ↦ inr (ap suc new.0, new.1) ])
 
-changed-from : {A : Type 0} (f : A → A) (xs : List A) (n k : ℕ) (y : A) → numbered (changed f xs n) k ≡ Some y
+pub changed-from : {A : Type 0} (f : A → A) (xs : List A) (n k : ℕ) (y : A) → numbered (changed f xs n) k ≡ Some y
     → (x : A) × (numbered xs k ≡ Some x) × ((y ≡ x) ⊎ ((k ≡ n) × (y ≡ f x)))
 changed-from f xs zero k y e = (y, e, inl refl)
 changed-from f xs (suc n) zero y e = cc
@@ -165,7 +167,7 @@ single-writes infos t single =
 
 -- ---- the write of a commit
 
-module _ (s : State) (event : Entry) (sound : IsSound s) (n : ℕ) (t : Transaction) (at : numbered s.transactions n ≡ Some t)
+module _ (s : State) (event : Entry) (sound : IsSoundBase s) (n : ℕ) (t : Transaction) (at : numbered s.transactions n ≡ Some t)
     (info : TableInfo) (effect : Effect) (write : ℕ) (means : meaning t ≡ Some (Change info effect)) (given : given_in info.table.0 t.given ≡ Some write) where
   new-stood : (next : Table) → numbered (after s event).tables info.table.0 ≡ Some next → (o : Option Snapshot) → t.snapshot ≡ o → IsTrue (is_some o)
       → KnowsBy s.tables o t.given (meaning t) → StoodAtSnapshot (after s event) info.table.0 next (written_by info.shape write 0 effect)
@@ -206,7 +208,7 @@ old-stood : (s : State) (event : Entry) (number : ℕ) (next : Table) (written :
 old-stood s event number next written h now was =
     stood-later s event number was.0 next written was.1 now (h number was.0 written was.1 was.2)
 
-module _ (s : State) (event : Entry) (sound : IsSound s) (knows : AllByRecursion (Knows s.tables) s.transactions) (stood : AllStood s)
+module _ (s : State) (event : Entry) (sound : IsSoundBase s) (knows : AllByRecursion (Knows s.tables) s.transactions) (stood : AllStood s)
     (n : ℕ) (t : Transaction) (at : numbered s.transactions n ≡ Some t) (taken : IsTrue (is_some t.snapshot))
     (tables : (after s event).tables ≡ tables_behind (commits (Some t)) s.tables) where
   commit-stood : AllStood (after s event)
@@ -229,7 +231,7 @@ module _ (s : State) (event : Entry) (sound : IsSound s) (knows : AllByRecursion
                 (all-numbered (Knows s.tables) s.transactions n t at knows)))
           ]
 
-stood-after : (limits : Limits) (s : State) (event : Entry) → Fits limits s event → IsSound s → AllByRecursion (Knows s.tables) s.transactions → AllStood s → AllStood (after s event)
+stood-after : (limits : Limits) (s : State) (event : Entry) → JobFits limits s event → IsSoundBase s → AllByRecursion (Knows s.tables) s.transactions → AllStood s → AllStood (after s event)
 unfolding acted
 stood-after limits s (entry.Boot run) fits sound knows h = λ number next written now here. old-stood s (entry.Boot run) number next written h now (next, now, here)
 stood-after limits s (entry.Opened txn session count text) fits sound knows h = λ number next written now here.
@@ -248,30 +250,50 @@ stood-after limits s (entry.Create txn table) fits sound knows h = λ number nex
     (made-was s.tables (made_by table.0 (numbered s.transactions txn.0)) refl number next written now here)
 stood-after limits s (entry.Drop txn table) fits sound knows h = λ number next written now here.
     old-stood s (entry.Drop txn table) number next written h now (dropped-was table.0 s.tables number next written now here)
+stood-after limits s (entry.Forgot table write) fits sound knows h = λ number next written now here.
+    old-stood s (entry.Forgot table write) number next written h now (kept-was (forgot write.0) (λ t. refl) table.0 s.tables number next written now here)
+stood-after limits s (entry.Asked job table partition kind by) fits sound knows h = λ number next written now here.
+    old-stood s (entry.Asked job table partition kind by) number next written h now (next, now, here)
+stood-after limits s (entry.Picked job mark) fits sound knows h = λ number next written now here.
+    old-stood s (entry.Picked job mark) number next written h now (next, now, here)
+stood-after limits s (entry.Published job low high mark) fits sound knows h = λ number next written now here.
+    old-stood s (entry.Published job low high mark) number next written h now (next, now, here)
+stood-after limits s (entry.Empty job) fits sound knows h = λ number next written now here.
+    old-stood s (entry.Empty job) number next written h now (next, now, here)
+stood-after limits s (entry.Cleaned job) fits sound knows h = λ number next written now here.
+    old-stood s (entry.Cleaned job) number next written h now (next, now, here)
+stood-after limits s (entry.Failed job cause) fits sound knows h = λ number next written now here.
+    old-stood s (entry.Failed job cause) number next written h now (next, now, here)
 stood-after limits s event fits sound knows h = absurd fits
 
-stood-all : (limits : Limits) (s : State) (more : List Entry) → AllFit limits s more → IsSound s → AllByRecursion (Knows s.tables) s.transactions → AllStood s
+stood-all : (limits : Limits) (s : State) (more : List Entry) → AllJobsFit limits s more → IsSoundBase s → AllByRecursion (Knows s.tables) s.transactions → AllStood s
     → AllStood (fold after s more)
 stood-all limits s [] fit sound knows h = h
 stood-all limits s (event ∷ more) fit sound knows h =
-    stood-all limits (after s event) more fit.1 (sound-after limits s event fit.0 sound) (knows-after limits s event fit.0 sound knows)
+    stood-all limits (after s event) more fit.1 (base-next limits s event fit.0 sound) (knows-after limits s event fit.0 sound knows)
     (stood-after limits s event fit.0 sound knows h)
 
 pub nothing-numbered : (number : ℕ) (table : Table) → numbered {A = Table} [] number ≡ Some table → ⊥
 nothing-numbered zero table e = cc
 nothing-numbered (suc n) table e = cc
 
+pub deleted-stood-so : (limits : Limits) (entries : List Entry) (number : ℕ) (table : Table) (written : Written) → AllJobsFit limits nothing_yet entries
+    → numbered (state_of entries).tables number ≡ Some table → IsIn written table.writes → StoodAtSnapshot (state_of entries) number table written
+deleted-stood-so limits entries number table written fit is at =
+    stood-all limits nothing_yet entries fit nothing-base tt (λ n t w e here. absurd (nothing-numbered n t e)) number table written is at
+
 pub deleted-stood : DeletedRowsStood
 deleted-stood limits entries number table written fit is at =
-    stood-all limits nothing_yet entries fit nothing-sound tt (λ n t w e here. absurd (nothing-numbered n t e)) number table written is at
+    deleted-stood-so limits entries number table written (all-fit-so limits nothing_yet entries fit) is at
 
 -- ---- in a partition
 
 front-map : {A B : Type 0} (f : A → B) (xs ys : List A) → IsFront xs ys → IsFront (map f xs) (map f ys)
 front-map f xs ys front = record { more = map f front.more; is = ap (map f) front.is ∙ map-append f xs front.more }
 
-pub deletes-later : DeletesAreLater
-deletes-later limits entries table partition w id fit among deleted = by (numbered (state_of entries).tables table) refl among
+pub deletes-later-so : (limits : Limits) (entries : List Entry) (table : ℕ) (partition : List ℕ) (w : Write Found) (id : RowId) → AllJobsFit limits nothing_yet entries
+    → IsIn w (writes_in (state_of entries) table partition) → IsIn id w.deletes → IsDeletedLater (state_of entries) table partition w id
+deletes-later-so limits entries table partition w id fit among deleted = by (numbered (state_of entries).tables table) refl among
   where
     by : (o : Option Table) → numbered (state_of entries).tables table ≡ o → IsIn w (parts.writes_of partition (written_in o)) → IsDeletedLater (state_of entries) table partition w id
     by None is at = absurd at
@@ -279,7 +301,7 @@ deletes-later limits entries table partition w id fit among deleted = by (number
         let m = from-map (write_in partition) w t.writes at in
         let k = from-map id_of id (rows_of partition m.0.deletes) (subst (λ (v : Write Found). IsIn id v.deletes) (sym m.2) deleted) in
         let row = from-rows partition k.0 m.0.deletes k.1 in
-        let h = deleted-stood limits entries table t m.0 fit is m.1 in
+        let h = deleted-stood-so limits entries table t m.0 fit is m.1 in
         let each = h.each k.0 row.0 in
         let seen_is : h.before.writes ≡ written_in (numbered h.snapshot.tables table) = ap written_in (sym h.stood) in
         let now_is : t.writes ≡ written_in (numbered (state_of entries).tables table) = ap written_in (sym is) in
@@ -302,6 +324,10 @@ deletes-later limits entries table partition w id fit among deleted = by (number
           });
           earlier = subst (λ (i : RowId). write_of i < w.write) k.2 (subst (λ (v : Write Found). write_of k.0.id < v.write) m.2 under);
         }
+
+pub deletes-later : DeletesAreLater
+deletes-later limits entries table partition w id fit among deleted =
+    deletes-later-so limits entries table partition w id (all-fit-so limits nothing_yet entries fit) among deleted
 
 pub history-sound : HistoryIsSound
 history-sound limits entries table partition most fit =

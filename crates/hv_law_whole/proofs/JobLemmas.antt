@@ -12,7 +12,8 @@ use Rattle.hv_history.specs.declared.entry.JobKind.TheVariants as kind
 use Rattle.hv_history.specs.declared.state.Transaction.{Transaction}
 use Rattle.hv_history.specs.State.{State, Job}
 use Rattle.hv_history.specs.Legal.{is_open}
-use Rattle.hv_jobs.specs.Covers.{names_by, job_names, covers_range, covers_by, covers, first_open, if_below, holder, is_past_by, is_past, frees, is_freed}
+use Rattle.hv_history.specs.Jobs.{first_open, if_below, holder, is_past_by, is_past}
+use Rattle.hv_jobs.specs.Covers.{names_by, job_names, covers_range, covers_by, covers, frees, is_freed}
 use Rattle.hv_law_visible.specs.Members.{IsIn}
 use Rattle.hv_law_visible.specs.History.{Compaction, Minor, Major, end_of, mark_of, CoversDelta, CoversBase}
 use Rattle.hv_law_visible.specs.Stands.{IsLoose, IsLooseBase}

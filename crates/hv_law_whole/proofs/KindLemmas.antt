@@ -30,7 +30,8 @@ use Rattle.hv_stands.specs.Files.{records_of, ending_of}
 use Rattle.hv_stands.specs.Files as stands
 use Rattle.hv_stands.specs.Sound.{IsDone, IsOfCommitted}
 use Rattle.hv_stands.proofs.Numbers.{one_value, same_one, numbered-map, either}
-use Rattle.hv_jobs.specs.Covers.{is_job_of, jobs_of, is_freed}
+use Rattle.hv_history.specs.Jobs.{is_job_of, jobs_of}
+use Rattle.hv_jobs.specs.Covers.{is_freed}
 use Rattle.hv_law_made.specs.Made.{has_written, rec_cmp, delta_recs, base_recs, some_or, name_file, names_in, is_made, made_recs, is_spare}
 use Rattle.hv_law_made.specs.Standing.{HasFile, is_live_table, is_live_at, MayHold, Standing}
 use Rattle.hv_law_visible.specs.Members.{IsIn}

@@ -3,3 +3,13 @@ pub mod NamedLemmas
 pub mod BaseLemmas
 pub mod KindLemmas
 pub mod WholeLemmas
+pub mod TouchLemmas
+pub mod OnceLemmas
+pub mod SeenLemmas
+pub mod KeptLemmas
+pub mod RangeLemmas
+pub mod GatherLemmas
+pub mod CoveredLemmas
+pub mod DistinctLemmas
+pub mod SaidLemmas
+pub mod ListedLemmas

@@ -8,7 +8,7 @@ use Rattle.hv_choosing.specs.Taken.{delta_name}
 use Rattle.hv_history.specs.declared.state.Table.{Table}
 use Rattle.hv_history.specs.declared.state.Written.{Written}
 use Rattle.hv_history.specs.State.{State, Job}
-use Rattle.hv_jobs.specs.Covers.{jobs_of}
+use Rattle.hv_history.specs.Jobs.{jobs_of}
 use Rattle.hv_law_made.specs.Made.{has_written, in_partition, has_events, is_made}
 use Rattle.hv_law_visible.specs.Members.{IsIn}
 use Rattle.hv_law_visible.specs.History.{Write, Compaction, inserts_in, deletes_in, by_deleter}

@@ -1,1 +1,4 @@
 pub mod Whole
+pub mod Shown
+pub mod Gathered
+pub mod Covered

@@ -12,7 +12,7 @@ use Rattle.hv_history.specs.declared.state.Table.{Table}
 use Rattle.hv_history.specs.declared.state.Written.{Written}
 use Rattle.hv_history.specs.State.{State, Job, numbered}
 use Rattle.hv_stands.specs.Files.{IsSaid}
-use Rattle.hv_jobs.specs.Covers.{jobs_of}
+use Rattle.hv_history.specs.Jobs.{jobs_of}
 use Rattle.hv_law_made.specs.Named.{HasNames}
 use Rattle.hv_law_made.specs.Standing.{Standing}
 use Rattle.hv_law_visible.specs.History.{Compaction, Minor, Major}

@@ -3,4 +3,8 @@
 
 mod laws;
 
-pub use laws::files_are_whole;
+pub use laws::{
+    covered_are_listed, files_are_whole, jobs_are_shown, jobs_read_up_to_mark, listed_are_covered,
+    listed_once, major_jobs_gather, minor_jobs_gather, partitions_are_kept, readers_are_shown,
+    rows_go_once, the_end_is_shown,
+};

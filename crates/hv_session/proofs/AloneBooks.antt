@@ -74,6 +74,9 @@ no-end (entry.Picked job watermark) stays = tt
 no-end (entry.Published job low high mark) stays = tt
 no-end (entry.Empty job) stays = tt
 no-end (entry.Cleaned job) stays = tt
+no-end (entry.Next txn statement number text) stays = tt
+no-end (entry.Did txn statement wrote) stays = tt
+no-end (entry.Alter txn table) stays = tt
 no-end (entry.Failed job cause) stays = tt
 no-end (entry.Forgot table write) stays = tt
 
@@ -92,6 +95,9 @@ true-one state (entry.Picked job watermark) more stays rest = (tt, rest)
 true-one state (entry.Published job low high mark) more stays rest = (tt, rest)
 true-one state (entry.Empty job) more stays rest = (tt, rest)
 true-one state (entry.Cleaned job) more stays rest = (tt, rest)
+true-one state (entry.Next txn statement number text) more stays rest = (tt, rest)
+true-one state (entry.Did txn statement wrote) more stays rest = (tt, rest)
+true-one state (entry.Alter txn table) more stays rest = (tt, rest)
 true-one state (entry.Failed job cause) more stays rest = (tt, rest)
 true-one state (entry.Forgot table write) more stays rest = (tt, rest)
 

@@ -121,6 +121,9 @@ end-ends book (entry.Picked job watermark) txn ends fits = absurd ends
 end-ends book (entry.Published job low high mark) txn ends fits = absurd ends
 end-ends book (entry.Empty job) txn ends fits = absurd ends
 end-ends book (entry.Cleaned job) txn ends fits = absurd ends
+end-ends book (entry.Next its_txn statement number text) txn ends fits = absurd ends
+end-ends book (entry.Did its_txn statement wrote) txn ends fits = absurd ends
+end-ends book (entry.Alter its_txn table) txn ends fits = absurd ends
 end-ends book (entry.Failed job why) txn ends fits = absurd ends
 end-ends book (entry.Forgot table write) txn ends fits = absurd ends
 

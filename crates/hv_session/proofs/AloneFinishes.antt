@@ -86,6 +86,7 @@ read-plain told now is cause.RowLimit untold = absurd untold
 read-plain told now is cause.PartitionLimit untold = absurd untold
 read-plain told now is cause.Memory untold = absurd untold
 read-plain told now is cause.Lost untold = absurd untold
+read-plain told now is cause.Rollback untold = absurd untold
 
 gives-unended : (txn : ℕ) (meaning : Meaning) (first : List Entry) → GivesId txn meaning first → AllByRecursion IsNoEnd first
 gives-unended txn (Change info effect) first gives = subst (AllByRecursion IsNoEnd) (sym gives.2) (tt, tt)

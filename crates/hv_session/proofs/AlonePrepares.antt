@@ -82,6 +82,7 @@ early-plain meaning cause.RowLimit is = record { uncommitted = tt; undamaged = �
 early-plain meaning cause.PartitionLimit is = record { uncommitted = tt; undamaged = λ txn. tt }
 early-plain meaning cause.Memory is = record { uncommitted = tt; undamaged = λ txn. tt }
 early-plain meaning cause.Lost is = record { uncommitted = tt; undamaged = λ txn. tt }
+early-plain meaning cause.Rollback is = record { uncommitted = tt; undamaged = λ txn. tt }
 
 pub write-plain : (why : Cause) → IsWriteFault why → IsPlain why
 write-plain (cause.WriteFault count) is = record { uncommitted = tt; undamaged = λ txn. tt }
@@ -97,6 +98,7 @@ write-plain cause.RowLimit is = absurd is
 write-plain cause.PartitionLimit is = absurd is
 write-plain cause.Memory is = absurd is
 write-plain cause.Lost is = absurd is
+write-plain cause.Rollback is = absurd is
 
 pub or-plain : (Causes : Cause → Type 0) → ((why : Cause) → Causes why → IsPlain why) → (why : Cause) → Causes why ⊎ (why ≡ cause.Memory) → IsPlain why
 or-plain Causes plain why (inl is) = plain why is

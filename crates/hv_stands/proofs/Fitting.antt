@@ -107,6 +107,7 @@ cause-open limits s txn cause.RowLimit t fits = fits.unended
 cause-open limits s txn cause.PartitionLimit t fits = fits.unended
 cause-open limits s txn cause.Memory t fits = fits
 cause-open limits s txn cause.Lost t fits = fits.unended
+cause-open limits s txn cause.Rollback t fits = absurd fits
 
 -- what ends a transaction adds an entry, and takes one that is open
 ends-roomy : (limits : Limits) (s now : State) (txn : ℕ) (t : Transaction) (f : Transaction → Transaction) → ((x : Transaction) → is_open (f x) ≡ false)

@@ -10,6 +10,7 @@ pub mod SeenTables
 pub mod Numbers
 pub mod Owning
 pub mod Keeping
+pub mod JobKeeping
 pub mod MadeFiles
 pub mod Behind
 pub mod Begun

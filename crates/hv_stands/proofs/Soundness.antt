@@ -1,11 +1,12 @@
 -- Tables stay sound: what holds of all tables goes on where one is changed, and where one is added.
-use Rattle.std.proofs.Common.{◌≡◌, ℕ, zero, suc, ◌+◌, ◌<◌, Some, List, [], ◌∷◌, ◌++◌, length, sym, ap, ◌∙◌, subst, arith, length-append}
+use Rattle.std.proofs.Common.{refl, ◌≡◌, ℕ, zero, suc, ◌+◌, ◌<◌, Some, List, [], ◌∷◌, ◌++◌, length, sym, ap, ◌∙◌, subst, arith, length-append}
 use Rattle.std.specs.List.{slice_get, AllByRecursion}
 use Rattle.hv_history.specs.declared.state.Table.{Table}
-use Rattle.hv_history.specs.State.{numbered, changed, changed_at, owned}
+use Rattle.hv_history.specs.declared.state.Written.{Written}
+use Rattle.hv_history.specs.State.{numbered, changed, changed_at, owned, written_to, tables_behind}
 use Rattle.hv_logic.specs.declared.catalog.TableInfo.{TableInfo}
 use Rattle.hv_route.specs.Back.{AreFlat}
-use Rattle.hv_stands.specs.Sound.{HasFlatParts, NumberedFrom, HasSoundWrites, HasFewOwners, KeepsAll, AreSound}
+use Rattle.hv_stands.specs.Sound.{HasFlatParts, NumberedFrom, HasSoundWrites, HasFewOwners, KeepsAll, AreSoundTables}
 
 -- ---- what holds of all
 
@@ -62,23 +63,21 @@ in_order-changed f same first tables (suc n) h = in_order-changed_at f same firs
 
 -- ---- the laws
 
-pub soundness-later : (most next : ℕ) (tables : List Table) → AreSound most tables → most < next → AreSound next tables
+pub soundness-later : (most next : ℕ) (tables : List Table) → AreSoundTables most tables → most < next → AreSoundTables next tables
 soundness-later most next tables sound before = record {
   flat = sound.flat;
   in_order = sound.in_order;
   few = all-mapped (HasFewOwners most) (HasFewOwners next) (λ table few. omega arith) tables sound.few;
-  keeping = sound.keeping;
   written = sound.written;
 }
 
 -- one table more
-pub table-made-sound : (most : ℕ) (tables : List Table) (made : Table) → AreSound most tables → HasFlatParts made → made.info.table.0 ≡ length tables + 1
-    → HasFewOwners most made → KeepsAll made → HasSoundWrites made → AreSound most (tables ++ made ∷ [])
-table-made-sound most tables made sound flat number few keeping written = record {
+pub table-made-sound : (most : ℕ) (tables : List Table) (made : Table) → AreSoundTables most tables → HasFlatParts made → made.info.table.0 ≡ length tables + 1
+    → HasFewOwners most made → HasSoundWrites made → AreSoundTables most (tables ++ made ∷ [])
+table-made-sound most tables made sound flat number few written = record {
   flat = all-more HasFlatParts tables made sound.flat flat;
   in_order = numbered-more 1 tables made sound.in_order (omega (arith, number));
   few = all-more (HasFewOwners most) tables made sound.few few;
-  keeping = all-more KeepsAll tables made sound.keeping keeping;
   written = all-more HasSoundWrites tables made sound.written written;
 }
 
@@ -90,15 +89,32 @@ owned-few most txn table few = omega (arith, owned-more txn table.owners)
 
 -- one table changed, whose number and shape stay
 pub changed-sound : (most next : ℕ) (tables : List Table) (k : ℕ) (f : Table → Table) (table : Table) → numbered tables k ≡ Some table
-    → ((t : Table) → (f t).info ≡ t.info) → ((t : Table) → (f t).forgotten ≡ t.forgotten)
+    → ((t : Table) → (f t).info ≡ t.info)
     → ((t : Table) → HasFewOwners most t → HasFewOwners next t) → (HasFewOwners most table → HasFewOwners next (f table))
     → (HasSoundWrites table → HasSoundWrites (f table))
-    → AreSound most tables → AreSound next (changed f tables k)
-changed-sound most next tables k f table at info keeps later few written sound = record {
+    → AreSoundTables most tables → AreSoundTables next (changed f tables k)
+changed-sound most next tables k f table at info later few written sound = record {
   flat = all-changed HasFlatParts HasFlatParts f tables k table at (λ t h. h)
       (λ h. subst (λ (i : TableInfo). AreFlat i.shape.parts) (sym (info table)) h) sound.flat;
   in_order = in_order-changed f (λ t. ap (λ (i : TableInfo). i.table.0) (info t)) 1 tables k sound.in_order;
   few = all-changed (HasFewOwners most) (HasFewOwners next) f tables k table at later few sound.few;
-  keeping = all-changed KeepsAll KeepsAll f tables k table at (λ t h. h) (λ h. keeps table ∙ h) sound.keeping;
   written = all-changed HasSoundWrites HasSoundWrites f tables k table at (λ t h. h) written sound.written;
 }
+
+-- ---- ids that weren't forgotten
+
+keeps-changed_at : (f : Table → Table) → ((t : Table) → (f t).forgotten ≡ t.forgotten) → (tables : List Table) (n : ℕ)
+    → AllByRecursion KeepsAll tables → AllByRecursion KeepsAll (changed_at f tables n)
+keeps-changed_at f same [] n h = tt
+keeps-changed_at f same (t ∷ tables) zero h = (same t ∙ h.0, h.1)
+keeps-changed_at f same (t ∷ tables) (suc n) h = (h.0, keeps-changed_at f same tables n h.1)
+
+pub keeps-changed : (f : Table → Table) → ((t : Table) → (f t).forgotten ≡ t.forgotten) → (tables : List Table) (n : ℕ)
+    → AllByRecursion KeepsAll tables → AllByRecursion KeepsAll (changed f tables n)
+keeps-changed f same tables zero h = h
+keeps-changed f same tables (suc n) h = keeps-changed_at f same tables n h
+
+pub keeps-behind : (ws : List (ℕ × Written)) (tables : List Table) → AllByRecursion KeepsAll tables → AllByRecursion KeepsAll (tables_behind ws tables)
+keeps-behind [] tables h = h
+keeps-behind (w ∷ ws) tables h =
+    keeps-behind ws (changed (written_to w.1) tables w.0) (keeps-changed (written_to w.1) (λ t. refl) tables w.0 h)

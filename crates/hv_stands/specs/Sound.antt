@@ -75,6 +75,13 @@ pub record AreSound (most : ℕ) (tables : List Table) : Type 0 where
   pub keeping : AllByRecursion KeepsAll tables
   pub written : AllByRecursion HasSoundWrites tables
 
+-- the same, whichever ids of theirs were forgotten
+pub record AreSoundTables (most : ℕ) (tables : List Table) : Type 0 where
+  pub flat : AllByRecursion HasFlatParts tables
+  pub in_order : NumberedFrom 1 tables
+  pub few : AllByRecursion (HasFewOwners most) tables
+  pub written : AllByRecursion HasSoundWrites tables
+
 -- ---- transactions
 
 abbrev pub info_in : Table → TableInfo
@@ -135,6 +142,13 @@ AreOfCommitted endings table = AllByRecursion (IsOfCommitted endings table.owner
 pub record IsSound (state : State) : Type 0 where
   pub no_jobs : state.jobs ≡ []
   pub tables : AreSound state.entries state.tables
+  pub single : AllByRecursion (IsSingle (map info_in state.tables)) state.transactions
+  pub given : AreGiven (map given_of state.transactions) (map owners_of state.tables)
+  pub committed : AllByRecursion (AreOfCommitted (map ending_of state.transactions)) state.tables
+
+-- the same of states with jobs, whichever ids were forgotten
+pub record IsSoundBase (state : State) : Type 0 where
+  pub tables : AreSoundTables state.entries state.tables
   pub single : AllByRecursion (IsSingle (map info_in state.tables)) state.transactions
   pub given : AreGiven (map given_of state.transactions) (map owners_of state.tables)
   pub committed : AllByRecursion (AreOfCommitted (map ending_of state.transactions)) state.tables

@@ -66,6 +66,7 @@ one-line snapshot cause.RowLimit uncommitted = refl
 one-line snapshot cause.PartitionLimit uncommitted = refl
 one-line snapshot cause.Memory uncommitted = refl
 one-line snapshot cause.Lost uncommitted = refl
+one-line snapshot cause.Rollback uncommitted = refl
 
 pub abort-replies : (book : List Entry) (txn : ℕ) (why : Cause) → EndsUncommitted why → IsOpenHere book txn
     → HasReplied (book ++ aborting txn why ∷ []) txn (cause_text None why) true (Some (length book))

@@ -52,6 +52,7 @@ one-line snapshot cause.RowLimit uncommitted = refl
 one-line snapshot cause.PartitionLimit uncommitted = refl
 one-line snapshot cause.Memory uncommitted = refl
 one-line snapshot cause.Lost uncommitted = refl
+one-line snapshot cause.Rollback uncommitted = refl
 
 -- ---- a statement that is under way
 

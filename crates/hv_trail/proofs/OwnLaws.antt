@@ -184,6 +184,9 @@ one-entry state (entry.Picked job watermark) txn = refl
 one-entry state (entry.Published job low high mark) txn = refl
 one-entry state (entry.Empty job) txn = refl
 one-entry state (entry.Cleaned job) txn = refl
+one-entry state (entry.Next its_txn statement number text) txn = refl
+one-entry state (entry.Did its_txn statement wrote) txn = refl
+one-entry state (entry.Alter its_txn table) txn = refl
 one-entry state (entry.Failed job why) txn = refl
 one-entry state (entry.Forgot table write) txn = refl
 

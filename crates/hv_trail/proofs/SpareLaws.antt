@@ -107,6 +107,9 @@ one-more s (entry.Empty job) = same-above (sum_by open_one s.transactions)
 one-more s (entry.Cleaned job) = same-above (sum_by open_one s.transactions)
 one-more s (entry.Failed job cause) = same-above (sum_by open_one s.transactions)
 one-more s (entry.Forgot table write) = same-above (sum_by open_one s.transactions)
+one-more s (entry.Next txn statement number text) = same-above (sum_by open_one s.transactions)
+one-more s (entry.Did txn statement wrote) = same-above (sum_by open_one s.transactions)
+one-more s (entry.Alter txn table) = same-above (sum_by open_one s.transactions)
 
 one-fewer : (s : State) (event : Entry) → ends_one s.transactions event ≡ true → sum_by open_one (after s event).transactions + 1 ≡ sum_by open_one s.transactions
 unfolding acted
@@ -125,6 +128,9 @@ one-fewer s (entry.Empty job) open_ = cc
 one-fewer s (entry.Cleaned job) open_ = cc
 one-fewer s (entry.Failed job cause) open_ = cc
 one-fewer s (entry.Forgot table write) open_ = cc
+one-fewer s (entry.Next txn statement number text) open_ = cc
+one-fewer s (entry.Did txn statement wrote) open_ = cc
+one-fewer s (entry.Alter txn table) open_ = cc
 
 behind : (book : List Entry) (event : Entry) → open_count (book ++ event ∷ []) ≡ sum_by open_one (after (state_of book) event).transactions
 behind book event = ap (λ (s : State). sum_by open_one s.transactions) (state_of-snoc book event)

@@ -37,6 +37,9 @@ transactions-alone state (entry.Empty job) = refl
 transactions-alone state (entry.Cleaned job) = refl
 transactions-alone state (entry.Failed job cause) = refl
 transactions-alone state (entry.Forgot table write) = refl
+transactions-alone state (entry.Next txn statement number text) = refl
+transactions-alone state (entry.Did txn statement wrote) = refl
+transactions-alone state (entry.Alter txn table) = refl
 
 tables-alone : (state : State) (event : Entry)
     → (acted (state_at state.entries state.transactions state.tables) event).tables ≡ (acted state event).tables
@@ -56,6 +59,9 @@ tables-alone state (entry.Empty job) = refl
 tables-alone state (entry.Cleaned job) = refl
 tables-alone state (entry.Failed job cause) = refl
 tables-alone state (entry.Forgot table write) = refl
+tables-alone state (entry.Next txn statement number text) = refl
+tables-alone state (entry.Did txn statement wrote) = refl
+tables-alone state (entry.Alter txn table) = refl
 
 -- a Start, by the tables that the replay has
 pub start_acts : (place : ℕ) (transactions : List Transaction) (tables seen : List Table) (event : Entry) (txn : TxnId) (statement : ℕ)

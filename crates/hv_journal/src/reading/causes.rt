@@ -124,6 +124,7 @@ fn cause_fields_of(alloc: Global, tag: u8, rest: &[u8]) -> Result<(Cause, &[u8])
         11 => Ok((Cause::PartitionLimit, rest)),
         12 => Ok((Cause::Memory, rest)),
         13 => Ok((Cause::Lost, rest)),
+        15 => Ok((Cause::Rollback, rest)),
         _ => Err(FieldFault::Damaged),
     }
 }

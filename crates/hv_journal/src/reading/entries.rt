@@ -1,7 +1,7 @@
 ghost use Rattle.std.specs.Prelude.{◌≡◌, ◌∷◌, ◌++◌, IfOk};
 ghost use Rattle.hv_bytes.specs.Reading.{Gives};
 ghost use Rattle.hv_history.specs.Spelling.{entry_spelling, HasSpelling};
-ghost use Rattle.hv_journal.specs.Reading.{boot_at, opened_at, start_at, given_at, commit_at, abort_at, create_at, drop_at, asked_at, picked_at, published_at, empty_at, cleaned_at, failed_at, forgot_at, fields_at, entry_at};
+ghost use Rattle.hv_journal.specs.Reading.{boot_at, opened_at, start_at, given_at, commit_at, abort_at, create_at, drop_at, asked_at, picked_at, published_at, empty_at, cleaned_at, failed_at, forgot_at, next_at, did_at, alter_at, fields_at, entry_at};
 
 use crate::reading::causes::{cause_of, job_cause_of};
 use crate::reading::fields::{kind_of, touches_of};
@@ -260,6 +260,63 @@ fn forgot_of(bytes: &[u8]) -> Result<(Entry, &[u8]), FieldFault>
     ))
 }
 
+#[tactic(auto, unfolding(crate::specs::Reading::next_at))]
+fn next_of(alloc: Global, bytes: &[u8]) -> Result<(Entry, &[u8]), FieldFault>
+    ensures exact { Gives (λ x. (x.0, x.1.now)) result (next_at bytes.now) }
+    ensures found { IfOk result
+        (λ x. HasSpelling x.0 × (16 ∷ bytes.now ≡ entry_spelling x.0 ++ x.1.now)) }
+{
+    let (txn, rest) = read_u64(bytes)?;
+    let (statement, rest) = read_u32(rest)?;
+    let (number, rest) = read_u64(rest)?;
+    let (text, rest) = read_text(alloc, rest)?;
+    Ok((
+        Entry::Next {
+            txn: TxnId(txn),
+            statement,
+            number,
+            text,
+        },
+        rest,
+    ))
+}
+
+#[tactic(auto, unfolding(crate::specs::Reading::did_at))]
+fn did_of(alloc: Global, bytes: &[u8]) -> Result<(Entry, &[u8]), FieldFault>
+    ensures exact { Gives (λ x. (x.0, x.1.now)) result (did_at bytes.now) }
+    ensures found { IfOk result
+        (λ x. HasSpelling x.0 × (17 ∷ bytes.now ≡ entry_spelling x.0 ++ x.1.now)) }
+{
+    let (txn, rest) = read_u64(bytes)?;
+    let (statement, rest) = read_u32(rest)?;
+    let (wrote, rest) = touches_of(alloc, rest)?;
+    Ok((
+        Entry::Did {
+            txn: TxnId(txn),
+            statement,
+            wrote,
+        },
+        rest,
+    ))
+}
+
+#[tactic(auto, unfolding(crate::specs::Reading::alter_at))]
+fn alter_of(bytes: &[u8]) -> Result<(Entry, &[u8]), FieldFault>
+    ensures exact { Gives (λ x. (x.0, x.1.now)) result (alter_at bytes.now) }
+    ensures found { IfOk result
+        (λ x. HasSpelling x.0 × (18 ∷ bytes.now ≡ entry_spelling x.0 ++ x.1.now)) }
+{
+    let (txn, rest) = read_u64(bytes)?;
+    let (table, rest) = read_u64(rest)?;
+    Ok((
+        Entry::Alter {
+            txn: TxnId(txn),
+            table: TableId(table),
+        },
+        rest,
+    ))
+}
+
 /// The fields behind an entry's tag.
 fn fields_of(alloc: Global, tag: u8, rest: &[u8]) -> Result<(Entry, &[u8]), FieldFault>
     ensures exact { Gives (λ x. (x.0, x.1.now)) result (fields_at tag rest.now) }
@@ -282,6 +339,9 @@ fn fields_of(alloc: Global, tag: u8, rest: &[u8]) -> Result<(Entry, &[u8]), Fiel
         13 => cleaned_of(rest),
         14 => failed_of(alloc, rest),
         15 => forgot_of(rest),
+        16 => next_of(alloc, rest),
+        17 => did_of(alloc, rest),
+        18 => alter_of(rest),
         _ => Err(FieldFault::Damaged),
     }
 }

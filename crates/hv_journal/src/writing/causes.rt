@@ -118,6 +118,7 @@ pub fn put_cause(out: &mut Vec<u8>, cause: &Cause)
         Cause::PartitionLimit => put_byte(out, 11),
         Cause::Memory => put_byte(out, 12),
         Cause::Lost => put_byte(out, 13),
+        Cause::Rollback => put_byte(out, 15),
     }
 }
 

@@ -197,6 +197,46 @@ fn put_forgot(out: &mut Vec<u8>, table: TableId, write: WriteId)
     put_u64(out, write.0);
 }
 
+#[tactic(auto, using(crate::proofs::Room::room))]
+fn put_next(out: &mut Vec<u8>, txn: TxnId, statement: u32, number: u64, text: &Text)
+    requires room { HasRoom out.old (entry_spelling (Entry.Next txn statement number text.now)) }
+    requires short { length (entry_spelling (Entry.Next txn statement number text.now)) < 2 ^ 32 }
+    ensures appended { Appends out.old out.new
+        (entry_spelling (Entry.Next txn statement number text.now)) }
+    ensures has { HasSpelling (Entry.Next txn statement number text.now) }
+{
+    put_byte(out, 16);
+    put_u64(out, txn.0);
+    put_u32(out, statement);
+    put_u64(out, number);
+    put_text(out, text);
+}
+
+#[tactic(auto, using(crate::proofs::Room::room))]
+fn put_did(out: &mut Vec<u8>, txn: TxnId, statement: u32, wrote: &List<Touch>)
+    requires room { HasRoom out.old (entry_spelling (Entry.Did txn statement wrote.now)) }
+    requires short { length (entry_spelling (Entry.Did txn statement wrote.now)) < 2 ^ 32 }
+    ensures appended { Appends out.old out.new
+        (entry_spelling (Entry.Did txn statement wrote.now)) }
+    ensures has { HasSpelling (Entry.Did txn statement wrote.now) }
+{
+    put_byte(out, 17);
+    put_u64(out, txn.0);
+    put_u32(out, statement);
+    put_touches(out, wrote);
+}
+
+#[tactic(auto, using(crate::proofs::Room::room))]
+fn put_alter(out: &mut Vec<u8>, txn: TxnId, table: TableId)
+    requires room { HasRoom out.old (entry_spelling (Entry.Alter txn table)) }
+    ensures appended { Appends out.old out.new (entry_spelling (Entry.Alter txn table)) }
+    ensures has { HasSpelling (Entry.Alter txn table) }
+{
+    put_byte(out, 18);
+    put_u64(out, txn.0);
+    put_u64(out, table.0);
+}
+
 pub fn put_entry(out: &mut Vec<u8>, entry: &Entry)
     requires room { HasRoom out.old (entry_spelling entry.now) }
     requires short { length (entry_spelling entry.now) < 2 ^ 32 }
@@ -235,5 +275,17 @@ pub fn put_entry(out: &mut Vec<u8>, entry: &Entry)
         Entry::Cleaned { job } => put_cleaned(out, *job),
         Entry::Failed { job, cause } => put_failed(out, *job, cause),
         Entry::Forgot { table, write } => put_forgot(out, *table, *write),
+        Entry::Next {
+            txn,
+            statement,
+            number,
+            text,
+        } => put_next(out, *txn, *statement, *number, text),
+        Entry::Did {
+            txn,
+            statement,
+            wrote,
+        } => put_did(out, *txn, *statement, wrote),
+        Entry::Alter { txn, table } => put_alter(out, *txn, *table),
     }
 }

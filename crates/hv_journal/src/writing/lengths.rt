@@ -52,6 +52,7 @@ fn cause_length(cause: &Cause) -> usize
         Cause::PartitionLimit => 1,
         Cause::Memory => 1,
         Cause::Lost => 1,
+        Cause::Rollback => 1,
     }
 }
 
@@ -91,6 +92,9 @@ pub fn body_length(entry: &Entry) -> usize
         Entry::Cleaned { .. } => 9,
         Entry::Failed { cause, .. } => 9 + job_cause_length(cause),
         Entry::Forgot { .. } => 17,
+        Entry::Next { text, .. } => 21 + text_length(text),
+        Entry::Did { wrote, .. } => 13 + touches_length(wrote),
+        Entry::Alter { .. } => 17,
     }
 }
 

@@ -1,0 +1,9 @@
+pub mod WorkedLemmas
+pub mod FittingLemmas
+pub mod SetLemmas
+pub mod LastLemmas
+pub mod GrowLemmas
+pub mod OrderLemmas
+pub mod CountLemmas
+pub mod PublishLemmas
+pub mod GoLemmas
