@@ -239,7 +239,7 @@ killed_while_dropping() {
         so "and its files stand at call $number" [ "$(sums wh/tables)" = "$(cat wanted)" ]
         number=$((number + every))
     done
-    so "a run that drops a table was killed at some calls" [ $number -gt 50 ]
+    so "a run that drops a table was killed at some calls" [ $number -gt 30 ]
     so "one that isn't killed drops it" [ "$(rows wh)" = 0 ]
     echo "killed at each ${every}th of $number calls of a run that drops a table"
 }
