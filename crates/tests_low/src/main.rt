@@ -9,7 +9,6 @@ mod cells;
 mod dates;
 mod dirs;
 mod ids;
-mod inserts;
 mod language;
 mod merges;
 mod routes;
@@ -49,7 +48,6 @@ fn call(
         "merge" => merges::answer(alloc, out, words),
         "route" => routes::answer(alloc, out, call, words),
         "language" => language::answer(alloc, out, call, words),
-        "inserts" => inserts::answer(alloc, out, words),
         _ => Ok(()),
     }
 }

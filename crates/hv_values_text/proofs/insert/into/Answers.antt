@@ -1,9 +1,0 @@
-use Rattle.std.proofs.Common.{sym, ◌∙◌}
-use Rattle.hv_values_text.proofs.Known.{into_part, into_table_part}
-use Rattle.hv_values_text.proofs.insert.into.Goals as goal
-
-pub returns-then-not-sees_word : goal.returns-then-not-sees_word
-returns-then-not-sees_word c = into_part c.in_ok-expect_word.ensures
-
-pub returns : goal.returns
-returns c = into_table_part c.in_ok-expect_word.ensures (sym c.sees_word.ensures ∙ c.if-not-sees_word.false, c.pass_word.ensures)

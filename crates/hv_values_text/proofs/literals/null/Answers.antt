@@ -1,5 +1,0 @@
-use Rattle.hv_values_text.proofs.Known.{null_part}
-use Rattle.hv_values_text.proofs.literals.null.Goals as goal
-
-pub returns : goal.returns
-returns c = null_part c.in_ok-expect_word.ensures

@@ -1,5 +1,0 @@
-use Rattle.hv_values_text.proofs.Known.{quoted_part}
-use Rattle.hv_values_text.proofs.literals.quoted.Goals as goal
-
-pub returns : goal.returns
-returns c = quoted_part c.in_ok-quoted.ensures

@@ -1,7 +1,0 @@
--- The items so far are written one after another, with commas between them.
-use Rattle.hv_grammar.specs.Grammar as grammar
-use Rattle.hv_values_text.specs.Parts.{IsPart, flat}
-use Rattle.hv_values_text.proofs.rows.values.Given as goal
-
-abbrev pub invariant-loop-turn : goal.invariant-loop-turn
-invariant-loop-turn l = IsPart 0 (grammar.list flat) l.found.items l.fn.cursor l.cursor
