@@ -35,6 +35,7 @@ pub use Rattle.hv_history.specs.declared.state.Snapshot.{Snapshot}
 pub use Rattle.hv_history.specs.declared.state.Ending.{Ending}
 pub use Rattle.hv_history.specs.declared.state.Ending.TheVariants.{Committed, Aborted, Made, Dropped}
 pub use Rattle.hv_history.specs.declared.state.Transaction.{Transaction}
+<<<<<<< ours
 
 -- A compaction job, with what it was asked, and each step that it made: `asked` is the place of its Asked, and `ended` that of
 -- the first entry that ended its work, which is a Published, an Empty or a Failed.
@@ -78,6 +79,10 @@ nothing_yet = record { entries = 0; openings = no_openings; transactions = []; t
 abbrev pub numbered : {A : Type 0} → List A → ℕ → Option A
 numbered xs zero = None
 numbered xs (suc n) = slice_get xs n
+=======
+pub use Rattle.hv_history.specs.States.{Job, Openings, State, no_openings, nothing_yet, numbered}
+use Rattle.hv_history.specs.Shown.{listed_for, filled}
+>>>>>>> theirs
 
 -- the one at a place changed
 abbrev pub changed_at : {A : Type 0} → (A → A) → List A → ℕ → List A
@@ -106,12 +111,12 @@ seen_table table = record { info = table.info; rows = content_of table.writes }
 abbrev pub seen_tables : List Table → List Seen
 seen_tables tables = map seen_table (filter (λ (table : Table). table.is_live) tables)
 
--- ---- what a statement comes to in a state; one of a form that isn't built, and a text that is no statement, have no
--- meaning
+-- ---- what a statement comes to in a state: over its tables, and a SHOW over the whole of it; one of a form that isn't built, and a
+-- text that is no statement, have no meaning
 
 abbrev pub means : State → Option Stmt → Option Meaning
 means state None = None
-means state (Some tree) = meaning_of (seen_tables state.tables) tree
+means state (Some tree) = filled (listed_for state tree) (meaning_of (seen_tables state.tables) tree)
 
 unfoldable pub meaning_in : State → List ℕ → Option Meaning
 meaning_in state text = means state (tree_of text)

@@ -1,3 +1,4 @@
+pub mod Hards
 pub mod Lengths
 pub mod Journals
 pub mod Stays

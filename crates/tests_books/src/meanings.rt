@@ -1,18 +1,19 @@
-//! What a statement comes to over the tables that a replay has.
-ghost use Rattle.std.specs.Prelude.{◌≡◌, ◌++◌, IfOk, OnOk, filter, not};
+//! What a statement comes to over the transactions and the tables that a replay has.
+ghost use Rattle.std.specs.Prelude.{◌≡◌, ◌++◌, IfOk, OnOk, Some, filter, not};
 ghost use Rattle.std.specs.List.{list_any};
 ghost use Rattle.std.specs.Ordering.{is_eq};
 ghost use Rattle.hv_grammar.specs.Texts.{tree_of};
 ghost use Rattle.hv_logic.specs.Rows.{found_cmp};
 ghost use Rattle.hv_logic.specs.declared.effect.Found.{Found};
-ghost use Rattle.hv_meaning.specs.Meaning.{named_by, its_tables, meaning_of};
-ghost use Rattle.hv_history.specs.State.{is_deleted, content_of, seen_tables, writes_of};
-ghost use Rattle.tests_books.specs.Replay.{meaning_over};
+ghost use Rattle.hv_meaning.specs.Meaning.{named_by, its_tables};
+ghost use Rattle.hv_history.specs.State.{is_deleted, content_of, meaning_in, means, seen_tables, writes_of};
+ghost use Rattle.tests_books.specs.Replay.{state_now};
 
+use crate::listing::{filled, listed_for};
 use hv_ast::{Stmt, discard};
 use hv_base::{Boxed, Duplicate, List, NoMemory, Text};
 use hv_effect::{Touching, meaning_in};
-use hv_history::{Table, Written, given_in, written_by};
+use hv_history::{Table, Transaction, Written, given_in, written_by};
 use hv_logic::{Found, Meaning, Seen, compare_found, named, sort_found};
 use hv_names::names_in;
 use hv_reading::{TextFault, read_text};
@@ -117,13 +118,15 @@ fn its_tables(alloc: Global, tree: &Stmt, seen: &[Seen]) -> Result<Vec<Seen>, No
     Ok(tables)
 }
 
-fn meaning_of(
+fn means(
     alloc: Global,
+    transactions: &[Transaction],
     tables: &[Table],
     tree: &Stmt,
 ) -> Result<Option<Boxed<Meaning>>, NoMemory>
-    ensures { IfOk result (λ meaning. meaning ≡ meaning_of (seen_tables tables.now) tree.now) }
+    ensures { IfOk result (λ meaning. meaning ≡ means (state_now transactions.now tables.now) (Some tree.now)) }
 {
+    let shown = listed_for(alloc, transactions, tables, tree)?;
     let named = {
         let seen = seen_tables(alloc, tables)?;
         its_tables(alloc, tree, &seen)?
@@ -131,23 +134,25 @@ fn meaning_of(
     match meaning_in(alloc, tree, named)? {
         Some(found) => {
             let Touching { meaning, .. } = found;
-            Ok(Some(Boxed::new(alloc, meaning)?))
+            Ok(Some(Boxed::new(alloc, filled(shown, meaning))?))
         }
         None => Ok(None),
     }
 }
 
-/// What the statement of this text comes to over these tables.
-pub fn meaning_over(
+/// What the statement of this text comes to over these transactions and tables.
+#[tactic(auto, unfolding(hv_history::specs::State::meaning_in))]
+pub fn meaning_now(
     alloc: Global,
+    transactions: &[Transaction],
     tables: &[Table],
     text: &Text,
 ) -> Result<Option<Boxed<Meaning>>, NoMemory>
-    ensures { IfOk result (λ meaning. meaning ≡ meaning_over tables.now (tree_of text.now)) }
+    ensures { IfOk result (λ meaning. meaning ≡ meaning_in (state_now transactions.now tables.now) text.now) }
 {
     match tree_of(alloc, text)? {
         Some(tree) => {
-            let meaning = meaning_of(alloc, tables, &tree);
+            let meaning = means(alloc, transactions, tables, &tree);
             discard(tree);
             meaning
         }
