@@ -6,17 +6,20 @@ use Rattle.hv_history.specs.declared.entry.JobCause.{JobCause}
 use Rattle.hv_history.specs.declared.state.Table.{Table}
 use Rattle.hv_history.specs.declared.state.Transaction.{Transaction}
 
--- a compaction job, with what it was asked, and each step that it made
+-- A compaction job, with what it was asked, and each step that it made: `asked` is the place of its Asked, and `ended` that of
+-- the first entry that ended its work, which is a Published, an Empty or a Failed.
 pub record Job : Type 0 where
   pub table : ℕ
   pub partition : List ℕ
   pub kind : JobKind
   pub by : ℕ
+  pub asked : ℕ
   pub watermark : Option ℕ
   pub published : Option (ℕ × ℕ × ℕ)
   pub is_empty : Bool
   pub is_cleaned : Bool
   pub failure : Option JobCause
+  pub ended : Option ℕ
 
 -- The openings of the store: how many there were, where the last one's Boot stands, whether only Losts came behind it,
 -- and which counts of faults were kept since.

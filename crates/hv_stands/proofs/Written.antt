@@ -64,34 +64,22 @@ pub record IsOfTables (s : State) (info : TableInfo) (effect : Effect) : Type 0 
   pub change : ChangesTable s.tables info effect
   pub gone : AreStanding effect.deletes
 
-<<<<<<< ours
-pub of-base : (s : State) (tree : Stmt) (info : TableInfo) (effect : Effect) → IsSoundBase s → meaning_of (seen_tables s.tables) tree ≡ Some (Change info effect)
+pub of-base : (s : State) (tree : Stmt) (info : TableInfo) (effect : Effect) → IsSoundBase s → means s (Some tree) ≡ Some (Change info effect)
     → IsOfTables s info effect
 of-base s tree info effect sound is =
-    let change = changes-table s.tables sound.tables.in_order info effect tree is in
-=======
-pub of-tables : (s : State) (tree : Stmt) (info : TableInfo) (effect : Effect) → IsSound s → means s (Some tree) ≡ Some (Change info effect)
-    → IsOfTables s info effect
-of-tables s tree info effect sound is =
     let over = filled-change (listed_for s tree) (meaning_of (seen_tables s.tables) tree) info effect is in
     let change = changes-table s.tables sound.tables.in_order info effect tree over in
->>>>>>> theirs
     record {
       change = change;
       gone = picked-stands (content_of change.table.writes) effect.deletes change.deletes (rows-stand s info.table.0 change.table sound change.here);
     }
 
-<<<<<<< ours
-pub of-tables : (s : State) (tree : Stmt) (info : TableInfo) (effect : Effect) → IsSound s → meaning_of (seen_tables s.tables) tree ≡ Some (Change info effect)
+pub of-tables : (s : State) (tree : Stmt) (info : TableInfo) (effect : Effect) → IsSound s → means s (Some tree) ≡ Some (Change info effect)
     → IsOfTables s info effect
 of-tables s tree info effect sound is = of-base s tree info effect (base-of s sound) is
 
-pub changes-among : (s : State) (tree : Stmt) → IsSoundBase s → ChangesAmong (map info_in s.tables) (meaning_of (seen_tables s.tables) tree)
-changes-among s tree sound = by (meaning_of (seen_tables s.tables) tree) refl
-=======
-pub changes-among : (s : State) (tree : Stmt) → IsSound s → ChangesAmong (map info_in s.tables) (means s (Some tree))
+pub changes-among : (s : State) (tree : Stmt) → IsSoundBase s → ChangesAmong (map info_in s.tables) (means s (Some tree))
 changes-among s tree sound = by (means s (Some tree)) refl
->>>>>>> theirs
   where
     by : (o : Option Meaning) → means s (Some tree) ≡ o → ChangesAmong (map info_in s.tables) o
     by None is = tt
