@@ -1,6 +1,6 @@
 //! SHOW.
 
-ghost use Rattle.std.specs.Prelude.{Some};
+ghost use Rattle.std.specs.Prelude.{◌≡◌, Some};
 ghost use Rattle.hv_typing.specs.Faults.{Types};
 ghost use Rattle.hv_typing.specs.Shows.{partitions_as, partitions_shown, show_analysed};
 

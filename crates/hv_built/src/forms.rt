@@ -19,7 +19,8 @@ fn is_shown(show: &Show) -> bool
 {
     match show {
         Show::Compactions => false,
-        Show::Tables | Show::Partitions(_) | Show::Transactions | Show::Locks => true,
+        Show::Partitions(_) => true,
+        Show::Tables | Show::Transactions | Show::Locks => true,
     }
 }
 

@@ -32,7 +32,7 @@ use Rattle.hv_typing.specs.declared.change.Origin.{Origin}
 use Rattle.hv_typing.specs.declared.change.Origin.TheVariants as origin
 use Rattle.hv_typing.specs.declared.change.TypedChange.{TypedChange}
 use Rattle.hv_typing.specs.Columns.{columns_of, fields_of, kinds_of}
-use Rattle.hv_typing.specs.Inserts.{rows_typed, has_count, converts, converted_row, output_kind, outputs_convert, values_for, overwritten, insert_of, insert_typed, if_convertible, values_inserted, query_inserted}
+use Rattle.hv_typing.specs.Inserts.{is_empty, rows_typed, has_count, converts, converted_row, output_kind, outputs_convert, values_for, overwritten, insert_of, insert_typed, if_convertible, values_inserted, query_inserted}
 use Rattle.hv_typing.specs.Targets.{targets_of}
 use Rattle.hv_typing.specs.Updates.{sets_of, update_of, updated, delete_of, deleted, partitions_met, truncated}
 use Rattle.hv_typing.specs.declared.logic.Logic.{Logic}
@@ -40,7 +40,6 @@ use Rattle.hv_typing.specs.declared.logic.Logic.TheVariants as logic
 use Rattle.hv_typing.specs.Creates.{place_of, created, created_beside, made, unless_fault, fault_of}
 use Rattle.hv_typing.specs.Drops.{dropped, dropped_as, dropped_at}
 use Rattle.hv_typing.specs.Descriptions.{described, described_as, described_at}
-use Rattle.hv_typing.specs.Inserts.{is_empty}
 use Rattle.hv_typing.specs.Shows.{partitions_as, partitions_at, partitions_shown, show_analysed}
 use Rattle.hv_typing.specs.Settings.{set_analysed, takes_value}
 use Rattle.hv_typing.specs.Changes.{source_inserted, inserted, changing, changing_table, changing_at, change_of}
