@@ -20,7 +20,7 @@ filled-or (Some shown) (Some (Change info effect)) = inl refl
 filled-or (Some shown) (Some (Make shape)) = inl refl
 filled-or (Some shown) (Some (Unmake table)) = inl refl
 filled-or (Some shown) (Some Plain) = inr (shown, refl)
-filled-or (Some shown) (Some (Twice partition row)) = inl refl
+filled-or (Some shown) (Some (Twice region row)) = inl refl
 filled-or (Some shown) (Some RowLimit) = inl refl
 filled-or (Some shown) (Some PartitionLimit) = inl refl
 

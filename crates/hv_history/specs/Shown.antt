@@ -159,5 +159,7 @@ is_plain meaning = false
 
 -- what a statement comes to over its tables is filled with what it lists of the book; one that is refused lists nothing
 abbrev pub filled : Option Shown → Option Meaning → Option Meaning
+filled None meaning = meaning
+filled (Some shown) None = None
 filled (Some shown) (Some Plain) = Some (Listing shown.names shown.rows)
-filled _ meaning = meaning
+filled (Some shown) (Some meaning) = Some meaning
