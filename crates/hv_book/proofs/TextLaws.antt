@@ -173,6 +173,9 @@ sessions-same state (entry.Picked job watermark) sessions h other = h
 sessions-same state (entry.Published job low high mark) sessions h other = h
 sessions-same state (entry.Empty job) sessions h other = h
 sessions-same state (entry.Cleaned job) sessions h other = h
+sessions-same state (entry.Next txn statement number text) sessions h other = h
+sessions-same state (entry.Did txn statement wrote) sessions h other = h
+sessions-same state (entry.Alter txn table) sessions h other = h
 sessions-same state (entry.Failed job cause) sessions h other = h
 sessions-same state (entry.Forgot table write) sessions h other = h
 
