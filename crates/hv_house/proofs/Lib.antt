@@ -1,4 +1,3 @@
-pub mod Hards
 pub mod Lengths
 pub mod Journals
 pub mod Stays

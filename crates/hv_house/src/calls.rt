@@ -10,7 +10,6 @@ ghost use Rattle.hv_house.specs.declared.calls.EntryFault.TheVariants as fault;
 ghost use Rattle.hv_house.specs.House.{entries_of, IsSmall, IsReadyWithin};
 ghost use Rattle.hv_house.specs.Steps.{IsMarked};
 ghost use Rattle.hv_house.specs.Calls.{place_ended, HasEndedAt, HasNotEnded, HasNoRoom, IfOpen, CanBeGiven, next_id, next_given, next_table, next_create, IsHouseFault, EntryStepWithin};
-ghost use Rattle.hv_house.specs.Faults.{HardStep};
 
 use crate::fault::HouseFault;
 use crate::house::House;
@@ -65,8 +64,6 @@ impl<D: Shelf> House<D> {
         requires fits { Fits limits (state_of (entries_of self.old)) entry }
         requires marked { IsMarked self.old entry }
         ensures step { EntryStepWithin limits D.told D.faults entry self.old self.new result }
-        ensures hard { HardStep (D.hard self.old.shelf) (D.hard self.new.shelf)
-            self.old.trail.closed self.new.trail.closed }
         ensures failed { IfErr result (λ why. IsHouseFault why) }
     {
         match self.note(entry, None) {
@@ -85,8 +82,6 @@ impl<D: Shelf> House<D> {
             → Fits limits (state_of (entries_of self.old)) entry }
         requires marked { IsMarked self.old entry }
         ensures step { EntryStepWithin limits D.told D.faults entry self.old self.new result }
-        ensures hard { HardStep (D.hard self.old.shelf) (D.hard self.new.shelf)
-            self.old.trail.closed self.new.trail.closed }
         ensures place { IfOk result (λ place. place ≡ length (entries_of self.old)) }
         ensures not_open { (at : ℕ) → IsErrOf result (fault.NotOpen at)
             ↔ HasEndedAt (entries_of self.old) txn.0 at }
@@ -116,8 +111,6 @@ impl<D: Shelf> House<D> {
             (next_given (entries_of self.old) txn table) }
         ensures step { EntryStepWithin limits D.told D.faults
             (next_given (entries_of self.old) txn table) self.old self.new result }
-        ensures hard { HardStep (D.hard self.old.shelf) (D.hard self.new.shelf)
-            self.old.trail.closed self.new.trail.closed }
         ensures write { IfOk result (λ write. write.0 ≡ next_id (entries_of self.old) table.0) }
         ensures failed { IfErr result (λ why. IsHouseFault why) }
     {
@@ -142,8 +135,6 @@ impl<D: Shelf> House<D> {
             (CanBeGiven (state_of (entries_of self.old)) table.0) }
         ensures step { EntryStepWithin limits D.told D.faults
             (next_given (entries_of self.old) txn table) self.old self.new result }
-        ensures hard { HardStep (D.hard self.old.shelf) (D.hard self.new.shelf)
-            self.old.trail.closed self.new.trail.closed }
         ensures write { IfOk result (λ write. write.0 ≡ next_id (entries_of self.old) table.0) }
         ensures not_open { (at : ℕ) → IsErrOf result (fault.NotOpen at)
             ↔ HasEndedAt (entries_of self.old) txn.0 at }
@@ -177,8 +168,6 @@ impl<D: Shelf> House<D> {
         requires marked { IsMarked self.old (entries.Commit txn wrote) }
         ensures step { EntryStepWithin limits D.told D.faults
             (entries.Commit txn wrote) self.old self.new result }
-        ensures hard { HardStep (D.hard self.old.shelf) (D.hard self.new.shelf)
-            self.old.trail.closed self.new.trail.closed }
         ensures place { IfOk result (λ place. place ≡ length (entries_of self.old)) }
         ensures not_open { (at : ℕ) → IsErrOf result (fault.NotOpen at)
             ↔ HasEndedAt (entries_of self.old) txn.0 at }
@@ -200,8 +189,6 @@ impl<D: Shelf> House<D> {
         requires marked { IsMarked self.old (entries.Abort txn cause) }
         ensures step { EntryStepWithin limits D.told D.faults
             (entries.Abort txn cause) self.old self.new result }
-        ensures hard { HardStep (D.hard self.old.shelf) (D.hard self.new.shelf)
-            self.old.trail.closed self.new.trail.closed }
         ensures place { IfOk result (λ place. place ≡ length (entries_of self.old)) }
         ensures not_open { (at : ℕ) → IsErrOf result (fault.NotOpen at)
             ↔ HasEndedAt (entries_of self.old) txn.0 at }
@@ -221,8 +208,6 @@ impl<D: Shelf> House<D> {
             (CreateFits (state_of (entries_of self.old)) (next_table (entries_of self.old))) }
         ensures step { EntryStepWithin limits D.told D.faults
             (next_create (entries_of self.old) txn) self.old self.new result }
-        ensures hard { HardStep (D.hard self.old.shelf) (D.hard self.new.shelf)
-            self.old.trail.closed self.new.trail.closed }
         ensures table { IfOk result (λ table. table.0 ≡ next_table (entries_of self.old)) }
         ensures not_open { (at : ℕ) → IsErrOf result (fault.NotOpen at)
             ↔ HasEndedAt (entries_of self.old) txn.0 at }
@@ -246,8 +231,6 @@ impl<D: Shelf> House<D> {
             (DropFits (state_of (entries_of self.old)) table.0) }
         ensures step { EntryStepWithin limits D.told D.faults
             (entries.Drop txn table) self.old self.new result }
-        ensures hard { HardStep (D.hard self.old.shelf) (D.hard self.new.shelf)
-            self.old.trail.closed self.new.trail.closed }
         ensures place { IfOk result (λ place. place ≡ length (entries_of self.old)) }
         ensures not_open { (at : ℕ) → IsErrOf result (fault.NotOpen at)
             ↔ HasEndedAt (entries_of self.old) txn.0 at }

@@ -1,6 +1,6 @@
 //! A call on files that failed is kept in mind.
 ghost use Rattle.std.specs.Prelude.{◌≡◌, ◌<◌};
-ghost use Rattle.hv_house.specs.Faults.{failed_with, ShutsAtLast};
+ghost use Rattle.hv_house.specs.Faults.{failed_with};
 ghost use Rattle.hv_house.specs.Steps.{KeepsFault};
 
 use crate::fault::HouseFault;
@@ -15,8 +15,6 @@ impl<D: Shelf> House<D> {
         requires room { 0 < self.old.trail.room }
         ensures fault { result ≡ failed_with (D.faults self.old.shelf) }
         ensures kept { KeepsFault by put result self.old self.new }
-        ensures last { ShutsAtLast (Unit {0}) (D.faults self.old.shelf)
-            self.old.trail.closed self.new.trail.closed }
     {
         let count = self.shelf.fault_count();
         if count < u64::MAX {

@@ -6,7 +6,6 @@ ghost use Rattle.hv_shelf.specs.Disk.{HasFile, TornFile};
 ghost use Rattle.hv_stands.specs.Files.{place_of_file};
 ghost use Rattle.hv_table_rows.specs.Faults.{StoreCause};
 ghost use Rattle.hv_table_rows.specs.Putting.{CanPut, is_behind, may_follow, can_delete_from, can_put, IsEncoded, bytes_of};
-ghost use Rattle.hv_shelf.specs.Causes.{SoftCause};
 
 use hv_base::{Duplicate, NoMemory, RowId, TableId, WriteId};
 use hv_dirs::{DirName, print_name};
@@ -103,8 +102,6 @@ pub fn put_file<D: Shelf>(
         → Moves (TornFile place.now) (D.told shelf.old) (D.told shelf.new) }
     ensures no_memory { IsErrOf result why.NoMemory → D.told shelf.new ≡ D.told shelf.old }
     ensures cause { StoreCause (D.faults shelf.old) (D.faults shelf.new) (IsErrOf result why.Failed) }
-    ensures hard { SoftCause (IsErrOf result why.Failed)
-        (D.faults shelf.old) (D.faults shelf.new) (D.hard shelf.old) (D.hard shelf.new) }
 {
     if !can_put(file) {
         return Err(ShelfFault::NoMemory);
