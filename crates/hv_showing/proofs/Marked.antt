@@ -1,5 +1,5 @@
 -- The marks that a walk over the entries leaves say of each transaction whether one of its write ids counts.
-use Rattle.std.proofs.Common.{◌≡◌, ℕ, zero, suc, Bool, true, false, cond, Option, Some, None, List, [], ◌∷◌, ◌++◌, map, filter, take, fold, refl, sym, ap, ◌∙◌}
+use Rattle.std.proofs.Common.{◌≡◌, ℕ, zero, suc, Bool, true, false, Option, Some, None, List, [], ◌∷◌, ◌++◌, map, filter, take, fold, refl, sym, ap, ◌∙◌}
 use Rattle.std.specs.Prelude.{◌&&◌, ◌||◌, ◌==◌, if◌then◌else◌, is_none, IsSomeAnd}
 use Rattle.std.specs.Option.{option_map}
 use Rattle.std.specs.List.{slice_get, list_any}
@@ -19,15 +19,11 @@ use Rattle.hv_book.specs.Past.{Past, IsPast, forgotten_in, table_live, forgot_th
 use Rattle.hv_book.proofs.NoteLaws.{map-same}
 use Rattle.hv_book.proofs.TextLaws.{while-same}
 use Rattle.hv_showing.specs.Fronts.{tables_then}
-use Rattle.hv_showing.specs.Marks.{set, marked_by, marked_over, keeps, is_forgot}
+use Rattle.hv_showing.specs.Marks.{or_mark, marked_by, marked_over, keeps, is_forgot}
 
-or-true : (a : Bool) → (a || (true || false)) ≡ true
-or-true true = refl
-or-true false = refl
-
-or-false : (a : Bool) → (a || (false || false)) ≡ a
-or-false true = refl
-or-false false = refl
+or-nothing : (a : Bool) → (a || false) ≡ a
+or-nothing true = refl
+or-nothing false = refl
 
 unended : (e : Option Ending) → is_none e ≡ true → e ≡ None
 unended None is = refl
@@ -39,32 +35,23 @@ module _ (counts : ℕ × ℕ → Bool) where
 
   -- ---- one write id more
 
-  given-one : (table write : ℕ) (t : Transaction) → t.ending ≡ None → (b : Bool) → counts (table, write) ≡ b
-      → has (while_open (given_id table write) t) ≡ cond b (set (has t)) (has t)
-  given-one table write t still true is =
+  given-one : (table write : ℕ) (t : Transaction) → t.ending ≡ None
+      → has (while_open (given_id table write) t) ≡ or_mark (counts (table, write)) (has t)
+  unfolding or_mark
+  given-one table write t still =
       ap (λ (o : Option Ending). has (unless_ended o t (given_id table write t))) still
-      ∙ list_any-append counts t.given ((table, write) ∷ []) ∙ ap (λ b. has t || (b || false)) is ∙ or-true (has t)
-  given-one table write t still false is =
-      ap (λ (o : Option Ending). has (unless_ended o t (given_id table write t))) still
-      ∙ list_any-append counts t.given ((table, write) ∷ []) ∙ ap (λ b. has t || (b || false)) is ∙ or-false (has t)
+      ∙ list_any-append counts t.given ((table, write) ∷ []) ∙ ap (λ b. has t || b) (or-nothing (counts (table, write)))
 
-  given-at : (table write : ℕ) (ts : List Transaction) (n : ℕ) → IsSomeAnd (slice_get ts n) IsRunning → (b : Bool) → counts (table, write) ≡ b
-      → map has (changed_at (while_open (given_id table write)) ts n) ≡ cond b (changed_at set (map has ts) n) (map has ts)
-  given-at table write [] n runs b is = absurd runs
-  given-at table write (t ∷ ts) zero runs true is = ap (λ m. m ∷ map has ts) (given-one table write t (unended t.ending runs.unended) true is)
-  given-at table write (t ∷ ts) zero runs false is = ap (λ m. m ∷ map has ts) (given-one table write t (unended t.ending runs.unended) false is)
-  given-at table write (t ∷ ts) (suc n) runs true is = ap (λ ms. has t ∷ ms) (given-at table write ts n runs true is)
-  given-at table write (t ∷ ts) (suc n) runs false is = ap (λ ms. has t ∷ ms) (given-at table write ts n runs false is)
+  given-at : (table write : ℕ) (ts : List Transaction) (n : ℕ) → IsSomeAnd (slice_get ts n) IsRunning
+      → map has (changed_at (while_open (given_id table write)) ts n) ≡ changed_at (or_mark (counts (table, write))) (map has ts) n
+  given-at table write [] n runs = refl
+  given-at table write (t ∷ ts) zero runs = ap (λ m. m ∷ map has ts) (given-one table write t (unended t.ending runs.unended))
+  given-at table write (t ∷ ts) (suc n) runs = ap (λ ms. has t ∷ ms) (given-at table write ts n runs)
 
   given-more : (table write : ℕ) (ts : List Transaction) (txn : ℕ) → IsSomeAnd (numbered ts txn) IsRunning
-      → map has (changed (while_open (given_id table write)) ts txn) ≡ cond (counts (table, write)) (changed set (map has ts) txn) (map has ts)
-  given-more table write ts zero runs = absurd runs
-  given-more table write ts (suc n) runs = by (counts (table, write)) refl
-    where
-      by : (b : Bool) → counts (table, write) ≡ b
-          → map has (changed_at (while_open (given_id table write)) ts n) ≡ cond b (changed set (map has ts) (suc n)) (map has ts)
-      by true is = given-at table write ts n runs true is
-      by false is = given-at table write ts n runs false is
+      → map has (changed (while_open (given_id table write)) ts txn) ≡ changed (or_mark (counts (table, write))) (map has ts) txn
+  given-more table write ts zero runs = refl
+  given-more table write ts (suc n) runs = given-at table write ts n runs
 
   runs-given : (limits : Limits) (state : State) (table write : ℕ) (o : Option Transaction) → IsSomeAnd o (GivenFits limits state table write) → IsSomeAnd o IsRunning
   runs-given limits state table write None fits = absurd fits

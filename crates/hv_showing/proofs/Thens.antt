@@ -164,6 +164,9 @@ module _ (position : ℕ) where
   starts-next state (entry.Published job low high mark) late = none-more state.transactions state.transactions refl
   starts-next state (entry.Empty job) late = none-more state.transactions state.transactions refl
   starts-next state (entry.Cleaned job) late = none-more state.transactions state.transactions refl
+  starts-next state (entry.Next txn statement number text) late = none-more state.transactions state.transactions refl
+  starts-next state (entry.Did txn statement wrote) late = none-more state.transactions state.transactions refl
+  starts-next state (entry.Alter txn table) late = none-more state.transactions state.transactions refl
   starts-next state (entry.Failed job cause) late = none-more state.transactions state.transactions refl
   starts-next state (entry.Forgot table write) late = none-more state.transactions state.transactions refl
 
@@ -228,6 +231,9 @@ below-next state (entry.Picked job watermark) h = below-same state.entries state
 below-next state (entry.Published job low high mark) h = below-same state.entries state.transactions h
 below-next state (entry.Empty job) h = below-same state.entries state.transactions h
 below-next state (entry.Cleaned job) h = below-same state.entries state.transactions h
+below-next state (entry.Next txn statement number text) h = below-same state.entries state.transactions h
+below-next state (entry.Did txn statement wrote) h = below-same state.entries state.transactions h
+below-next state (entry.Alter txn table) h = below-same state.entries state.transactions h
 below-next state (entry.Failed job cause) h = below-same state.entries state.transactions h
 below-next state (entry.Forgot table write) h = below-same state.entries state.transactions h
 

@@ -1,18 +1,19 @@
 -- Which transactions of a book have a write id that counts, a mark for each: made by one walk over the entries.
-use Rattle.std.specs.Prelude.{ℕ, ◌==◌, ◌&&◌, Bool, true, false, not, if◌then◌else◌, Option, Some, None, List, [], ◌∷◌, ◌++◌}
+use Rattle.std.specs.Prelude.{ℕ, ◌==◌, ◌&&◌, ◌||◌, Bool, false, not, Option, Some, None, List, [], ◌∷◌, ◌++◌}
 use Rattle.hv_history.specs.declared.entry.Entry.{Entry}
 use Rattle.hv_history.specs.declared.entry.Entry.TheVariants as entry
 use Rattle.hv_history.specs.State.{changed}
 use Rattle.hv_book.specs.declared.past.ForgotNote.{ForgotNote}
 use Rattle.hv_book.specs.Past.{forgot_then}
 
-abbrev pub set : Bool → Bool
-set mark = true
+-- a mark stays where it was set, and is set where the id counts
+unfoldable pub or_mark : Bool → Bool → Bool
+or_mark kept mark = mark || kept
 
 -- an Opened has a mark that isn't set, and a Given sets that of its transaction where its write id counts
 abbrev pub marked_by : (ℕ × ℕ → Bool) → Entry → List Bool → List Bool
 marked_by counts (entry.Opened txn session number text) marks = marks ++ false ∷ []
-marked_by counts (entry.Given txn table write) marks = if counts (table.0, write.0) then changed set marks txn.0 else marks
+marked_by counts (entry.Given txn table write) marks = changed (or_mark (counts (table.0, write.0))) marks txn.0
 marked_by counts _ marks = marks
 
 abbrev pub marked_over : (ℕ × ℕ → Bool) → List Entry → List Bool → List Bool

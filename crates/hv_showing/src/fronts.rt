@@ -61,7 +61,9 @@ fn runs_so(fate: Option<Fate>, started: bool) -> bool
 {
     match fate {
         Some(Fate::Open) => started,
-        Some(Fate::Committed) | Some(Fate::Aborted) | None => false,
+        Some(Fate::Committed) => false,
+        Some(Fate::Aborted) => false,
+        None => false,
     }
 }
 
@@ -81,8 +83,10 @@ fn is_done(fate: Option<Fate>) -> bool
     ensures { result ≡ is_done fate }
 {
     match fate {
+        Some(Fate::Open) => false,
         Some(Fate::Committed) => true,
-        Some(Fate::Open) | Some(Fate::Aborted) | None => false,
+        Some(Fate::Aborted) => false,
+        None => false,
     }
 }
 

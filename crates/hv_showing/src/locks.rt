@@ -18,12 +18,19 @@ use hv_names::names_in;
 use hv_value::Row;
 use std::alloc::Global;
 
+/// Whether a lock has this name alone.
+fn is_exclusive_on(lock: &Lock, name: &Text) -> bool
+    ensures { result ≡ is_exclusive_on name.now lock.now }
+{
+    lock.exclusive && lock.name == *name
+}
+
 /// Whether one of these locks has this name alone.
 fn is_exclusive(locks: &[Lock], name: &Text) -> bool
     ensures { result ≡ list_any (is_exclusive_on name.now) locks.now }
 {
     for lock in locks {
-        if lock.exclusive && lock.name == *name {
+        if is_exclusive_on(lock, name) {
             return true;
         }
     }
@@ -76,7 +83,7 @@ fn put_held(
     match tree {
         Some(tree) => {
             let locks = names_in(alloc, tree)?;
-            put_locks(alloc, txn, &locks, rows)
+            put_locks(alloc, txn, locks.as_slice(), rows)
         }
         None => Ok(()),
     }

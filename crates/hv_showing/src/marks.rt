@@ -1,12 +1,12 @@
 //! Which transactions have a write id of a live table that isn't forgotten.
 
-ghost use Rattle.std.specs.Prelude.{◌≡◌, ◌≤◌, IfOk, OnOk, length, map};
+ghost use Rattle.std.specs.Prelude.{◌≡◌, ◌≤◌, IfOk, OnOk, length, map, take};
 ghost use Rattle.std.specs.List.{list_any};
 ghost use Rattle.hv_history.specs.State.{changed, nothing_yet, numbered};
 ghost use Rattle.hv_history.specs.Legal.{AllFit, profile};
 ghost use Rattle.hv_history.specs.Shown.{is_kept, is_kept_in, has_kept};
 ghost use Rattle.hv_showing.specs.Fronts.{tables_then, transactions_then};
-ghost use Rattle.hv_showing.specs.Marks.{set, marked_by, marked_over, is_marked, keeps, is_forgot};
+ghost use Rattle.hv_showing.specs.Marks.{or_mark, marked_by, marked_over, is_marked, keeps, is_forgot};
 
 use hv_base::NoMemory;
 use hv_book::{Book, ForgotNote};
@@ -50,18 +50,19 @@ fn was_kept(book: &Book, position: usize, table: u64, write: u64) -> bool
     keeps(live, any_forgot(position as u64, table, write, forgotten))
 }
 
-fn set(_mark: bool) -> bool
-    ensures { result ≡ set _mark }
+#[tactic(auto, unfolding(crate::specs::Marks::or_mark))]
+fn or_mark(kept: bool, mark: bool) -> bool
+    ensures { result ≡ or_mark kept mark }
 {
-    true
+    mark || kept
 }
 
-/// Sets the mark of the transaction of that number.
-fn mark(marks: &mut Vec<bool>, txn: u64)
-    ensures items { marks.new.items ≡ changed set marks.old.items txn }
+/// Sets the mark of the transaction of that number, where its id counts.
+fn mark(marks: &mut Vec<bool>, txn: u64, kept: bool)
+    ensures items { marks.new.items ≡ changed (or_mark kept) marks.old.items txn }
 {
     if let Some(at) = place_of(marks, txn) {
-        marks[at] = set(marks[at]);
+        marks[at] = or_mark(kept, marks[at]);
     }
 }
 
@@ -75,15 +76,16 @@ fn mark_entry(
         ≡ marked_by (is_kept (tables_then book.now.entries position)) entry.now marks.old.items) }
 {
     match entry {
-        Entry::Opened { .. } => marks.push(false)?,
-        Entry::Given { txn, table, write } => {
-            if was_kept(book, position, table.0, write.0) {
-                mark(marks, txn.0);
-            }
+        Entry::Opened { .. } => {
+            marks.push(false)?;
+            Ok(())
         }
-        _ => {}
+        Entry::Given { txn, table, write } => {
+            mark(marks, txn.0, was_kept(book, position, table.0, write.0));
+            Ok(())
+        }
+        _ => Ok(()),
     }
-    Ok(())
 }
 
 fn mark_entries(
@@ -101,6 +103,14 @@ fn mark_entries(
     Ok(())
 }
 
+/// Those before a place.
+fn before(entries: &[Entry], position: usize) -> &[Entry]
+    requires { position ≤ length entries.now }
+    ensures { result.now ≡ take position entries.now }
+{
+    &entries[..position]
+}
+
 /// Of each transaction that was opened before a place whether it had such an id there. It walks the entries before the place once.
 pub fn marks_at(alloc: Global, book: &Book, position: usize) -> Result<Vec<bool>, NoMemory>
     requires place { position ≤ length book.now.entries }
@@ -109,7 +119,7 @@ pub fn marks_at(alloc: Global, book: &Book, position: usize) -> Result<Vec<bool>
         ≡ map (has_kept (tables_then book.now.entries position)) (transactions_then book.now.entries position)) }
 {
     let mut marks = Vec::new(alloc);
-    mark_entries(book, position, &book.entries()[..position], &mut marks)?;
+    mark_entries(book, position, before(book.entries(), position), &mut marks)?;
     Ok(marks)
 }
 

@@ -26,9 +26,9 @@ pub fn word_value(alloc: Global, word: &str) -> Result<Value, NoMemory>
 pub fn number_value(number: u64) -> Result<Value, NoMemory>
     ensures { IfOk result (λ made. made ≡ value.Big (pos number)) }
 {
-    match i64::try_from(number).ok() {
-        Some(number) => Ok(Value::Big(number)),
-        None => Err(NoMemory),
+    match i64::try_from(number) {
+        Ok(big) => Ok(Value::Big(big)),
+        Err(_) => Err(NoMemory),
     }
 }
 

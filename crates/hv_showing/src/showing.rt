@@ -173,8 +173,9 @@ fn show_before(
     }
 }
 
-/// What a SHOW lists of a book as the entries before a place leave it; None where it isn't built. It walks the tables, the transactions that
-/// were opened before the place and, for SHOW TRANSACTIONS, the entries before it, each once, and sorts what it lists.
+/// What a SHOW lists of a book as the entries before a place leave it; None where it isn't built. It walks the
+/// tables, the transactions that were opened before the place and, for SHOW TRANSACTIONS, the entries before it,
+/// each once, and sorts what it lists.
 ///
 /// # Errors
 /// `NoMemory` where memory lacked.
