@@ -6,7 +6,7 @@ use Rattle.std.specs.Cmp.Lexicographic.{pointwise}
 use Rattle.hv_value.specs.declared.row.Row.{Row}
 use Rattle.hv_history.specs.declared.state.Table.{Table}
 use Rattle.hv_history.specs.Shown.{table_rows, number_named}
-use Rattle.hv_meta.specs.Catalogs.{info_if, live_infos}
+use Rattle.hv_fits.specs.hv_meta.specs.Catalogs.{info_if, live_infos}
 use Rattle.hv_earlier.specs.Lists.{info_of_name}
 use Rattle.hv_showing.specs.Fronts.{info_row, info_number}
 

@@ -7,7 +7,7 @@ use Rattle.hv_history.specs.declared.state.Statement.{Statement}
 use Rattle.hv_history.specs.declared.state.Transaction.{Transaction}
 use Rattle.hv_history.specs.declared.state.Table.{Table}
 use Rattle.hv_history.specs.declared.state.Ending.TheVariants.{Aborted, Made, Dropped}
-use Rattle.hv_history.specs.State.{State, no_openings, meaning_in, first_of, first_known, changed_at, given_id, committed, ended, owned, dropped, forgot}
+use Rattle.hv_history.specs.State.{State, no_openings, statement_of, meaning_in, first_of, first_known, changed_at, given_id, committed, ended, owned, dropped, forgot}
 
 -- the state behind so many entries, as far as answers rest on it
 abbrev pub state_at : ℕ → List Transaction → List Table → State
@@ -24,6 +24,11 @@ state_now transactions tables = state_at 0 transactions tables
 abbrev pub comes_to : State → Option Statement → Option Meaning
 comes_to state None = None
 comes_to state (Some statement) = meaning_in state statement.text
+
+-- the one of that number of a transaction
+abbrev pub comes_at : State → ℕ → Option Transaction → Option Meaning
+comes_at state number None = None
+comes_at state number (Some transaction) = comes_to state (statement_of transaction number)
 
 abbrev pub said_of : Option Meaning → Statement → Statement
 said_of meaning statement = record statement { meaning = first_known statement.meaning meaning }

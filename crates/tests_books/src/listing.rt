@@ -1,17 +1,17 @@
 //! What SHOW lists of the transactions and the tables that a replay has.
-ghost use Rattle.std.specs.Prelude.{◌≡◌, ◌++◌, IfOk, OnOk, Some};
+ghost use Rattle.std.specs.Prelude.{◌≡◌, ◌++◌, ◌∷◌, [], ◌&&◌, IfOk, OnOk, None, Some};
 ghost use Rattle.std.specs.List.{flat_map, list_any};
 ghost use Rattle.hv_grammar.specs.Texts.{tree_of};
 ghost use Rattle.hv_logic.specs.declared.meaning.Meaning.TheVariants.{Listing};
 ghost use Rattle.hv_history.specs.declared.state.Statement.{Statement};
 ghost use Rattle.hv_history.specs.State.{numbered};
-ghost use Rattle.hv_history.specs.Legal.{locks_of_tree};
-ghost use Rattle.hv_history.specs.Shown.{each_from, filled, inserted_by, inserted_of, is_kept, is_kept_in, is_plain, listed_for, lock_rows, name_rows, number_named, partition_rows, show_listed, stood_rows, table_rows, transaction_rows};
+ghost use Rattle.hv_history.specs.Legal.{is_open, is_started, locks_of_tree, is_named};
+ghost use Rattle.hv_history.specs.Shown.{each_from, filled, inserted_by, inserted_of, is_kept, is_kept_in, is_plain, listed_for, lock_rows, name_rows, number_named, partition_rows, show_listed, stood_rows, table_rows, transaction_row, transaction_rows};
 ghost use Rattle.tests_books.specs.Replay.{state_now};
 
 use crate::meanings::tree_of;
 use hv_ast::{Show, Stmt, discard};
-use hv_base::{NoMemory, Text};
+use hv_base::{Boxed, NoMemory, Text};
 use hv_history::{Ending, Shown, Statement, Table, Transaction, numbered};
 use hv_locks::Lock;
 use hv_logic::Meaning;
@@ -43,12 +43,18 @@ fn table_rows(alloc: Global, tables: &[Table]) -> Result<Vec<Row>, NoMemory>
     Ok(rows)
 }
 
+fn is_named(name: &Text, table: &Table) -> bool
+    ensures { result ≡ is_named name.now table.now }
+{
+    table.is_live && table.info.shape.name == *name
+}
+
 // The number of the live table of a name.
 fn number_named(tables: &[Table], name: &Text) -> Option<u64>
     ensures { result ≡ number_named name.now tables.now }
 {
     for table in tables {
-        if table.is_live && table.info.shape.name == *name {
+        if is_named(name, table) {
             return Some(table.info.table.0);
         }
     }
@@ -66,9 +72,10 @@ fn put_inserted(
 {
     match &transaction.ending {
         Some(Ending::Committed(_, wrote)) => put_touches(alloc, table, wrote.as_slice(), rows),
-        Some(Ending::Aborted(..)) | Some(Ending::Made(..)) | Some(Ending::Dropped(..)) | None => {
-            Ok(())
-        }
+        Some(Ending::Aborted(..)) => Ok(()),
+        Some(Ending::Made(..)) => Ok(()),
+        Some(Ending::Dropped(..)) => Ok(()),
+        None => Ok(()),
     }
 }
 
@@ -125,6 +132,20 @@ fn has_kept(tables: &[Table], given: &[(u64, u64)]) -> bool
     false
 }
 
+fn put_row(
+    alloc: Global,
+    number: u64,
+    state: &str,
+    session: &Text,
+    rows: &mut Vec<Row>,
+) -> Result<(), NoMemory>
+    ensures { OnOk result (rows.new.items
+        ≡ rows.old.items ++ transaction_row number state.now session.now ∷ []) }
+{
+    rows.push(transaction_row(alloc, number, state, session)?)?;
+    Ok(())
+}
+
 // Appends the row of a transaction, where it is shown: an aborted one where a write id of it is kept.
 fn put_stood(
     alloc: Global,
@@ -137,15 +158,18 @@ fn put_stood(
         ≡ rows.old.items ++ stood_rows number transaction.now.session kept transaction.now.ending) }
 {
     match &transaction.ending {
-        None => rows.push(transaction_row(alloc, number, "open", &transaction.session)?)?,
+        None => put_row(alloc, number, "open", &transaction.session, rows),
         Some(Ending::Aborted(..)) => {
             if kept {
-                rows.push(transaction_row(alloc, number, "aborted", &transaction.session)?)?;
+                put_row(alloc, number, "aborted", &transaction.session, rows)
+            } else {
+                Ok(())
             }
         }
-        Some(Ending::Committed(..)) | Some(Ending::Made(..)) | Some(Ending::Dropped(..)) => {}
+        Some(Ending::Committed(..)) => Ok(()),
+        Some(Ending::Made(..)) => Ok(()),
+        Some(Ending::Dropped(..)) => Ok(()),
     }
-    Ok(())
 }
 
 fn put_transaction(
@@ -203,6 +227,12 @@ fn locks_of(alloc: Global, statements: &[Statement]) -> Result<Vec<Lock>, NoMemo
     Ok(locks)
 }
 
+fn is_running(transaction: &Transaction) -> bool
+    ensures { result ≡ (is_open transaction.now && is_started transaction.now) }
+{
+    transaction.ending.is_none() && transaction.snapshot.is_some()
+}
+
 // Appends the locks of a transaction, where it is open and started.
 fn put_running(
     alloc: Global,
@@ -212,11 +242,12 @@ fn put_running(
 ) -> Result<(), NoMemory>
     ensures { OnOk result (rows.new.items ≡ rows.old.items ++ lock_rows number transaction.now) }
 {
-    if transaction.ending.is_none() && transaction.snapshot.is_some() {
+    if is_running(transaction) {
         let locks = locks_of(alloc, transaction.statements.as_slice())?;
-        put_locks(alloc, number, &locks, rows)?;
+        put_locks(alloc, number, locks.as_slice(), rows)
+    } else {
+        Ok(())
     }
-    Ok(())
 }
 
 // The locks of the transactions that are open and started.
@@ -302,5 +333,15 @@ pub fn filled(shown: Option<Shown>, meaning: Meaning) -> Meaning
     match shown {
         Some(shown) => listed_over(shown, meaning),
         None => meaning,
+    }
+}
+
+/// The same of a statement that comes to nothing over its tables.
+pub fn nothing(shown: Option<Shown>) -> Option<Boxed<Meaning>>
+    ensures { result ≡ filled shown None }
+{
+    match shown {
+        Some(_) => None,
+        None => None,
     }
 }

@@ -9,7 +9,7 @@ ghost use Rattle.hv_meaning.specs.Meaning.{named_by, its_tables};
 ghost use Rattle.hv_history.specs.State.{is_deleted, content_of, meaning_in, means, seen_tables, writes_of};
 ghost use Rattle.tests_books.specs.Replay.{state_now};
 
-use crate::listing::{filled, listed_for};
+use crate::listing::{filled, listed_for, nothing};
 use hv_ast::{Stmt, discard};
 use hv_base::{Boxed, Duplicate, List, NoMemory, Text};
 use hv_effect::{Touching, meaning_in};
@@ -136,7 +136,7 @@ fn means(
             let Touching { meaning, .. } = found;
             Ok(Some(Boxed::new(alloc, filled(shown, meaning))?))
         }
-        None => Ok(None),
+        None => Ok(nothing(shown)),
     }
 }
 

@@ -41,7 +41,7 @@ fn act(
             tables::commit(alloc, tables, numbered(transactions, txn.0))?;
             transactions::go(alloc, place, entry, transactions, txn.0)
         }
-        Entry::Abort { txn, .. } => { transactions::go(alloc, place, entry, transactions, txn.0) }
+        Entry::Abort { txn, .. } => transactions::go(alloc, place, entry, transactions, txn.0),
         Entry::Create { txn, table } => {
             tables::create(alloc, tables, numbered(transactions, txn.0), table.0)?;
             transactions::go(alloc, place, entry, transactions, txn.0)

@@ -1,8 +1,7 @@
 //! What the entries of a book do to its transactions.
-ghost use Rattle.std.specs.Prelude.{◌≡◌, ◌++◌, ◌∷◌, [], OnOk, IfOk};
-ghost use Rattle.std.specs.Option.{option_copied};
+ghost use Rattle.std.specs.Prelude.{◌≡◌, ◌++◌, ◌∷◌, [], OnOk, IfOk, slice_get};
 ghost use Rattle.hv_history.specs.State.{changed, changed_at, while_open, ended, committed, wrote_as, opened, first_of, started, statement_of};
-ghost use Rattle.tests_books.specs.Replay.{state_at, state_now, comes_to, said_of, begun, moved};
+ghost use Rattle.tests_books.specs.Replay.{state_at, state_now, comes_to, comes_at, said_of, begun, moved};
 
 use crate::meanings::{meaning_now, writes_of};
 use crate::tables::append;
@@ -41,24 +40,8 @@ pub fn open(
     Ok(())
 }
 
-// What the statement comes to over these transactions and tables.
+// What the statement of that number of a transaction comes to over these transactions and tables.
 fn coming(
-    alloc: Global,
-    transactions: &[Transaction],
-    tables: &[Table],
-    statement: Option<&Statement>,
-) -> Result<Option<Boxed<Meaning>>, NoMemory>
-    ensures { IfOk result (λ meaning. meaning
-        ≡ comes_to (state_now transactions.now tables.now) (option_copied statement.entry)) }
-{
-    match statement {
-        Some(statement) => meaning_now(alloc, transactions, tables, &statement.text),
-        None => Ok(None),
-    }
-}
-
-// What the statement of that number of a transaction comes to.
-fn coming_of(
     alloc: Global,
     transactions: &[Transaction],
     tables: &[Table],
@@ -68,8 +51,27 @@ fn coming_of(
     ensures { IfOk result (λ meaning. meaning
         ≡ comes_to (state_now transactions.now tables.now) (statement_of transaction.now number)) }
 {
-    let statement = transaction.statements.as_slice().get(number as usize);
-    coming(alloc, transactions, tables, statement)
+    match transaction.statements.as_slice().get(number as usize) {
+        Some(statement) => meaning_now(alloc, transactions, tables, &statement.text),
+        None => Ok(None),
+    }
+}
+
+// The same of the transaction at this place.
+fn coming_at(
+    alloc: Global,
+    transactions: &[Transaction],
+    tables: &[Table],
+    number: u32,
+    at: usize,
+) -> Result<Option<Boxed<Meaning>>, NoMemory>
+    ensures { IfOk result (λ meaning. meaning
+        ≡ comes_at (state_now transactions.now tables.now) number (slice_get transactions.now at)) }
+{
+    match transactions.get(at) {
+        Some(transaction) => coming(alloc, transactions, tables, number, transaction),
+        None => Ok(None),
+    }
 }
 
 fn mean_one(meaning: Option<Boxed<Meaning>>, statement: &mut Statement)
@@ -232,7 +234,7 @@ pub fn start(
     let Some(at) = open_place_of(transactions, txn) else {
         return Ok(());
     };
-    let meaning = coming_of(alloc, transactions, tables, number, &transactions[at])?;
+    let meaning = coming_at(alloc, transactions, tables, number, at)?;
     let transaction = &mut transactions[at];
     begin(alloc, place, tables, number, meaning, transaction)?;
     Ok(())
