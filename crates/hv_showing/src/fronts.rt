@@ -1,6 +1,6 @@
 //! How the transactions of a book stood before a place of it.
 
-ghost use Rattle.std.specs.Prelude.{◌≡◌, Some};
+ghost use Rattle.std.specs.Prelude.{◌≡◌};
 ghost use Rattle.std.specs.Option.{option_copied, option_map};
 ghost use Rattle.hv_book.specs.Commits.{wrote_in};
 ghost use Rattle.hv_book.specs.Past.{is_before};
