@@ -68,8 +68,7 @@ module _ {D : Type 0} (told : D → Option Store) (faults : D → ℕ) (B : List
       front = (adds.went.added, adds.went.seen);
       was = refl;
     },
-    record { added = []; adds = adds; of_it = tt; unended = tt; halts = running },
-    tt,
+    record { stop = record { added = []; adds = adds; of_it = tt; unended = tt; halts = running }; begun_by = tt },
   )
 
   pub text-halts : (asking : Asking) (own : List ℕ) (house : ToldHouse D) → IsOpenHouse house → (result : Result Taken HouseFault) → IsErrAnd result (λ y. y ≡ fault.NoMemory)

@@ -503,13 +503,15 @@ module _ {D : Type 0} (told : D → Option Store) (faults : D → ℕ) (B : List
           between-more (IsNextAt way.txn.0) a b c (adds-front faults B rows own' own'' b c halted.added halted.adds)
               (next-opened a b asking way.txn.0 v.is.event v.is.was_opened),
           record {
-            added = v.added ++ halted.added;
-            adds = adds-more faults B rows own own' own'' a b c v.added halted.added v.adds halted.adds;
-            of_it = all-more (IsOf way.txn.0) v.added halted.added are.0 halted.of_it;
-            unended = all-more IsNoEnd v.added halted.added are.1 halted.unended;
-            halts = halted.halts;
+            stop = record {
+              added = v.added ++ halted.added;
+              adds = adds-more faults B rows own own' own'' a b c v.added halted.added v.adds halted.adds;
+              of_it = all-more (IsOf way.txn.0) v.added halted.added are.0 halted.of_it;
+              unended = all-more IsNoEnd v.added halted.added are.1 halted.unended;
+              halts = halted.halts;
+            };
+            begun_by = begun-by a b asking said way v.added halted.added v.is;
           },
-          begun-by a b asking said way v.added halted.added v.is,
         );
       }
 
