@@ -1,5 +1,5 @@
 -- An abort that an act notes in its hold.
-use Rattle.std.proofs.Common.{◌≡◌, ℕ, Bool, true, false, IsTrue, Option, Some, None, Ok, Err, List, length, lt-ltb, ltb-true, refl}
+use Rattle.std.proofs.Common.{◌≡◌, ℕ, ◌+◌, Bool, true, false, IsTrue, Option, Some, None, Ok, Err, List, length, lt-ltb, ltb-true, refl}
 use Rattle.std.proofs.lemmas.Bool.{ltb-false}
 use Rattle.std.specs.Prelude.{IsSomeAnd}
 use Rattle.hv_base.specs.declared.ids.TxnId.{TxnId}
@@ -9,7 +9,7 @@ use Rattle.hv_history.specs.declared.entry.Cause.{Cause}
 use Rattle.hv_history.specs.declared.entry.Cause.TheVariants as cause
 use Rattle.hv_history.specs.declared.state.Transaction.{Transaction}
 use Rattle.hv_history.specs.State.{State}
-use Rattle.hv_history.specs.Legal.{is_open, FullFits, HasRoom, profile}
+use Rattle.hv_history.specs.Legal.{is_open, load, FullFits, HasRoom, profile}
 use Rattle.hv_trail.specs.Trail.{book_of}
 use Rattle.hv_trail.specs.Kept.{trail_of}
 use Rattle.hv_trail.specs.Steps.{Note, Done, Step}
@@ -61,7 +61,7 @@ room-of state t unended free = by (is_full state) refl
   where
     by : (b : Bool) → is_full state ≡ b → HasRoom profile state 1
     by true e = absurd (free (record { unended = unended; full = ltb-true _ _ e }))
-    by false e = ltb-false _ _ e
+    by false e = ltb-false profile.entries (load state + 1) e
 
 -- ---- its step
 

@@ -1,5 +1,5 @@
 -- A write id that is given by an act.
-use Rattle.std.proofs.Common.{◌≡◌, inr, ℕ, ◌+◌, ◌≤◌, Bool, true, false, IsTrue, Option, Some, None, Ok, Err, List, [], ◌∷◌, length, ltb-true, refl, sym, ap, ◌∙◌, subst, arith}
+use Rattle.std.proofs.Common.{◌≡◌, inr, ℕ, ◌+◌, ◌≤◌, Bool, true, false, IsTrue, is_none, Option, Some, None, Ok, Err, List, [], ◌∷◌, length, ltb-true, refl, sym, ap, ◌∙◌, subst, arith}
 use Rattle.std.specs.Prelude.{IsSomeAnd, IsNone, if◌then◌else◌}
 use Rattle.hv_base.specs.declared.ids.TxnId.{TxnId}
 use Rattle.hv_base.specs.declared.ids.TableId.{TableId}
@@ -10,6 +10,7 @@ use Rattle.hv_history.specs.declared.entry.Entry.{Entry}
 use Rattle.hv_history.specs.declared.entry.Entry.TheVariants as entry
 use Rattle.hv_history.specs.declared.entry.Cause.{Cause}
 use Rattle.hv_history.specs.declared.entry.Cause.TheVariants as cause
+use Rattle.hv_history.specs.declared.state.Ending.{Ending}
 use Rattle.hv_history.specs.declared.state.Table.{Table}
 use Rattle.hv_history.specs.declared.state.Transaction.{Transaction}
 use Rattle.hv_history.specs.State.{State, numbered, given_in}
@@ -28,7 +29,7 @@ use Rattle.hv_acts.specs.declared.giving.Given.{Given}
 use Rattle.hv_acts.specs.declared.giving.Given.TheVariants as given
 use Rattle.hv_acts.specs.declared.fault.ActFault.{ActFault}
 use Rattle.hv_acts.specs.declared.fault.ActFault.TheVariants as act
-use Rattle.hv_book.specs.Briefs.{given_at}
+use Rattle.hv_book.specs.Briefs.{given_while, given_at}
 use Rattle.hv_acts.specs.Answers.{call_behind, act_outcome, NoTest, IsLate, id_behind, next_id, EntryFits, EntryStep, aborted_line}
 use Rattle.hv_acts.specs.Aborting.{AbortStep, is_full}
 use Rattle.hv_acts.specs.Giving.{to_give, RestsOnId, GiveStep}
@@ -41,9 +42,14 @@ use Rattle.hv_acts.proofs.Aborts.{is-full, room-of}
 
 -- ---- what is noted
 
-none-given : (table : ℕ) (ids : List (ℕ × ℕ)) → length ids ≤ 0 → IsNone (given_in table ids)
-none-given table [] few = refl
-none-given table (id ∷ ids) few = absurd (omega (arith, few))
+none-in : (table : ℕ) (ids : List (ℕ × ℕ)) → length ids ≤ 0 → IsNone (given_in table ids)
+none-in table [] few = refl
+none-in table (id ∷ ids) few = absurd (omega (arith, few))
+
+-- one that is open was given what it holds
+none-given : (table : ℕ) (ending : Option Ending) (ids : List (ℕ × ℕ)) → is_none ending ≡ true → length (given_while ending ids) ≤ 0 → IsNone (given_in table ids)
+none-given table None ids unended few = none-in table ids few
+none-given table (Some ending) ids unended few = cc
 
 next-of : (o : Option Table) → IsSomeAnd o (λ (t : Table). IsTrue t.is_live) → IsSomeAnd o (λ (t : Table). IsTrue t.is_live × (id_behind o ≡ length t.owners + 1))
 next-of None lives = absurd lives
@@ -60,7 +66,7 @@ rests-give trail txn table room rests = by (numbered (state_at trail).transactio
     by (Some t) runs few room = record {
       running = runs;
       live = next-of (numbered (state_at trail).tables table.0) rests.lives;
-      first = none-given table.0 t.given few;
+      first = none-given table.0 t.ending t.given runs.unended few;
       room = room-of (state_at trail) t runs.unended room;
     }
 

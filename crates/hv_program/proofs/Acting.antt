@@ -39,7 +39,7 @@ use Rattle.hv_program.specs.declared.held.Held.{Held}
 use Rattle.hv_program.specs.Doing.{Waiting, Standing, is_session, waiting_in, asking_of, ReleasesOne}
 use Rattle.hv_program.specs.Own.{Grows, IsOfRun}
 use Rattle.hv_program.specs.Keeping.{waiting_of, paused_in, held_without, IsHeldIn, standing_of, AreHeld, IsTrulyHeldIn, AreTrulyHeld}
-use Rattle.hv_program.specs.Running.{IsLater, Acts, txn_of_waiting, number_of, AreOfSome, Stops, OpensOf}
+use Rattle.hv_program.specs.Running.{IsLater, Acts, txn_of_waiting, number_of, AreOfSome, Stops}
 use Rattle.hv_program.proofs.HeldStay.{LeavesAlone, others, all-stay, all-true}
 use Rattle.hv_program.proofs.HeldLists.{found-waits, none-waits, waits-without, waits-last, none-left, all-without, all-found, all-last, all-map, order-without, order-last, found-apart, IsApart, IsBelow}
 use Rattle.hv_program.proofs.OwnEntries.{unlost-all, unlost-or-none, not-lost, state-of, more-fits, of-run, grows-none}
@@ -358,11 +358,6 @@ none-of : (number : Option ℕ) → AreOfSome number []
 none-of None = refl
 none-of (Some txn) = tt
 
-opens-none : (act : Action) → OpensOf act []
-opens-none (action.Announce session) = tt
-opens-none (action.Run statement) = tt
-opens-none (action.Release session) = tt
-
 -- before anything was done
 pub stops-before : (told : Option Store) (before : Standing) (act : Action) → Holds told before.book → Stops fault.NoMemory told before act before.book
 stops-before told before act holds = record {
@@ -372,7 +367,6 @@ stops-before told before act holds = record {
     of_it = none-of (number_of before act);
     legal = record { fit = tt; truthful = tt };
     unended = tt;
-    opens = opens-none act;
   };
   leaves = ([], inl (record { of_it = none-of (number_of before act); few = omega arith; fit = tt }), holds);
 }
@@ -382,16 +376,15 @@ some-of number txn events is of_it = subst (λ (o : Option ℕ). AreOfSome o eve
 
 -- in a statement
 pub stops-in : {D : Type 0} (told : D → Option Store) (txn : ℕ) (why : HouseFault) (before now : House D) (waiting : List Waiting) (act : Action)
-    → number_of (record { book = entries_of before; waiting = waiting }) act ≡ Some txn → (h : HasStopped told txn why before now) → OpensOf act h.added
+    → number_of (record { book = entries_of before; waiting = waiting }) act ≡ Some txn → HasStopped told txn why before now
     → Stops why (told now.shelf) (record { book = entries_of before; waiting = waiting }) act (entries_of now)
-stops-in told txn why before now waiting act is h opens = record {
+stops-in told txn why before now waiting act is h = record {
   halfway = record {
     added = h.added;
     book = h.book;
     of_it = some-of _ txn h.added is h.of_it;
     legal = h.legal;
     unended = h.unended;
-    opens = opens;
   };
   leaves = (h.further, inl (record { of_it = some-of _ txn h.further is h.further_of_it; few = h.few; fit = h.fit }), h.leaves);
 }
@@ -407,7 +400,6 @@ begins-none why told statement standing now same fits leaves = record {
     of_it = tt;
     legal = record { fit = tt; truthful = tt };
     unended = tt;
-    opens = tt;
   };
   leaves = (beginning_of standing.book (asking_of statement), inr (record { same = same; fits = fits; further_is = refl }), leaves);
 }
@@ -416,7 +408,7 @@ pub stops-taken : {D T : Type 0} (told : D → Option Store) (before now : House
     → IfErr result (λ why. StopsTaken told (asking_of statement) why before now)
     → IfErr result (λ why. Stops why (told now.shelf) (record { book = entries_of before; waiting = waiting }) (action.Run statement) (entries_of now))
 stops-taken told before now waiting statement (Ok x) stops = tt
-stops-taken told before now waiting statement (Err why) (inl stopped) = stops-in told (next_number (entries_of before)) why before now waiting (action.Run statement) refl stopped.0 stopped.1
+stops-taken told before now waiting statement (Err why) (inl stopped) = stops-in told (next_number (entries_of before)) why before now waiting (action.Run statement) refl stopped
 stops-taken told before now waiting statement (Err why) (inr begins) =
     begins-none why (told now.shelf) statement (record { book = entries_of before; waiting = waiting }) (entries_of now) begins.book begins.fits begins.leaves
 
@@ -562,7 +554,7 @@ pub released-stops : {D : Type 0} (told : D → Option Store) (r : Result Reply 
     → IfErr r (λ why. Stops why (told now.shelf) (standing_of before helds) (action.Release session) (entries_of now))
 released-stops told r before now helds session paused found stopped =
     err-map r (λ why. HasStopped told paused.way.txn.0 why before now) (λ why. Stops why (told now.shelf) (standing_of before helds) (action.Release session) (entries_of now))
-    (λ why h. stops-in told paused.way.txn.0 why before now (map waiting_of helds) (action.Release session) (number-found (entries_of before) helds session paused found) h tt) stopped
+    (λ why h. stops-in told paused.way.txn.0 why before now (map waiting_of helds) (action.Release session) (number-found (entries_of before) helds session paused found) h) stopped
 
 -- ---- where none is held in the session
 

@@ -30,18 +30,15 @@ pub still-stops : {D T : Type 0} (told : D → Option Store) (house : House D) (
     → Holds (told house.shelf) (entries_of house) → IfErr result (λ why. StopsTaken told asking why house house)
 still-stops told house asking (Ok x) is holds = tt
 still-stops told house asking (Err why) is holds =
-    subst (λ (e : HouseFault). StopsTaken told asking e house house) (sym is) (inl (
-      record {
-        added = [];
-        book = sym (append-nil (entries_of house));
-        of_it = tt;
-        legal = record { fit = tt; truthful = tt };
-        unended = tt;
-        further = [];
-        further_of_it = tt;
-        few = omega arith;
-        fit = tt;
-        leaves = holds;
-      },
-      tt,
-    ))
+    subst (λ (e : HouseFault). StopsTaken told asking e house house) (sym is) (inl (record {
+      added = [];
+      book = sym (append-nil (entries_of house));
+      of_it = tt;
+      legal = record { fit = tt; truthful = tt };
+      unended = tt;
+      further = [];
+      further_of_it = tt;
+      few = omega arith;
+      fit = tt;
+      leaves = holds;
+    }))

@@ -17,7 +17,6 @@ use Rattle.hv_session.specs.hv_steps.specs.hv_acts.specs.hv_telling.specs.hv_hou
 use Rattle.hv_session.specs.hv_steps.specs.hv_acts.specs.hv_telling.specs.hv_house.specs.House.{BeginFits, beginning_of, IsFaithful, Leaves}
 use Rattle.hv_session.specs.hv_steps.specs.hv_acts.specs.hv_telling.specs.Telling.{OpensLater}
 use Rattle.hv_session.specs.hv_steps.specs.hv_acts.specs.Meant.{IsNoEnd}
-use Rattle.hv_session.specs.hv_steps.specs.Phases.{BegunBy}
 use Rattle.hv_session.specs.Doing.{IsHold}
 use Rattle.hv_program.specs.declared.stop.Stop.{Stop}
 use Rattle.hv_program.specs.declared.stop.Stop.TheVariants as stop
@@ -69,11 +68,6 @@ abbrev pub AreOfSome : Option ℕ → List Entry → Type 0
 AreOfSome None events = events ≡ []
 AreOfSome (Some txn) events = AreOf txn events
 
--- what was noted of a statement's action, where anything was, begins with its Opened: of its session, with its number and its text
-abbrev pub OpensOf : Action → List Entry → Type 0
-OpensOf (action.Run statement) added = BegunBy (asking_of statement) added
-OpensOf other added = Unit {0}
-
 -- the run stopped in this action: what was noted of it is legal behind the book, and doesn't end its transaction
 pub record IsHalfway (before : Standing) (action : Action) (now : List Entry) : Type 0 where
   pub added : List Entry
@@ -81,7 +75,6 @@ pub record IsHalfway (before : Standing) (action : Action) (now : List Entry) : 
   pub of_it : AreOfSome (number_of before action) added
   pub legal : IsLegalFrom profile (state_of before.book) added
   pub unended : AllByRecursion IsNoEnd added
-  pub opens : OpensOf action added
 
 -- the further entry that the journal may have, which fits behind the book
 pub record IsFurther (before : Standing) (action : Action) (book further : List Entry) : Type 0 where

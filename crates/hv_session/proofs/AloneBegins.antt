@@ -51,7 +51,7 @@ use Rattle.hv_steps.specs.declared.reply.Done.TheVariants as done
 use Rattle.hv_steps.specs.declared.reply.Opened.{Opened}
 use Rattle.hv_steps.specs.declared.reply.Opened.TheVariants as opened_as
 use Rattle.hv_steps.specs.Going.{IsOpenHouse, AddsOwn, IsGone}
-use Rattle.hv_steps.specs.Phases.{WasSoBetween, OpensAt, IsHinderedBefore, IsNextAt, BeginsAt, StartsAt, IsStoppedAt, NeverStarts, HasBegun, HasNotBegun, Begins, IsShutBeginning, BegunBy}
+use Rattle.hv_steps.specs.Phases.{WasSoBetween, OpensAt, IsHinderedBefore, IsNextAt, BeginsAt, StartsAt, IsStoppedAt, NeverStarts, HasBegun, HasNotBegun, Begins, IsShutBeginning}
 use Rattle.hv_session.specs.Taking.{IsWhyNot}
 use Rattle.hv_session.specs.Alone.{AddsNothing, HasGained}
 use Rattle.hv_session.specs.Ways.{HasStarted, IsTurnedAway, IsAnswered, BeginsSo, IsPart, IsTaking, BeginsAlone, HaltsAlone}
@@ -487,12 +487,9 @@ module _ {D : Type 0} (told : D → Option Store) (faults : D → ℕ) (B : List
         let txn : ℕ = halts.0 in
         let part : IsPart {T = T} told faults txn before.house now.house (Err why) =
         parts-alone told faults B none meanwhile alone T txn own own' before now (λ (x : T) (added : List Entry). Unit {0}) (Err why) running kept
-        (record { done = tt; halted = halts.2.0 }) in
-        let gained : HasGained faults before now halts.2.0.added = adds-alone faults B none own own' before now halts.2.0.added halts.2.0.adds in
+        (record { done = tt; halted = halts.2 }) in
         part-taking told faults asking before.house now.house (Err why)
         (subst (λ (n : ℕ). IsPart {T = T} told faults n before.house now.house (Err why)) (halts-number txn why before now halts.1 part.stopped) part)
-        (λ added is.
-        subst (BegunBy asking) (append_cancel_left (entries_of before.house) halts.2.0.added added (sym gained.book ∙ is)) halts.2.1)
     halts-alone T asking own own' before now why running kept (inr shut) =
         subst (λ (w : HouseFault). IsTaking {T = T} told faults asking before.house now.house (Err w)) (sym shut.0)
         (stops-beginning {T = T} asking own own' before now running kept shut.1 shut.2)

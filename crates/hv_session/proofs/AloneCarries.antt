@@ -1,6 +1,6 @@
 -- Where nobody else acts, a statement that was opened is carried to its end or to its hold as over a house alone.
 use Rattle.std.proofs.Common.{◌≡◌, ℕ, ◌+◌, Option, Some, None, List, [], ◌∷◌, ◌++◌, take, refl, sym, ap, ◌∙◌, subst, append_assoc, Ok, Err, Result, inl, inr}
-use Rattle.std.specs.Prelude.{IsSomeAnd, IfOk, IfErr}
+use Rattle.std.specs.Prelude.{IsSomeAnd, IfOk}
 use Rattle.std.specs.List.{AllByRecursion}
 use Rattle.std.proofs.lemmas.List.{append_cancel_left}
 use Rattle.hv_base.specs.declared.gate.Stage.{Stage}
@@ -35,7 +35,7 @@ use Rattle.hv_session.specs.declared.paused.Carried.{Carried}
 use Rattle.hv_session.specs.declared.paused.Carried.TheVariants as carried
 use Rattle.hv_steps.specs.Ending.{KeepsCount, aborting}
 use Rattle.hv_steps.specs.Going.{faults_in, IsOpenHouse, GainsSome}
-use Rattle.hv_steps.specs.Phases.{Begins, BegunBy}
+use Rattle.hv_steps.specs.Phases.{Begins}
 use Rattle.hv_session.specs.Doing.{IsHold}
 use Rattle.hv_session.specs.Taking.{IsAtPlace, IsTrulyHeld, EndsBefore}
 use Rattle.hv_session.specs.Alone.{HasGained}
@@ -43,24 +43,6 @@ use Rattle.hv_session.specs.Ways.{ActsAlone, IsPart, IsOnWay, GoesInTime, Stands
 use Rattle.hv_session.proofs.Orders.{at-its-hold, begun-in-order}
 use Rattle.hv_session.proofs.Passing.{HasPassed, part-behind, part-taking, passed-part, nothing-passed}
 use Rattle.hv_session.proofs.AloneBooks.{adds-alone}
-
--- ---- what was added behind its Opened and its Start begins with its Opened
-
-begins-front : (first before now more added : List Entry) (asking : Asking) → before ≡ first ++ opening first asking ∷ starting (next_number first) ∷ []
-    → now ≡ before ++ more → now ≡ first ++ added → BegunBy asking added
-begins-front first before now more added asking book behind is =
-    let whole : now ≡ first ++ (opening first asking ∷ starting (next_number first) ∷ more) =
-    behind ∙ ap (λ (b : List Entry). b ++ more) book ∙ append_assoc first (opening first asking ∷ starting (next_number first) ∷ []) more in
-    let same : opening first asking ∷ starting (next_number first) ∷ more ≡ added =
-    append_cancel_left first (opening first asking ∷ starting (next_number first) ∷ more) added (sym whole ∙ is) in
-    subst (BegunBy asking) same (refl, refl, refl)
-
-begins-behind : {D T : Type 0} (told : D → Option Store) (faults : D → ℕ) (a b c : House D) (asking : Asking)
-    → entries_of b ≡ entries_of a ++ opening (entries_of a) asking ∷ starting (next_number (entries_of a)) ∷ [] → (txn : ℕ) (result : Result T HouseFault)
-    → IsPart told faults txn b c result → IfErr result (λ why. (added : List Entry) → entries_of c ≡ entries_of a ++ added → BegunBy asking added)
-begins-behind told faults a b c asking book txn (Ok x) part = tt
-begins-behind told faults a b c asking book txn (Err why) part = λ added is.
-    begins-front (entries_of a) (entries_of b) (entries_of c) part.stopped.added added asking book part.stopped.book is
 
 -- ---- it began: what it goes on to is what it was taken up to
 
@@ -189,8 +171,7 @@ module _ {D : Type 0} (told : D → Option Store) (faults : D → ℕ) (B : List
         record {
           taking = part-taking told faults asking a.house c.house result
               (part-behind told faults (next_number (entries_of a.house)) a.house b.house c.house passed result
-              (renumbered told faults b.house c.house way.txn.0 (next_number (entries_of a.house)) result started.txn_is goes.part))
-              (begins-behind told faults a.house b.house c.house asking started.book way.txn.0 result goes.part);
+              (renumbered told faults b.house c.house way.txn.0 (next_number (entries_of a.house)) result started.txn_is goes.part));
           held = all-kept (entries_of a.house) (entries_of b.house) (entries_of c.house) asking started.book way.txn.0 started.txn_is hold result goes.goes
               (goes.stands asking under);
           truly = λ is.
@@ -206,7 +187,7 @@ module _ {D : Type 0} (told : D → Option Store) (faults : D → ℕ) (B : List
         let gained : HasGained faults a b v.added = adds-alone faults B acts.nothing own own' a b v.added v.adds in
         part-taking told faults asking a.house b.house (Ok found)
         (passed-part told faults (next_number (entries_of a.house)) a.house b.house found
-        (nothing-passed told faults (next_number (entries_of a.house)) a.house b.house same gained.start (kept.whole running) gained.later)) tt
+        (nothing-passed told faults (next_number (entries_of a.house)) a.house b.house same gained.start (kept.whole running) gained.later))
 
     pub full-carries : (hold : Option Stage) (entries : ℕ) → GainsSome faults B (faults_in faults a) own own' a b (Begins a b asking said (opened.Full entries))
         → BeginsSo (entries_of a.house) (entries_of b.house) asking said (opened.Full entries)

@@ -51,10 +51,10 @@ use Rattle.hv_steps.specs.declared.reply.Done.TheVariants as done
 use Rattle.hv_steps.specs.declared.reply.Opened.{Opened}
 use Rattle.hv_steps.specs.declared.reply.Opened.TheVariants as opened
 use Rattle.hv_steps.specs.Going.{faults_in, IsOpenHouse, IsShutHouse, IsShutBetween, AddsOwn, Gains, GainsSome, Halts}
-use Rattle.hv_steps.specs.Phases.{WasSoBetween, OpensAt, IsHinderedAt, IsHinderedBefore, IsNextAt, BeginsAt, StartsAt, IsStoppedAt, AbortsFor, NoCause, Begins, HaltsBeginning, BegunBy}
+use Rattle.hv_steps.specs.Phases.{WasSoBetween, OpensAt, IsHinderedAt, IsHinderedBefore, IsNextAt, BeginsAt, StartsAt, IsStoppedAt, AbortsFor, NoCause, Begins, HaltsBeginning}
 use Rattle.hv_steps.specs.Leaving.{IsLeftFor, EndsAct}
 use Rattle.hv_session.specs.Beginnings.{GoesBeginning, WasHindered, way_of, BeginsAtOnce, IsLeftRunning, OpenedFirst, OpensSo, WaitsIn, reply_of, started_as, StartsSo}
-use Rattle.hv_steps.proofs.Joining.{HeldBy, FoundOpen, RisesBy, held-front, held-adds, shut-found, fault-left, test-left, act-left, why-names, note-ends, ends-rise, front-went, so-now, waited-lasts, adds-none, adds-more, adds-front, gains-behind}
+use Rattle.hv_steps.proofs.Joining.{HeldBy, FoundOpen, RisesBy, held-front, held-adds, shut-found, fault-left, test-left, act-left, why-names, note-ends, ends-rise, front-went, so-now, waited-lasts, adds-none, adds-more, adds-front, gains-behind, halts-behind, halts-none}
 use Rattle.hv_session.proofs.Waits.{waits-at, open-fits}
 
 -- ---- what was so between
@@ -239,8 +239,7 @@ module _ {D : Type 0} (told : D → Option Store) (faults : D → ℕ) (B : List
         inl (
           txn,
           between-first (IsNextAt txn) before now (adds-front faults B rows own own' before now [] adds) refl,
-          record { added = []; adds = adds; of_it = tt; unended = tt; halts = inl shut },
-          tt,
+          halts-none faults B rows told meanwhile txn own own' before now fault.Store adds (inl shut),
         )
     begin-shut adds is (inr open_) =
         inr (refl, adds, record { house = open_.house; kept = open_.kept; was = open_.was; is = is; same = open_.same; cut = open_.cut })
@@ -392,14 +391,9 @@ module _ {D : Type 0} (told : D → Option Store) (faults : D → ℕ) (B : List
           halted = inl (
             txn,
             between-earlier (IsNextAt txn) first before now (adds-front faults B rows own0 own first before [] was.adds) (between-held (IsNextAt txn) before now _ _ _ held refl),
-            record {
-              added = [];
-              adds = hindered-none was (open-adds before now own own' asking (Err (act.House fault.Store)) [] [] held went refl tt);
-              of_it = tt;
-              unended = tt;
-              halts = fault-left told faults meanwhile goes before now _ fault.Store _ txn held running held.does_it.1;
-            },
-            tt,
+            halts-none faults B rows told meanwhile txn own0 own' first now fault.Store
+                (hindered-none was (open-adds before now own own' asking (Err (act.House fault.Store)) [] [] held went refl tt))
+                (fault-left told faults meanwhile goes before now _ fault.Store _ txn held running held.does_it.1),
           );
           ends = tt;
         }
@@ -442,19 +436,11 @@ module _ {D : Type 0} (told : D → Option Store) (faults : D → ℕ) (B : List
         gains-behind faults B rows (faults_in faults first) (faults_in faults before) txn own0 own own' first before now (was.event ∷ []) Is Js was.adds.count was.adds
         (opened-of asking txn was.event was.was_opened.trail was.was_opened.was, tt) (opened-no-end asking txn was.event was.was_opened.trail was.was_opened.was, tt) f gained
 
-    -- and it stops behind its Opened, which is this statement's
     halts-opened : (txn : ℕ) (why : HouseFault) (was : OpenedFirst faults B asking txn said own0 own first before) → Halts told faults B meanwhile txn own own' before now why
-        → (halts : Halts told faults B meanwhile txn own0 own' first now why) × BegunBy asking halts.added
-    halts-opened txn why was halts = (
-      record {
-        added = was.event ∷ halts.added;
-        adds = adds-more faults B rows own0 own own' first before now (was.event ∷ []) halts.added was.adds halts.adds;
-        of_it = (opened-of asking txn was.event was.was_opened.trail was.was_opened.was, halts.of_it);
-        unended = (opened-no-end asking txn was.event was.was_opened.trail was.was_opened.was, halts.unended);
-        halts = halts.halts;
-      },
-      subst (λ (event : Entry). BegunBy asking (event ∷ halts.added)) (sym was.was_opened.was.event_is) (refl, refl, refl),
-    )
+        → Halts told faults B meanwhile txn own0 own' first now why
+    halts-opened txn why was halts =
+        halts-behind faults B rows told meanwhile txn own0 own own' first before now (was.event ∷ []) why was.adds
+        (opened-of asking txn was.event was.was_opened.trail was.was_opened.was, tt) (opened-no-end asking txn was.event was.was_opened.trail was.was_opened.was, tt) halts
 
     -- it is open still
     opened-still : (txn : ℕ) → OpenedFirst faults B asking txn said own0 own first before → AddsOwn faults B own own' before now []

@@ -1,6 +1,5 @@
 -- One part of a statement's way behind another.
 use Rattle.std.proofs.Common.{◌≡◌, ℕ, ◌≤◌, Option, List, [], ◌++◌, Result, Ok, Err, inl, refl, sym, ap, ◌∙◌, subst, arith, append_assoc, append-nil}
-use Rattle.std.specs.Prelude.{IfErr}
 use Rattle.std.specs.List.{AllByRecursion}
 use Rattle.hv_base.specs.Faults.{Rose}
 use Rattle.hv_shelf.specs.Disk.{Store}
@@ -20,7 +19,6 @@ use Rattle.hv_steps.specs.Ending.{KeepsCount, HasStopped}
 use Rattle.hv_steps.specs.hv_acts.specs.Meant.{IsNoEnd}
 use Rattle.hv_session.specs.Ways.{IsDone, IsPart, IsTaking}
 use Rattle.hv_steps.proofs.Books.{all-append, all-map, IsBegun, begun-counts, begun-unended, begun-legal, counts-from, legal-from, state-behind}
-use Rattle.hv_steps.specs.Phases.{BegunBy}
 
 -- ---- counts of faults
 
@@ -126,22 +124,12 @@ passed-part told faults txn before now x passed = record {
 -- ---- a part of taking up a statement
 
 module _ {D T : Type 0} (told : D → Option Store) (faults : D → ℕ) (asking : Asking) (before now : House D) where
-  -- whatever was added begins with the Opened of the statement
-  abbrev pub Begins : HouseFault → Type 0
-  Begins why = (added : List Entry) → entries_of now ≡ entries_of before ++ added → BegunBy asking added
-
-  pub part-taking : (result : Result T HouseFault) → IsPart told faults (next_number (entries_of before)) before now result → IfErr result Begins
+  pub part-taking : (result : Result T HouseFault) → IsPart told faults (next_number (entries_of before)) before now result
       → IsTaking told faults asking before now result
-  part-taking (Ok x) part begins =
+  part-taking (Ok x) part =
       record { done = part.done; start = part.start; stopped = tt; opens = λ is. tt; ends = tt; cause = part.cause }
-  part-taking (Err why) part begins = record {
-    done = tt;
-    start = part.start;
-    stopped = inl (part.stopped, begins part.stopped.added part.stopped.book);
-    opens = part.opens;
-    ends = part.ends;
-    cause = part.cause;
-  }
+  part-taking (Err why) part =
+      record { done = tt; start = part.start; stopped = inl part.stopped; opens = part.opens; ends = part.ends; cause = part.cause }
 
   pub taking-ok : {U : Type 0} (x : U) (y : T) → IsTaking told faults asking before now (Ok x) → IsTaking told faults asking before now (Ok y)
   taking-ok x y taking = record {

@@ -69,7 +69,6 @@ module _ {D : Type 0} (told : D → Option Store) (faults : D → ℕ) (B : List
       was = refl;
     },
     record { added = []; adds = adds; of_it = tt; unended = tt; halts = running },
-    tt,
   )
 
   pub text-halts : (asking : Asking) (own : List ℕ) (house : ToldHouse D) → IsOpenHouse house → (result : Result Taken HouseFault) → IsErrAnd result (λ y. y ≡ fault.NoMemory)
@@ -184,21 +183,18 @@ module _ {D : Type 0} (told : D → Option Store) (faults : D → ℕ) (asking :
     taking = record {
       done = tt;
       start = start;
-      stopped = inl (
-        record {
-          added = [];
-          book = same ∙ sym (append-nil (entries_of before));
-          of_it = tt;
-          legal = record { fit = tt; truthful = tt };
-          unended = tt;
-          further = [];
-          further_of_it = tt;
-          few = omega arith;
-          fit = tt;
-          leaves = whole.ready.kept.reads;
-        },
-        tt,
-      );
+      stopped = inl (record {
+        added = [];
+        book = same ∙ sym (append-nil (entries_of before));
+        of_it = tt;
+        legal = record { fit = tt; truthful = tt };
+        unended = tt;
+        further = [];
+        further_of_it = tt;
+        few = omega arith;
+        fit = tt;
+        leaves = whole.ready.kept.reads;
+      });
       opens = λ is. whole-opens told now whole (told-stays told before now start is);
       ends = tt;
       cause = record { later = later; failed = tt };
@@ -226,7 +222,7 @@ module _ {D : Type 0} (told : D → Option Store) (faults : D → ℕ) (asking :
   text-alone house reply whole line = record {
     taking =
         part-taking told faults asking house house (Ok (taken.Ended (done.Replied reply)))
-        (still-part told faults (next_number (entries_of house)) house whole (taken.Ended (done.Replied reply))) tt;
+        (still-part told faults (next_number (entries_of house)) house whole (taken.Ended (done.Replied reply)));
     held = tt;
     truly = λ is. text-replied (entries_of house) (entries_of house) asking hold reply refl line;
   }

@@ -1,5 +1,5 @@
 -- A statement as a whole: its parts one behind the other, to its end or to the place where it is held.
-use Rattle.std.proofs.Common.{◌≡◌, ◌⊎◌, inl, inr, ℕ, true, false, Option, Some, None, List, [], ◌++◌, refl, sym, ap, ◌∙◌, subst, append-nil, Ok, Err, Result, ◌∷◌}
+use Rattle.std.proofs.Common.{◌≡◌, ◌⊎◌, inl, inr, ℕ, true, false, Option, Some, None, List, [], ◌++◌, refl, sym, ap, ◌∙◌, subst, append-nil, Ok, Err, Result}
 use Rattle.std.specs.Prelude.{IfOk}
 use Rattle.std.specs.List.{AllByRecursion}
 use Rattle.hv_base.specs.declared.gate.Stage.{Stage}
@@ -11,7 +11,7 @@ use Rattle.hv_logic.specs.declared.meaning.Meaning.TheVariants.{Listing, Change,
 use Rattle.hv_history.specs.declared.entry.Entry.{Entry}
 use Rattle.hv_history.specs.declared.entry.Cause.{Cause}
 use Rattle.hv_history.specs.Lasting.{IsFront}
-use Rattle.hv_stands.specs.Running.{Asking, next_number, opening, owner_of, IsOf, AreOf, starting}
+use Rattle.hv_stands.specs.Running.{Asking, next_number, opening, owner_of, IsOf, AreOf}
 use Rattle.hv_trail.specs.declared.trail.TrailItem.{TrailItem}
 use Rattle.hv_trail.specs.Trail.{book_of}
 use Rattle.hv_actor.specs.Acting.{AreRows}
@@ -33,9 +33,9 @@ use Rattle.hv_session.specs.declared.paused.Point.TheVariants as point
 use Rattle.hv_session.specs.declared.paused.Carried.{Carried}
 use Rattle.hv_session.specs.declared.paused.Carried.TheVariants as carried
 use Rattle.hv_steps.specs.Going.{faults_in, IsOpenHouse, AddsOwn, GainsSome, Goes, WasOnWay}
-use Rattle.hv_steps.specs.Phases.{EndsBehind, AbortsFor, OpensAt, IsHinderedBefore, IsNextAt, BeginsAt, StartsAt, WasSoBetween, HasBegun, Begins, ComesTo, Prepares, PreparesTo, CanConclude, ConcludesSo, Concludes, AnswersTruly, IsUntoldDamage, Sees, BegunBy}
+use Rattle.hv_steps.specs.Phases.{EndsBehind, AbortsFor, OpensAt, IsHinderedBefore, IsNextAt, BeginsAt, StartsAt, WasSoBetween, HasBegun, Begins, ComesTo, Prepares, PreparesTo, CanConclude, ConcludesSo, Concludes, AnswersTruly, IsUntoldDamage, Sees}
 use Rattle.hv_session.specs.Doing.{EndsFrom, EndsAs, IsUnrefused, StandsAt, CanGoOn, CanFinishSome, carried_of, is_refused, GoesOnTo, CarriedTruly, GoesToHold, Takes, GoesTaking, WasStarted}
-use Rattle.hv_steps.proofs.Joining.{way-lasts, on-way-opened, adds-none, adds-front, told-later, told-earlier, gains-behind, gains-as, goes-behind, goes-on, all-more, adds-more}
+use Rattle.hv_steps.proofs.Joining.{way-lasts, on-way-opened, adds-none, adds-front, told-later, told-earlier, gains-behind, gains-as, halts-behind, goes-behind, goes-on}
 use Rattle.hv_session.proofs.Lastings.{comes-lasts}
 use Rattle.hv_session.proofs.Openings.{between-more, next-opened}
 
@@ -462,12 +462,6 @@ module _ {D : Type 0} (told : D → Option Store) (faults : D → ℕ) (B : List
         subst (AllByRecursion IsNoEnd) (sym begun.added_is) (begun-unended book asking begun.event at.was.event_is, (tt, tt)),
       )
 
-  -- whatever follows, its Opened comes first
-  begun-by : (a b : ToldHouse D) (asking : Asking) (said : Stmt) (way : Way) (added more : List Entry) → HasBegun a b asking said way added → BegunBy asking (added ++ more)
-  begun-by a b asking said way added more begun =
-      subst (λ (xs : List Entry). BegunBy asking (xs ++ more)) (sym begun.added_is)
-      (subst (λ (event : Entry). BegunBy asking (event ∷ starting way.txn.0 ∷ more)) (sym begun.was_opened.was.event_is) (refl, refl, refl))
-
   pub started-takes : (own own' own'' : List ℕ) (a b c : ToldHouse D) (asking : Asking) (said : Stmt) (way : Way) (hold : Option Stage) (result : Result Carried HouseFault)
       → GainsSome faults B (faults_in faults a) own own' a b (Begins a b asking said (opened.Started way)) → GoesToHold told faults B meanwhile way said hold own' own'' b c result
       → GoesTaking told faults B meanwhile asking said hold own own'' a c result
@@ -502,14 +496,7 @@ module _ {D : Type 0} (told : D → Option Store) (faults : D → ℕ) (B : List
           way.txn.0,
           between-more (IsNextAt way.txn.0) a b c (adds-front faults B rows own' own'' b c halted.added halted.adds)
               (next-opened a b asking way.txn.0 v.is.event v.is.was_opened),
-          record {
-            added = v.added ++ halted.added;
-            adds = adds-more faults B rows own own' own'' a b c v.added halted.added v.adds halted.adds;
-            of_it = all-more (IsOf way.txn.0) v.added halted.added are.0 halted.of_it;
-            unended = all-more IsNoEnd v.added halted.added are.1 halted.unended;
-            halts = halted.halts;
-          },
-          begun-by a b asking said way v.added halted.added v.is,
+          halts-behind faults B rows told meanwhile way.txn.0 own own' own'' a b c v.added why v.adds are.0 are.1 halted,
         );
       }
 

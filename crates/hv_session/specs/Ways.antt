@@ -32,7 +32,7 @@ use Rattle.hv_session.specs.declared.paused.Taken.{Taken}
 use Rattle.hv_steps.specs.Ending.{AddsOf, HasStopped, HasReplied, IsUndamaged, aborting}
 use Rattle.hv_session.specs.Alone.{AddsNothing}
 use Rattle.hv_steps.specs.Going.{IsOpenHouse, faults_in, Goes, GainsSome}
-use Rattle.hv_steps.specs.Phases.{Begins, HaltsBeginning, BegunBy}
+use Rattle.hv_steps.specs.Phases.{Begins, HaltsBeginning}
 use Rattle.hv_session.specs.Taking.{EndsBefore, HoldsAt, IsAtPlace, IsHeld, IsTrulyHeld, WentThrough, IsKept, IsKeptIn, IsTakenAs, IsFinished, IsWhyNot}
 
 -- nobody else acts on the house: others add nothing to its trail, and do nothing to it
@@ -162,7 +162,7 @@ pub record StopsAtBeginning {D : Type 0} (told : D → Option Store) (asking : A
 
 abbrev pub StopsTaken : {D : Type 0} → (D → Option Store) → Asking → HouseFault → House D → House D → Type 0
 StopsTaken told asking why before now =
-    ((stopped : HasStopped told (next_number (entries_of before)) why before now) × BegunBy asking stopped.added) ⊎ StopsAtBeginning told asking why before now
+    HasStopped told (next_number (entries_of before)) why before now ⊎ StopsAtBeginning told asking why before now
 
 -- ---- one that is taken up
 

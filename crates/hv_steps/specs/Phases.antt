@@ -162,16 +162,10 @@ pub record IsShutBeginning {D : Type 0} (told : D → Option Store) (asking : As
   pub same : trail_in now ≡ trail_in house
   pub cut : IsBeginningCut told asking (seen_in house) (seen_in now)
 
--- the first of these entries, where there is one, is the Opened of this statement
-abbrev pub BegunBy : Asking → List Entry → Type 0
-BegunBy asking [] = Unit {0}
-BegunBy asking (entry.Opened txn session number text ∷ more) = (session ≡ asking.session) × (number ≡ asking.number) × (text ≡ asking.text)
-BegunBy asking (event ∷ more) = ⊥
-
 abbrev pub HaltsBeginning : {D : Type 0} → (D → Option Store) → (D → ℕ) → (List TrailItem → Type 0) → (ToldHouse D → ToldHouse D → Type 0) → Asking
     → List ℕ → List ℕ → ToldHouse D → ToldHouse D → HouseFault → Type 0
 HaltsBeginning told faults between meanwhile asking own own' before now why =
-    ((txn : ℕ) × WasSoBetween before now (IsNextAt txn) × (halts : Halts told faults between meanwhile txn own own' before now why) × BegunBy asking halts.added)
+    ((txn : ℕ) × WasSoBetween before now (IsNextAt txn) × Halts told faults between meanwhile txn own own' before now why)
     ⊎ ((why ≡ fault.Store) × AddsOwn faults between own own' before now [] × IsShutBeginning told asking now)
 
 -- ---- what it comes to

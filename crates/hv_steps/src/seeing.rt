@@ -37,8 +37,8 @@ use hv_actor::Actor;
 use hv_acts::ToldHouse;
 use hv_acts::hv_telling::hv_house::{HouseFault, RowFault};
 use hv_ast::{Rows, Show, Stmt};
-use hv_base::{Duplicate, List, NoMemory, Text, TxnId};
-use hv_effect::{Touching, meaning_in};
+use hv_base::{Duplicate, NoMemory, Text, TxnId};
+use hv_effect::{Touching, meaning_in, untouched};
 use hv_history::{Cause, Shown};
 use hv_logic::{Meaning, Seen, named};
 use hv_names::names_in;
@@ -283,10 +283,7 @@ fn is_plain(touching: &Touching) -> bool
 fn listing(alloc: Global, shown: Shown) -> Touching
     ensures { result ≡ Listing shown.names shown.rows }
 {
-    Touching {
-        meaning: Meaning::Listing(shown.names, shown.rows),
-        touches: List::empty(alloc),
-    }
+    untouched(alloc, Meaning::Listing(shown.names, shown.rows))
 }
 
 /// A listing in place of nothing, and any other meaning as it is.
