@@ -344,9 +344,9 @@ free-described tables name = at (place_of name tables)
     at None = tt
     at (Some place) = told (slice_get tables place)
 
-free-partitions : (tables : List TableInfo) (name : List ℕ) → Free (partitions_shown tables name)
+free-partitions-shown : (tables : List TableInfo) (name : List ℕ) → Free (partitions_shown tables name)
 unfolding partitions_shown
-free-partitions tables name = at (place_of name tables)
+free-partitions-shown tables name = at (place_of name tables)
   where
     told : (info : Option TableInfo) → Free (partitions_as info)
     told None = tt
@@ -359,7 +359,7 @@ free-partitions tables name = at (place_of name tables)
 free-shown : (tables : List TableInfo) (what : Show) → Free (show_analysed tables what)
 unfolding show_analysed
 free-shown tables show.Tables = tt
-free-shown tables (show.Partitions name) = free-partitions tables name
+free-shown tables (show.Partitions name) = free-partitions-shown tables name
 free-shown tables show.Transactions = tt
 free-shown tables show.Locks = tt
 free-shown tables show.Compactions = tt
