@@ -211,8 +211,8 @@ start-below state number t h = by t.snapshot h
   where
     by : (o : Option Snapshot) → IsBelowLimit state.entries (option_map snapshot_place o)
         → IsBelowLimit (state.entries + 1) (option_map snapshot_place (first_of o (record { place = state.entries; tables = state.tables })))
-    by None k = omega arith
-    by (Some s) k = omega (arith, k)
+    by None k = let next : state.entries < state.entries + 1 = omega arith in next
+    by (Some s) k = let before : s.place < state.entries = k in let next : s.place < state.entries + 1 = omega (arith, before) in next
 
 below-next : (state : State) (event : Entry) → AllByRecursion (IsStartBelow state.entries) state.transactions
     → AllByRecursion (IsStartBelow (state.entries + 1)) (after state event).transactions
@@ -281,9 +281,12 @@ number-more : {A : Type 0} (xs ys : List A) (n : ℕ) (x : A) → numbered xs n 
 number-more xs ys zero x is = cc
 number-more xs ys (suc n) x is = get-more xs ys n x is
 
+same-some : (a b : Bool) → Some a ≡ Some b → a ≡ b
+same-some a b e = cc
+
 started-by : (position : ℕ) (o : Option Transaction) (b : Bool) → option_map (start_then position) o ≡ Some b → started_in position (option_map brief o) ≡ b
 started-by position None b is = cc
-started-by position (Some u) b is = let same : start_then position u ≡ b = cc in same
+started-by position (Some u) b is = same-some (start_then position u) b is
 
 pub started-then : (entries : List Entry) (position txn : ℕ) (t : Transaction) → then_at entries position txn ≡ Some t
     → started_in position (numbered (map brief (state_of entries).transactions) txn) ≡ is_started t

@@ -90,12 +90,20 @@ fn is_done(fate: Option<Fate>) -> bool
     }
 }
 
+/// Whether the transaction of that number had committed there.
+fn had_committed(book: &Book, front: Front, txn: u64) -> bool
+    requires { IsFrontOf book.now.entries front }
+    ensures { result ≡ is_done (option_map fate_of (then_at book.now.entries front.position txn)) }
+{
+    is_done(stood(book, front, txn))
+}
+
 /// What the transaction of that number wrote, where it had committed its writes there.
 pub fn wrote_then(book: &Book, front: Front, txn: u64) -> Option<&List<Touch>>
     requires { IsFrontOf book.now.entries front }
     ensures { option_copied result ≡ wrote_in (then_at book.now.entries front.position txn) }
 {
-    if is_done(stood(book, front, txn)) {
+    if had_committed(book, front, txn) {
         book.committed(txn)
     } else {
         None
