@@ -83,7 +83,8 @@ fn put_held(
     match tree {
         Some(tree) => {
             let locks = names_in(alloc, tree)?;
-            put_locks(alloc, txn, locks.as_slice(), rows)
+            put_locks(alloc, txn, locks.as_slice(), rows)?;
+            Ok(())
         }
         None => Ok(()),
     }

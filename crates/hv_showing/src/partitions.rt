@@ -46,7 +46,10 @@ fn put_wrote(
     ensures { OnOk result (rows.new.items ≡ rows.old.items ++ inserted_in table (option_copied wrote.entry)) }
 {
     match wrote {
-        Some(wrote) => put_touches(alloc, table, wrote.as_slice(), rows),
+        Some(wrote) => {
+            put_touches(alloc, table, wrote.as_slice(), rows)?;
+            Ok(())
+        }
         None => Ok(()),
     }
 }

@@ -56,7 +56,9 @@ fn show_tables(alloc: Global, book: &Book, front: Front) -> Result<Option<Shown>
         ≡ shows (one_name (codes "tab_name")) (table_rows (tables_then book.now.entries front.position))) }
 {
     let names = one_name(alloc, "tab_name")?;
-    shown(names, table_rows(alloc, book, front)?)
+    let rows = table_rows(alloc, book, front)?;
+    let listed = shown(names, rows)?;
+    Ok(listed)
 }
 
 fn info_number(info: Option<TableInfo>) -> Option<u64>
@@ -112,7 +114,9 @@ fn show_partitions(
 {
     let table = number_named(alloc, book, front, name)?;
     let names = one_name(alloc, "partition")?;
-    shown(names, partition_rows(alloc, book, front, table)?)
+    let rows = partition_rows(alloc, book, front, table)?;
+    let listed = shown(names, rows)?;
+    Ok(listed)
 }
 
 /// The transactions that were open, and the aborted ones that still had a write id.
@@ -137,7 +141,9 @@ fn show_transactions(alloc: Global, book: &Book, front: Front) -> Result<Option<
         (transactions_then book.now.entries front.position))) }
 {
     let names = transaction_names(alloc)?;
-    shown(names, transaction_rows(alloc, book, front)?)
+    let rows = transaction_rows(alloc, book, front)?;
+    let listed = shown(names, rows)?;
+    Ok(listed)
 }
 
 fn show_locks(alloc: Global, book: &Book, front: Front) -> Result<Option<Shown>, NoMemory>
@@ -147,7 +153,9 @@ fn show_locks(alloc: Global, book: &Book, front: Front) -> Result<Option<Shown>,
         (each_from lock_rows 1 (transactions_then book.now.entries front.position))) }
 {
     let names = lock_names(alloc)?;
-    shown(names, locks_then(alloc, book, front)?)
+    let rows = locks_then(alloc, book, front)?;
+    let listed = shown(names, rows)?;
+    Ok(listed)
 }
 
 #[tactic(auto, unfolding(hv_history::specs::Shown::show_listed))]

@@ -62,15 +62,18 @@ fn put_transaction(
         ≡ rows.old.items ++ shown_so txn fate kept (option_copied session.entry)) }
 {
     match fate {
-        Some(Fate::Open) => put_row(alloc, txn, "open", session, rows),
+        Some(Fate::Open) => {
+            put_row(alloc, txn, "open", session, rows)?;
+            Ok(())
+        }
         Some(Fate::Aborted) => {
             if kept {
-                put_row(alloc, txn, "aborted", session, rows)
-            } else {
-                Ok(())
+                put_row(alloc, txn, "aborted", session, rows)?;
             }
+            Ok(())
         }
-        Some(Fate::Committed) | None => Ok(()),
+        Some(Fate::Committed) => Ok(()),
+        None => Ok(()),
     }
 }
 

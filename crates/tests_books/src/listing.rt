@@ -1,12 +1,12 @@
 //! What SHOW lists of the transactions and the tables that a replay has.
-ghost use Rattle.std.specs.Prelude.{◌≡◌, ◌++◌, ◌∷◌, [], ◌&&◌, IfOk, OnOk, None, Some};
+ghost use Rattle.std.specs.Prelude.{◌≡◌, ◌++◌, ◌∷◌, [], ◌&&◌, IfOk, OnOk, None, Some, codes};
 ghost use Rattle.std.specs.List.{flat_map, list_any};
 ghost use Rattle.hv_grammar.specs.Texts.{tree_of};
 ghost use Rattle.hv_logic.specs.declared.meaning.Meaning.TheVariants.{Listing};
 ghost use Rattle.hv_history.specs.declared.state.Statement.{Statement};
 ghost use Rattle.hv_history.specs.State.{numbered};
 ghost use Rattle.hv_history.specs.Legal.{is_open, is_started, locks_of_tree, is_named};
-ghost use Rattle.hv_history.specs.Shown.{each_from, filled, inserted_by, inserted_of, is_kept, is_kept_in, is_plain, listed_for, lock_rows, name_rows, number_named, partition_rows, show_listed, stood_rows, table_rows, transaction_row, transaction_rows};
+ghost use Rattle.hv_history.specs.Shown.{each_from, filled, inserted_by, inserted_of, is_kept, is_kept_in, is_plain, listed_for, lock_names, lock_rows, name_rows, number_named, one_name, partition_rows, show_listed, shows, stood_rows, table_rows, transaction_names, transaction_row, transaction_rows};
 ghost use Rattle.tests_books.specs.Replay.{state_now};
 
 use crate::meanings::tree_of;
@@ -71,7 +71,10 @@ fn put_inserted(
     ensures { OnOk result (rows.new.items ≡ rows.old.items ++ inserted_by table transaction.now.ending) }
 {
     match &transaction.ending {
-        Some(Ending::Committed(_, wrote)) => put_touches(alloc, table, wrote.as_slice(), rows),
+        Some(Ending::Committed(_, wrote)) => {
+            put_touches(alloc, table, wrote.as_slice(), rows)?;
+            Ok(())
+        }
         Some(Ending::Aborted(..)) => Ok(()),
         Some(Ending::Made(..)) => Ok(()),
         Some(Ending::Dropped(..)) => Ok(()),
@@ -158,13 +161,15 @@ fn put_stood(
         ≡ rows.old.items ++ stood_rows number transaction.now.session kept transaction.now.ending) }
 {
     match &transaction.ending {
-        None => put_row(alloc, number, "open", &transaction.session, rows),
+        None => {
+            put_row(alloc, number, "open", &transaction.session, rows)?;
+            Ok(())
+        }
         Some(Ending::Aborted(..)) => {
             if kept {
-                put_row(alloc, number, "aborted", &transaction.session, rows)
-            } else {
-                Ok(())
+                put_row(alloc, number, "aborted", &transaction.session, rows)?;
             }
+            Ok(())
         }
         Some(Ending::Committed(..)) => Ok(()),
         Some(Ending::Made(..)) => Ok(()),
@@ -183,7 +188,8 @@ fn put_transaction(
         ≡ rows.old.items ++ transaction_rows tables.now number transaction.now) }
 {
     let kept = has_kept(tables, transaction.given.as_slice());
-    put_stood(alloc, number, kept, transaction, rows)
+    put_stood(alloc, number, kept, transaction, rows)?;
+    Ok(())
 }
 
 // The open transactions, and the aborted ones that have a write id that is kept.
@@ -244,10 +250,9 @@ fn put_running(
 {
     if is_running(transaction) {
         let locks = locks_of(alloc, transaction.statements.as_slice())?;
-        put_locks(alloc, number, locks.as_slice(), rows)
-    } else {
-        Ok(())
+        put_locks(alloc, number, locks.as_slice(), rows)?;
     }
+    Ok(())
 }
 
 // The locks of the transactions that are open and started.
@@ -261,6 +266,55 @@ fn lock_rows(alloc: Global, transactions: &[Transaction]) -> Result<Vec<Row>, No
     Ok(rows)
 }
 
+fn show_tables(alloc: Global, tables: &[Table]) -> Result<Option<Shown>, NoMemory>
+    ensures { IfOk result (λ shown. shown
+        ≡ shows (one_name (codes "tab_name")) (table_rows tables.now)) }
+{
+    let names = one_name(alloc, "tab_name")?;
+    let rows = table_rows(alloc, tables)?;
+    let listed = shown(names, rows)?;
+    Ok(listed)
+}
+
+fn show_partitions(
+    alloc: Global,
+    transactions: &[Transaction],
+    tables: &[Table],
+    name: &Text,
+) -> Result<Option<Shown>, NoMemory>
+    ensures { IfOk result (λ shown. shown ≡ shows (one_name (codes "partition"))
+        (partition_rows (number_named name.now tables.now) transactions.now)) }
+{
+    let names = one_name(alloc, "partition")?;
+    let table = number_named(tables, name);
+    let rows = partition_rows(alloc, table, transactions)?;
+    let listed = shown(names, rows)?;
+    Ok(listed)
+}
+
+fn show_transactions(
+    alloc: Global,
+    transactions: &[Transaction],
+    tables: &[Table],
+) -> Result<Option<Shown>, NoMemory>
+    ensures { IfOk result (λ shown. shown
+        ≡ shows transaction_names (each_from (transaction_rows tables.now) 1 transactions.now)) }
+{
+    let names = transaction_names(alloc)?;
+    let rows = transaction_rows(alloc, tables, transactions)?;
+    let listed = shown(names, rows)?;
+    Ok(listed)
+}
+
+fn show_locks(alloc: Global, transactions: &[Transaction]) -> Result<Option<Shown>, NoMemory>
+    ensures { IfOk result (λ shown. shown ≡ shows lock_names (each_from lock_rows 1 transactions.now)) }
+{
+    let names = lock_names(alloc)?;
+    let rows = lock_rows(alloc, transactions)?;
+    let listed = shown(names, rows)?;
+    Ok(listed)
+}
+
 #[tactic(auto, unfolding(hv_history::specs::Shown::show_listed))]
 fn listing(
     alloc: Global,
@@ -271,16 +325,10 @@ fn listing(
     ensures { IfOk result (λ shown. shown ≡ show_listed (state_now transactions.now tables.now) what.now) }
 {
     match what {
-        Show::Tables => shown(one_name(alloc, "tab_name")?, table_rows(alloc, tables)?),
-        Show::Partitions(name) => shown(
-            one_name(alloc, "partition")?,
-            partition_rows(alloc, number_named(tables, name), transactions)?,
-        ),
-        Show::Transactions => shown(
-            transaction_names(alloc)?,
-            transaction_rows(alloc, tables, transactions)?,
-        ),
-        Show::Locks => shown(lock_names(alloc)?, lock_rows(alloc, transactions)?),
+        Show::Tables => show_tables(alloc, tables),
+        Show::Partitions(name) => show_partitions(alloc, transactions, tables, name),
+        Show::Transactions => show_transactions(alloc, transactions, tables),
+        Show::Locks => show_locks(alloc, transactions),
         Show::Compactions => Ok(None),
     }
 }
