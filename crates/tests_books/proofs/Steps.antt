@@ -2,6 +2,7 @@
 use Rattle.std.proofs.Common.{◌≡◌, ℕ, ◌+◌, ◌<◌, List, [], ◌∷◌, length, get_or, take, fold, refl, sym, ap, ◌∙◌, arith}
 use Rattle.std.proofs.lemmas.List.{length-take-le}
 use Rattle.std.proofs.lemmas.List.Sums.{fold_more}
+use Rattle.hv_base.specs.declared.ids.TxnId.{TxnId}
 use Rattle.hv_history.specs.declared.entry.Entry.{Entry}
 use Rattle.hv_history.specs.declared.entry.Entry.TheVariants as entry
 use Rattle.hv_history.specs.declared.state.Statement.{Statement}
@@ -65,6 +66,16 @@ tables-alone state (entry.Forgot table write) = refl
 tables-alone state (entry.Next txn statement number text) = refl
 tables-alone state (entry.Did txn statement wrote) = refl
 tables-alone state (entry.Alter txn table) = refl
+
+-- a Start, over the tables that the replay has
+pub start_acts : (place : ℕ) (transactions : List Transaction) (tables seen : List Table) (event : Entry) (txn : TxnId) (statement : ℕ)
+    → event ≡ entry.Start txn statement → seen ≡ tables
+    → changed (while_open (started (state_at place transactions seen) statement)) transactions txn.0
+    ≡ (acted (state_at place transactions tables) event).transactions
+unfolding acted
+start_acts place transactions tables seen event txn statement is same =
+    (λ k. changed (while_open (started (state_at place transactions (same k)) statement)) transactions txn.0)
+    ∙ ap (λ (e : Entry). (acted (state_at place transactions tables) e).transactions) (sym is)
 
 counted : (state : State) (book : List Entry) → (fold after state book).entries ≡ state.entries + length book
 counted state [] = omega arith
