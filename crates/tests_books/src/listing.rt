@@ -1,5 +1,5 @@
 //! What SHOW lists of the transactions and the tables that a replay has.
-ghost use Rattle.std.specs.Prelude.{◌≡◌, ◌++◌, ◌∷◌, [], ◌&&◌, IfOk, OnOk, None, Some, codes};
+ghost use Rattle.std.specs.Prelude.{◌≡◌, ◌++◌, ◌∷◌, [], ◌&&◌, ◌==◌, IfOk, OnOk, None, Some, codes};
 ghost use Rattle.std.specs.List.{flat_map, list_any};
 ghost use Rattle.hv_grammar.specs.Texts.{tree_of};
 ghost use Rattle.hv_logic.specs.declared.meaning.Meaning.TheVariants.{Listing};
@@ -110,15 +110,25 @@ fn partition_rows(
     }
 }
 
+fn is_among(writes: &[u64], write: u64) -> bool
+    ensures { result ≡ list_any (λ other. other == write) writes.now }
+{
+    writes.iter().any(|other| *other == write)
+}
+
 // Whether a table is live, and this write id of it isn't forgotten.
+fn keeps(table: &Table, write: u64) -> bool
+    ensures { result ≡ is_kept_in write (Some table.now) }
+{
+    table.is_live && !is_among(table.forgotten.as_slice(), write)
+}
+
+// The same of the table of that number, where there is one.
 fn is_kept(tables: &[Table], table: u64, write: u64) -> bool
     ensures { result ≡ is_kept_in write (numbered tables.now table) }
 {
     match numbered(tables, table) {
-        Some(table) => {
-            let forgotten = table.forgotten.as_slice();
-            table.is_live && !forgotten.iter().any(|other| *other == write)
-        }
+        Some(table) => keeps(table, write),
         None => false,
     }
 }
