@@ -52,7 +52,10 @@ fn coming(
         ≡ comes_to (state_now transactions.now tables.now) (statement_of transaction.now number)) }
 {
     match transaction.statements.as_slice().get(number as usize) {
-        Some(statement) => meaning_now(alloc, transactions, tables, &statement.text),
+        Some(statement) => {
+            let meaning = meaning_now(alloc, transactions, tables, &statement.text)?;
+            Ok(meaning)
+        }
         None => Ok(None),
     }
 }
@@ -69,7 +72,10 @@ fn coming_at(
         ≡ comes_at (state_now transactions.now tables.now) number (slice_get transactions.now at)) }
 {
     match transactions.get(at) {
-        Some(transaction) => coming(alloc, transactions, tables, number, transaction),
+        Some(transaction) => {
+            let meaning = coming(alloc, transactions, tables, number, transaction)?;
+            Ok(meaning)
+        }
         None => Ok(None),
     }
 }
