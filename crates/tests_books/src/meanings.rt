@@ -5,7 +5,8 @@ ghost use Rattle.std.specs.Ordering.{is_eq};
 ghost use Rattle.hv_grammar.specs.Texts.{tree_of};
 ghost use Rattle.hv_logic.specs.Rows.{found_cmp};
 ghost use Rattle.hv_logic.specs.declared.effect.Found.{Found};
-ghost use Rattle.hv_meaning.specs.Meaning.{named_by, its_tables};
+ghost use Rattle.hv_meaning.specs.Meaning.{named_by, its_tables, meaning_of};
+ghost use Rattle.hv_history.specs.Shown.{filled};
 ghost use Rattle.hv_history.specs.State.{is_deleted, content_of, meaning_in, means, seen_tables, writes_of};
 ghost use Rattle.tests_books.specs.Replay.{state_now};
 
@@ -13,7 +14,7 @@ use crate::listing::{filled, listed_for, nothing};
 use hv_ast::{Stmt, discard};
 use hv_base::{Boxed, Duplicate, List, NoMemory, Text};
 use hv_effect::{Touching, meaning_in};
-use hv_history::{Table, Transaction, Written, given_in, written_by};
+use hv_history::{Shown, Table, Transaction, Written, given_in, written_by};
 use hv_logic::{Found, Meaning, Seen, compare_found, named, sort_found};
 use hv_names::names_in;
 use hv_reading::{TextFault, read_text};
@@ -118,6 +119,42 @@ fn its_tables(alloc: Global, tree: &Stmt, seen: &[Seen]) -> Result<Vec<Seen>, No
     Ok(tables)
 }
 
+fn meaning_of(
+    alloc: Global,
+    tables: &[Table],
+    tree: &Stmt,
+) -> Result<Option<Boxed<Meaning>>, NoMemory>
+    ensures { IfOk result (λ meaning. meaning ≡ meaning_of (seen_tables tables.now) tree.now) }
+{
+    let named = {
+        let seen = seen_tables(alloc, tables)?;
+        its_tables(alloc, tree, &seen)?
+    };
+    match meaning_in(alloc, tree, named)? {
+        Some(found) => {
+            let Touching { meaning, .. } = found;
+            Ok(Some(Boxed::new(alloc, meaning)?))
+        }
+        None => Ok(None),
+    }
+}
+
+fn filled_over(
+    alloc: Global,
+    shown: Option<Shown>,
+    over: Option<Boxed<Meaning>>,
+) -> Result<Option<Boxed<Meaning>>, NoMemory>
+    ensures { IfOk result (λ meaning. meaning ≡ filled shown over) }
+{
+    match over {
+        Some(meaning) => {
+            let all = filled(shown, meaning.into_inner());
+            Ok(Some(Boxed::new(alloc, all)?))
+        }
+        None => Ok(nothing(shown)),
+    }
+}
+
 fn means(
     alloc: Global,
     transactions: &[Transaction],
@@ -126,18 +163,10 @@ fn means(
 ) -> Result<Option<Boxed<Meaning>>, NoMemory>
     ensures { IfOk result (λ meaning. meaning ≡ means (state_now transactions.now tables.now) (Some tree.now)) }
 {
+    let over = meaning_of(alloc, tables, tree)?;
     let shown = listed_for(alloc, transactions, tables, tree)?;
-    let named = {
-        let seen = seen_tables(alloc, tables)?;
-        its_tables(alloc, tree, &seen)?
-    };
-    match meaning_in(alloc, tree, named)? {
-        Some(found) => {
-            let Touching { meaning, .. } = found;
-            Ok(Some(Boxed::new(alloc, filled(shown, meaning))?))
-        }
-        None => Ok(nothing(shown)),
-    }
+    let meaning = filled_over(alloc, shown, over)?;
+    Ok(meaning)
 }
 
 /// What the statement of this text comes to over these transactions and tables.
