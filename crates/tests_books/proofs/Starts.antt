@@ -16,7 +16,7 @@ use Rattle.hv_logic.specs.declared.meaning.Meaning.{Meaning}
 use Rattle.hv_history.specs.declared.state.Statement.{Statement}
 use Rattle.hv_history.specs.declared.state.Table.{Table}
 use Rattle.hv_history.specs.declared.state.Transaction.{Transaction}
-use Rattle.hv_history.specs.State.{State, changed_at, meant_in, started, statement_of, first_of, first_known}
+use Rattle.hv_history.specs.State.{State, changed_at, meant_in, started, statement_of as statement_at, first_of, first_known}
 use Rattle.hv_history.proofs.NumberLemmas.{place-some, place-none, put_changed}
 use Rattle.tests_books.specs.Replay.{state_at, state_now, comes_to, said_of, begun}
 use Rattle.tests_books.proofs.Shows.{meaning-alone}
@@ -62,7 +62,7 @@ module _ (state : State) (meaning : Option Meaning) where
   said-at (x ∷ xs) zero is = ap (λ (m : Option Meaning). record x { meaning = first_known x.meaning m } ∷ xs) is
   said-at (x ∷ xs) (suc n) is = ap (λ (ys : List Statement). x ∷ ys) (said-at xs n is)
 
-  begun-started : (number : ℕ) (transaction : Transaction) → meaning ≡ comes_to state (statement_of transaction number)
+  begun-started : (number : ℕ) (transaction : Transaction) → meaning ≡ comes_to state (statement_at transaction number)
       → begun state.entries state.tables number meaning transaction ≡ started state number transaction
   begun-started number transaction is =
       λ k. record transaction {
@@ -76,11 +76,11 @@ comes-alone state place (Some statement) = meaning-alone state place statement.t
 
 -- what it comes to doesn't rest on the place
 pub begun-now : (place : ℕ) (transactions : List Transaction) (tables : List Table) (number : ℕ) (meaning : Option Meaning) (transaction : Transaction)
-    → meaning ≡ comes_to (state_now transactions tables) (statement_of transaction number)
+    → meaning ≡ comes_to (state_now transactions tables) (statement_at transaction number)
     → begun place tables number meaning transaction ≡ started (state_at place transactions tables) number transaction
 begun-now place transactions tables number meaning transaction is =
     begun-started (state_at place transactions tables) meaning number transaction
-    (is ∙ comes-alone (state_at place transactions tables) 0 (statement_of transaction number))
+    (is ∙ comes-alone (state_at place transactions tables) 0 (statement_at transaction number))
 
 -- ---- the statement at a place
 
