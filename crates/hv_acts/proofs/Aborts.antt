@@ -1,5 +1,6 @@
 -- An abort that an act notes in its hold.
-use Rattle.std.proofs.Common.{◌≡◌, ℕ, true, Option, Some, None, Ok, Err, List, length, lt-ltb, refl}
+use Rattle.std.proofs.Common.{◌≡◌, ℕ, ◌+◌, Bool, true, false, IsTrue, Option, Some, None, Ok, Err, List, length, lt-ltb, ltb-true, refl}
+use Rattle.std.proofs.lemmas.Bool.{ltb-false}
 use Rattle.std.specs.Prelude.{IsSomeAnd}
 use Rattle.hv_base.specs.declared.ids.TxnId.{TxnId}
 use Rattle.hv_shelf.specs.Disk.{Store}
@@ -8,7 +9,7 @@ use Rattle.hv_history.specs.declared.entry.Cause.{Cause}
 use Rattle.hv_history.specs.declared.entry.Cause.TheVariants as cause
 use Rattle.hv_history.specs.declared.state.Transaction.{Transaction}
 use Rattle.hv_history.specs.State.{State}
-use Rattle.hv_history.specs.Legal.{FullFits, profile}
+use Rattle.hv_history.specs.Legal.{is_open, load, FullFits, HasRoom, profile}
 use Rattle.hv_trail.specs.Trail.{book_of}
 use Rattle.hv_trail.specs.Kept.{trail_of}
 use Rattle.hv_trail.specs.Steps.{Note, Done, Step}
@@ -53,6 +54,14 @@ abort-true house txn why is = true-house house (entry.Abort txn why) is
 pub is-full : (state : State) (o : Option Transaction) → IsSomeAnd o (FullFits profile state) → is_full state ≡ true
 is-full state None full = absurd full
 is-full state (Some t) full = lt-ltb _ _ full.full
+
+-- one that is open and isn't without room has room for an entry
+pub room-of : (state : State) (t : Transaction) → IsTrue (is_open t) → (FullFits profile state t → ⊥) → HasRoom profile state 1
+room-of state t unended free = by (is_full state) refl
+  where
+    by : (b : Bool) → is_full state ≡ b → HasRoom profile state 1
+    by true e = absurd (free (record { unended = unended; full = ltb-true _ _ e }))
+    by false e = ltb-false profile.entries (load state + 1) e
 
 -- ---- its step
 

@@ -14,11 +14,12 @@ use Rattle.hv_history.specs.declared.entry.Cause.TheVariants as cause
 use Rattle.hv_history.specs.declared.state.Table.{Table}
 use Rattle.hv_history.specs.declared.state.Transaction.{Transaction}
 use Rattle.hv_history.specs.State.{State, state_of, numbered}
-use Rattle.hv_history.specs.Legal.{IsRunning, ConflictFits, CommitFits}
+use Rattle.hv_history.specs.Legal.{Of, IsRunning, ConflictFits, CommitFits, MeetsNoConflict}
 use Rattle.hv_conflicts.proofs.ClashLemmas.{clash-fits}
 use Rattle.hv_conflicts.specs.declared.meeting.Clash.{Clash}
 use Rattle.hv_conflicts.specs.Clashes.{IsClash}
 use Rattle.hv_trail.specs.declared.trail.Reader.TheVariants.{Txn}
+use Rattle.hv_trail.specs.declared.trail.TrailItem.{TrailItem}
 use Rattle.hv_trail.specs.Trail.{book_of, state_at, broken}
 use Rattle.hv_trail.specs.Kept.{trail_of}
 use Rattle.hv_trail.specs.Steps.{Note, Commit, Done, HouseSeen, Step}
@@ -37,7 +38,7 @@ use Rattle.hv_acts.specs.declared.fault.ActFault.TheVariants as act
 use Rattle.hv_acts.specs.Answers.{act_outcome, call_behind, FilesTest, IsLate, EntryFits, EntryStep, HasItsMark}
 use Rattle.hv_acts.specs.Aborting.{AbortStep}
 use Rattle.hv_acts.specs.Putting.{Runs}
-use Rattle.hv_acts.specs.Committing.{IsOfItsChange, CanBePut, WerePut, conflict_cause, IsConflictOf, IsConflict, HasMet, CommitsAlone, CommitStep}
+use Rattle.hv_acts.specs.Committing.{IsOfItsChange, CanBePut, WerePut, conflict_cause, IsConflictOf, IsConflict, HasMet, IsReadyWith, RestsOnCommit, CommitStep}
 use Rattle.hv_acts.specs.Meant.{HasAtMost, RunsWith, IsCommitDue, IsCauseTrue}
 use Rattle.hv_acts.proofs.Shorts.{short_conflict}
 use Rattle.hv_acts.proofs.Steps.{book-is, moves-same, or-false, asked, whole-keeps}
@@ -138,13 +139,24 @@ clash-trail house txn entries xs ys clash are same is =
     subst (λ (ts : List Touch). IsClash (state_at (trail_of house.trail)) txn.0 ts clash) same
     (subst (λ (book : List Entry). IsClash (state_of book) txn.0 xs clash) (are ∙ sym (book-is house)) is)
 
-runs-by : (state : State) (wrote : List Touch) (o : Option Transaction) → IsSomeAnd o (CommitFits state wrote) → IsSomeAnd o IsRunning
-runs-by state wrote None fits = fits
-runs-by state wrote (Some t) fits = fits.running
+-- what is ready and meets no conflict can be committed
+ready-fits : (state : State) (wrote : List Touch) (o : Option Transaction) → IsSomeAnd o (λ (t : Transaction). MeetsNoConflict state t wrote) → IsSomeAnd o (IsReadyWith wrote)
+    → IsSomeAnd o (CommitFits state wrote)
+ready-fits state wrote None clear ready = absurd ready
+ready-fits state wrote (Some t) clear ready = record { running = ready.running; rise = ready.rise; own = ready.own; used = ready.used; clear = clear }
 
--- what commits runs
-pub commit-runs : {D : Type 0} (house : House D) (txn : TxnId) (wrote : List Touch) → EntryFits (trail_of house.trail) (entry.Commit txn wrote) → Runs (trail_of house.trail) txn
-commit-runs house txn wrote fits = runs-by (state_at (trail_of house.trail)) wrote (numbered (state_at (trail_of house.trail)).transactions txn.0) fits
+ready-runs : (wrote : List Touch) (o : Option Transaction) → IsSomeAnd o (IsReadyWith wrote) → IsSomeAnd o IsRunning
+ready-runs wrote None ready = absurd ready
+ready-runs wrote (Some t) ready = ready.running
+
+abbrev pub IsClear : List TrailItem → TxnId → List Touch → Type 0
+IsClear trail txn wrote = Of (state_at trail) txn.0 (λ (t : Transaction). MeetsNoConflict (state_at trail) t wrote)
+
+pub clear-trail : {D : Type 0} (house : House D) (txn : TxnId) (entries : List Entry) (xs ys : List Touch) → entries ≡ entries_of house → xs ≡ ys
+    → Of (state_of entries) txn.0 (λ (t : Transaction). MeetsNoConflict (state_of entries) t xs) → IsClear (trail_of house.trail) txn ys
+clear-trail house txn entries xs ys are same is =
+    subst (IsClear (trail_of house.trail) txn) same
+    (subst (λ (book : List Entry). Of (state_of book) txn.0 (λ (t : Transaction). MeetsNoConflict (state_of book) t xs)) (are ∙ sym (book-is house)) is)
 
 -- ---- the steps
 
@@ -206,12 +218,13 @@ module _ {D : Type 0} (told : D → Option Store) (faults : D → ℕ) (txn : Tx
 -- ---- what is promised of a commit
 
 module _ {D : Type 0} (told : D → Option Store) (faults : D → ℕ) (txn : TxnId) (wrote : List Touch) (name : List ℕ) (places : List Place) where
-  pub commit-failed : (why : ActFault) (before now : House D) → EntryStep {T = Unit {0}} told faults txn (entry.Commit txn wrote) before now (Err why)
-      → CommitStep told faults txn wrote name places before now (Err why)
-  commit-failed why before now s = record {
+  pub commit-failed : (why : ActFault) (before now : House D) → IsClear (trail_of before.trail) txn wrote
+      → EntryStep {T = Unit {0}} told faults txn (entry.Commit txn wrote) before now (Err why) → CommitStep told faults txn wrote name places before now (Err why)
+  commit-failed why before now clear s = record {
     keeps = s.keeps;
     step = commit-behind told faults txn wrote (seen_of before) (seen_of now) why s.step;
-    answers = why-for FilesTest (trail_of before.trail) txn _ (CommitsAlone (trail_of before.trail) txn wrote places) (λ is. is.fits) why s.answers;
+    answers = why-for FilesTest (trail_of before.trail) txn _ (RestsOnCommit (trail_of before.trail) txn wrote places)
+        (λ is. ready-fits (state_at (trail_of before.trail)) wrote (numbered (state_at (trail_of before.trail)).transactions txn.0) clear is.ready) why s.answers;
     leaves = s.leaves;
   }
 
@@ -253,17 +266,19 @@ module _ {D : Type 0} (told : D → Option Store) (faults : D → ℕ) (txn : Tx
 
   -- a test refused it
   pub commit-late : (why : ActFault) (house : House D) → IsWhole told house → IsLate (trail_of house.trail) txn why
-      → (CommitsAlone (trail_of house.trail) txn wrote places → ⊥) → CommitStep told faults txn wrote name places house house (Err why)
+      → (RestsOnCommit (trail_of house.trail) txn wrote places → ⊥) → CommitStep told faults txn wrote name places house house (Err why)
   commit-late why house whole late not = record {
     keeps = whole-keeps told house whole;
     step = asked-late told faults (seen_of house) (trail_of house.trail) txn (Commit txn wrote) why late;
-    answers = why-of FilesTest (trail_of house.trail) txn (CommitsAlone (trail_of house.trail) txn wrote places) why late not;
+    answers = why-of FilesTest (trail_of house.trail) txn (RestsOnCommit (trail_of house.trail) txn wrote places) why late not;
     leaves = late-leaves told faults (trail_of house.trail) txn why (seen_of house) (seen_of house) late whole.ready.kept.running;
   }
 
   pub commit-not-running : (why : ActFault) (house : House D) → IsWhole told house → IsLate (trail_of house.trail) txn why
       → (RunsWith (trail_of house.trail) txn 1 → ⊥) → CommitStep told faults txn wrote name places house house (Err why)
-  commit-not-running why house whole late not = commit-late why house whole late (λ is. not (commit-runs house txn wrote is.fits, is.alone))
+  commit-not-running why house whole late not =
+      commit-late why house whole late
+      (λ is. not (ready-runs wrote (numbered (state_at (trail_of house.trail)).transactions txn.0) is.ready, is.alone))
 
   module _ (found : Conflict) (before now : House D) (met : HasMet (trail_of before.trail) txn wrote name found) where
     pub conflict-failed : (why : HouseFault) → AbortStep told faults txn found.cause found.aborted.text before now (Err why)

@@ -1,6 +1,6 @@
 -- A write id that is given by an act.
-use Rattle.std.proofs.Common.{◌≡◌, inr, ℕ, Bool, true, false, Option, Some, None, Ok, Err, List, [], ltb-true, refl, sym, ap, ◌∙◌, subst}
-use Rattle.std.specs.Prelude.{IsSomeAnd, if◌then◌else◌}
+use Rattle.std.proofs.Common.{◌≡◌, inr, ℕ, ◌+◌, ◌≤◌, Bool, true, false, IsTrue, is_none, Option, Some, None, Ok, Err, List, [], ◌∷◌, length, ltb-true, refl, sym, ap, ◌∙◌, subst, arith}
+use Rattle.std.specs.Prelude.{IsSomeAnd, IsNone, if◌then◌else◌}
 use Rattle.hv_base.specs.declared.ids.TxnId.{TxnId}
 use Rattle.hv_base.specs.declared.ids.TableId.{TableId}
 use Rattle.hv_base.specs.declared.ids.WriteId.{WriteId}
@@ -10,8 +10,10 @@ use Rattle.hv_history.specs.declared.entry.Entry.{Entry}
 use Rattle.hv_history.specs.declared.entry.Entry.TheVariants as entry
 use Rattle.hv_history.specs.declared.entry.Cause.{Cause}
 use Rattle.hv_history.specs.declared.entry.Cause.TheVariants as cause
+use Rattle.hv_history.specs.declared.state.Ending.{Ending}
+use Rattle.hv_history.specs.declared.state.Table.{Table}
 use Rattle.hv_history.specs.declared.state.Transaction.{Transaction}
-use Rattle.hv_history.specs.State.{State, numbered}
+use Rattle.hv_history.specs.State.{State, numbered, given_in}
 use Rattle.hv_history.specs.Legal.{Of, IsRunning, GivenFits as IdFits, FullFits, NeedsId, CauseIsTrue, profile}
 use Rattle.hv_trail.specs.declared.trail.TrailItem.{TrailItem}
 use Rattle.hv_trail.specs.Trail.{state_at}
@@ -27,26 +29,46 @@ use Rattle.hv_acts.specs.declared.giving.Given.{Given}
 use Rattle.hv_acts.specs.declared.giving.Given.TheVariants as given
 use Rattle.hv_acts.specs.declared.fault.ActFault.{ActFault}
 use Rattle.hv_acts.specs.declared.fault.ActFault.TheVariants as act
-use Rattle.hv_acts.specs.Answers.{call_behind, act_outcome, NoTest, IsLate, next_id, EntryStep, aborted_line}
+use Rattle.hv_book.specs.Briefs.{given_while, given_at}
+use Rattle.hv_acts.specs.Answers.{call_behind, act_outcome, NoTest, IsLate, id_behind, next_id, EntryFits, EntryStep, aborted_line}
 use Rattle.hv_acts.specs.Aborting.{AbortStep, is_full}
-use Rattle.hv_acts.specs.Giving.{to_give, GivenFits, GiveStep}
+use Rattle.hv_acts.specs.Giving.{to_give, RestsOnId, GiveStep}
 use Rattle.hv_acts.specs.Meant.{HasAtMost, RunsWith, IsIdDue, IsCauseTrue}
 use Rattle.hv_acts.proofs.Steps.{whole-keeps}
 use Rattle.hv_acts.proofs.Leaves.{late-leaves}
 use Rattle.hv_acts.proofs.Notes.{why-of, why-for, asked-late}
 use Rattle.hv_acts.proofs.Truths.{just-given}
-use Rattle.hv_acts.proofs.Aborts.{is-full}
+use Rattle.hv_acts.proofs.Aborts.{is-full, room-of}
 
 -- ---- what is noted
 
-runs-by : (state : State) (table write : ℕ) (o : Option Transaction) → IsSomeAnd o (IdFits profile state table write) → IsSomeAnd o IsRunning
-runs-by state table write None fits = fits
-runs-by state table write (Some t) fits = fits.running
+none-in : (table : ℕ) (ids : List (ℕ × ℕ)) → length ids ≤ 0 → IsNone (given_in table ids)
+none-in table [] few = refl
+none-in table (id ∷ ids) few = absurd (omega (arith, few))
 
--- what is given an id runs
-give-runs : (trail : List TrailItem) (txn : TxnId) (table : TableId) → GivenFits trail txn table → RunsWith trail txn 0
-give-runs trail txn table fits =
-    (runs-by (state_at trail) table.0 (next_id trail table).0 (numbered (state_at trail).transactions txn.0) fits.0, fits.1)
+-- one that is open was given what it holds
+none-given : (table : ℕ) (ending : Option Ending) (ids : List (ℕ × ℕ)) → is_none ending ≡ true → length (given_while ending ids) ≤ 0 → IsNone (given_in table ids)
+none-given table None ids unended few = none-in table ids few
+none-given table (Some ending) ids unended few = cc
+
+next-of : (o : Option Table) → IsSomeAnd o (λ (t : Table). IsTrue t.is_live) → IsSomeAnd o (λ (t : Table). IsTrue t.is_live × (id_behind o ≡ length t.owners + 1))
+next-of None lives = absurd lives
+next-of (Some t) lives = (lives, refl)
+
+-- where it rests well and there is room its write id fits
+rests-give : (trail : List TrailItem) (txn : TxnId) (table : TableId) → (Of (state_at trail) txn.0 (FullFits profile (state_at trail)) → ⊥) → RestsOnId trail txn table
+    → EntryFits trail (entry.Given txn table (next_id trail table))
+rests-give trail txn table room rests = by (numbered (state_at trail).transactions txn.0) rests.runs.0 rests.runs.1 room
+  where
+    by : (o : Option Transaction) → IsSomeAnd o IsRunning → length (given_at o) ≤ 0 → (IsSomeAnd o (FullFits profile (state_at trail)) → ⊥)
+        → IsSomeAnd o (IdFits profile (state_at trail) table.0 (next_id trail table).0)
+    by None runs few room = absurd runs
+    by (Some t) runs few room = record {
+      running = runs;
+      live = next-of (numbered (state_at trail).tables table.0) rests.lives;
+      first = none-given table.0 t.ending t.given runs.unended few;
+      room = room-of (state_at trail) t runs.unended room;
+    }
 
 -- the book has room where one that runs has
 has-room : (state : State) (o : Option Transaction) → IsSomeAnd o IsRunning → (IsSomeAnd o (FullFits profile state) → ⊥) → is_full state ≡ false
@@ -120,7 +142,7 @@ module _ {D : Type 0} (told : D → Option Store) (faults : D → ℕ) (txn : Tx
     step =
         subst (λ (e : Entry). Step told faults (call_behind (Note e) why) (act_outcome why) (seen_of before) (seen_of now))
         (sym (give-free (trail_of before.trail) txn table runs room)) s.step;
-    answers = why-for NoTest (trail_of before.trail) txn _ _ (λ fits. fits.0) why s.answers;
+    answers = why-for NoTest (trail_of before.trail) txn _ (RestsOnId (trail_of before.trail) txn table) (rests-give (trail_of before.trail) txn table room) why s.answers;
     leaves = s.leaves;
   }
 
@@ -129,6 +151,6 @@ module _ {D : Type 0} (told : D → Option Store) (faults : D → ℕ) (txn : Tx
   give-late why house whole late not = record {
     keeps = whole-keeps told house whole;
     step = asked-late told faults (seen_of house) (trail_of house.trail) txn (Note (to_give (trail_of house.trail) txn table)) why late;
-    answers = why-of NoTest (trail_of house.trail) txn (GivenFits (trail_of house.trail) txn table) why late (λ fits. not (give-runs (trail_of house.trail) txn table fits));
+    answers = why-of NoTest (trail_of house.trail) txn (RestsOnId (trail_of house.trail) txn table) why late (λ rests. not rests.runs);
     leaves = late-leaves told faults (trail_of house.trail) txn why (seen_of house) (seen_of house) late whole.ready.kept.running;
   }

@@ -18,3 +18,4 @@ pub mod RunsOn
 pub mod Readings
 pub mod ReadSteps
 pub mod Countings
+pub mod Showings

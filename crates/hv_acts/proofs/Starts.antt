@@ -1,6 +1,8 @@
 -- A transaction that an act starts, or aborts for what stands in its way.
-use Rattle.std.proofs.Common.{◌≡◌, ◌↔◌, inl, ℕ, Bool, true, false, Option, Some, None, Ok, Err, IsTrue, List, length, ltb-true, true≢false, refl, sym, ap, ◌∙◌, subst}
-use Rattle.std.specs.Prelude.{IsSomeAnd, ◌&&◌, not, if◌then◌else◌}
+use Rattle.std.proofs.Common.{◌≡◌, ◌↔◌, inl, ℕ, ◌+◌, Bool, true, false, Option, Some, None, Ok, Err, IsTrue, List, [], ◌∷◌, length, ltb-true, true≢false, refl, sym, ap, ◌∙◌, subst}
+use Rattle.std.specs.Prelude.{IsSomeAnd, ◌&&◌, ◌||◌, not, if◌then◌else◌}
+use Rattle.std.specs.List.{list_any}
+use Rattle.hv_locks.specs.declared.table.Lock.{Lock}
 use Rattle.hv_base.specs.declared.ids.TxnId.{TxnId}
 use Rattle.hv_shelf.specs.Disk.{Store}
 use Rattle.hv_history.specs.declared.entry.Entry.{Entry}
@@ -9,7 +11,7 @@ use Rattle.hv_history.specs.declared.entry.Cause.{Cause}
 use Rattle.hv_history.specs.declared.entry.Cause.TheVariants as cause
 use Rattle.hv_history.specs.declared.state.Transaction.{Transaction}
 use Rattle.hv_history.specs.State.{State, state_of, numbered}
-use Rattle.hv_history.specs.Legal.{Of, is_open, is_started, locks_of, first_holder, IsRunning, IsWaiting, BlockedFits, FullFits, CauseIsTrue, profile}
+use Rattle.hv_history.specs.Legal.{Of, is_open, is_started, locks_of, first_holder, holds_against, IsRunning, IsWaiting, StartFits, BlockedFits, FullFits, CauseIsTrue, profile}
 use Rattle.hv_trail.specs.declared.trail.TrailItem.{TrailItem}
 use Rattle.hv_trail.specs.Trail.{book_of, state_at}
 use Rattle.hv_trail.specs.Kept.{trail_of}
@@ -23,15 +25,15 @@ use Rattle.hv_acts.specs.declared.aborted.Aborted.{Aborted}
 use Rattle.hv_acts.specs.declared.starting.Started.TheVariants as started
 use Rattle.hv_acts.specs.declared.fault.ActFault.{ActFault}
 use Rattle.hv_acts.specs.declared.fault.ActFault.TheVariants as act
-use Rattle.hv_acts.specs.Answers.{call_behind, act_outcome, StartTest, EntryStep, aborted_line}
+use Rattle.hv_acts.specs.Answers.{call_behind, act_outcome, NoTest, StartTest, EntryFits, EntryStep, aborted_line}
 use Rattle.hv_acts.specs.Aborting.{AbortStep, is_full}
 use Rattle.hv_acts.specs.Starting.{start_entry, entry_to_start, to_start, WaitsWithoutRoom, WaitsInFull, IsShort, IsInItsWay, StartOrAbortStep}
 use Rattle.hv_acts.specs.Waiting.{IsHeld, StartStep}
-use Rattle.hv_acts.specs.Meant.{IsCauseTrue}
+use Rattle.hv_acts.specs.Meant.{IsCauseTrue, RestsOnStart}
 use Rattle.hv_acts.proofs.Steps.{asked, whole-keeps}
 use Rattle.hv_acts.proofs.Notes.{why-for}
 use Rattle.hv_acts.proofs.Puts.{runs-of, not-running}
-use Rattle.hv_acts.proofs.Aborts.{is-full}
+use Rattle.hv_acts.proofs.Aborts.{is-full, room-of}
 
 -- ---- whether it waits and has no room
 
@@ -92,6 +94,27 @@ unheld-none state t waits unheld = by (first_holder (locks_of t) 1 state.transac
     by : (f : Option ℕ) → first_holder (locks_of t) 1 state.transactions ≡ f → first_holder (locks_of t) 1 state.transactions ≡ None
     by None e = e
     by (Some n) e = absurd (unheld n (record { waiting = waits; held = e }))
+
+held-any : (b : Bool) (number : ℕ) (rest : Option ℕ) (more : Bool) → (rest ≡ None → more ≡ false) → (if b then Some number else rest) ≡ None → b || more ≡ false
+held-any true number rest more f none = cc
+held-any false number rest more f none = f none
+
+-- so no lock conflicts with its own
+unheld-all : (locks : List Lock) (number : ℕ) (ts : List Transaction) → first_holder locks number ts ≡ None → list_any (holds_against locks) ts ≡ false
+unheld-all locks number [] none = refl
+unheld-all locks number (t ∷ ts) none =
+    held-any (holds_against locks t) number (first_holder locks (number + 1) ts) (list_any (holds_against locks) ts) (unheld-all locks (number + 1) ts) none
+
+-- where it waits, nobody holds a lock against it and there is room, its Start fits
+start-fits : (state : State) (o : Option Transaction) → (IsSomeAnd o (WaitsWithoutRoom state) → ⊥) → ((by : ℕ) → IsSomeAnd o (BlockedFits state by) → ⊥)
+    → IsSomeAnd o IsWaiting → IsSomeAnd o (StartFits profile state 0)
+start-fits state None free unheld waits = absurd waits
+start-fits state (Some t) free unheld waits = record {
+  waiting = waits;
+  first = refl;
+  unlocked = unheld-all (locks_of t) 1 state.transactions (unheld-none state t waits unheld);
+  room = room-of state t waits.unended (λ full. free (waits, full));
+}
 
 full-entry : (state : State) (txn : TxnId) (o : Option Transaction) → IsSomeAnd o (WaitsWithoutRoom state)
     → ((by : ℕ) → IsSomeAnd o (BlockedFits state by) → ⊥) → entry_to_start state txn o ≡ entry.Abort txn cause.Full
@@ -156,6 +179,10 @@ module _ (trail : List TrailItem) (txn : TxnId) where
   pub held-true : (by : TxnId) → IsHeld trail txn by → IsCauseTrue trail txn (cause.Blocked by)
   held-true by held = held-truly (state_at trail) by (numbered (state_at trail).transactions txn.0) held
 
+  pub rests-start : (WaitsInFull trail txn → ⊥) → ((by : TxnId) → IsHeld trail txn by → ⊥) → RestsOnStart trail txn → EntryFits trail (entry.Start txn 0)
+  rests-start free unheld waits =
+      start-fits (state_at trail) (numbered (state_at trail).transactions txn.0) free (λ n. unheld (record { 0 = n })) waits
+
   pub full-way : WaitsInFull trail txn → ((by : TxnId) → IsHeld trail txn by → ⊥) → IsInItsWay trail txn cause.Full
   full-way waits unheld = short-of (state_at trail) (numbered (state_at trail).transactions txn.0) waits (λ n. unheld (record { 0 = n }))
 
@@ -199,13 +226,15 @@ module _ {D : Type 0} (told : D → Option Store) (faults : D → ℕ) (txn : Tx
     leaves = s.leaves;
   }
 
-  pub start-refused : (why : ActFault) (before now : House D) → ((by : TxnId) → IsHeld (trail_of before.trail) txn by → ⊥)
+  pub start-refused : (why : ActFault) (before now : House D) → (Of (state_at (trail_of before.trail)) txn.0 (FullFits profile (state_at (trail_of before.trail))) → ⊥)
+      → ((by : TxnId) → IsHeld (trail_of before.trail) txn by → ⊥)
       → EntryStep {T = Unit {0}} told faults txn (entry.Start txn 0) before now (Err why) → StartStep told faults txn before now (Err why)
-  start-refused why before now unheld s = record {
+  start-refused why before now room unheld s = record {
     keeps = s.keeps;
     step = s.step;
     answers = record {
-      answers = why-for StartTest (trail_of before.trail) txn _ _ (λ fits. fits) why s.answers;
+      answers = why-for StartTest (trail_of before.trail) txn _ (RestsOnStart (trail_of before.trail) txn)
+          (rests-start (trail_of before.trail) txn (λ waits. room (full-fits (trail_of before.trail) txn waits)) unheld) why s.answers;
       held = λ by held. absurd (unheld by held);
     };
     leaves = s.leaves;
@@ -246,6 +275,6 @@ module _ {D : Type 0} (told : D → Option Store) (faults : D → ℕ) (txn : Tx
     step =
         subst (λ (e : Entry). Step told faults (call_behind (Note e) why) (act_outcome why) (seen_of before) (seen_of now))
         (sym (to-free (trail_of before.trail) txn free unheld)) s.step;
-    answers = s.answers;
+    answers = why-for NoTest (trail_of before.trail) txn _ (RestsOnStart (trail_of before.trail) txn) (rests-start (trail_of before.trail) txn free unheld) why s.answers;
     leaves = s.leaves;
   }

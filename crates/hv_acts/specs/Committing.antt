@@ -1,5 +1,5 @@
 -- A transaction that is committed, or aborted since a commit conflicts with it.
-use Rattle.std.specs.Prelude.{◌≡◌, ◌⊎◌, ℕ, Option, None, List, [], ◌∷◌, length, Result, Ok, Err, IsSomeAnd}
+use Rattle.std.specs.Prelude.{◌≡◌, ◌⊎◌, ℕ, IsTrue, Option, None, List, [], ◌∷◌, length, Result, Ok, Err, IsSomeAnd}
 use Rattle.std.specs.List.{AllByRecursion}
 use Rattle.hv_base.specs.declared.ids.TxnId.{TxnId}
 use Rattle.hv_base.specs.declared.ids.TableId.{TableId}
@@ -15,7 +15,9 @@ use Rattle.hv_history.specs.declared.entry.Cause.{Cause}
 use Rattle.hv_history.specs.declared.entry.Cause.TheVariants as cause
 use Rattle.hv_history.specs.Answers.{conflict_text}
 use Rattle.hv_history.specs.declared.state.Table.{Table}
+use Rattle.hv_history.specs.declared.state.Transaction.{Transaction}
 use Rattle.hv_history.specs.State.{numbered}
+use Rattle.hv_history.specs.Legal.{Of, IsRunning, Rise, IsOwnTouch, is_touched}
 use Rattle.hv_conflicts.specs.declared.meeting.Clash.{Clash}
 use Rattle.hv_conflicts.specs.Clashes.{IsClash}
 use Rattle.hv_trail.specs.declared.trail.Reader.TheVariants.{Txn}
@@ -105,6 +107,19 @@ pub record CommitsAlone (trail : List TrailItem) (txn : TxnId) (wrote : List Tou
   pub fits : EntryFits trail (entry.Commit txn wrote)
   pub alone : HasAtMost trail txn 1
 
+-- all that its Commit asks of it but that it meets no conflict
+pub record IsReadyWith (wrote : List Touch) (transaction : Transaction) : Type 0 where
+  pub running : IsRunning transaction
+  pub rise : Rise wrote
+  pub own : AllByRecursion (IsOwnTouch transaction) wrote
+  pub used : AllByRecursion (λ given. IsTrue (is_touched wrote given)) transaction.given
+
+-- what a commit rests on: it has the marks of its files, and runs, with touches that are its own, under one write id at most
+pub record RestsOnCommit (trail : List TrailItem) (txn : TxnId) (wrote : List Touch) (places : List Place) : Type 0 where
+  pub put : WerePut trail txn places
+  pub ready : Of (state_at trail) txn.0 (IsReadyWith wrote)
+  pub alone : HasAtMost trail txn 1
+
 -- it committed by the next entry: no call on files had failed for it
 pub record HasCommitted (trail : List TrailItem) (txn : TxnId) (wrote : List Touch) (places : List Place) (at : ℕ) : Type 0 where
   pub place : at ≡ length (book_of trail)
@@ -126,7 +141,7 @@ pub record HasConflicted (trail : List TrailItem) (txn : TxnId) (wrote : List To
 abbrev pub CommitAnswers : List TrailItem → TxnId → List Touch → List ℕ → List Place → Result Committed ActFault → Type 0
 CommitAnswers trail txn wrote name places (Ok (committed.At place)) = HasCommitted trail txn wrote places place
 CommitAnswers trail txn wrote name places (Ok (committed.Aborted aborted)) = HasConflicted trail txn wrote name aborted
-CommitAnswers trail txn wrote name places (Err why) = IsWhy FilesTest trail txn (CommitsAlone trail txn wrote places) why
+CommitAnswers trail txn wrote name places (Err why) = IsWhy FilesTest trail txn (RestsOnCommit trail txn wrote places) why
 
 -- all that is promised of a transaction that was to commit
 pub record CommitStep {D : Type 0} (told : D → Option Store) (faults : D → ℕ) (txn : TxnId) (wrote : List Touch) (name : List ℕ) (places : List Place)

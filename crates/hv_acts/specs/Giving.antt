@@ -1,5 +1,5 @@
 -- A write id that is given, or an abort where there is no room for it.
-use Rattle.std.specs.Prelude.{◌≡◌, ℕ, if◌then◌else◌, Option, List, [], ◌∷◌, Result, Ok, Err}
+use Rattle.std.specs.Prelude.{◌≡◌, ℕ, if◌then◌else◌, IsTrue, IsSomeAnd, Option, List, [], ◌∷◌, Result, Ok, Err}
 use Rattle.hv_base.specs.declared.ids.TxnId.{TxnId}
 use Rattle.hv_base.specs.declared.ids.TableId.{TableId}
 use Rattle.hv_base.specs.declared.ids.WriteId.{WriteId}
@@ -7,6 +7,8 @@ use Rattle.hv_shelf.specs.Disk.{Store}
 use Rattle.hv_history.specs.declared.entry.Entry.{Entry}
 use Rattle.hv_history.specs.declared.entry.Entry.TheVariants as entry
 use Rattle.hv_history.specs.declared.entry.Cause.TheVariants as cause
+use Rattle.hv_history.specs.declared.state.Table.{Table}
+use Rattle.hv_history.specs.State.{numbered}
 use Rattle.hv_history.specs.Legal.{Of, FullFits, profile}
 use Rattle.hv_trail.specs.declared.trail.TrailItem.{TrailItem}
 use Rattle.hv_trail.specs.declared.trail.TrailItem.TheVariants.{Noted}
@@ -42,6 +44,11 @@ adds_given txn table (Err why) = []
 abbrev pub GivenFits : List TrailItem → TxnId → TableId → Type 0
 GivenFits trail txn table = EntryFits trail (entry.Given txn table (next_id trail table)) × HasAtMost trail txn 0
 
+-- what a write id rests on: its transaction runs without one, and its table is live
+pub record RestsOnId (trail : List TrailItem) (txn : TxnId) (table : TableId) : Type 0 where
+  pub runs : RunsWith trail txn 0
+  pub lives : IsSomeAnd (numbered (state_at trail).tables table.0) (λ (t : Table). IsTrue t.is_live)
+
 -- it was aborted: it runs without a write id, and there is no room for an entry more
 pub record IsAbortedFull (trail : List TrailItem) (txn : TxnId) (aborted : Aborted) : Type 0 where
   pub at : IsAbortedAt trail aborted
@@ -52,7 +59,7 @@ pub record IsAbortedFull (trail : List TrailItem) (txn : TxnId) (aborted : Abort
 abbrev pub GiveAnswers : List TrailItem → TxnId → TableId → Result Given ActFault → Type 0
 GiveAnswers trail txn table (Ok (given.Id write)) = GivenFits trail txn table × (write ≡ next_id trail table)
 GiveAnswers trail txn table (Ok (given.Aborted aborted)) = IsAbortedFull trail txn aborted
-GiveAnswers trail txn table (Err why) = IsWhy NoTest trail txn (GivenFits trail txn table) why
+GiveAnswers trail txn table (Err why) = IsWhy NoTest trail txn (RestsOnId trail txn table) why
 
 -- all that is promised of a write id that was to be given
 pub record GiveStep {D : Type 0} (told : D → Option Store) (faults : D → ℕ) (txn : TxnId) (table : TableId) (before now : House D)

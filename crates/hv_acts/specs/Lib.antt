@@ -11,6 +11,7 @@ pub mod Making
 pub mod Meant
 pub mod Putting
 pub mod Reading
+pub mod Showing
 pub mod Starting
 pub mod Told
 pub mod Waiting

@@ -25,7 +25,7 @@ use Rattle.hv_history.specs.declared.entry.Cause.{Cause}
 use Rattle.hv_history.specs.declared.entry.Cause.TheVariants as cause
 use Rattle.hv_history.specs.State.{numbered}
 use Rattle.hv_history.specs.Lasting.{IsFront}
-use Rattle.hv_history.specs.Legal.{Of, IsRunning, IsTruthful, TouchesAreMeant}
+use Rattle.hv_history.specs.Legal.{Of, IsRunning, IsWaiting, IsTruthful, TouchesAreMeant}
 use Rattle.hv_stands.specs.Files.{place_of_file}
 use Rattle.hv_stands.specs.Laws.{HasFile, changes_in}
 use Rattle.hv_stands.specs.Running.{Asking, meant, IsUnderWay}
@@ -55,6 +55,10 @@ HasAtMost trail txn most = length (given_at (numbered (state_at trail).transacti
 -- it has started and has not ended, and has so many
 abbrev pub RunsWith : List TrailItem → TxnId → ℕ → Type 0
 RunsWith trail txn most = Of (state_at trail) txn.0 IsRunning × HasAtMost trail txn most
+
+-- what a Start rests on: its transaction has not started and has not ended
+abbrev pub RestsOnStart : List TrailItem → TxnId → Type 0
+RestsOnStart trail txn = Of (state_at trail) txn.0 IsWaiting
 
 -- ---- what is true of what is added
 

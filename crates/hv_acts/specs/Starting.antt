@@ -22,6 +22,7 @@ use Rattle.hv_acts.specs.declared.starting.Started.TheVariants as started
 use Rattle.hv_acts.specs.declared.fault.ActFault.{ActFault}
 use Rattle.hv_acts.specs.Answers.{call_behind, answer_outcome, NoTest, IsWhy, EntryFits, IsAbortedAt, AnswerLeaves}
 use Rattle.hv_acts.specs.Aborting.{is_full}
+use Rattle.hv_acts.specs.Meant.{RestsOnStart}
 
 -- what is to be noted where it waits: an abort for the one that holds a lock against it, or for want of room, or else its Start
 abbrev pub start_entry : TxnId → Bool → Option ℕ → Entry
@@ -71,7 +72,7 @@ IsInItsWay trail txn why = ⊥
 abbrev pub StartOrAbortAnswers : List TrailItem → TxnId → Result Started ActFault → Type 0
 StartOrAbortAnswers trail txn (Ok (started.At place)) = EntryFits trail (entry.Start txn 0) × (place ≡ length (book_of trail))
 StartOrAbortAnswers trail txn (Ok (started.Aborted aborted)) = IsAbortedAt trail aborted × IsInItsWay trail txn aborted.cause
-StartOrAbortAnswers trail txn (Err why) = IsWhy NoTest trail txn (EntryFits trail (entry.Start txn 0)) why
+StartOrAbortAnswers trail txn (Err why) = IsWhy NoTest trail txn (RestsOnStart trail txn) why
 
 -- all that is promised of a transaction that was to start or be aborted
 pub record StartOrAbortStep {D : Type 0} (told : D → Option Store) (faults : D → ℕ) (txn : TxnId) (before now : House D) (result : Result Started ActFault) : Type 0 where

@@ -15,7 +15,8 @@ use Rattle.hv_telling.specs.hv_house.specs.Steps.{seen_of}
 use Rattle.hv_acts.specs.Told.{IsWholeOrClosed}
 use Rattle.hv_acts.specs.declared.fault.ActFault.{ActFault}
 use Rattle.hv_acts.specs.declared.fault.ActFault.TheVariants as act
-use Rattle.hv_acts.specs.Answers.{answer_call, answer_outcome, StartTest, EntryFits, Answers, AnswerLeaves}
+use Rattle.hv_acts.specs.Answers.{answer_call, answer_outcome, StartTest, IsWhy, EntryFits, AnswerLeaves}
+use Rattle.hv_acts.specs.Meant.{RestsOnStart}
 
 -- the number of the transaction that is opened next, and its Opened
 abbrev pub next_txn : List TrailItem → TxnId
@@ -55,9 +56,14 @@ TellsHolder by (Err (act.Held holder)) = holder ≡ by
 TellsHolder by (Err (act.House why)) = Unit {0}
 TellsHolder by answer = ⊥
 
--- it is started only where its Start fits; where a lock is held against it, the answer is who holds it
+-- it is started only where its Start fits, and refused for what that rests on, for a lock or for want of room
+abbrev pub StartsSo : List TrailItem → TxnId → Result ℕ ActFault → Type 0
+StartsSo trail txn (Ok place) = EntryFits trail (entry.Start txn 0) × (place ≡ length (book_of trail))
+StartsSo trail txn (Err why) = IsWhy StartTest trail txn (RestsOnStart trail txn) why
+
+-- where a lock is held against it, the answer is who holds it
 pub record StartAnswers (trail : List TrailItem) (txn : TxnId) (answer : Result ℕ ActFault) : Type 0 where
-  pub answers : Answers StartTest trail txn (EntryFits trail (entry.Start txn 0)) (λ (place : ℕ). place ≡ length (book_of trail)) answer
+  pub answers : StartsSo trail txn answer
   pub held : (by : TxnId) → IsHeld trail txn by → TellsHolder by answer
 
 -- all that is promised of a transaction that was to start

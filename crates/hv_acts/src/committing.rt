@@ -3,6 +3,7 @@ ghost use Rattle.std.specs.List.{slice_get};
 ghost use Rattle.hv_base.specs.declared.ids.Touch.{Touch};
 ghost use Rattle.hv_shelf.specs.declared.place.Place.{Place};
 ghost use Rattle.hv_history.specs.declared.entry.Entry.TheVariants as entry;
+ghost use Rattle.hv_history.specs.Legal.{Of, MeetsNoConflict};
 ghost use Rattle.hv_conflicts.specs.Clashes.{IsClash};
 ghost use Rattle.hv_trail.specs.declared.trail.Reader.TheVariants.{Txn};
 ghost use Rattle.hv_trail.specs.Trail.{book_of, state_at, broken};
@@ -162,6 +163,8 @@ fn end_by_commit<D: Shelf>(house: &mut House<D>, due: CommitWrites) -> Result<Co
         → IsCommitDue (trail_of house.old.trail) due.txn due.wrote due.put }
     requires unbroken { broken (Txn due.txn) (trail_of house.old.trail) ≡ None }
     requires put { WerePut (trail_of house.old.trail) due.txn due.put }
+    requires clear { Of (state_at (trail_of house.old.trail)) due.txn.0
+        (λ t. MeetsNoConflict (state_at (trail_of house.old.trail)) t due.wrote) }
     ensures committed { CommitStep D.told D.faults due.txn due.wrote due.name due.put
         house.old house.new result }
 {

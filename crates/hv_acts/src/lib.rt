@@ -19,6 +19,7 @@ mod noting;
 mod opening;
 mod putting;
 mod reading;
+mod showing;
 mod starting;
 mod told;
 
@@ -39,5 +40,6 @@ pub use putting::PutFile;
 pub use reading::{
     places_last, what_was_found_is_there, what_was_listed_is_got, what_was_listed_stands,
 };
+pub use showing::ShowBook;
 pub use starting::{OpenTransaction, StartOrAbort, StartTransaction, Started};
 pub use told::ToldHouse;

@@ -11,6 +11,7 @@ use crate::drops::dropped;
 use crate::merges::merged;
 use crate::queries::selected;
 use crate::settings::set_analysed;
+use crate::shows::show_analysed;
 use hv_ast::{Merge, Query, Stmt};
 use hv_base::{Refusal, Text};
 use hv_built::is_built;
@@ -57,6 +58,7 @@ fn form_analysed(alloc: Global, tables: &[TableInfo], stmt: &Stmt) -> Result<Log
         Stmt::Truncate(truncate) => change_analysed(alloc, tables, &truncate.table, stmt),
         Stmt::CreateTable(create) => created(alloc, tables, create),
         Stmt::DropTable(drop) => dropped(tables, drop),
+        Stmt::Show(show) => show_analysed(tables, show),
         Stmt::Describe(table) => described(alloc, tables, table),
         Stmt::Set(setting) => set_analysed(setting),
         _ => Err(SYNTAX),

@@ -9,5 +9,6 @@ mod drops;
 mod merges;
 mod queries;
 mod settings;
+mod shows;
 
 pub use analysis::analyse;

@@ -20,7 +20,7 @@ use Rattle.hv_ast.specs.declared.statement.Stmt.{Stmt}
 use Rattle.hv_history.specs.declared.state.Transaction.{Transaction}
 use Rattle.hv_history.specs.declared.state.Table.{Table}
 use Rattle.hv_history.specs.Book.{tree_at}
-use Rattle.hv_book.specs.Briefs.{brief, end_of, tree_in, text_tree, shape_at, table_shape}
+use Rattle.hv_book.specs.Briefs.{brief, end_of, tree_in, session_at, session_of, session_in, text_tree, shape_at, table_shape}
 use Rattle.hv_book.proofs.HeldLaws.{HeldFollows, held-next}
 use Rattle.hv_book.proofs.CommitLaws.{AreCommits, IsTold, commits-next, told-of}
 use Rattle.hv_history.specs.declared.state.Ending.{Ending}
@@ -91,7 +91,7 @@ follows xs =
       jobs = refl;
       ongoing = refl;
       held = none-held;
-      sourced = record { trees = refl; below = tt; shapes = refl; texts = tt };
+      sourced = record { trees = refl; sessions = refl; below = tt; shapes = refl; texts = tt };
       commits = record { told = tt; below = tt; rising = tt; same = λ passes. refl };
     })
 
@@ -226,6 +226,31 @@ tree-known xs txn place e = met (tree_at xs place) (numbered (state_of xs).trans
 pub tree-unknown : (xs : List Entry) (txn : ℕ) → None ≡ numbered (notes_of xs).opened txn
     → None ≡ tree_in (numbered (state_of xs).transactions txn)
 tree-unknown xs txn e = missed (numbered (state_of xs).transactions txn) (ap (option_map (tree_at xs)) e ∙ trees-numbered xs txn)
+
+-- ---- sessions
+
+session-met : (s : Option (List ℕ)) (o : Option Transaction) → Some s ≡ option_map session_of o → s ≡ session_in o
+session-met s None e = cc
+session-met s (Some transaction) e = cc
+
+session-missed : (o : Option Transaction) → None ≡ option_map session_of o → None ≡ session_in o
+session-missed None e = refl
+session-missed (Some transaction) e = cc
+
+sessions-numbered : (xs : List Entry) (txn : ℕ) → option_map (session_at xs) (numbered (notes_of xs).opened txn) ≡ option_map session_of (numbered (state_of xs).transactions txn)
+sessions-numbered xs txn =
+    sym (numbered-map (session_at xs) (notes_of xs).opened txn) ∙ ap (λ ts. numbered ts txn) (follows xs).sourced.sessions
+    ∙ numbered-map session_of (state_of xs).transactions txn
+
+pub session-known : (xs : List Entry) (txn place : ℕ) → Some place ≡ numbered (notes_of xs).opened txn
+    → session_at xs place ≡ session_in (numbered (state_of xs).transactions txn)
+session-known xs txn place e = session-met (session_at xs place) (numbered (state_of xs).transactions txn) (ap (option_map (session_at xs)) e ∙ sessions-numbered xs txn)
+
+pub session-unknown : (xs : List Entry) (txn : ℕ) → None ≡ numbered (notes_of xs).opened txn
+    → None ≡ session_in (numbered (state_of xs).transactions txn)
+session-unknown xs txn e = session-missed (numbered (state_of xs).transactions txn) (ap (option_map (session_at xs)) e ∙ sessions-numbered xs txn)
+
+-- ---- shapes
 
 shapes-numbered : (xs : List Entry) (table : ℕ) → option_map (shape_at xs) (numbered (notes_of xs).texts table) ≡ option_map table_shape (numbered (state_of xs).tables table)
 shapes-numbered xs table =

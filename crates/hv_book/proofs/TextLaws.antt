@@ -19,7 +19,7 @@ use Rattle.hv_history.specs.declared.state.Ending.TheVariants.{Aborted, Made, Dr
 use Rattle.hv_history.specs.Book.{tree_at, tree_of_entry}
 use Rattle.hv_history.specs.State.{State, numbered, changed, changed_at, while_open, unless_ended, started, given_id, committed, ended, meant_in, wrote_as, owned, dropped, forgot, written_to, tables_behind, commits, opened, made_by, made_shape, created_shape, statement_tree, opening_tree, acted, after}
 use Rattle.hv_book.specs.Notes.{Notes, noted, ending}
-use Rattle.hv_book.specs.Briefs.{shape_at, table_shape}
+use Rattle.hv_book.specs.Briefs.{session_of_entry, session_at, session_of, shape_at, table_shape}
 use Rattle.hv_book.proofs.NoteLaws.{map-same}
 
 -- ---- what stands at a place of a longer list
@@ -54,6 +54,15 @@ trees-front : (done more : List Entry) (ps : List ℕ) → AllByRecursion (λ (p
 trees-front done more [] h = refl
 trees-front done more (p ∷ ps) h =
     ap (λ t. t ∷ map (tree_at (done ++ more)) ps) (tree-front done more p h.0) ∙ ap (λ ts. tree_at done p ∷ ts) (trees-front done more ps h.1)
+
+session-front : (done more : List Entry) (p : ℕ) → p < length done → session_at (done ++ more) p ≡ session_at done p
+session-front done more p below = ap (option_and_then session_of_entry) (get-front done more p below)
+
+sessions-front : (done more : List Entry) (ps : List ℕ) → AllByRecursion (λ (p : ℕ). p < length done) ps
+    → map (session_at (done ++ more)) ps ≡ map (session_at done) ps
+sessions-front done more [] h = refl
+sessions-front done more (p ∷ ps) h =
+    ap (λ t. t ∷ map (session_at (done ++ more)) ps) (session-front done more p h.0) ∙ ap (λ ts. session_at done p ∷ ts) (sessions-front done more ps h.1)
 
 shape-front : (done more : List Entry) (o : Option ℕ) → IsBelow (length done) o → shape_at (done ++ more) o ≡ shape_at done o
 shape-front done more None h = refl
@@ -137,6 +146,39 @@ trees-same state (entry.Alter txn table) trees h other = h
 trees-same state (entry.Failed job cause) trees h other = h
 trees-same state (entry.Forgot table write) trees h other = h
 
+-- ---- the session of a transaction stays
+
+sessions-one : (f : Transaction → Transaction) → ((t : Transaction) → (f t).session ≡ t.session) → (sessions : List (Option (List ℕ)))
+    → (ts : List Transaction) (txn : ℕ) → sessions ≡ map session_of ts → sessions ≡ map session_of (changed (while_open f) ts txn)
+sessions-one f same sessions ts txn h =
+    h ∙ sym (map-same session_of (while_open f) (while-same session_of f (λ (t : Transaction). ap (λ (s : List ℕ). Some s) (same t))) ts txn)
+
+sessions-same : (state : State) (event : Entry) → (sessions : List (Option (List ℕ))) → sessions ≡ map session_of state.transactions
+    → ((txn : _) (session : _) (number : _) (text : _) → event ≡ entry.Opened txn session number text → ⊥)
+    → sessions ≡ map session_of (after state event).transactions
+unfolding acted
+sessions-same state (entry.Boot run) sessions h other = h
+sessions-same state (entry.Opened txn session number text) sessions h other = absurd (other txn session number text refl)
+sessions-same state (entry.Start txn statement) sessions h other = sessions-one (started state statement) (λ t. refl) sessions state.transactions txn.0 h
+sessions-same state (entry.Given txn table write) sessions h other = sessions-one (given_id table.0 write.0) (λ t. refl) sessions state.transactions txn.0 h
+sessions-same state (entry.Commit txn wrote) sessions h other = sessions-one (committed state.entries wrote) (λ t. refl) sessions state.transactions txn.0 h
+sessions-same state (entry.Abort txn cause) sessions h other =
+    sessions-one (ended (Aborted state.entries cause)) (λ t. refl) sessions state.transactions txn.0 h
+sessions-same state (entry.Create txn table) sessions h other =
+    sessions-one (ended (Made state.entries table.0)) (λ t. refl) sessions state.transactions txn.0 h
+sessions-same state (entry.Drop txn table) sessions h other =
+    sessions-one (ended (Dropped state.entries table.0)) (λ t. refl) sessions state.transactions txn.0 h
+sessions-same state (entry.Asked job table partition kind by) sessions h other = h
+sessions-same state (entry.Picked job watermark) sessions h other = h
+sessions-same state (entry.Published job low high mark) sessions h other = h
+sessions-same state (entry.Empty job) sessions h other = h
+sessions-same state (entry.Cleaned job) sessions h other = h
+sessions-same state (entry.Next txn statement number text) sessions h other = h
+sessions-same state (entry.Did txn statement wrote) sessions h other = h
+sessions-same state (entry.Alter txn table) sessions h other = h
+sessions-same state (entry.Failed job cause) sessions h other = h
+sessions-same state (entry.Forgot table write) sessions h other = h
+
 -- ---- the shape of a table stays
 
 shapes-behind : (ws : List (ℕ × Written)) (ts : List Table) → map table_shape (tables_behind ws ts) ≡ map table_shape ts
@@ -170,6 +212,7 @@ shapes-same state (entry.Forgot table write) shapes h other = h ∙ sym (map-sam
 
 pub record IsSourced (done : List Entry) (state : State) (notes : Notes) : Type 0 where
   pub trees : map (tree_at done) notes.opened ≡ map opening_tree state.transactions
+  pub sessions : map (session_at done) notes.opened ≡ map session_of state.transactions
   pub below : AllByRecursion (λ (p : ℕ). p < length done) notes.opened
   pub shapes : map (shape_at done) notes.texts ≡ map table_shape state.tables
   pub texts : AllByRecursion (IsBelow (length done)) notes.texts
@@ -202,6 +245,9 @@ sourced-other done state notes event next h same_opened same_texts unopened unma
       trees =
           ap (map (tree_at (done ++ event ∷ []))) same_opened ∙ trees-front done (event ∷ []) notes.opened h.below
           ∙ trees-same state event (map (tree_at done) notes.opened) h.trees unopened;
+      sessions =
+          ap (map (session_at (done ++ event ∷ []))) same_opened ∙ sessions-front done (event ∷ []) notes.opened h.below
+          ∙ sessions-same state event (map (session_at done) notes.opened) h.sessions unopened;
       below = subst (AllByRecursion (λ (p : ℕ). p < length (done ++ event ∷ []))) (sym same_opened)
           (all-below notes.opened (length done) (length (done ++ event ∷ [])) (omega (arith, more)) h.below);
       shapes =
@@ -224,6 +270,11 @@ sourced-opened done state notes txn session number text h =
           ∙ ap (λ ts. ts ++ tree_at (done ++ event ∷ []) (length done) ∷ []) (trees-front done (event ∷ []) notes.opened h.below ∙ h.trees)
           ∙ ap (λ t. map opening_tree state.transactions ++ t ∷ []) last
           ∙ sym (map-append opening_tree state.transactions (opened session number text ∷ []));
+      sessions =
+          map-append (session_at (done ++ event ∷ [])) notes.opened (length done ∷ [])
+          ∙ ap (λ ts. ts ++ session_at (done ++ event ∷ []) (length done) ∷ []) (sessions-front done (event ∷ []) notes.opened h.below ∙ h.sessions)
+          ∙ ap (λ t. map session_of state.transactions ++ t ∷ []) (ap (option_and_then session_of_entry) (get-last done event))
+          ∙ sym (map-append session_of state.transactions (opened session number text ∷ []));
       below = all-snoc (λ (p : ℕ). p < length (done ++ event ∷ [])) notes.opened (length done)
           (all-below notes.opened (length done) (length (done ++ event ∷ [])) (omega (arith, more)) h.below) (omega (arith, more));
       shapes = shapes-front done (event ∷ []) notes.texts h.texts ∙ h.shapes;
@@ -241,6 +292,8 @@ sourced-create done state notes txn table h =
     record {
       trees = trees-front done (event ∷ []) notes.opened h.below
           ∙ trees-same state event (map (tree_at done) notes.opened) h.trees (λ a b c d e. cc);
+      sessions = sessions-front done (event ∷ []) notes.opened h.below
+          ∙ sessions-same state event (map (session_at done) notes.opened) h.sessions (λ a b c d e. cc);
       below = all-below notes.opened (length done) (length (done ++ event ∷ [])) (omega (arith, more)) h.below;
       shapes =
           map-append (shape_at (done ++ event ∷ [])) notes.texts (numbered notes.opened txn.0 ∷ [])

@@ -1,6 +1,7 @@
 -- What the notes beside a book say of the state that its entries leave.
-use Rattle.std.specs.Prelude.{ℕ, ◌+◌, ◌==◌, Bool, true, false, is_some, Option, Some, None, List, [], ◌∷◌, length}
+use Rattle.std.specs.Prelude.{ℕ, ◌+◌, ◌==◌, Bool, true, false, is_some, option_and_then, Option, Some, None, List, [], ◌∷◌, length}
 use Rattle.std.specs.Option.{option_map}
+use Rattle.std.specs.List.{slice_get}
 use Rattle.hv_book.specs.declared.notes.End.{End}
 use Rattle.hv_book.specs.declared.notes.TransactionNote.{TransactionNote}
 use Rattle.hv_book.specs.declared.notes.TableNote.{TableNote}
@@ -15,6 +16,7 @@ use Rattle.hv_history.specs.declared.state.Ending.TheVariants.{Committed, Aborte
 use Rattle.hv_history.specs.State.{Job, opening_tree, created_shape}
 use Rattle.hv_history.specs.Book.{tree_at}
 use Rattle.hv_history.specs.declared.entry.Entry.{Entry}
+use Rattle.hv_history.specs.declared.entry.Entry.TheVariants as entry
 use Rattle.hv_ast.specs.declared.statement.Stmt.{Stmt}
 use Rattle.hv_logic.specs.declared.catalog.Shape.{Shape}
 use Rattle.hv_book.specs.Notes.{note_open}
@@ -85,6 +87,21 @@ given_at (Some transaction) = given_while transaction.ending transaction.given
 abbrev pub tree_in : Option Transaction → Option Stmt
 tree_in None = None
 tree_in (Some transaction) = opening_tree transaction
+
+-- the session of the transaction that an entry opened
+abbrev pub session_of_entry : Entry → Option (List ℕ)
+session_of_entry (entry.Opened txn session number text) = Some session
+session_of_entry _ = None
+
+abbrev pub session_at : List Entry → ℕ → Option (List ℕ)
+session_at entries place = option_and_then session_of_entry (slice_get entries place)
+
+abbrev pub session_of : Transaction → Option (List ℕ)
+session_of transaction = Some transaction.session
+
+abbrev pub session_in : Option Transaction → Option (List ℕ)
+session_in None = None
+session_in (Some transaction) = session_of transaction
 
 -- the tree of the text behind which a table was made, among these entries
 abbrev pub text_tree : List Entry → Option ℕ → Option Stmt

@@ -42,7 +42,7 @@ impl Book {
     ghost use Rattle.hv_history.specs.Book.{tree_of_entry, tree_at};
     ghost use Rattle.hv_history.specs.State.{state_of, numbered, created_shape};
     ghost use Rattle.hv_history.specs.Legal.{load, is_named};
-    ghost use Rattle.hv_book.specs.Briefs.{brief, brief_table, brief_job, open_from, held_by, given_at, tree_in, text_tree};
+    ghost use Rattle.hv_book.specs.Briefs.{brief, brief_table, brief_job, open_from, held_by, given_at, tree_in, session_at, session_in, text_tree};
     ghost use Rattle.hv_book.specs.Index.{openings_in};
     ghost use Rattle.hv_book.specs.Past.{IsPast, past_in};
     ghost use Rattle.hv_book.specs.Opened.{AreOpened};
@@ -213,6 +213,27 @@ impl Book {
         match numbered(&self.index.opened, txn) {
             Some(place) => self.tree(*place as usize),
             None => None,
+        }
+    }
+
+    /// The session whose statement opened the transaction of this number.
+    pub fn session(&self, txn: u64) -> Option<&Text>
+        ensures session { option_copied result
+            ≡ session_in (numbered (state_of self.now.entries).transactions txn) }
+    {
+        match numbered(&self.index.opened, txn) {
+            Some(place) => self.session_at(*place),
+            None => None,
+        }
+    }
+
+    /// The session of the transaction that was opened at this place.
+    fn session_at(&self, place: u64) -> Option<&Text>
+        ensures session { option_copied result ≡ session_at self.now.entries place }
+    {
+        match self.entries.get(place as usize) {
+            Some(Entry::Opened { session, .. }) => Some(session),
+            _ => None,
         }
     }
 

@@ -1,8 +1,9 @@
 ghost use Rattle.std.specs.Prelude.{◌≡◌};
 ghost use Rattle.hv_typing.specs.Analysis.{are_windowless, is_form};
+ghost use Rattle.hv_typing.specs.Shows.{is_shown};
 
 use crate::windows::{is_windowless, is_windowless_source};
-use hv_ast::{Rows, Stmt};
+use hv_ast::{Rows, Show, Stmt};
 
 fn are_windowless(rows: &Rows) -> bool
     ensures { result ≡ are_windowless rows.now }
@@ -10,6 +11,16 @@ fn are_windowless(rows: &Rows) -> bool
     match rows {
         Rows::Values(_) => true,
         Rows::Query(query) => is_windowless(query),
+    }
+}
+
+fn is_shown(show: &Show) -> bool
+    ensures { result ≡ is_shown show.now }
+{
+    match show {
+        Show::Compactions => false,
+        Show::Partitions(_) => true,
+        Show::Tables | Show::Transactions | Show::Locks => true,
     }
 }
 
@@ -27,6 +38,7 @@ pub(crate) fn is_form(stmt: &Stmt) -> bool
         Stmt::Truncate(_) => true,
         Stmt::CreateTable(_) => true,
         Stmt::DropTable(_) => true,
+        Stmt::Show(show) => is_shown(show),
         Stmt::Describe(_) => true,
         Stmt::Set(_) => true,
         _ => false,

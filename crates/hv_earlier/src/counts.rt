@@ -65,7 +65,7 @@ fn high_at(book: &Book, position: usize, table: u64) -> u64
 }
 
 /// How many transactions were opened before a place, by binary search.
-fn opened_at(book: &Book, position: usize) -> u64
+pub fn opened_at(book: &Book, position: usize) -> u64
     ensures opened { result ≡ length (state_of (take position book.now.entries)).transactions }
 {
     let place = position as u64;

@@ -8,4 +8,6 @@ mod exceptions;
 mod fates;
 
 pub use catalogs::{catalog_at, find_at};
+pub use counts::{opened_at, was_live};
 pub use earlier::{PastIds, ids_at, list_at};
+pub use fates::{Fate, fate_in};

@@ -10,4 +10,4 @@ mod statement;
 mod touching;
 
 pub use statement::meaning_in;
-pub use touching::Touching;
+pub use touching::{Touching, untouched};

@@ -31,7 +31,7 @@ ghost use Rattle.std.specs.Prelude.{◌≡◌, []};
 ghost use Rattle.hv_effect.specs.Touches.{touches_in};
 
 /// What is no change.
-pub(crate) fn untouched(alloc: Global, meaning: Meaning) -> Touching
+pub fn untouched(alloc: Global, meaning: Meaning) -> Touching
     requires { touches_in meaning ≡ [] }
     ensures { result ≡ meaning }
 {

@@ -97,7 +97,7 @@ locks-texts : (ss : List Statement) → flat_map (λ (s : Statement). locks_of_t
 locks-texts [] = refl
 locks-texts (s ∷ ss) = ap (λ locks. locks_of_tree (tree_of s.text) ++ locks) (locks-texts ss)
 
-one-lock : (t : Transaction) (h : HasOneText t) → locks_of t ≡ names_in h.tree
+pub one-lock : (t : Transaction) (h : HasOneText t) → locks_of t ≡ names_in h.tree
 one-lock t h =
     locks-texts t.statements ∙ ap (flat_map (λ (x : List ℕ). locks_of_tree (tree_of x))) h.only
     ∙ append-nil (locks_of_tree (tree_of h.text)) ∙ ap locks_of_tree h.runs.read
@@ -109,7 +109,7 @@ first-tree (s ∷ ss) text e = let same : s.text ≡ text = cc in ap (λ x. tree
 pub one-tree : (t : Transaction) (h : HasOneText t) → opening_tree t ≡ Some h.tree
 one-tree t h = first-tree t.statements h.text h.only ∙ h.runs.read
 
-same-tree : (t : Transaction) (h : HasOneText t) (tree : Stmt) → Some tree ≡ opening_tree t → h.tree ≡ tree
+pub same-tree : (t : Transaction) (h : HasOneText t) (tree : Stmt) → Some tree ≡ opening_tree t → h.tree ≡ tree
 same-tree t h tree e = let both : Some h.tree ≡ Some tree = sym (one-tree t h) ∙ sym e in cc
 
 abbrev pub IfThere : Option Transaction → Type 0

@@ -1,4 +1,5 @@
 pub mod StateLaws
+pub mod ShownLaws
 pub mod NumberLemmas
 pub mod AnswerLemmas
 pub mod RefusalNames

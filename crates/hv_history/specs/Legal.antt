@@ -7,7 +7,7 @@ use Rattle.std.specs.declared.cmp.Ordering.{Ordering}
 use Rattle.std.specs.declared.cmp.Ordering.TheVariants.{Less}
 use Rattle.std.specs.Ordering.{nat_cmp, on, then_cmp}
 use Rattle.std.specs.Cmp.Lexicographic.{slice_cmp, pointwise}
-use Rattle.std.specs.List.{flat_map, list_any, AllByRecursion}
+use Rattle.std.specs.List.{list_any, AllByRecursion}
 use Rattle.std.specs.Prelude.{nat_eq}
 use Rattle.hv_base.specs.Refusals as refusals
 use Rattle.hv_base.specs.declared.ids.Limits.{Limits}
@@ -17,25 +17,18 @@ use Rattle.hv_locks.specs.Locking.{conflict}
 use Rattle.hv_ast.specs.declared.statement.Stmt.{Stmt}
 use Rattle.hv_ast.specs.declared.statement.Stmt.TheVariants as stmt
 use Rattle.hv_built.specs.Running.{Runs}
-use Rattle.hv_grammar.specs.Texts.{tree_of}
 use Rattle.hv_logic.specs.declared.meaning.Meaning.{Meaning}
 use Rattle.hv_logic.specs.declared.meaning.Meaning.TheVariants.{Refused, Listing, Change, Make, Unmake, Plain, Twice, RowLimit, PartitionLimit}
-use Rattle.hv_logic.specs.Names.{names_in}
 use Rattle.hv_meaning.specs.hv_route.specs.Back.{AreFlat}
 use Rattle.hv_meaning.specs.hv_route.specs.Touching.{touches_of}
 use Rattle.hv_history.specs.declared.entry.Entry.{Entry}
 use Rattle.hv_history.specs.declared.entry.Entry.TheVariants as entry
 use Rattle.hv_history.specs.declared.entry.Cause.{Cause}
 use Rattle.hv_history.specs.declared.entry.Cause.TheVariants as cause
-use Rattle.hv_history.specs.State.{State, Job, Statement, Table, Snapshot, Transaction, Ending, Committed, numbered, meaning, opening_tree, created_shape, given_in, nothing_yet, after}
+pub use Rattle.hv_history.specs.Standing.{is_open, is_started, locks_of_tree, locks_of, is_named}
+use Rattle.hv_history.specs.State.{State, Job, Table, Snapshot, Transaction, Ending, Committed, numbered, meaning, opening_tree, created_shape, given_in, nothing_yet, after}
 
 -- ---- a transaction's state
-
-abbrev pub is_open : Transaction → Bool
-is_open transaction = is_none transaction.ending
-
-abbrev pub is_started : Transaction → Bool
-is_started transaction = is_some transaction.snapshot
 
 -- the transaction of that number is there, and the fact holds of it
 abbrev pub Of : State → ℕ → (Transaction → Type 0) → Type 0
@@ -49,14 +42,7 @@ pub record IsWaiting (transaction : Transaction) : Type 0 where
   pub unended : IsTrue (is_open transaction)
   pub unstarted : IsFalse (is_started transaction)
 
--- ---- locks: a statement's lock set is a function of its text, and a transaction's that of its statements
-
-abbrev pub locks_of_tree : Option Stmt → List Lock
-locks_of_tree None = []
-locks_of_tree (Some tree) = names_in tree
-
-abbrev pub locks_of : Transaction → List Lock
-locks_of transaction = flat_map (λ (statement : Statement). locks_of_tree (tree_of statement.text)) transaction.statements
+-- ---- locks
 
 -- a lock conflicts with one of these
 abbrev pub conflicts_with_any : List Lock → Lock → Bool
@@ -156,10 +142,6 @@ is_drop _ = false
 abbrev pub dropped_name : Option Stmt → List ℕ
 dropped_name (Some (stmt.DropTable drop)) = drop.table
 dropped_name _ = []
-
--- a live table of that name
-abbrev pub is_named : List ℕ → Table → Bool
-is_named name table = table.is_live && pointwise nat_eq table.info.shape.name name
 
 -- the table is there, live, and of that name
 abbrev pub is_named_there : List ℕ → Option Table → Bool

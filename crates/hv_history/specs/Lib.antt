@@ -1,6 +1,9 @@
 pub use Rattle.hv_meaning as hv_meaning
 pub mod Spelling
 pub mod Journal
+pub mod States
+pub mod Standing
+pub mod Shown
 pub mod State
 pub mod Answers
 pub mod Legal

@@ -35,49 +35,8 @@ pub use Rattle.hv_history.specs.declared.state.Snapshot.{Snapshot}
 pub use Rattle.hv_history.specs.declared.state.Ending.{Ending}
 pub use Rattle.hv_history.specs.declared.state.Ending.TheVariants.{Committed, Aborted, Made, Dropped}
 pub use Rattle.hv_history.specs.declared.state.Transaction.{Transaction}
-
--- A compaction job, with what it was asked, and each step that it made: `asked` is the place of its Asked, and `ended` that of
--- the first entry that ended its work, which is a Published, an Empty or a Failed.
-pub record Job : Type 0 where
-  pub table : ℕ
-  pub partition : List ℕ
-  pub kind : JobKind
-  pub by : ℕ
-  pub asked : ℕ
-  pub watermark : Option ℕ
-  pub published : Option (ℕ × ℕ × ℕ)
-  pub is_empty : Bool
-  pub is_cleaned : Bool
-  pub failure : Option JobCause
-  pub ended : Option ℕ
-
--- The openings of the store: how many there were, where the last one's Boot stands, whether only Losts came behind it,
--- and which counts of faults were kept since.
-pub record Openings : Type 0 where
-  pub count : ℕ
-  pub last : Option ℕ
-  pub only_lost : Bool
-  pub kept : List ℕ
-
--- The number of entries, the openings, and everything that the entries made, one for each Opened, Create and Asked: the
--- transaction, table or job of number n stands at place n - 1.
-pub record State : Type 0 where
-  pub entries : ℕ
-  pub openings : Openings
-  pub transactions : List Transaction
-  pub tables : List Table
-  pub jobs : List Job
-
-abbrev pub no_openings : Openings
-no_openings = record { count = 0; last = None; only_lost = false; kept = [] }
-
-abbrev pub nothing_yet : State
-nothing_yet = record { entries = 0; openings = no_openings; transactions = []; tables = []; jobs = [] }
-
--- the one of that number, from 1
-abbrev pub numbered : {A : Type 0} → List A → ℕ → Option A
-numbered xs zero = None
-numbered xs (suc n) = slice_get xs n
+pub use Rattle.hv_history.specs.States.{Job, Openings, State, no_openings, nothing_yet, numbered}
+use Rattle.hv_history.specs.Shown.{listed_for, filled}
 
 -- the one at a place changed
 abbrev pub changed_at : {A : Type 0} → (A → A) → List A → ℕ → List A
@@ -106,12 +65,12 @@ seen_table table = record { info = table.info; rows = content_of table.writes }
 abbrev pub seen_tables : List Table → List Seen
 seen_tables tables = map seen_table (filter (λ (table : Table). table.is_live) tables)
 
--- ---- what a statement comes to in a state; one of a form that isn't built, and a text that is no statement, have no
--- meaning
+-- ---- what a statement comes to in a state: over its tables, and a SHOW over the whole of it; one of a form that isn't built, and a
+-- text that is no statement, have no meaning
 
 abbrev pub means : State → Option Stmt → Option Meaning
 means state None = None
-means state (Some tree) = meaning_of (seen_tables state.tables) tree
+means state (Some tree) = filled (listed_for state tree) (meaning_of (seen_tables state.tables) tree)
 
 unfoldable pub meaning_in : State → List ℕ → Option Meaning
 meaning_in state text = means state (tree_of text)

@@ -9,6 +9,7 @@ mod commits;
 mod entry;
 mod laws;
 mod numbers;
+mod shown;
 mod state;
 
 pub use answers::{counts_line, listing, ok_line};
@@ -20,4 +21,5 @@ pub use laws::{
     rows_change_at_commits, state_goes_on,
 };
 pub use numbers::{numbered, open_place_of, place_of};
+pub use shown::Shown;
 pub use state::{Ending, Snapshot, Statement, Table, Transaction, Written};

@@ -23,12 +23,13 @@ use Rattle.hv_typing.specs.Creates.{created, place_of, is_table}
 use Rattle.hv_typing.specs.Descriptions.{described}
 use Rattle.hv_typing.specs.Drops.{dropped, dropped_at}
 use Rattle.hv_typing.specs.Merges.{merged}
+use Rattle.hv_typing.specs.Shows.{show_analysed}
 use Rattle.hv_typing.specs.Settings.{set_analysed}
 use Rattle.hv_typing.specs.Subqueries.{selected}
 use Rattle.hv_meaning.specs.Meaning.{its_tables, info_of, found_in, tables_of, stored_row, change_effect, or_none, changed_in, merged_in, meant, meaning_in, meaning_of}
 use Rattle.hv_meaning.specs.Merging.{twice_found, merge_effect}
 use Rattle.hv_meaning.specs.Laws.{DropsNamed, DropsAreNamed}
-use Rattle.hv_meaning.proofs.Outcomes.{OnOk, then-ok, if-ok, creates-are, describes-are, settings-are}
+use Rattle.hv_meaning.proofs.Outcomes.{OnOk, then-ok, if-ok, creates-are, describes-are, shows-are, settings-are}
 use Rattle.hv_meaning.proofs.Limits.{limits-come}
 use Rattle.hv_meaning.proofs.Merges.{merges-come}
 use Rattle.hv_meaning.proofs.Meanings.{Comes, meant-is, form-is, infos_of, place-first, named-same}
@@ -132,6 +133,9 @@ unmakes-form (stmt.DropTable drop) tables =
 unmakes-form (stmt.Describe table) tables =
     let infos = its_infos (stmt.Describe table) tables in
     stays-form (stmt.Describe table) tables (described infos table) (describes-are Stays infos table (λ columns. tt))
+unmakes-form (stmt.Show what) tables =
+    let infos = its_infos (stmt.Show what) tables in
+    stays-form (stmt.Show what) tables (show_analysed infos what) (shows-are Stays infos what tt)
 unmakes-form (stmt.Set setting) tables = stays-form (stmt.Set setting) tables (set_analysed setting) (settings-are Stays setting tt)
 unmakes-form other tables = tt
 

@@ -17,6 +17,8 @@ use Rattle.hv_ast.specs.declared.change.Rows.TheVariants as source_rows
 use Rattle.hv_ast.specs.declared.query.Query.{Query}
 use Rattle.hv_ast.specs.declared.query.Source.{Source}
 use Rattle.hv_ast.specs.declared.statement.Setting.{Setting}
+use Rattle.hv_ast.specs.declared.statement.Show.{Show}
+use Rattle.hv_ast.specs.declared.statement.Show.TheVariants as show
 use Rattle.hv_ast.specs.declared.statement.Stmt.{Stmt}
 use Rattle.hv_ast.specs.declared.statement.Stmt.TheVariants as stmt
 use Rattle.hv_ast.specs.declared.table.CreateTable.{CreateTable}
@@ -57,11 +59,12 @@ use Rattle.hv_typing.specs.Changes.{source_inserted, inserted, changing, changin
 use Rattle.hv_typing.specs.Creates.{place_of, created, made, fault_of, unless_fault, names_repeat, is_bucket_column, arrays_route, numbers_fit, is_unkept}
 use Rattle.hv_typing.specs.Drops.{dropped, dropped_as, dropped_at}
 use Rattle.hv_typing.specs.Descriptions.{described, described_as, described_at}
+use Rattle.hv_typing.specs.Shows.{partitions_as, partitions_at, partitions_shown, show_analysed}
 use Rattle.hv_typing.specs.Settings.{set_analysed, takes_value}
 use Rattle.hv_typing.specs.Subqueries.{selected}
 use Rattle.hv_meaning.specs.Meaning.{its_tables, info_of, found_in, tables_of, changed_in, merged_in, refused_for, meant, meaning_in}
 use Rattle.hv_meaning.specs.Laws.{MeansSomething, FormsMean, OtherFormsMeanNothing}
-use Rattle.hv_meaning.proofs.Outcomes.{OnOk, on_ok, then-ok, IsChangeOf, changes-are, creates-are, drops-are, describes-are, settings-are}
+use Rattle.hv_meaning.proofs.Outcomes.{OnOk, on_ok, then-ok, IsChangeOf, changes-are, creates-are, drops-are, describes-are, shows-are, settings-are}
 use Rattle.hv_meaning.proofs.Queries.{free-filter, free-selected, free-brought}
 use Rattle.hv_meaning.proofs.Merges.{IsMergeOf, merges-are}
 use Rattle.hv_meaning.proofs.Typed.{IsOther, Free, free-then, free-if, free-front, free-each, free-placed, typed-free}
@@ -341,6 +344,26 @@ free-described tables name = at (place_of name tables)
     at None = tt
     at (Some place) = told (slice_get tables place)
 
+free-partitions-shown : (tables : List TableInfo) (name : List ℕ) → Free (partitions_shown tables name)
+unfolding partitions_shown
+free-partitions-shown tables name = at (place_of name tables)
+  where
+    told : (info : Option TableInfo) → Free (partitions_as info)
+    told None = tt
+    told (Some info) = free-if (is_empty info.shape.parts) _ _ tt tt
+
+    at : (place : Option ℕ) → Free (partitions_at tables place)
+    at None = tt
+    at (Some place) = told (slice_get tables place)
+
+free-shown : (tables : List TableInfo) (what : Show) → Free (show_analysed tables what)
+unfolding show_analysed
+free-shown tables show.Tables = tt
+free-shown tables (show.Partitions name) = free-partitions-shown tables name
+free-shown tables show.Transactions = tt
+free-shown tables show.Locks = tt
+free-shown tables show.Compactions = tt
+
 free-setting : (setting : Setting) → Free (set_analysed setting)
 unfolding set_analysed
 free-setting setting = free-if (takes_value setting) _ _ tt tt
@@ -399,6 +422,8 @@ means-form (stmt.DropTable drop) infos found e =
     free-means infos found (dropped infos drop) (free-dropped infos drop) (drops-are (Means infos found) infos drop tt (λ table. tt))
 means-form (stmt.Describe table) infos found e =
     free-means infos found (described infos table) (free-described infos table) (describes-are (Means infos found) infos table (λ columns. tt))
+means-form (stmt.Show what) infos found e =
+    free-means infos found (show_analysed infos what) (free-shown infos what) (shows-are (Means infos found) infos what tt)
 means-form (stmt.Set setting) infos found e =
     free-means infos found (set_analysed setting) (free-setting setting) (settings-are (Means infos found) setting tt)
 means-form other infos found e = cc

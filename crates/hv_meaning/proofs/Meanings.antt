@@ -16,6 +16,7 @@ use Rattle.hv_ast.specs.declared.change.Merge.{Merge}
 use Rattle.hv_ast.specs.declared.query.Query.{Query}
 use Rattle.hv_ast.specs.declared.query.Source.{Source}
 use Rattle.hv_ast.specs.declared.statement.Setting.{Setting}
+use Rattle.hv_ast.specs.declared.statement.Show.{Show}
 use Rattle.hv_ast.specs.declared.statement.Stmt.{Stmt}
 use Rattle.hv_ast.specs.declared.statement.Stmt.TheVariants as stmt
 use Rattle.hv_ast.specs.declared.table.CreateTable.{CreateTable}
@@ -64,11 +65,12 @@ use Rattle.hv_typing.specs.Creates.{created, created_beside, place_of, is_table,
 use Rattle.hv_typing.specs.Changes.{changing, change_of}
 use Rattle.hv_typing.specs.Drops.{dropped}
 use Rattle.hv_typing.specs.Descriptions.{described}
+use Rattle.hv_typing.specs.Shows.{show_analysed}
 use Rattle.hv_typing.specs.Settings.{set_analysed}
 use Rattle.hv_typing.specs.Subqueries.{selected}
 use Rattle.hv_meaning.specs.Meaning.{its_tables, named_by, info_of, found_in, tables_of, is_matched, matched, frames_from, first_value, stored_values, stored_row, is_received, deleted, change_effect, within_limits, or_none, changed_in, merge_of, merged_in, refused_for, meant, meaning_in, meaning_of}
 use Rattle.hv_meaning.specs.Laws.{MakesNew, TablesAreNew, AreOf, IsRowOf, AreOfRows, change_name, ChangesNamed, ChangesAreNamed, ChangesSeen, ChangesAreSeen, only_inserts, InsertsDeleteNothing}
-use Rattle.hv_meaning.proofs.Outcomes.{OnOk, on_ok, then-ok, IsGone, IsChangeOf, inserts-are, changes-are, creates-are, drops-are, describes-are, settings-are, makes}
+use Rattle.hv_meaning.proofs.Outcomes.{OnOk, on_ok, then-ok, IsGone, IsChangeOf, inserts-are, changes-are, creates-are, drops-are, describes-are, shows-are, settings-are, makes}
 use Rattle.hv_meaning.proofs.Stored.{both}
 use Rattle.hv_meaning.proofs.Limits.{neither, limits-come, fits-table, flat-columns}
 use Rattle.hv_meaning.proofs.Merges.{IsMergeOf, merges-are, merges-come, all-both, all-made}
@@ -110,6 +112,9 @@ module _ (P : Option Meaning → Type 0) (unbuilt : P None) (refused : (why : Re
       → P (meant infos found (described infos name))
   describes-come infos found name listing =
       meant-is infos found (described infos name) (describes-are (Comes infos found) infos name (λ columns. listing _ _))
+
+  pub shows-come : (infos : List TableInfo) (found : List (List Found)) (what : Show) → P (Some Plain) → P (meant infos found (show_analysed infos what))
+  shows-come infos found what plain = meant-is infos found (show_analysed infos what) (shows-are (Comes infos found) infos what plain)
 
   pub settings-come : (infos : List TableInfo) (found : List (List Found)) (setting : Setting) → P (Some Plain) → P (meant infos found (set_analysed setting))
   settings-come infos found setting plain = meant-is infos found (set_analysed setting) (settings-are (Comes infos found) setting plain)
@@ -405,6 +410,9 @@ named-form (stmt.CreateTable create) tables =
 named-form (stmt.DropTable dropping) tables = drops-come (Named (stmt.DropTable dropping) tables) tt (λ why. tt) _ _ dropping tt (λ table. tt)
 named-form (stmt.Describe table) tables =
     describes-come (Named (stmt.Describe table) tables) tt (λ why. tt) _ _ table (λ names rows. tt)
+named-form (stmt.Show what) tables =
+    let own = its_tables (stmt.Show what) tables in
+    shows-come (Named (stmt.Show what) tables) tt (λ why. tt) (map info_of own) (map found_in own) what tt
 named-form (stmt.Set setting) tables =
     let own = its_tables (stmt.Set setting) tables in
     settings-come (Named (stmt.Set setting) tables) tt (λ why. tt) (map info_of own) (map found_in own) setting tt
@@ -639,6 +647,9 @@ makes-form (stmt.CreateTable create) tables =
 makes-form (stmt.DropTable dropping) tables = drops-come (MakesAt (stmt.DropTable dropping) tables) tt (λ why. tt) _ _ dropping tt (λ table. tt)
 makes-form (stmt.Describe table) tables =
     describes-come (MakesAt (stmt.Describe table) tables) tt (λ why. tt) _ _ table (λ names rows. tt)
+makes-form (stmt.Show what) tables =
+    let own = its_tables (stmt.Show what) tables in
+    shows-come (MakesAt (stmt.Show what) tables) tt (λ why. tt) (map info_of own) (map found_in own) what tt
 makes-form (stmt.Set setting) tables =
     let own = its_tables (stmt.Set setting) tables in
     settings-come (MakesAt (stmt.Set setting) tables) tt (λ why. tt) (map info_of own) (map found_in own) setting tt

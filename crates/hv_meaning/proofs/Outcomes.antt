@@ -12,6 +12,8 @@ use Rattle.hv_ast.specs.declared.change.Rows.TheVariants as source_rows
 use Rattle.hv_ast.specs.declared.change.Truncate.{Truncate}
 use Rattle.hv_ast.specs.declared.change.Update.{Update}
 use Rattle.hv_ast.specs.declared.statement.Setting.{Setting}
+use Rattle.hv_ast.specs.declared.statement.Show.{Show}
+use Rattle.hv_ast.specs.declared.statement.Show.TheVariants as show
 use Rattle.hv_ast.specs.declared.statement.Stmt.{Stmt}
 use Rattle.hv_ast.specs.declared.statement.Stmt.TheVariants as stmt
 use Rattle.hv_ast.specs.declared.table.CreateTable.{CreateTable}
@@ -30,7 +32,7 @@ use Rattle.hv_typing.specs.declared.change.Origin.{Origin}
 use Rattle.hv_typing.specs.declared.change.Origin.TheVariants as origin
 use Rattle.hv_typing.specs.declared.change.TypedChange.{TypedChange}
 use Rattle.hv_typing.specs.Columns.{columns_of, fields_of, kinds_of}
-use Rattle.hv_typing.specs.Inserts.{rows_typed, has_count, converts, converted_row, output_kind, outputs_convert, values_for, overwritten, insert_of, insert_typed, if_convertible, values_inserted, query_inserted}
+use Rattle.hv_typing.specs.Inserts.{is_empty, rows_typed, has_count, converts, converted_row, output_kind, outputs_convert, values_for, overwritten, insert_of, insert_typed, if_convertible, values_inserted, query_inserted}
 use Rattle.hv_typing.specs.Targets.{targets_of}
 use Rattle.hv_typing.specs.Updates.{sets_of, update_of, updated, delete_of, deleted, partitions_met, truncated}
 use Rattle.hv_typing.specs.declared.logic.Logic.{Logic}
@@ -38,6 +40,7 @@ use Rattle.hv_typing.specs.declared.logic.Logic.TheVariants as logic
 use Rattle.hv_typing.specs.Creates.{place_of, created, created_beside, made, unless_fault, fault_of}
 use Rattle.hv_typing.specs.Drops.{dropped, dropped_as, dropped_at}
 use Rattle.hv_typing.specs.Descriptions.{described, described_as, described_at}
+use Rattle.hv_typing.specs.Shows.{partitions_as, partitions_at, partitions_shown, show_analysed}
 use Rattle.hv_typing.specs.Settings.{set_analysed, takes_value}
 use Rattle.hv_typing.specs.Changes.{source_inserted, inserted, changing, changing_table, changing_at, change_of}
 use Rattle.hv_typing.specs.Subqueries.{selected}
@@ -206,7 +209,7 @@ module _ (P : Logic → Type 0) where
       at None = dropped-is drop.if_exists None nothing each
       at (Some place) = dropped-is drop.if_exists (slice_get tables place) nothing each
 
--- ---- what a DESCRIBE and a SET can come to
+-- ---- what a DESCRIBE, a SHOW and a SET can come to
 
 module _ (P : Logic → Type 0) where
   pub describes-are : (tables : List TableInfo) (name : List ℕ) → ((columns : List Column) → P (logic.Describe columns)) → OnOk P (described tables name)
@@ -220,6 +223,30 @@ module _ (P : Logic → Type 0) where
       at : (place : Option ℕ) → OnOk P (described_at tables place)
       at None = tt
       at (Some place) = told (slice_get tables place)
+
+  parts-are : (empty : Bool) → P logic.Nothing → OnOk P (cond empty (Err refusal.BadCount) (Ok logic.Nothing))
+  parts-are true nothing = tt
+  parts-are false nothing = nothing
+
+  partitions-are : (tables : List TableInfo) (name : List ℕ) → P logic.Nothing → OnOk P (partitions_shown tables name)
+  unfolding partitions_shown
+  partitions-are tables name nothing = at (place_of name tables)
+    where
+      told : (info : Option TableInfo) → OnOk P (partitions_as info)
+      told None = tt
+      told (Some info) = parts-are (is_empty info.shape.parts) nothing
+
+      at : (place : Option ℕ) → OnOk P (partitions_at tables place)
+      at None = tt
+      at (Some place) = told (slice_get tables place)
+
+  pub shows-are : (tables : List TableInfo) (what : Show) → P logic.Nothing → OnOk P (show_analysed tables what)
+  unfolding show_analysed
+  shows-are tables show.Tables nothing = nothing
+  shows-are tables (show.Partitions name) nothing = partitions-are tables name nothing
+  shows-are tables show.Transactions nothing = nothing
+  shows-are tables show.Locks nothing = nothing
+  shows-are tables show.Compactions nothing = nothing
 
   pub settings-are : (setting : Setting) → P logic.Nothing → OnOk P (set_analysed setting)
   unfolding set_analysed

@@ -34,10 +34,11 @@ use Rattle.hv_typing.specs.Changes.{changing, change_of}
 use Rattle.hv_typing.specs.Creates.{created}
 use Rattle.hv_typing.specs.Drops.{dropped}
 use Rattle.hv_typing.specs.Descriptions.{described}
+use Rattle.hv_typing.specs.Shows.{show_analysed}
 use Rattle.hv_typing.specs.Settings.{set_analysed}
 use Rattle.hv_meaning.specs.Meaning.{info_of, found_in, tables_of, named_by, its_tables, matched, frames_from, stored_row, effect_of, change_effect, within_limits, or_none, changed_in, meant, meaning_over, meaning_in}
 use Rattle.hv_meaning.specs.Laws.{are_values, reads_rows, RowsAreUnseen, RowsAreUnseenIn}
-use Rattle.hv_meaning.proofs.Outcomes.{OnOk, on_ok, then-ok, IsGone, IsFrom, IsChangeOf, inserts-are, changes-are, creates-are, drops-are, describes-are, settings-are}
+use Rattle.hv_meaning.proofs.Outcomes.{OnOk, on_ok, then-ok, IsGone, IsFrom, IsChangeOf, inserts-are, changes-are, creates-are, drops-are, describes-are, shows-are, settings-are}
 
 -- ---- over these descriptions, with one tables' rows and with others
 
@@ -99,6 +100,7 @@ module _ (infos : List TableInfo) (found others : List (List Found)) where
   unseen-form (stmt.CreateTable create) e = same-meant (created infos create) (creates-are Same infos create refl refl)
   unseen-form (stmt.DropTable drop) e = same-meant (dropped infos drop) (drops-are Same infos drop refl (λ table. refl))
   unseen-form (stmt.Describe table) e = same-meant (described infos table) (describes-are Same infos table (λ columns. refl))
+  unseen-form (stmt.Show what) e = same-meant (show_analysed infos what) (shows-are Same infos what refl)
   unseen-form (stmt.Set setting) e = same-meant (set_analysed setting) (settings-are Same setting refl)
   unseen-form other e = cc
 

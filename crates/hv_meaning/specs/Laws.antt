@@ -181,6 +181,7 @@ abbrev pub reads_rows : Stmt → Bool
 reads_rows (stmt.Insert insert) = insert.overwrite || not (are_values insert.rows)
 reads_rows (stmt.CreateTable create) = false
 reads_rows (stmt.DropTable dropping) = false
+reads_rows (stmt.Show show) = false
 reads_rows (stmt.Describe table) = false
 reads_rows (stmt.Set setting) = false
 reads_rows _ = true

@@ -18,7 +18,7 @@ opens book asking said runs = record {
       (opened-there (state_of book) asking.session asking.number asking.text);
 }
 
--- it means what its text means over the tables of the book
+-- it means what its text means in the state of the book
 means-there : (book : List Entry) (text : List ℕ) (said : Stmt) → Runs text said → meaning_in (state_of book) text ≡ meant book said
 unfolding meaning_in
 means-there book text said runs = ap (means (state_of book)) runs.read

@@ -1,26 +1,40 @@
 -- What a statement sees and changes, over a book whose entries fit.
 use Rattle.std.proofs.Common.{◌≡◌, ℕ, Some, List, ◌++◌, take, drop, fold, sym, ap, ◌∙◌, take-append-drop}
 use Rattle.std.proofs.lemmas.List.Sums.{fold-append}
+use Rattle.hv_ast.specs.declared.statement.Stmt.{Stmt}
 use Rattle.hv_history.specs.declared.entry.Entry.{Entry}
 use Rattle.hv_history.specs.declared.state.Table.{Table}
-use Rattle.hv_history.specs.State.{State, nothing_yet, numbered, after, state_of}
+use Rattle.hv_built.specs.Built.{IsBuilt}
+use Rattle.hv_history.specs.hv_meaning.specs.Meaning.{meaning_of}
+use Rattle.hv_history.specs.hv_meaning.specs.Laws.{MeansSomething}
+use Rattle.hv_history.specs.Shown.{filled, listed_for}
+use Rattle.hv_history.specs.State.{State, nothing_yet, numbered, seen_tables, means, after, state_of}
+use Rattle.hv_history.proofs.ShownLaws.{filled-is, filled-change}
 use Rattle.hv_history.specs.Lasting.{TableLater}
 use Rattle.hv_history.proofs.LastingLaws.{goes-on-all}
 use Rattle.hv_stands.specs.Sound.{IsSound}
 use Rattle.hv_stands.specs.Statements.{SeeingIsEnough, ChangedTableStood, TablesStay, EffectsCanBeWritten}
 use Rattle.hv_stands.proofs.Numbers.{found}
+use Rattle.hv_stands.proofs.Meanings.{built-means}
 use Rattle.hv_stands.proofs.Tables.{changes-table}
 use Rattle.hv_stands.proofs.SeenTables.{reading-enough}
 use Rattle.hv_stands.proofs.Written.{effect-written}
 use Rattle.hv_stands.proofs.Fitting.{fitting-sound}
 
 pub seeing-enough : SeeingIsEnough
-seeing-enough book said fit = reading-enough said (state_of book).tables
+seeing-enough book said fit = ap (filled (listed_for (state_of book) said)) (reading-enough said (state_of book).tables)
+
+-- a statement of a form that is built means something in every state
+pub built-means-in : (state : State) (tree : Stmt) → IsBuilt tree → MeansSomething (means state (Some tree))
+built-means-in state tree built =
+    filled-is MeansSomething (λ names rows. tt) (listed_for state tree) (meaning_of (seen_tables state.tables) tree)
+    (built-means (seen_tables state.tables) tree built)
 
 pub changed-table-stood : ChangedTableStood
 changed-table-stood book said info effect fit e =
     let sound : IsSound (state_of book) = fitting-sound book fit in
-    let change = changes-table (state_of book).tables sound.tables.in_order info effect said e in
+    let over = filled-change (listed_for (state_of book) said) (meaning_of (seen_tables (state_of book).tables) said) info effect e in
+    let change = changes-table (state_of book).tables sound.tables.in_order info effect said over in
     (change.table, change.here, change.info_is)
 
 -- a table stays, behind whatever follows

@@ -15,7 +15,9 @@ use Rattle.hv_history.specs.hv_meaning.specs.Meaning.{meaning_of}
 use Rattle.hv_history.specs.declared.state.Table.{Table}
 use Rattle.hv_history.specs.declared.state.Written.{Written}
 use Rattle.hv_history.specs.declared.state.Ending.{Ending}
-use Rattle.hv_history.specs.State.{State, numbered, seen_tables, content_of, written_by}
+use Rattle.hv_history.specs.Shown.{listed_for}
+use Rattle.hv_history.specs.State.{State, numbered, seen_tables, means, content_of, written_by}
+use Rattle.hv_history.proofs.ShownLaws.{filled-change}
 use Rattle.hv_stands.specs.Files.{ending_of, IsEncoded}
 use Rattle.hv_stands.specs.Sound.{HasFlatParts, HasSoundWrites, info_in, ChangesAmong, IsOfCommitted, AreOfCommitted, IsSound, IsSoundBase}
 use Rattle.hv_stands.specs.Laws.{CanBeFile, HasFile}
@@ -62,23 +64,24 @@ pub record IsOfTables (s : State) (info : TableInfo) (effect : Effect) : Type 0 
   pub change : ChangesTable s.tables info effect
   pub gone : AreStanding effect.deletes
 
-pub of-base : (s : State) (tree : Stmt) (info : TableInfo) (effect : Effect) → IsSoundBase s → meaning_of (seen_tables s.tables) tree ≡ Some (Change info effect)
+pub of-base : (s : State) (tree : Stmt) (info : TableInfo) (effect : Effect) → IsSoundBase s → means s (Some tree) ≡ Some (Change info effect)
     → IsOfTables s info effect
 of-base s tree info effect sound is =
-    let change = changes-table s.tables sound.tables.in_order info effect tree is in
+    let over = filled-change (listed_for s tree) (meaning_of (seen_tables s.tables) tree) info effect is in
+    let change = changes-table s.tables sound.tables.in_order info effect tree over in
     record {
       change = change;
       gone = picked-stands (content_of change.table.writes) effect.deletes change.deletes (rows-stand s info.table.0 change.table sound change.here);
     }
 
-pub of-tables : (s : State) (tree : Stmt) (info : TableInfo) (effect : Effect) → IsSound s → meaning_of (seen_tables s.tables) tree ≡ Some (Change info effect)
+pub of-tables : (s : State) (tree : Stmt) (info : TableInfo) (effect : Effect) → IsSound s → means s (Some tree) ≡ Some (Change info effect)
     → IsOfTables s info effect
 of-tables s tree info effect sound is = of-base s tree info effect (base-of s sound) is
 
-pub changes-among : (s : State) (tree : Stmt) → IsSoundBase s → ChangesAmong (map info_in s.tables) (meaning_of (seen_tables s.tables) tree)
-changes-among s tree sound = by (meaning_of (seen_tables s.tables) tree) refl
+pub changes-among : (s : State) (tree : Stmt) → IsSoundBase s → ChangesAmong (map info_in s.tables) (means s (Some tree))
+changes-among s tree sound = by (means s (Some tree)) refl
   where
-    by : (o : Option Meaning) → meaning_of (seen_tables s.tables) tree ≡ o → ChangesAmong (map info_in s.tables) o
+    by : (o : Option Meaning) → means s (Some tree) ≡ o → ChangesAmong (map info_in s.tables) o
     by None is = tt
     by (Some (Refused why)) is = tt
     by (Some (Listing names rows)) is = tt
@@ -98,13 +101,13 @@ changes-among s tree sound = by (meaning_of (seen_tables s.tables) tree) refl
 
 -- ---- its files can be written, and read again
 
-pub effect-written : (s : State) (tree : Stmt) (info : TableInfo) (effect : Effect) (write : ℕ) → IsSound s → meaning_of (seen_tables s.tables) tree ≡ Some (Change info effect)
+pub effect-written : (s : State) (tree : Stmt) (info : TableInfo) (effect : Effect) (write : ℕ) → IsSound s → means s (Some tree) ≡ Some (Change info effect)
     → 1 ≤ write → length (columns_of info.shape) ≤ 65535 → AllByRecursion CanBeFile (files_of info.shape write 0 effect)
 effect-written s tree info effect write sound e some few =
     let there = of-tables s tree info effect sound e in
     files-written info.shape write some effect (there.change.fits.taken few) there.gone
 
-pub effect-encoded : (s : State) (tree : Stmt) (info : TableInfo) (effect : Effect) (write : ℕ) → IsSound s → meaning_of (seen_tables s.tables) tree ≡ Some (Change info effect)
+pub effect-encoded : (s : State) (tree : Stmt) (info : TableInfo) (effect : Effect) (write : ℕ) → IsSound s → means s (Some tree) ≡ Some (Change info effect)
     → AllByRecursion HasFile (files_of info.shape write 0 effect) → AreHeld effect.inserts → IsEncoded info.shape (written_by info.shape write 0 effect)
 effect-encoded s tree info effect write sound e each held =
     let there = of-tables s tree info effect sound e in

@@ -10,7 +10,6 @@ use Rattle.hv_built.specs.Running.{Runs}
 use Rattle.hv_logic.specs.declared.catalog.TableInfo.{TableInfo}
 use Rattle.hv_logic.specs.declared.effect.Effect.{Effect}
 use Rattle.hv_logic.specs.declared.meaning.Meaning.{Meaning}
-use Rattle.hv_history.specs.hv_meaning.specs.Meaning.{meaning_of}
 use Rattle.hv_history.specs.declared.entry.Entry.{Entry}
 use Rattle.hv_history.specs.declared.entry.Entry.TheVariants as entry
 use Rattle.hv_history.specs.declared.state.Ending.{Ending}
@@ -18,7 +17,7 @@ use Rattle.hv_history.specs.declared.state.Ending.TheVariants.{Aborted}
 use Rattle.hv_history.specs.declared.state.Table.{Table}
 use Rattle.hv_history.specs.declared.state.Snapshot.{Snapshot}
 use Rattle.hv_history.specs.declared.state.Transaction.{Transaction}
-use Rattle.hv_history.specs.State.{State, state_of, numbered, opened, seen_tables, written_by}
+use Rattle.hv_history.specs.State.{State, state_of, numbered, opened, means, written_by}
 use Rattle.hv_history.specs.Answers.{answer}
 use Rattle.hv_history.specs.Lasting.{txn_of}
 use Rattle.hv_stands.specs.Files.{own_dir, file_at, IsEncoded}
@@ -58,10 +57,10 @@ IsNotOf txn event = owner_of event ≡ Some txn → ⊥
 abbrev pub AreNotOf : ℕ → List Entry → Type 0
 AreNotOf txn events = AllByRecursion (IsNotOf txn) events
 
--- ---- what it means: what its tree comes to over the tables of the book at its snapshot
+-- ---- what it means: what its tree comes to in the state of the book at its snapshot
 
 abbrev pub meant : List Entry → Stmt → Option Meaning
-meant book tree = meaning_of (seen_tables (state_of book).tables) tree
+meant book tree = means (state_of book) (Some tree)
 
 -- the snapshot at this place of a book
 abbrev pub snapshot_at : List Entry → ℕ → Snapshot

@@ -21,6 +21,7 @@ use Rattle.hv_history.specs.declared.entry.Entry.{Entry}
 use Rattle.hv_history.specs.declared.entry.Entry.TheVariants as entry
 use Rattle.hv_history.specs.declared.entry.Cause.{Cause}
 use Rattle.hv_history.specs.declared.state.Table.{Table}
+use Rattle.hv_history.specs.Shown.{filled, listed_for}
 use Rattle.hv_history.specs.State.{state_of, nothing_yet, numbered}
 use Rattle.hv_history.specs.Legal.{Fits, AllFit, profile}
 use Rattle.hv_history.specs.Answers.{committed_text, ok_line, cause_text}
@@ -117,9 +118,12 @@ FittingHasRoom = (book : List Entry) (event : Entry) → AllFitting book → Fit
 
 -- ---- what it sees and changes
 
--- it means the same over the tables that it names, as they stood at its snapshot, with their rows where it reads rows
+-- what it means comes of the tables that it names, as they stood at its snapshot, with their rows where it reads rows, and of what a
+-- SHOW lists
 abbrev pub SeeingIsEnough : Type 0
-SeeingIsEnough = (book : List Entry) (said : Stmt) → AllFitting book → meaning_in said (seen_read said (state_of book).tables) ≡ meant book said
+SeeingIsEnough =
+    (book : List Entry) (said : Stmt) → AllFitting book
+    → filled (listed_for (state_of book) said) (meaning_in said (seen_read said (state_of book).tables)) ≡ meant book said
 
 -- the table that it changes was there at its snapshot
 abbrev pub ChangedTableStood : Type 0

@@ -8,6 +8,9 @@ use Rattle.hv_base.specs.declared.ids.TxnId.{TxnId}
 use Rattle.hv_base.specs.declared.ids.TableId.{TableId}
 use Rattle.hv_shelf.specs.declared.place.Place.{Place}
 use Rattle.hv_shelf.specs.Disk.{Store}
+use Rattle.hv_ast.specs.declared.statement.Show.{Show}
+use Rattle.hv_history.specs.declared.shown.Shown.{Shown}
+use Rattle.hv_history.specs.Shown.{show_listed}
 use Rattle.hv_logic.specs.declared.catalog.TableInfo.{TableInfo}
 use Rattle.hv_viewing.specs.hv_law_dues.specs.hv_counts.specs.declared.due.Due.{Due}
 use Rattle.hv_viewing.specs.hv_law_dues.specs.hv_counts.specs.Counts.{dues_in}
@@ -25,6 +28,7 @@ use Rattle.hv_acts.specs.declared.fault.ActFault.{ActFault}
 use Rattle.hv_acts.specs.Told.{IsWholeOrClosed, seen_in, trail_in, book_in}
 use Rattle.hv_acts.specs.Answers.{answer_outcome, AnswerLeaves, WhyRises}
 use Rattle.hv_acts.specs.Counting.{AreAsMany, HasCounted, CountAnswers}
+use Rattle.hv_acts.specs.Showing.{HasShown, ShowAnswers}
 use Rattle.hv_acts.specs.Going.{IsOpenHouse}
 use Rattle.hv_acts.specs.Reading.{HasPlace, HasFittingBook, HasFound, HasListed, FindAnswers, ListAnswers, GetAnswers, GetLeaves, GetRises, info_then, state_then}
 use Rattle.hv_acts.proofs.Readings.{place-lasts}
@@ -86,6 +90,22 @@ module _ {D : Type 0} (told : D → Option Store) (faults : D → ℕ) (meanwhil
       count-dues =
           subst (λ (trail : List TrailItem). AreAsMany dues.items (dues_in (state_then trail place) table.0))
           (sym (counted-step.trail ∙ append-nil (trail_in held.house))) counted.dues_are
+
+    -- ---- what is shown of the book
+
+    module _ (what : Show) (result : Result (Option Shown) ActFault)
+        (held : Held told faults seen_in Was meanwhile before now (λ seen. Ask) (answer_outcome result) (λ a b. ShowAnswers a place what result))
+        (shown : Option Shown) (is : result ≡ Ok shown) where
+      was-shown : HasShown (seen_in held.house) place what shown
+      was-shown = subst (λ (r : Result (Option Shown) ActFault). ShowAnswers (seen_in held.house) place what r) is held.does_it
+
+      shown-step : Step told faults Ask Done (seen_in held.house) (seen_in now)
+      shown-step = subst (λ (r : Result (Option Shown) ActFault). Step told faults Ask (answer_outcome r) (seen_in held.house) (seen_in now)) is held.step
+
+      pub show-book : shown ≡ show_listed (state_then (trail_in now) place) what
+      show-book =
+          subst (λ (trail : List TrailItem). shown ≡ show_listed (state_then trail place) what)
+          (sym (shown-step.trail ∙ append-nil (trail_in held.house))) was-shown.shown_is
 
     -- ---- files that are listed
 

@@ -28,7 +28,7 @@ use Rattle.hv_acts.specs.declared.giving.Given.{Given}
 use Rattle.hv_acts.specs.declared.giving.Given.TheVariants as given
 use Rattle.hv_acts.specs.Told.{seen_in, trail_in}
 use Rattle.hv_acts.specs.Answers.{answer_outcome, NoTest, AnswerLeaves}
-use Rattle.hv_acts.specs.Giving.{to_give, call_to_give, adds_given, GivenFits, GiveAnswers}
+use Rattle.hv_acts.specs.Giving.{to_give, call_to_give, adds_given, RestsOnId, GiveAnswers}
 use Rattle.hv_acts.specs.Meant.{HasMeant, IsIdDue}
 use Rattle.hv_steps.specs.Ending.{aborting}
 use Rattle.hv_steps.specs.declared.ready.Way.{Way}
@@ -54,7 +54,7 @@ give-ends trail txn table (Err why) may = note-ends {T = Given} (to_give trail t
 give-names : (trail : List TrailItem) (txn : TxnId) (table : TableId) (result : Result Given ActFault) → GiveAnswers trail txn table result → IfErr result (NamesEnd trail txn.0)
 give-names trail txn table (Ok (given.Id write)) answers = tt
 give-names trail txn table (Ok (given.Aborted aborted)) answers = tt
-give-names trail txn table (Err why) answers = why-names NoTest trail txn (GivenFits trail txn table) why answers
+give-names trail txn table (Err why) answers = why-names NoTest trail txn (RestsOnId trail txn table) why answers
 
 -- ---- what an act leaves, by its answer
 

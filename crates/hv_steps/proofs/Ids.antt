@@ -19,7 +19,7 @@ use Rattle.hv_history.specs.declared.entry.Cause.{Cause}
 use Rattle.hv_history.specs.declared.entry.Cause.TheVariants as cause
 use Rattle.hv_history.specs.declared.state.Table.{Table}
 use Rattle.hv_history.specs.declared.state.Transaction.{Transaction}
-use Rattle.hv_history.specs.State.{state_of, numbered, seen_tables}
+use Rattle.hv_history.specs.State.{state_of, numbered}
 use Rattle.hv_history.specs.Legal.{Fits, IsRunning, profile}
 use Rattle.hv_history.specs.Legal as legal
 use Rattle.hv_history.specs.Lasting.{IsFront, TableLater}
@@ -30,7 +30,7 @@ use Rattle.hv_stands.specs.Statements.{AllFitting}
 use Rattle.hv_stands.proofs.Fitting.{fitting-sound, fitting-room}
 use Rattle.hv_stands.proofs.Behind.{entries-are}
 use Rattle.hv_stands.proofs.Soundness.{all-numbered}
-use Rattle.hv_stands.proofs.Meanings.{built-means}
+use Rattle.hv_stands.proofs.SeeingEnough.{built-means-in}
 use Rattle.hv_trail.specs.declared.trail.TrailItem.{TrailItem}
 use Rattle.hv_trail.specs.declared.trail.TrailItem.TheVariants.{Noted}
 use Rattle.hv_trail.specs.Trail.{book_of, state_at}
@@ -87,7 +87,7 @@ pub way-means-some : (trail : List TrailItem) (asking : Asking) (way : Way) (sai
     → (means : Meaning) × HasMeant trail way.txn [] means
 way-means-some trail asking way said was =
     let front = take way.place (book_of trail) in
-    let some = some-of (meant front said) (built-means (seen_tables (state_of front).tables) said was.was.runs.built) in
+    let some = some-of (meant front said) (built-means-in (state_of front) said was.was.runs.built) in
     (some.0, way-means trail asking way said some.0 was some.1)
 
 -- what it comes to it means, where the house is told

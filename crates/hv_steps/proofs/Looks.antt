@@ -33,7 +33,7 @@ use Rattle.hv_acts.specs.declared.told.ToldHouse.{ToldHouse}
 use Rattle.hv_acts.specs.Told.{IsWholeOrClosed, trail_in, book_in}
 use Rattle.hv_acts.specs.Reading.{HasPlace, state_then}
 use Rattle.hv_acts.specs.Going.{faults_in, IsOpenHouse, AddsOwn}
-use Rattle.hv_steps.specs.Tables.{LeavesSeeing, IsMarkedIn, RisesTo, IsSeenIn}
+use Rattle.hv_steps.specs.Tables.{LeavesSeeing, IsMarkedIn, RisesTo, LooksOver, IsOfHouse, IsSeenIn}
 use Rattle.hv_steps.specs.Seeing.{tables_then, seen_with, IsSeenAs, AreSeenAs, AddsSeen, IsUnseen, Looks, SeesUpTo}
 use Rattle.hv_acts.proofs.Readings.{place-lasts, then-same}
 use Rattle.hv_steps.proofs.Joining.{adds-none, adds-more, adds-front}
@@ -110,6 +110,12 @@ module _ {D : Type 0} (told : D → Option Store) where
     place-later own own' before now place adds has =
         place-lasts (trail_in before) (trail_in now) (adds-front faults B rows own own' before now [] adds) place has
 
+    -- what the book was at a place it was
+    pub states-same : (own own' : List ℕ) (before now : ToldHouse D) (place : ℕ) → AddsOwn faults B own own' before now [] → HasPlace (trail_in before) place
+        → state_then (trail_in now) place ≡ state_then (trail_in before) place
+    states-same own own' before now place adds has =
+        then-same (trail_in before) (trail_in now) (adds-front faults B rows own own' before now [] adds) place has
+
     tables-same : (own own' : List ℕ) (before now : ToldHouse D) (place : ℕ) → AddsOwn faults B own own' before now [] → HasPlace (trail_in before) place
         → tables_then now place ≡ tables_then before place
     tables-same own own' before now place adds has =
@@ -158,6 +164,18 @@ module _ {D : Type 0} (told : D → Option Store) where
       pub looks-done : {T : Type 0} (own own' : List ℕ) (before now : ToldHouse D) (x : T) → AddsOwn faults B own own' before now [] → IsOpenHouse now
           → Looks told faults B meanwhile by own own' before now (Ok x)
       looks-done own own' before now x adds running = record { adds = adds; running = running; unseen = tt; counts = tt }
+
+      -- an act whose fault is the house's
+      pub looks-house : {T : Type 0} (own own' : List ℕ) (before now : ToldHouse D) (result : Result T RowFault)
+          → LooksOver told faults B meanwhile by own own' before now result → IfErr result IsOfHouse → Looks told faults B meanwhile by own own' before now result
+      looks-house own own' before now (Ok x) over of = looks-done own own' before now x over.adds over.running
+      looks-house own own' before now (Err (row_fault.House why)) over of = record {
+        adds = over.adds;
+        running = tt;
+        unseen = unseen-of now (row_fault.House why) over.leaves over.marked tt (λ so damage. damage);
+        counts = over.counts;
+      }
+      looks-house own own' before now (Err (row_fault.Damaged place)) over of = absurd of
 
       -- nothing was done
       pub looks-none : {T : Type 0} (own : List ℕ) (house : ToldHouse D) (x : T) → IsOpenHouse house → Looks told faults B meanwhile by own own house house (Ok x)

@@ -8,11 +8,14 @@ use Rattle.hv_logic.specs.declared.meaning.Meaning.{Meaning}
 use Rattle.hv_logic.specs.declared.meaning.Meaning.TheVariants as meanings
 use Rattle.hv_logic.specs.declared.seen.Seen.{Seen}
 use Rattle.hv_logic.specs.Names.{names_in}
-use Rattle.hv_meaning.specs.Meaning.{info_of, meaning_in}
+use Rattle.hv_meaning.specs.Meaning.{info_of, meaning_in, meaning_of}
 use Rattle.hv_meaning.specs.Laws.{MeansSomething, reads_rows}
 use Rattle.hv_history.specs.declared.entry.Entry.{Entry}
 use Rattle.hv_history.specs.declared.state.Table.{Table}
+use Rattle.hv_history.specs.declared.shown.Shown.{Shown}
+use Rattle.hv_history.specs.Shown.{filled, listed_for}
 use Rattle.hv_history.specs.State.{state_of, seen_tables}
+use Rattle.hv_history.proofs.ShownLaws.{filled-is}
 use Rattle.hv_stands.specs.Sound.{IsSound}
 use Rattle.hv_stands.specs.Reading.{seen_of, seen_read, tables_named}
 use Rattle.hv_stands.specs.Running.{meant}
@@ -21,7 +24,7 @@ use Rattle.hv_stands.proofs.Fitting.{fitting-sound, fronts-fit}
 use Rattle.hv_stands.proofs.SeeingEnough.{seeing-enough, tables-stay}
 use Rattle.hv_stands.proofs.FileRecords.{inserts-can-be-put}
 use Rattle.hv_stands.proofs.Meanings.{ComesOfRows, same-or-rows, built-means}
-use Rattle.hv_stands.proofs.SeenTables.{read-infos, CanChangeTable, change-of-seen}
+use Rattle.hv_stands.proofs.SeenTables.{reading-enough, read-infos, CanChangeTable, change-of-seen}
 use Rattle.hv_acts.specs.hv_telling.specs.hv_house.specs.Listing.{info_in}
 use Rattle.hv_acts.specs.hv_telling.specs.Telling.{IsToldHouse}
 use Rattle.hv_shelf.specs.Disk.{Store}
@@ -39,6 +42,10 @@ read-infos-same tree (table ∷ tables) = ap (λ (infos : List TableInfo). table
 some : (o : Option Meaning) → ComesOfRows o → MeansSomething o
 some None h = absurd h
 some (Some m) h = tt
+
+abbrev CanEndSome : List Entry → Option Meaning → Type 0
+CanEndSome book None = Unit {0}
+CanEndSome book (Some m) = CanEnd book m
 
 -- ---- of a book whose entries fit
 
@@ -59,19 +66,19 @@ module _ (is_told : Type 0) (book : List Entry) (place : ℕ) (tree : Stmt) (fit
   seen-infos : map info_of seen ≡ map info_of (seen_read tree tables)
   seen-infos = are.infos ∙ read-infos-same tree (tables_named tree tables)
 
-  -- whatever rows were seen, it means the same, or what may come of rows
-  meant-or-rows : (meaning_in tree seen ≡ meant front tree) ⊎ ComesOfRows (meaning_in tree seen)
-  meant-or-rows = by (same-or-rows tree seen (seen_read tree tables) seen-infos)
+  -- whatever rows were seen, it means the same over the tables, or what may come of rows
+  over-or-rows : (meaning_in tree seen ≡ meaning_of (seen_tables tables) tree) ⊎ ComesOfRows (meaning_in tree seen)
+  over-or-rows = by (same-or-rows tree seen (seen_read tree tables) seen-infos)
     where
       by : (meaning_in tree seen ≡ meaning_in tree (seen_read tree tables)) ⊎ ComesOfRows (meaning_in tree seen)
-          → (meaning_in tree seen ≡ meant front tree) ⊎ ComesOfRows (meaning_in tree seen)
-      by (inl e) = inl (e ∙ seeing-enough front tree front-fits)
+          → (meaning_in tree seen ≡ meaning_of (seen_tables tables) tree) ⊎ ComesOfRows (meaning_in tree seen)
+      by (inl e) = inl (e ∙ reading-enough tree tables)
       by (inr l) = inr l
 
   pub means-some : IsBuilt tree → MeansSomething (meaning_in tree seen)
-  means-some built = by meant-or-rows
+  means-some built = by over-or-rows
     where
-      by : (meaning_in tree seen ≡ meant front tree) ⊎ ComesOfRows (meaning_in tree seen) → MeansSomething (meaning_in tree seen)
+      by : (meaning_in tree seen ≡ meaning_of (seen_tables tables) tree) ⊎ ComesOfRows (meaning_in tree seen) → MeansSomething (meaning_in tree seen)
       by (inl e) = subst MeansSomething (sym e) (built-means (seen_tables tables) tree built)
       by (inr l) = some (meaning_in tree seen) l
 
@@ -102,9 +109,16 @@ module _ (is_told : Type 0) (book : List Entry) (place : ℕ) (tree : Stmt) (fit
   can-end meanings.PartitionLimit e narrow = tt
   can-end meanings.Plain e narrow = tt
 
+  -- with what it lists it can be ended too
+  pub can-filled : (shown : Option Shown) (meaning result : Meaning) → meaning_in tree seen ≡ Some meaning → IsNarrow meaning → Some result ≡ filled shown (Some meaning)
+      → CanEnd book result
+  can-filled shown meaning result e narrow is =
+      subst (CanEndSome book) (sym is) (filled-is (CanEndSome book) (λ names rows. tt) shown (Some meaning) (can-end meaning e narrow))
+
   -- where their rows are those that stood in them
-  pub means-told : is_told → meaning_in tree seen ≡ meant front tree
-  means-told so = ap (meaning_in tree) (are.truly so) ∙ seeing-enough front tree front-fits
+  pub means-told : is_told → filled (listed_for (state_of front) tree) (meaning_in tree seen) ≡ meant front tree
+  means-told so =
+      ap (λ (o : Option Meaning). filled (listed_for (state_of front) tree) o) (ap (meaning_in tree) (are.truly so)) ∙ seeing-enough front tree front-fits
 
 -- ---- of a house
 
@@ -113,8 +127,14 @@ module _ {D : Type 0} (told : D → Option Store) (now : ToldHouse D) (way : Way
   pub means-something : IsBuilt tree → MeansSomething (meaning_in tree seen)
   means-something built = means-some (IsToldHouse told now.house) (book_in now) way.place tree fit seen are built
 
-  pub comes-to : (meaning : Meaning) → meaning_in tree seen ≡ Some meaning → IsNarrow meaning → ComesTo told now way tree meaning
-  comes-to meaning e narrow = record {
-    can = can-end (IsToldHouse told now.house) (book_in now) way.place tree fit seen are meaning e narrow;
-    truly = λ so. sym (means-told (IsToldHouse told now.house) (book_in now) way.place tree fit seen are so) ∙ e;
+  -- with what it lists of the book at its Start
+  pub comes-to : (shown : Option Shown) → shown ≡ listed_for (state_of (take way.place (book_in now))) tree → (meaning result : Meaning)
+      → meaning_in tree seen ≡ Some meaning → IsNarrow meaning → Some result ≡ filled shown (Some meaning) → ComesTo told now way tree result
+  comes-to shown lists meaning result e narrow is = record {
+    can = can-filled (IsToldHouse told now.house) (book_in now) way.place tree fit seen are shown meaning result e narrow is;
+    truly = λ so.
+        sym (means-told (IsToldHouse told now.house) (book_in now) way.place tree fit seen are so)
+        ∙ ap (filled (listed_for (state_of (take way.place (book_in now))) tree)) e
+        ∙ ap (λ (o : Option Shown). filled o (Some meaning)) (sym lists)
+        ∙ sym is;
   }

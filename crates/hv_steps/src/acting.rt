@@ -1,10 +1,11 @@
-//! The acts by which a table is read, one by one, each with the fact that it leaves.
+//! The acts by which a table and the book are read, one by one, each with the fact that it leaves.
 
 ghost use Rattle.std.specs.Prelude.{◌≡◌, Option, IfOk, IfErr};
 ghost use Rattle.std.specs.FinMap as tree;
 ghost use Rattle.hv_base.specs.Told.{Tells};
 ghost use Rattle.hv_base.specs.declared.ids.TxnId.{TxnId};
 ghost use Rattle.hv_shelf.specs.Disk.{Store};
+ghost use Rattle.hv_history.specs.Shown.{show_listed};
 ghost use Rattle.hv_acts.specs.hv_telling.specs.Telling.{IsToldHouse};
 ghost use Rattle.hv_viewing.specs.hv_law_dues.specs.hv_counts.specs.Counts.{dues_in};
 ghost use Rattle.hv_acts.specs.hv_telling.specs.hv_house.specs.declared.fault.HouseFault.{HouseFault};
@@ -20,8 +21,10 @@ ghost use Rattle.hv_steps.specs.Steady.{IsSteady, bytes_got, HasMoment, IsNamedT
 
 use hv_actor::Actor;
 use hv_acts::hv_telling::hv_house::{GetFault, HouseFault, Listing, RowFault};
-use hv_acts::{ActFault, CountDues, FindTable, GetFile, ListTable, ToldHouse};
+use hv_acts::{ActFault, CountDues, FindTable, GetFile, ListTable, ShowBook, ToldHouse};
+use hv_ast::Show;
 use hv_base::{TableId, Text, TxnId};
+use hv_history::Shown;
 use hv_logic::TableInfo;
 use hv_shelf::{Place, Shelf};
 use hv_viewing::hv_law_dues::hv_counts::Due;
@@ -112,6 +115,28 @@ pub fn count_dues<D: Shelf + Drop, W: Actor<D, ToldHouse<D>>>(
 {
     match actor.hold(alloc, CountDues { place, table }) {
         Ok(dues) => Ok(dues),
+        Err(why) => Err(of_house(why)),
+    }
+}
+
+/// Asks what a SHOW lists of the book as it was at a place.
+pub fn show_book<D: Shelf + Drop, W: Actor<D, ToldHouse<D>>>(
+    alloc: Global,
+    actor: &mut W,
+    place: u64,
+    what: &Show,
+) -> Result<Option<Shown>, RowFault>
+    requires keeps { W.keeps actor.old }
+    requires running { IsOpenHouse (W.house actor.old) }
+    requires place { HasPlace (trail_in (W.house actor.old)) place }
+    ensures keeps { W.keeps actor.new }
+    ensures looks { (by : TxnId) → LooksOver D.told D.faults W.between W.meanwhile by (W.own actor.old) (W.own actor.new)
+        (W.house actor.old) (W.house actor.new) result }
+    ensures house { IfErr result IsOfHouse }
+    ensures shown { IfOk result (λ shown. shown ≡ show_listed (state_then (trail_in (W.house actor.new)) place) what.now) }
+{
+    match actor.hold(alloc, ShowBook { place, what }) {
+        Ok(shown) => Ok(shown),
         Err(why) => Err(of_house(why)),
     }
 }

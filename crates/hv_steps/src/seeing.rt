@@ -6,7 +6,10 @@ ghost use Rattle.hv_ast.specs.declared.statement.Stmt.{Stmt};
 ghost use Rattle.hv_built.specs.Built.{IsBuilt};
 ghost use Rattle.hv_meaning.specs.Meaning.{meaning_in};
 ghost use Rattle.hv_meaning.specs.Laws.{MeansSomething, are_values, reads_rows};
+ghost use Rattle.std.specs.Option.{option_copied};
 ghost use Rattle.hv_logic.specs.Tables.{named};
+ghost use Rattle.hv_logic.specs.declared.meaning.Meaning.TheVariants.{Listing};
+ghost use Rattle.hv_history.specs.Shown.{filled, is_plain, listed_for, show_of};
 ghost use Rattle.hv_history.specs.declared.entry.Cause.TheVariants.{ReadFault};
 ghost use Rattle.hv_stands.specs.Running.{Asking};
 ghost use Rattle.hv_stands.specs.Reading.{table_of_name};
@@ -18,13 +21,14 @@ ghost use Rattle.hv_acts.specs.hv_telling.specs.Telling.{IsToldHouse};
 ghost use Rattle.hv_acts.specs.Told.{trail_in};
 ghost use Rattle.hv_acts.specs.Answers.{HasItsMark};
 ghost use Rattle.hv_acts.specs.Meant.{IsAbortDue};
-ghost use Rattle.hv_acts.specs.Reading.{HasPlace};
+ghost use Rattle.hv_acts.specs.Reading.{HasPlace, state_then};
 ghost use Rattle.hv_steps.specs.Ending.{aborting, EndsUncommitted};
 ghost use Rattle.hv_steps.specs.Tables.{RisesTo};
 ghost use Rattle.hv_steps.specs.Going.{IsOpenHouse, faults_in, Goes, WasOnWay, WasOpened, CauseKeeps};
 ghost use Rattle.hv_steps.specs.Phases.{ComesTo, Sees};
 ghost use Rattle.hv_steps.specs.Seeing.{tables_then, IsSeenAs, AreSeenOfSome, AddsSeen, IsSeen, Looks, IsUnseen, IsNarrow, EndsFor, EndsUnseen};
 
+use crate::acting::show_book;
 use crate::ready::Way;
 use crate::refusing::refuse;
 use crate::reply::Outcome;
@@ -32,10 +36,10 @@ use crate::tables::see_table;
 use hv_actor::Actor;
 use hv_acts::ToldHouse;
 use hv_acts::hv_telling::hv_house::{HouseFault, RowFault};
-use hv_ast::{Rows, Stmt};
+use hv_ast::{Rows, Show, Stmt};
 use hv_base::{Duplicate, NoMemory, Text, TxnId};
-use hv_effect::{Touching, meaning_in};
-use hv_history::Cause;
+use hv_effect::{Touching, meaning_in, untouched};
+use hv_history::{Cause, Shown};
 use hv_logic::{Meaning, Seen, named};
 use hv_names::names_in;
 use hv_shelf::Shelf;
@@ -57,7 +61,7 @@ fn reads_rows(tree: &Stmt) -> bool
     match tree {
         Stmt::Insert(insert) => insert.overwrite || !are_values(&insert.rows),
         Stmt::CreateTable(_) | Stmt::DropTable(_) => false,
-        Stmt::Describe(_) | Stmt::Set(_) => false,
+        Stmt::Show(_) | Stmt::Describe(_) | Stmt::Set(_) => false,
         _ => true,
     }
 }
@@ -235,7 +239,75 @@ fn meaning(alloc: Global, tree: &Stmt, seen: Vec<Seen>) -> Result<Touching, NoMe
     }
 }
 
-/// What a statement comes to over the tables that it names, as they stood at its Start.
+/// What a statement lists of the book.
+fn show_of(tree: &Stmt) -> Option<&Show>
+    ensures { option_copied result ≡ show_of tree.now }
+{
+    match tree {
+        Stmt::Show(what) => Some(what),
+        _ => None,
+    }
+}
+
+/// What a statement lists of the book as it was at its Start; None where it lists nothing of it.
+fn shown<D: Shelf + Drop, W: Actor<D, ToldHouse<D>>>(
+    alloc: Global,
+    actor: &mut W,
+    way: Way,
+    tree: &Stmt,
+) -> Result<Option<Shown>, RowFault>
+    requires keeps { W.keeps actor.old }
+    requires running { IsOpenHouse (W.house actor.old) }
+    requires place { HasPlace (trail_in (W.house actor.old)) way.place }
+    ensures keeps { W.keeps actor.new }
+    ensures looks { Looks D.told D.faults W.between W.meanwhile way.txn (W.own actor.old) (W.own actor.new)
+        (W.house actor.old) (W.house actor.new) result }
+    ensures shown { IfOk result (λ shown. shown
+        ≡ listed_for (state_then (trail_in (W.house actor.new)) way.place) tree.now) }
+{
+    match show_of(tree) {
+        Some(what) => show_book(alloc, actor, way.place, what),
+        None => Ok(None),
+    }
+}
+
+fn is_plain(touching: &Touching) -> bool
+    ensures { result ≡ is_plain touching.now }
+{
+    match &touching.meaning {
+        Meaning::Plain => true,
+        _ => false,
+    }
+}
+
+fn listing(alloc: Global, shown: Shown) -> Touching
+    ensures { result ≡ Listing shown.names shown.rows }
+{
+    untouched(alloc, Meaning::Listing(shown.names, shown.rows))
+}
+
+/// A listing in place of nothing, and any other meaning as it is.
+fn listed_over(alloc: Global, shown: Shown, meaning: Touching) -> Touching
+    ensures { Some result ≡ filled (Some shown) (Some meaning) }
+{
+    if is_plain(&meaning) {
+        listing(alloc, shown)
+    } else {
+        meaning
+    }
+}
+
+/// What a statement comes to, with what it lists of the book.
+fn filled(alloc: Global, shown: Option<Shown>, meaning: Touching) -> Touching
+    ensures { Some result ≡ filled shown (Some meaning) }
+{
+    match shown {
+        Some(shown) => listed_over(alloc, shown, meaning),
+        None => meaning,
+    }
+}
+
+/// What a statement comes to over the tables that it names, as they stood at its Start, and over the book as it was then.
 fn see_meaning<D: Shelf + Drop, W: Actor<D, ToldHouse<D>>>(
     alloc: Global,
     actor: &mut W,
@@ -251,8 +323,10 @@ fn see_meaning<D: Shelf + Drop, W: Actor<D, ToldHouse<D>>>(
         (W.house actor.old) (W.house actor.new) result }
     ensures comes { IfOk result (ComesTo D.told (W.house actor.new) way tree.now) }
 {
+    let shown = shown(alloc, actor, way, tree)?;
     let tables = seen(alloc, actor, way, tree)?;
-    Ok(meaning(alloc, tree, tables)?)
+    let meaning = meaning(alloc, tree, tables)?;
+    Ok(filled(alloc, shown, meaning))
 }
 
 /// Aborts a started statement for this cause.

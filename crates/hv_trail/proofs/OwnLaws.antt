@@ -3,15 +3,20 @@ use Rattle.std.proofs.Common.{◌≡◌, ℕ, zero, suc, ◌+◌, ◌≤◌, Boo
 use Rattle.std.specs.Prelude.{if◌then◌else◌, ◌==◌, slice_get}
 use Rattle.std.specs.Option.{option_map, option_to_list}
 use Rattle.std.proofs.lemmas.Bool.{eqb-true, eq-eqb}
+use Rattle.hv_ast.specs.declared.statement.Show.{Show}
+use Rattle.hv_ast.specs.declared.statement.Show.TheVariants as show
 use Rattle.hv_ast.specs.declared.statement.Stmt.{Stmt}
 use Rattle.hv_grammar.specs.Texts.{tree_of}
+use Rattle.hv_book.specs.hv_history.specs.hv_meaning.specs.Meaning.{meaning_of}
 use Rattle.hv_book.specs.hv_history.specs.declared.entry.Entry.{Entry}
 use Rattle.hv_book.specs.hv_history.specs.declared.entry.Entry.TheVariants as entry
 use Rattle.hv_book.specs.hv_history.specs.Lasting.{IsFront}
 use Rattle.hv_book.specs.hv_history.proofs.LastingLaws.{others-stay}
 use Rattle.hv_book.specs.hv_history.specs.declared.state.Transaction.{Transaction}
 use Rattle.hv_book.specs.hv_history.specs.declared.state.Ending.TheVariants.{Aborted, Made, Dropped}
-use Rattle.hv_book.specs.hv_history.specs.State.{State, nothing_yet, numbered, changed, changed_at, means, meaning_in, meant_in, first_of, first_known, started, given_id, committed, ended, opened, while_open, acted, after}
+use Rattle.hv_book.specs.hv_history.specs.declared.shown.Shown.{Shown}
+use Rattle.hv_book.specs.hv_history.specs.Shown.{show_listed, show_of, listed_by, filled}
+use Rattle.hv_book.specs.hv_history.specs.State.{State, nothing_yet, numbered, changed, changed_at, seen_tables, means, meaning_in, meant_in, first_of, first_known, started, given_id, committed, ended, opened, while_open, acted, after}
 use Rattle.hv_book.proofs.TableLaws.{here_at as changed_at-here}
 use Rattle.hv_trail.specs.declared.trail.TrailItem.{TrailItem}
 use Rattle.hv_trail.specs.declared.trail.TrailItem.TheVariants.{Noted, Marked}
@@ -145,21 +150,32 @@ added-as : (xs : List Transaction) (x : Transaction) (n : ℕ)
     → numbered (xs ++ x ∷ []) n ≡ (if n == (length xs + 1) then Some x else numbered xs n)
 added-as xs x n = by-number n (length xs + 1) (Some x) (numbered xs n) (numbered (xs ++ x ∷ []) n) (added-here xs x n) (added-there xs x n)
 
--- what a statement comes to depends on the tables alone
-means-same : (state there : State) (tree : Option Stmt) → state.tables ≡ there.tables → means state tree ≡ means there tree
-means-same state there None e = refl
-means-same state there (Some tree) e = ap (λ tables. means (record state { tables = tables }) (Some tree)) e
+-- what a SHOW lists depends on the tables and the transactions alone
+listed-same : (state : State) (event : Entry) (what : Option Show) → listed_by state what ≡ listed_by (state_there (moment_of state event)) what
+unfolding show_listed
+listed-same state event None = refl
+listed-same state event (Some show.Tables) = refl
+listed-same state event (Some (show.Partitions name)) = refl
+listed-same state event (Some show.Transactions) = refl
+listed-same state event (Some show.Locks) = refl
+listed-same state event (Some show.Compactions) = refl
 
-meaning-same : (state there : State) → state.tables ≡ there.tables → (text : List ℕ) → meaning_in state text ≡ meaning_in there text
+-- and so does what a statement comes to
+means-same : (state : State) (event : Entry) (tree : Option Stmt) → means state tree ≡ means (state_there (moment_of state event)) tree
+means-same state event None = refl
+means-same state event (Some tree) =
+    ap (λ (shown : Option Shown). filled shown (meaning_of (seen_tables state.tables) tree)) (listed-same state event (show_of tree))
+
+meaning-same : (state : State) (event : Entry) (text : List ℕ) → meaning_in state text ≡ meaning_in (state_there (moment_of state event)) text
 unfolding meaning_in
-meaning-same state there e text = means-same state there (tree_of text) e
+meaning-same state event text = means-same state event (tree_of text)
 
-meant-same : (state there : State) → state.tables ≡ there.tables → meant_in state ≡ meant_in there
-meant-same state there e = λ i statement. record statement { meaning = first_known statement.meaning (meaning-same state there e statement.text i) }
+meant-same : (state : State) (event : Entry) → meant_in state ≡ meant_in (state_there (moment_of state event))
+meant-same state event = λ i statement. record statement { meaning = first_known statement.meaning (meaning-same state event statement.text i) }
 
 start-same : (state : State) (event : Entry) (number : ℕ) → started state number ≡ started (state_there (moment_of state event)) number
 start-same state event number = λ i t. record t {
-  statements = changed_at (meant-same state (state_there (moment_of state event)) refl i) t.statements number;
+  statements = changed_at (meant-same state event i) t.statements number;
   snapshot = first_of t.snapshot (record { place = state.entries; tables = state.tables });
 }
 

@@ -62,14 +62,16 @@ own_places txn trail = places_from txn 0 nothing_yet trail
 
 -- ---- what its own entries make of it
 
--- an entry, with what it reads of the book before it: how many entries there are, and the tables
+-- an entry, with what it reads of the book before it: how many entries there are, the tables, and for a SHOW the transactions
 pub record Moment : Type 0 where
   pub event : Entry
   pub place : ℕ
+  pub transactions : List Transaction
   pub tables : List Table
 
 abbrev pub moment_of : State → Entry → Moment
-moment_of state event = record { event = event; place = state.entries; tables = state.tables }
+moment_of state event =
+    record { event = event; place = state.entries; transactions = state.transactions; tables = state.tables }
 
 abbrev pub moments_from : ℕ → State → List TrailItem → List Moment
 moments_from txn state [] = []
@@ -81,9 +83,10 @@ moments_from txn state (Marked mark ∷ items) = moments_from txn state items
 abbrev pub own_moments : ℕ → List TrailItem → List Moment
 own_moments txn trail = moments_from txn nothing_yet trail
 
--- a state with so many entries and these tables
+-- a state with so many entries, these transactions and these tables
 abbrev pub state_there : Moment → State
-state_there moment = record nothing_yet { entries = moment.place; tables = moment.tables }
+state_there moment =
+    record nothing_yet { entries = moment.place; transactions = moment.transactions; tables = moment.tables }
 
 -- what an entry does to the transaction that it is about
 abbrev pub done_by : Moment → Entry → Transaction → Transaction

@@ -14,8 +14,8 @@ pub fn own_places_rise()
         → RiseWithin low places (length trail) → items_at places (trail ++ more) ≡ items_at places trail }
 {}
 
-/// A transaction's record is what its own entries make of it, each at its moment: the number of entries before it and the
-/// tables then. So it is the same in any two trails in which these are.
+/// A transaction's record is what its own entries make of it, each at its moment: the number of entries before it, and the
+/// tables and transactions then, which a SHOW reads. So it is the same in any two trails in which these are.
 pub fn own_entries_make_the_record()
     ensures made { (txn : ℕ) (trail : List TrailItem)
         → record_from None (own_moments txn trail) ≡ numbered (state_at trail).transactions txn }

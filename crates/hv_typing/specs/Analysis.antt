@@ -28,6 +28,7 @@ use Rattle.hv_ast.specs.declared.change.Merge.{Merge}
 use Rattle.hv_typing.specs.Subqueries.{selected}
 use Rattle.hv_typing.specs.Drops.{dropped}
 use Rattle.hv_typing.specs.Descriptions.{described}
+use Rattle.hv_typing.specs.Shows.{is_shown, show_analysed}
 use Rattle.hv_typing.specs.Settings.{set_analysed}
 
 -- ---- a query without windows, in all its selects and in those of its subqueries
@@ -85,6 +86,7 @@ is_form (stmt.Merge merge) = is_windowless_source merge.source
 is_form (stmt.Truncate truncate) = true
 is_form (stmt.CreateTable create) = true
 is_form (stmt.DropTable drop) = true
+is_form (stmt.Show show) = is_shown show
 is_form (stmt.Describe table) = true
 is_form (stmt.Set setting) = true
 is_form _ = false
@@ -109,6 +111,7 @@ form_analysed tables (stmt.Merge merge) = merge_analysed tables merge
 form_analysed tables (stmt.Truncate truncate) = change_analysed tables truncate.table (stmt.Truncate truncate)
 form_analysed tables (stmt.CreateTable create) = created tables create
 form_analysed tables (stmt.DropTable drop) = dropped tables drop
+form_analysed tables (stmt.Show show) = show_analysed tables show
 form_analysed tables (stmt.Describe table) = described tables table
 form_analysed tables (stmt.Set setting) = set_analysed setting
 form_analysed tables _ = Err refusal.Syntax

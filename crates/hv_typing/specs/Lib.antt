@@ -22,6 +22,7 @@ pub mod Changes
 pub mod Merges
 pub mod Drops
 pub mod Descriptions
+pub mod Shows
 pub mod Settings
 pub mod Analysis
 pub mod Joins

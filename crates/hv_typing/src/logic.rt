@@ -16,7 +16,8 @@ pub enum Logic {
     Make(Shape),
     /// DROP TABLE of this table.
     Unmake(TableId),
-    /// CREATE TABLE IF NOT EXISTS where there is a table of that name, DROP TABLE IF EXISTS where there is none, and SET.
+    /// CREATE TABLE IF NOT EXISTS where there is a table of that name, DROP TABLE IF EXISTS where there is none, SET,
+    /// and a SHOW without a fault.
     Nothing,
     /// DESCRIBE: the table's columns, those of its partitions last.
     Describe(List<Column>),

@@ -1,3 +1,4 @@
+pub mod Shows
 pub mod Starts
 pub mod Writes
 pub mod Steps

@@ -1,9 +1,9 @@
--- A text that has a fault is no statement, and what a Start means rests on the tables.
-use Rattle.std.proofs.Common.{◌≡◌, ℕ, suc, ◌<◌, ◌≤◌, Option, Some, None, List, length, refl, sym, ◌∙◌, arith}
+-- A text that has a fault is no statement, and what a Start means rests on transactions and tables.
+use Rattle.std.proofs.Common.{◌≡◌, ℕ, zero, suc, ◌<◌, ◌≤◌, Option, Some, None, List, [], ◌∷◌, length, refl, ap, ◌∙◌, arith}
+use Rattle.std.specs.List.{slice_get}
 use Rattle.std.specs.Prelude.{slice_set, slice_index_or, Ok, Err}
 use Rattle.std.specs.Option.{option_map}
 use Rattle.hv_ast.specs.declared.statement.Setting.{Setting}
-use Rattle.hv_ast.specs.declared.statement.Stmt.{Stmt}
 use Rattle.hv_ast.specs.declared.statement.Stmt.TheVariants as s
 use Rattle.hv_ast.specs.Tokens.{Text, Tokens, tokens_of}
 use Rattle.hv_grammar.specs.Settings.{behind_set, setting_in}
@@ -12,11 +12,14 @@ use Rattle.hv_grammar.specs.Texts.{TextFault, BadCharacter, OpenString, WideNumb
 use Rattle.hv_reading.specs.declared.fault.TextFault as reading
 use Rattle.hv_reading.specs.declared.fault.TextFault.TheVariants as told
 use Rattle.hv_reading.specs.Faults.{IsFaultOf}
+use Rattle.hv_logic.specs.declared.meaning.Meaning.{Meaning}
 use Rattle.hv_history.specs.declared.state.Statement.{Statement}
+use Rattle.hv_history.specs.declared.state.Table.{Table}
 use Rattle.hv_history.specs.declared.state.Transaction.{Transaction}
-use Rattle.hv_history.specs.State.{State, changed_at, means, meaning_in, started, first_of, first_known}
+use Rattle.hv_history.specs.State.{State, changed_at, meant_in, started, statement_of as statement_at, first_of, first_known}
 use Rattle.hv_history.proofs.NumberLemmas.{place-some, place-none, put_changed}
-use Rattle.tests_books.specs.Replay.{state_at, meaning_over, begun}
+use Rattle.tests_books.specs.Replay.{state_at, state_now, comes_to, said_of, begun}
+use Rattle.tests_books.proofs.Shows.{meaning-alone}
 
 -- ---- what has a fault has no tree
 
@@ -51,23 +54,33 @@ no_tree_of told.Syntax text is not = no-tree Syntax text is
 no_tree_of (told.Nesting at) text is not = no-tree (Nesting at) text is
 no_tree_of told.NoMemory text is not = absurd (not refl)
 
--- ---- a Start rests on its place and on the tables
+-- ---- a Start by what its statement comes to
 
-means-over : (state : State) (tree : Option Stmt) → meaning_over state.tables tree ≡ means state tree
-means-over state None = refl
-means-over state (Some tree) = refl
+module _ (state : State) (meaning : Option Meaning) where
+  said-at : (xs : List Statement) (n : ℕ) → meaning ≡ comes_to state (slice_get xs n) → changed_at (said_of meaning) xs n ≡ changed_at (meant_in state) xs n
+  said-at [] n is = refl
+  said-at (x ∷ xs) zero is = ap (λ (m : Option Meaning). record x { meaning = first_known x.meaning m } ∷ xs) is
+  said-at (x ∷ xs) (suc n) is = ap (λ (ys : List Statement). x ∷ ys) (said-at xs n is)
 
-meaning-over : (state : State) (text : List ℕ) → meaning_over state.tables (tree_of text) ≡ meaning_in state text
-unfolding meaning_in
-meaning-over state text = means-over state (tree_of text)
+  begun-started : (number : ℕ) (transaction : Transaction) → meaning ≡ comes_to state (statement_at transaction number)
+      → begun state.entries state.tables number meaning transaction ≡ started state number transaction
+  begun-started number transaction is =
+      λ k. record transaction {
+        statements = said-at transaction.statements number is k;
+        snapshot = first_of transaction.snapshot (record { place = state.entries; tables = state.tables });
+      }
 
-pub begun-started : (state : State) (number : ℕ) (transaction : Transaction)
-    → begun state.entries state.tables number transaction ≡ started state number transaction
-begun-started state number transaction =
-    λ k. record transaction {
-      statements = changed_at (λ (s : Statement). record s { meaning = first_known s.meaning (meaning-over state s.text k) }) transaction.statements number;
-      snapshot = first_of transaction.snapshot (record { place = state.entries; tables = state.tables });
-    }
+comes-alone : (state : State) (place : ℕ) (o : Option Statement) → comes_to (state_at place state.transactions state.tables) o ≡ comes_to state o
+comes-alone state place None = refl
+comes-alone state place (Some statement) = meaning-alone state place statement.text
+
+-- what it comes to doesn't rest on the place
+pub begun-now : (place : ℕ) (transactions : List Transaction) (tables : List Table) (number : ℕ) (meaning : Option Meaning) (transaction : Transaction)
+    → meaning ≡ comes_to (state_now transactions tables) (statement_at transaction number)
+    → begun place tables number meaning transaction ≡ started (state_at place transactions tables) number transaction
+begun-now place transactions tables number meaning transaction is =
+    begun-started (state_at place transactions tables) meaning number transaction
+    (is ∙ comes-alone (state_at place transactions tables) 0 (statement_at transaction number))
 
 -- ---- the statement at a place
 

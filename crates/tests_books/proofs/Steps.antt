@@ -5,18 +5,22 @@ use Rattle.std.proofs.lemmas.List.Sums.{fold_more}
 use Rattle.hv_base.specs.declared.ids.TxnId.{TxnId}
 use Rattle.hv_history.specs.declared.entry.Entry.{Entry}
 use Rattle.hv_history.specs.declared.entry.Entry.TheVariants as entry
+use Rattle.hv_history.specs.declared.state.Statement.{Statement}
 use Rattle.hv_history.specs.declared.state.Table.{Table}
 use Rattle.hv_history.specs.declared.state.Transaction.{Transaction}
-use Rattle.hv_history.specs.State.{State, nothing_yet, changed, while_open, acted, after, state_of, started}
-use Rattle.tests_books.specs.Replay.{state_at, moved}
-use Rattle.tests_books.proofs.Starts.{begun-started}
+use Rattle.hv_history.specs.State.{State, nothing_yet, changed, changed_at, while_open, first_of, first_known, acted, after, state_of, started}
+use Rattle.tests_books.specs.Replay.{state_at}
+use Rattle.tests_books.proofs.Shows.{meaning-alone}
 
 -- ---- what an entry does to transactions and tables rests on these, and on its place
 
 started-alone : (state : State) (number : ℕ) (transaction : Transaction)
     → started (state_at state.entries state.transactions state.tables) number transaction ≡ started state number transaction
 started-alone state number transaction =
-    sym (begun-started (state_at state.entries state.transactions state.tables) number transaction) ∙ begun-started state number transaction
+    λ k. record transaction {
+      statements = changed_at (λ (s : Statement). record s { meaning = first_known s.meaning (meaning-alone state state.entries s.text k) }) transaction.statements number;
+      snapshot = first_of transaction.snapshot (record { place = state.entries; tables = state.tables });
+    }
 
 transactions-alone : (state : State) (event : Entry)
     → (acted (state_at state.entries state.transactions state.tables) event).transactions ≡ (acted state event).transactions
@@ -63,14 +67,14 @@ tables-alone state (entry.Next txn statement number text) = refl
 tables-alone state (entry.Did txn statement wrote) = refl
 tables-alone state (entry.Alter txn table) = refl
 
--- a Start, by the tables that the replay has
+-- a Start, over the tables that the replay has
 pub start_acts : (place : ℕ) (transactions : List Transaction) (tables seen : List Table) (event : Entry) (txn : TxnId) (statement : ℕ)
     → event ≡ entry.Start txn statement → seen ≡ tables
-    → changed (while_open (moved place seen event)) transactions txn.0 ≡ (acted (state_at place transactions tables) event).transactions
+    → changed (while_open (started (state_at place transactions seen) statement)) transactions txn.0
+    ≡ (acted (state_at place transactions tables) event).transactions
 unfolding acted
 start_acts place transactions tables seen event txn statement is same =
-    (λ k. changed (while_open (moved place (same k) (is k))) transactions txn.0)
-    ∙ (λ k. changed (while_open (λ (t : Transaction). begun-started (state_at place transactions tables) statement t k)) transactions txn.0)
+    (λ k. changed (while_open (started (state_at place transactions (same k)) statement)) transactions txn.0)
     ∙ ap (λ (e : Entry). (acted (state_at place transactions tables) e).transactions) (sym is)
 
 counted : (state : State) (book : List Entry) → (fold after state book).entries ≡ state.entries + length book

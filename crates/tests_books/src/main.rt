@@ -8,6 +8,7 @@
 mod answers;
 mod asking;
 mod happening;
+mod listing;
 mod meanings;
 mod replay;
 mod tables;

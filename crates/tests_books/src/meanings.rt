@@ -1,18 +1,20 @@
-//! What a statement comes to over the tables that a replay has.
-ghost use Rattle.std.specs.Prelude.{◌≡◌, ◌++◌, IfOk, OnOk, filter, not};
+//! What a statement comes to over the transactions and the tables that a replay has.
+ghost use Rattle.std.specs.Prelude.{◌≡◌, ◌++◌, IfOk, OnOk, Some, filter, not};
 ghost use Rattle.std.specs.List.{list_any};
 ghost use Rattle.std.specs.Ordering.{is_eq};
 ghost use Rattle.hv_grammar.specs.Texts.{tree_of};
 ghost use Rattle.hv_logic.specs.Rows.{found_cmp};
 ghost use Rattle.hv_logic.specs.declared.effect.Found.{Found};
 ghost use Rattle.hv_meaning.specs.Meaning.{named_by, its_tables, meaning_of};
-ghost use Rattle.hv_history.specs.State.{is_deleted, content_of, seen_tables, writes_of};
-ghost use Rattle.tests_books.specs.Replay.{meaning_over};
+ghost use Rattle.hv_history.specs.Shown.{filled};
+ghost use Rattle.hv_history.specs.State.{is_deleted, content_of, meaning_in, means, seen_tables, writes_of};
+ghost use Rattle.tests_books.specs.Replay.{state_now};
 
+use crate::listing::{filled, listed_for, nothing};
 use hv_ast::{Stmt, discard};
 use hv_base::{Boxed, Duplicate, List, NoMemory, Text};
 use hv_effect::{Touching, meaning_in};
-use hv_history::{Table, Written, given_in, written_by};
+use hv_history::{Shown, Table, Transaction, Written, given_in, written_by};
 use hv_logic::{Found, Meaning, Seen, compare_found, named, sort_found};
 use hv_names::names_in;
 use hv_reading::{TextFault, read_text};
@@ -137,17 +139,49 @@ fn meaning_of(
     }
 }
 
-/// What the statement of this text comes to over these tables.
-pub fn meaning_over(
+fn filled_over(
     alloc: Global,
+    shown: Option<Shown>,
+    over: Option<Boxed<Meaning>>,
+) -> Result<Option<Boxed<Meaning>>, NoMemory>
+    ensures { IfOk result (λ meaning. meaning ≡ filled shown over) }
+{
+    match over {
+        Some(meaning) => {
+            let all = filled(shown, meaning.into_inner());
+            Ok(Some(Boxed::new(alloc, all)?))
+        }
+        None => Ok(nothing(shown)),
+    }
+}
+
+fn means(
+    alloc: Global,
+    transactions: &[Transaction],
+    tables: &[Table],
+    tree: &Stmt,
+) -> Result<Option<Boxed<Meaning>>, NoMemory>
+    ensures { IfOk result (λ meaning. meaning ≡ means (state_now transactions.now tables.now) (Some tree.now)) }
+{
+    let over = meaning_of(alloc, tables, tree)?;
+    let shown = listed_for(alloc, transactions, tables, tree)?;
+    let meaning = filled_over(alloc, shown, over)?;
+    Ok(meaning)
+}
+
+/// What the statement of this text comes to over these transactions and tables.
+#[tactic(auto, unfolding(hv_history::specs::State::meaning_in))]
+pub fn meaning_now(
+    alloc: Global,
+    transactions: &[Transaction],
     tables: &[Table],
     text: &Text,
 ) -> Result<Option<Boxed<Meaning>>, NoMemory>
-    ensures { IfOk result (λ meaning. meaning ≡ meaning_over tables.now (tree_of text.now)) }
+    ensures { IfOk result (λ meaning. meaning ≡ meaning_in (state_now transactions.now tables.now) text.now) }
 {
     match tree_of(alloc, text)? {
         Some(tree) => {
-            let meaning = meaning_of(alloc, tables, &tree);
+            let meaning = means(alloc, transactions, tables, &tree);
             discard(tree);
             meaning
         }

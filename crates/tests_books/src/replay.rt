@@ -30,27 +30,25 @@ fn act(
             text,
             ..
         } => transactions::open(alloc, transactions, session, *number, text),
-        Entry::Start { txn, .. } => {
-            transactions::go(alloc, place, tables, entry, transactions, txn.0)
+        Entry::Start { txn, statement } => {
+            transactions::start(alloc, place, tables, *statement, transactions, txn.0)
         }
         Entry::Given { txn, table, .. } => {
             tables::keep(alloc, entry, tables, table.0)?;
-            transactions::go(alloc, place, tables, entry, transactions, txn.0)
+            transactions::go(alloc, place, entry, transactions, txn.0)
         }
         Entry::Commit { txn, .. } => {
             tables::commit(alloc, tables, numbered(transactions, txn.0))?;
-            transactions::go(alloc, place, tables, entry, transactions, txn.0)
+            transactions::go(alloc, place, entry, transactions, txn.0)
         }
-        Entry::Abort { txn, .. } => {
-            transactions::go(alloc, place, tables, entry, transactions, txn.0)
-        }
+        Entry::Abort { txn, .. } => transactions::go(alloc, place, entry, transactions, txn.0),
         Entry::Create { txn, table } => {
             tables::create(alloc, tables, numbered(transactions, txn.0), table.0)?;
-            transactions::go(alloc, place, tables, entry, transactions, txn.0)
+            transactions::go(alloc, place, entry, transactions, txn.0)
         }
         Entry::Drop { txn, table } => {
             tables::keep(alloc, entry, tables, table.0)?;
-            transactions::go(alloc, place, tables, entry, transactions, txn.0)
+            transactions::go(alloc, place, entry, transactions, txn.0)
         }
         Entry::Forgot { table, .. } => tables::keep(alloc, entry, tables, table.0),
         _ => Ok(()),

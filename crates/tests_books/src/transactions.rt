@@ -1,12 +1,13 @@
 //! What the entries of a book do to its transactions.
-ghost use Rattle.std.specs.Prelude.{◌≡◌, ◌++◌, ◌∷◌, [], OnOk, IfOk};
-ghost use Rattle.hv_history.specs.State.{changed, changed_at, while_open, ended, committed, wrote_as, opened, first_of};
-ghost use Rattle.tests_books.specs.Replay.{meant, begun, moved};
+ghost use Rattle.std.specs.Prelude.{◌≡◌, ◌++◌, ◌∷◌, [], OnOk, IfOk, slice_get};
+ghost use Rattle.hv_history.specs.State.{changed, changed_at, while_open, ended, committed, wrote_as, opened, first_of, started, statement_of};
+ghost use Rattle.tests_books.specs.Replay.{state_at, state_now, comes_to, comes_at, said_of, begun, moved};
 
-use crate::meanings::{meaning_over, writes_of};
+use crate::meanings::{meaning_now, writes_of};
 use crate::tables::append;
-use hv_base::{Duplicate, List, NoMemory, Text, Touch};
+use hv_base::{Boxed, Duplicate, List, NoMemory, Text, Touch};
 use hv_history::{Cause, Ending, Entry, Snapshot, Statement, Table, Transaction, open_place_of};
+use hv_logic::Meaning;
 use std::alloc::Global;
 use std::mem;
 
@@ -39,31 +40,63 @@ pub fn open(
     Ok(())
 }
 
-fn mean_one(alloc: Global, tables: &[Table], statement: &mut Statement) -> Result<(), NoMemory>
-    ensures { OnOk result (statement.new ≡ meant tables.now statement.old) }
-{
-    if statement.meaning.is_none() {
-        statement.meaning = meaning_over(alloc, tables, &statement.text)?;
-    }
-    Ok(())
-}
-
-// The statement of that number means from now on what it comes to over these tables, if it means nothing yet.
-fn mean(
+// What the statement of that number of a transaction comes to over these transactions and tables.
+fn coming(
     alloc: Global,
+    transactions: &[Transaction],
     tables: &[Table],
     number: u32,
-    statements: &mut Vec<Statement>,
-) -> Result<(), NoMemory>
-    ensures { OnOk result (statements.new.items
-        ≡ changed_at (meant tables.now) statements.old.items number) }
+    transaction: &Transaction,
+) -> Result<Option<Boxed<Meaning>>, NoMemory>
+    ensures { IfOk result (λ meaning. meaning
+        ≡ comes_to (state_now transactions.now tables.now) (statement_of transaction.now number)) }
+{
+    match transaction.statements.as_slice().get(number as usize) {
+        Some(statement) => {
+            let meaning = meaning_now(alloc, transactions, tables, &statement.text)?;
+            Ok(meaning)
+        }
+        None => Ok(None),
+    }
+}
+
+// The same of the transaction at this place.
+fn coming_at(
+    alloc: Global,
+    transactions: &[Transaction],
+    tables: &[Table],
+    number: u32,
+    at: usize,
+) -> Result<Option<Boxed<Meaning>>, NoMemory>
+    ensures { IfOk result (λ meaning. meaning
+        ≡ comes_at (state_now transactions.now tables.now) number (slice_get transactions.now at)) }
+{
+    match transactions.get(at) {
+        Some(transaction) => {
+            let meaning = coming(alloc, transactions, tables, number, transaction)?;
+            Ok(meaning)
+        }
+        None => Ok(None),
+    }
+}
+
+fn mean_one(meaning: Option<Boxed<Meaning>>, statement: &mut Statement)
+    ensures { statement.new ≡ said_of meaning statement.old }
+{
+    if statement.meaning.is_none() {
+        statement.meaning = meaning;
+    }
+}
+
+// The statement of that number means this from now on, if it means nothing yet.
+fn mean(number: u32, meaning: Option<Boxed<Meaning>>, statements: &mut Vec<Statement>)
+    ensures { statements.new.items ≡ changed_at (said_of meaning) statements.old.items number }
 {
     let at = number as usize;
     if at < statements.len() {
         let statement = &mut statements[at];
-        mean_one(alloc, tables, statement)?;
+        mean_one(meaning, statement);
     }
-    Ok(())
 }
 
 fn copied_tables(alloc: Global, tables: &[Table]) -> Result<List<Table>, NoMemory>
@@ -99,12 +132,13 @@ fn begin(
     place: u64,
     tables: &[Table],
     number: u32,
+    meaning: Option<Boxed<Meaning>>,
     transaction: &mut Transaction,
 ) -> Result<(), NoMemory>
-    ensures { OnOk result (transaction.new ≡ begun place tables.now number transaction.old) }
+    ensures { OnOk result (transaction.new ≡ begun place tables.now number meaning transaction.old) }
 {
     let mut statements = mem::replace(&mut transaction.statements, List::empty(alloc)).into_vec();
-    mean(alloc, tables, number, &mut statements)?;
+    mean(number, meaning, &mut statements);
     transaction.statements = List::from_vec(statements);
     let before = mem::replace(&mut transaction.snapshot, None);
     transaction.snapshot = see(alloc, place, tables, before)?;
@@ -168,14 +202,12 @@ fn abort(
 fn move_one(
     alloc: Global,
     place: u64,
-    tables: &[Table],
     entry: &Entry,
     transaction: &mut Transaction,
 ) -> Result<(), NoMemory>
-    ensures { OnOk result (transaction.new ≡ moved place tables.now entry.now transaction.old) }
+    ensures { OnOk result (transaction.new ≡ moved place entry.now transaction.old) }
 {
     match entry {
-        Entry::Start { statement, .. } => begin(alloc, place, tables, *statement, transaction),
         Entry::Given { table, write, .. } => {
             append(alloc, &mut transaction.given, (table.0, write.0))
         }
@@ -193,22 +225,42 @@ fn move_one(
     }
 }
 
-/// What an entry at this place does to the transaction of that number, while it is open.
-pub fn go(
+/// What a Start at this place does to the transaction of that number, while it is open.
+pub fn start(
     alloc: Global,
     place: u64,
     tables: &[Table],
+    number: u32,
+    transactions: &mut Vec<Transaction>,
+    txn: u64,
+) -> Result<(), NoMemory>
+    ensures { OnOk result (transactions.new.items
+        ≡ changed (while_open (started (state_at place transactions.old.items tables.now) number)) transactions.old.items txn) }
+{
+    let Some(at) = open_place_of(transactions, txn) else {
+        return Ok(());
+    };
+    let meaning = coming_at(alloc, transactions, tables, number, at)?;
+    let transaction = &mut transactions[at];
+    begin(alloc, place, tables, number, meaning, transaction)?;
+    Ok(())
+}
+
+/// What an entry at this place that is no Start does to the transaction of that number, while it is open.
+pub fn go(
+    alloc: Global,
+    place: u64,
     entry: &Entry,
     transactions: &mut Vec<Transaction>,
     txn: u64,
 ) -> Result<(), NoMemory>
     ensures { OnOk result (transactions.new.items
-        ≡ changed (while_open (moved place tables.now entry.now)) transactions.old.items txn) }
+        ≡ changed (while_open (moved place entry.now)) transactions.old.items txn) }
 {
     let Some(at) = open_place_of(transactions, txn) else {
         return Ok(());
     };
     let transaction = &mut transactions[at];
-    move_one(alloc, place, tables, entry, transaction)?;
+    move_one(alloc, place, entry, transaction)?;
     Ok(())
 }

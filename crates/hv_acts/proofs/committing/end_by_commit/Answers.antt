@@ -25,5 +25,5 @@ pub returns : goal.returns
 returns g c = record {
   committed =
       commit-failed g.D.Shelf.told g.D.Shelf.faults c.args.due.txn c.args.due.wrote c.args.due.name c.args.due.put c.in-Err.fault c.args.house.now
-      c.note_fitting.new.house c.in-Err.ensures.noted;
+      c.note_fitting.new.house c.requires.clear c.in-Err.ensures.noted;
 }

@@ -4,7 +4,7 @@ use Rattle.hv_history.specs.State.{state_of}
 use Rattle.hv_history.specs.Legal.{Of, IsRunning}
 use Rattle.hv_acts.proofs.Notes.{no-true}
 use Rattle.hv_acts.proofs.Puts.{runs-book}
-use Rattle.hv_acts.proofs.Commits.{clash-trail, commit-late}
+use Rattle.hv_acts.proofs.Commits.{clash-trail, clear-trail, commit-late}
 use Rattle.hv_acts.proofs.committing.end_running.Goals as goal
 
 pub returns-then-not-is_put : goal.returns-then-not-is_put
@@ -25,3 +25,8 @@ pub end_by_conflict-requires-clause-clash : goal.end_by_conflict-requires-clause
 end_by_conflict-requires-clause-clash g c =
     clash-trail c.args.house.now c.args.due.txn c.book.result.now.entries c.as_slice.result.now c.args.due.wrote c.in-Some.found c.book.ensures.entries
     c.as_slice.ensures c.in-Some.ensures.found
+
+pub end_by_commit-requires-clause-clear : goal.end_by_commit-requires-clause-clear
+end_by_commit-requires-clause-clear g c =
+    clear-trail c.args.house.now c.args.due.txn c.book.result.now.entries c.as_slice.result.now c.args.due.wrote c.book.ensures.entries
+    c.as_slice.ensures c.in-None.ensures.none

@@ -1,4 +1,5 @@
 use Rattle.hv_telling.specs.hv_house.proofs.Lengths.{short_start}
+use Rattle.hv_acts.proofs.Notes.{no-true}
 use Rattle.hv_acts.proofs.Starts.{start-short, start-noted, start-refused}
 use Rattle.hv_acts.proofs.starting.start_in_room.Goals as goal
 
@@ -22,5 +23,6 @@ returns-in-Ok g c = record {
 pub returns-in-Err : goal.returns-in-Err
 returns-in-Err g c = record {
   started =
-      start-refused g.D.Shelf.told g.D.Shelf.faults c.args.txn c.in-Err.fault c.args.house.now c.note_fitting.new.house c.requires.unheld c.in-Err.ensures.noted;
+      start-refused g.D.Shelf.told g.D.Shelf.faults c.args.txn c.in-Err.fault c.args.house.now c.note_fitting.new.house
+      (λ full. no-true c.is_full.result c.if-is_full.false (c.is_full.ensures.full.1 full)) c.requires.unheld c.in-Err.ensures.noted;
 }

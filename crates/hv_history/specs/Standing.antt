@@ -1,0 +1,33 @@
+-- How a transaction stands, which locks it asks for, and which table has a name: what is asked of one of them alone. Source: Hive
+-- Transactions (a transaction's states, locks).
+use Rattle.std.specs.Prelude.{ℕ, ◌&&◌, Bool, is_none, is_some, nat_eq, Option, Some, None, List, []}
+use Rattle.std.specs.Cmp.Lexicographic.{pointwise}
+use Rattle.std.specs.List.{flat_map}
+use Rattle.hv_locks.specs.declared.table.Lock.{Lock}
+use Rattle.hv_ast.specs.declared.statement.Stmt.{Stmt}
+use Rattle.hv_grammar.specs.Texts.{tree_of}
+use Rattle.hv_logic.specs.Names.{names_in}
+use Rattle.hv_history.specs.declared.state.Statement.{Statement}
+use Rattle.hv_history.specs.declared.state.Table.{Table}
+use Rattle.hv_history.specs.declared.state.Transaction.{Transaction}
+
+-- ---- a transaction's state
+
+abbrev pub is_open : Transaction → Bool
+is_open transaction = is_none transaction.ending
+
+abbrev pub is_started : Transaction → Bool
+is_started transaction = is_some transaction.snapshot
+
+-- ---- locks: a statement's lock set is a function of its text, and a transaction's that of its statements
+
+abbrev pub locks_of_tree : Option Stmt → List Lock
+locks_of_tree None = []
+locks_of_tree (Some tree) = names_in tree
+
+abbrev pub locks_of : Transaction → List Lock
+locks_of transaction = flat_map (λ (statement : Statement). locks_of_tree (tree_of statement.text)) transaction.statements
+
+-- a live table of that name
+abbrev pub is_named : List ℕ → Table → Bool
+is_named name table = table.is_live && pointwise nat_eq table.info.shape.name name

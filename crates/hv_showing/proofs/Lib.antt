@@ -1,0 +1,4 @@
+pub mod Each
+pub mod Marked
+pub mod Thens
+pub mod Listed

@@ -1,0 +1,9 @@
+use Rattle.std.proofs.Common.{◌≡◌, ◌+◌, ◌++◌, drop}
+use Rattle.hv_history.specs.Shown.{each_from, lock_rows}
+use Rattle.hv_showing.specs.Fronts.{transactions_then}
+use Rattle.hv_showing.proofs.locks.locks_then.Given as goal
+
+abbrev pub invariant-loop-i : goal.invariant-loop-i
+invariant-loop-i l =
+    l.rows.items ++ each_from lock_rows (l.i + 1) (drop l.i (transactions_then l.book.entries l.front.position))
+    ≡ each_from lock_rows 1 (transactions_then l.book.entries l.front.position)

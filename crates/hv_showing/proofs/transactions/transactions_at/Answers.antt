@@ -1,0 +1,17 @@
+use Rattle.std.proofs.Common.{◌≤◌, arith, rules}
+use Rattle.hv_history.specs.Shown.{each_from, transaction_rows}
+use Rattle.hv_showing.specs.Fronts.{tables_then, transactions_then}
+use Rattle.hv_showing.proofs.Each.{each-next, each-end}
+use Rattle.hv_showing.proofs.transactions.transactions_at.Goals as goal
+
+pub loop-i-preserved : goal.loop-i-preserved
+loop-i-preserved c =
+    let ts = transactions_then c.args.book.now.entries c.args.front.position in
+    each-next (transaction_rows (tables_then c.args.book.now.entries c.args.front.position)) ts c.loop-i.i c.loop-i.rows.items c.put_stood.new.rows.items (each_from (transaction_rows (tables_then c.args.book.now.entries c.args.front.position)) 1 ts)
+    c.in_ok-put_stood.ensures c.loop-i.invariant
+
+pub returns : goal.returns
+returns c =
+    let ts = transactions_then c.args.book.now.entries c.args.front.position in
+    let past : c.args.front.opened ≤ c.loop-i.i = search rules in
+    each-end (transaction_rows (tables_then c.args.book.now.entries c.args.front.position)) ts c.loop-i.i c.loop-i.rows.items (each_from (transaction_rows (tables_then c.args.book.now.entries c.args.front.position)) 1 ts) (omega (arith, c.requires.front.opened, past)) c.loop-i.invariant

@@ -1,0 +1,16 @@
+//! What SHOW lists, read off a book as it was before a place of it.
+#![tactic(auto)]
+
+mod fronts;
+mod locks;
+mod marks;
+mod partitions;
+mod rows;
+mod showing;
+mod transactions;
+
+pub use locks::{lock_names, put_locks};
+pub use partitions::put_touches;
+pub use rows::{in_order, one_name, text_row};
+pub use showing::{show_at, shown};
+pub use transactions::{transaction_names, transaction_row};

@@ -1,0 +1,11 @@
+use Rattle.std.proofs.Common.{Some, sym, ap, ◌∙◌}
+use Rattle.hv_logic.specs.declared.meaning.Meaning.{Meaning}
+use Rattle.hv_history.proofs.ShownLaws.{filled-plain, filled-other}
+use Rattle.hv_steps.proofs.seeing.listed_over.Goals as goal
+
+pub returns-then-is_plain : goal.returns-then-is_plain
+returns-then-is_plain c =
+    ap (λ (m : Meaning). Some m) c.listing.ensures ∙ sym (filled-plain c.args.shown c.args.meaning (sym c.is_plain.ensures ∙ c.if-is_plain.true))
+
+pub returns-else-is_plain : goal.returns-else-is_plain
+returns-else-is_plain c = sym (filled-other c.args.shown c.args.meaning (sym c.is_plain.ensures ∙ c.if-is_plain.false))
