@@ -15,7 +15,7 @@ use Rattle.hv_table_rows.specs.Putting.{CanPut, is_behind, may_follow, can_delet
 
 -- ---- deletes that a file takes
 
-both : (a b : Bool) → a && b ≡ true → (a ≡ true) × (b ≡ true)
+pub both : (a b : Bool) → a && b ≡ true → (a ≡ true) × (b ≡ true)
 both true true e = (refl, refl)
 both true false e = cc
 both false b e = cc
@@ -24,7 +24,7 @@ kept : (a rest : Bool) → cond a rest false ≡ true → (a ≡ true) × (rest 
 kept true rest e = (refl, e)
 kept false rest e = cc
 
-less : (o : Ordering) → is_lt o ≡ true → o ≡ Less
+pub less : (o : Ordering) → is_lt o ≡ true → o ≡ Less
 less Less e = refl
 less Equal e = cc
 less Greater e = cc

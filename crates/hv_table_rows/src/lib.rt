@@ -5,6 +5,7 @@ mod amiss;
 mod laws;
 mod placed;
 mod putting;
+mod rising;
 mod row_at;
 mod rows;
 mod single;

@@ -50,6 +50,7 @@ fn row_with(alloc: Global, row: Row, values: &[Value]) -> Result<Row, NoMemory>
     ensures { IfOk result (λ whole. whole ≡ row_with row values.now) }
 {
     let mut all = row.values.into_vec();
+    all.reserve_exact(values.len())?;
     for value in values {
         all.push(value.duplicate(alloc)?)?;
     }

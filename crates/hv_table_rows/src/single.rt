@@ -4,6 +4,7 @@ ghost use Rattle.hv_table_rows.specs.Orders.{found_in, placed_cmp};
 ghost use Rattle.hv_table_rows.specs.Reading.{AreOnce};
 
 use crate::placed::Placed;
+use crate::rising::rise;
 use hv_base::NoMemory;
 use hv_logic::Found;
 use std::alloc::Global;
@@ -38,10 +39,20 @@ fn once_placed(rows: Vec<Placed>) -> Result<Vec<Placed>, NoMemory>
     Ok(rows)
 }
 
-/// These rows by partition and identifier, one of those of one identifier.
-pub fn once(alloc: Global, rows: Vec<Found>) -> Result<Vec<Found>, NoMemory>
+/// These rows by partition and identifier, one of those of one identifier, in whatever order they come.
+fn once_sorted(alloc: Global, rows: Vec<Found>) -> Result<Vec<Found>, NoMemory>
     ensures { IfOk result (λ once. AreOnce found_cmp rows.items once.items) }
 {
     let rows = once_placed(placed(alloc, rows)?)?;
     founds(alloc, rows)
+}
+
+/// These rows by partition and identifier, one of those of one identifier. Where they rise already none is moved.
+pub fn once(alloc: Global, rows: Vec<Found>) -> Result<Vec<Found>, NoMemory>
+    ensures { IfOk result (λ once. AreOnce found_cmp rows.items once.items) }
+{
+    if rise(rows.as_slice()) {
+        return Ok(rows);
+    }
+    once_sorted(alloc, rows)
 }

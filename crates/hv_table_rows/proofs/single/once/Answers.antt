@@ -1,16 +1,8 @@
-use Rattle.std.proofs.Common.{map, sym, subst, List}
-use Rattle.hv_logic.specs.declared.effect.Found.{Found}
-use Rattle.hv_logic.specs.Rows.{found_cmp}
-use Rattle.hv_table_rows.specs.Orders.{found_in}
-use Rattle.hv_table_rows.specs.Reading.{AreOnce}
-use Rattle.hv_table_rows.proofs.Onces.{if-ok, once-map}
+use Rattle.std.proofs.Common.{sym, ap, ◌∙◌}
+use Rattle.hv_table_rows.specs.Rising.{rise}
+use Rattle.hv_table_rows.proofs.Onces.{once-rising}
 use Rattle.hv_table_rows.proofs.single.once.Goals as goal
 
-pub returns : goal.returns
-returns c =
-    if-ok c.founds.result _ _
-    (λ found is.
-    subst (AreOnce found_cmp c.args.rows.items) (sym is)
-    (subst (λ (rows : List Found). AreOnce found_cmp rows (map found_in c.in_ok-rows.rows.items)) c.in_ok-placed.ensures
-    (once-map c.in_ok-placed.field-0.items c.in_ok-rows.rows.items c.in_ok-rows.ensures)))
-    c.founds.ensures
+pub returns-then-rise : goal.returns-then-rise
+returns-then-rise c =
+    once-rising c.args.rows.items (ap rise (sym c.as_slice.ensures.value) ∙ sym c.rise.ensures ∙ c.if-rise.true)
