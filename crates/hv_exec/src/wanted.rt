@@ -1,52 +1,22 @@
 //! Which rows are wanted, seen before they are made.
 
 ghost use Rattle.std.specs.Prelude.{◌≡◌, ◌++◌, ◌∷◌, [], false, List, IsTrue, IfSome};
-ghost use Rattle.std.specs.Ordering.{is_lt, nat_cmp};
-ghost use Rattle.std.specs.Cmp.Lexicographic.{slice_cmp};
+ghost use Rattle.std.specs.Ordering.{is_lt};
 ghost use Rattle.hv_value.specs.declared.row.Row.{Row as RowOf};
-ghost use Rattle.hv_value.specs.Order.{value_cmp};
 ghost use Rattle.hv_typing.specs.Order.{value_at, key_cmp, order_cmp};
 ghost use Rattle.hv_typing.specs.Rows.{item_row};
 ghost use Rattle.hv_seen.specs.Seen.{seen_value};
 ghost use Rattle.hv_eval.specs.Frames.{frame_values};
 ghost use Rattle.hv_order.specs.First.{IsEnough, IsSound};
 
-use hv_base::Text;
 use hv_eval::{Frame, Scope, seen_at};
 use hv_expr::TypedExpr;
 use hv_order::{Front, Kept};
+use hv_partial::order_of;
 use hv_seen::{Seen, null, view};
 use hv_typing::SortKey;
 use hv_value::Row;
 use std::cmp::Ordering;
-
-fn order_of_texts(left: &Text, right: &Text) -> Ordering
-    ensures { result ≡ slice_cmp nat_cmp left.now right.now }
-{
-    left.bytes().cmp(&right.bytes())
-}
-
-// How two values compare in ORDER BY: None where they aren't of one scalar type.
-fn order_of(left: &Seen, right: &Seen) -> Option<Ordering>
-    ensures { IfSome result (λ order. order ≡ value_cmp (seen_value left.now) (seen_value right.now)) }
-{
-    match (left, right) {
-        (Seen::Null, Seen::Null) => Some(Ordering::Equal),
-        (Seen::Null, Seen::Int(_)) => Some(Ordering::Less),
-        (Seen::Null, Seen::Big(_)) => Some(Ordering::Less),
-        (Seen::Null, Seen::Str(_)) => Some(Ordering::Less),
-        (Seen::Null, Seen::Day(_)) => Some(Ordering::Less),
-        (Seen::Int(_), Seen::Null) => Some(Ordering::Greater),
-        (Seen::Big(_), Seen::Null) => Some(Ordering::Greater),
-        (Seen::Str(_), Seen::Null) => Some(Ordering::Greater),
-        (Seen::Day(_), Seen::Null) => Some(Ordering::Greater),
-        (Seen::Int(left), Seen::Int(right)) => Some(left.cmp(right)),
-        (Seen::Big(left), Seen::Big(right)) => Some(left.cmp(right)),
-        (Seen::Str(left), Seen::Str(right)) => Some(order_of_texts(left, right)),
-        (Seen::Day(left), Seen::Day(right)) => Some(left.cmp(right)),
-        _ => None,
-    }
-}
 
 // The value at a place of a row that was made.
 fn made_at(row: &Row, place: usize) -> Seen<'_>

@@ -174,3 +174,6 @@ pub not_wanted : (keys : List SortKey) (count : ℕ) (row : Row) (kept all : Lis
     → first_ordered keys count kept ≡ first_ordered keys count all → first_ordered keys count kept ≡ first_ordered keys count (all ++ row ∷ [])
 not_wanted keys count row kept all changes_nothing enough =
     sym changes_nothing ∙ take-sorted (order_cmp keys) count row kept all enough ∙ put_last keys count row all
+
+-- rows that stay where they are
+pub ruleset stays = (IsPermutation-refl)

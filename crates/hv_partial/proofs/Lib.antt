@@ -3,3 +3,4 @@ pub mod Fitting
 pub mod LiftLaws
 pub mod KeptLaws
 pub mod KeyLaws
+pub mod Ranks

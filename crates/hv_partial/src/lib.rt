@@ -14,6 +14,7 @@ mod summed;
 mod values;
 
 pub use key::{SeenKey, seen_key};
+pub use same::order_of;
 pub use select::{Lifted, lift};
 pub use shown::shown_of;
 pub use sum::{Numeric, Sum};

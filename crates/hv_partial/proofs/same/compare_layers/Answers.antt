@@ -3,7 +3,7 @@ use Rattle.std.specs.Ordering.{ordering_then}
 use Rattle.std.specs.Cmp.Lexicographic.{slice_cmp}
 use Rattle.hv_value.specs.Order.{layer_cmp, value_cmp}
 use Rattle.hv_partial.proofs.KeyLaws.{seen_cmp}
-use Rattle.hv_partial.proofs.same.compare.Goals as goal
+use Rattle.hv_partial.proofs.same.compare_layers.Goals as goal
 
 pub returns : goal.returns
 unfolding layer_cmp

@@ -1,6 +1,6 @@
 use Rattle.std.proofs.Common.{sym, ◌∙◌}
-use Rattle.hv_exec.proofs.Ranks.{by_layers, ints, bigs, days, texts, both_null, null_int, null_big, null_text, null_day, int_null, big_null, text_null, day_null}
-use Rattle.hv_exec.proofs.wanted.order_of.Goals as goal
+use Rattle.hv_partial.proofs.Ranks.{by_layers, ints, bigs, days, texts, both_null, null_int, null_big, null_text, null_day, int_null, big_null, text_null, day_null}
+use Rattle.hv_partial.proofs.same.order_of.Goals as goal
 
 pub returns-in-Null-Null : goal.returns-in-Null-Null
 returns-in-Null-Null c = by_layers c.in-Null-Null.is-0 c.in-Null-Null.is-1 (sym both_null)
