@@ -15,6 +15,6 @@ returns c =
     let entries = c.args.book.now.entries in
     let position = c.args.position in
     c.in_ok-mark_entries.ensures
-    ∙ (λ i. marked_over (is_kept (tables_then entries position)) (c.before.ensures i) (c.new-marks.ensures.items i))
+    ∙ (λ i. marked_over (is_kept (tables_then entries position)) (c.before-2.ensures i) (c.new-marks.ensures.items i))
     ∙ ap (λ (xs : List Entry). marked_over (is_kept (tables_then entries position)) (take position xs) []) c.entries.ensures.entries
     ∙ marks-then profile entries position c.requires.fit
