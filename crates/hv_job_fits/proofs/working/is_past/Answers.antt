@@ -1,0 +1,6 @@
+use Rattle.std.proofs.Common.{ap, ◌∙◌}
+use Rattle.hv_job_fits.specs.Notes.{is_past_mark}
+use Rattle.hv_job_fits.proofs.working.is_past.Goals as goal
+
+pub returns-in-Some : goal.returns-in-Some
+returns-in-Some c = c.is_past_mark.ensures ∙ ap (is_past_mark c.in-Some.range.mark) c.ongoing.ensures.ongoing
