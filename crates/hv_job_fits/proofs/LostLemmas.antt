@@ -1,5 +1,5 @@
 -- When an aborted write id may be forgotten.
-use Rattle.std.proofs.Common.{◌≡◌, ℕ, zero, suc, ◌+◌, ◌<◌, Option, Some, None, List, [], ◌∷◌, map, filter, length, refl, sym, ap, ◌∙◌, arith}
+use Rattle.std.proofs.Common.{◌≡◌, ℕ, zero, suc, ◌+◌, ◌<◌, Option, Some, None, List, [], ◌∷◌, map, filter, length, refl, sym, ap, ◌∙◌, arith, true≢false}
 use Rattle.std.specs.Prelude.{if◌then◌else◌, Bool, true, false, not, nat_lt, ◌==◌, ◌&&◌, ◌||◌, ◌↔◌, IsTrue, IsSomeAnd}
 use Rattle.std.specs.Option.{option_map}
 use Rattle.std.specs.List.{slice_get, list_any, AllByRecursion}
@@ -105,7 +105,7 @@ module _ (ts : List Transaction) (write : ℕ) where
 
 committed-none : (o : Option Ending) (ending : Ending) → o ≡ Some ending → (end_of ending).committed ≡ true → is_aborted_by o ≡ false
 committed-none o (Committed place wrote) is committed = ap is_aborted_by is
-committed-none o (Aborted place cause) is committed = cc
+committed-none o (Aborted place cause) is committed = absurd (true≢false (sym committed))
 committed-none o (Made place table) is committed = ap is_aborted_by is
 committed-none o (Dropped place table) is committed = ap is_aborted_by is
 

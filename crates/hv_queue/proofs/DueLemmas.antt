@@ -1,5 +1,5 @@
 -- What is due by what was counted is what is due over the book.
-use Rattle.std.proofs.Common.{◌≡◌, ℕ, ◌+◌, true, false, Option, Some, None, List, map, filter, fold, refl, sym, ap, ◌∙◌}
+use Rattle.std.proofs.Common.{◌≡◌, ℕ, ◌+◌, ◌<◌, true, false, Option, Some, None, List, map, filter, fold, refl, sym, ap, ◌∙◌, subst}
 use Rattle.std.specs.Prelude.{if◌then◌else◌, ◌&&◌, not, nat_lt}
 use Rattle.hv_history.specs.declared.entry.Entry.{Entry}
 use Rattle.hv_history.specs.declared.entry.JobKind.{JobKind}
@@ -11,11 +11,12 @@ use Rattle.hv_tallies.specs.declared.survey.Survey.{Survey}
 use Rattle.hv_tallies.specs.declared.tally.Reach.{Reach}
 use Rattle.hv_tallies.specs.declared.tally.Tally.{Tally}
 use Rattle.hv_tallies.specs.Jobs.{no_survey, surveyed, low_of, notes_in}
+use Rattle.hv_tallies.specs.Tallies.{top}
 use Rattle.hv_tallies.specs.Walks.{IsTally}
-use Rattle.hv_queue.specs.Queue.{IsReach, number_or, low_by, pieces_by, pieces_in, is_counted, is_much_by, due_by, may_ask_by}
+use Rattle.hv_queue.specs.Queue.{IsReach, number_or, low_by, pieces_by, pieces_in, rows_up_to, HasFewRows, is_counted, is_much_by, due_by, may_ask_by}
 use Rattle.hv_queue.proofs.SurveyLemmas.{busy-is, base-is, compacted-is, failed-is, low-is}
 use Rattle.hv_queue.proofs.PieceLemmas.{ins-is, del-is, high-is, first-is}
-use Rattle.hv_queue.proofs.RowLemmas.{much-is}
+use Rattle.hv_queue.proofs.RowLemmas.{counted-few, much-is}
 
 -- ---- whether a job may be asked for
 
@@ -88,6 +89,10 @@ module _ (entries : List Entry) (table : ℕ) (partition : List ℕ) (mark : ℕ
       much-is state table partition reach tally is counted percent ∙ (λ i. is_much percent (reach-base i) (marked-is i)) in
       λ i. unless_empty (pieces i)
       (if much i then Some kind.Major else if nat_lt number ((pieces i).ins + (pieces i).del) then Some (kind_over (reach-base i)) else None)
+
+  pub counted-by : mark ≡ watermark state table → HasFewRows state table partition → is_counted tally ≡ true
+  counted-by mark_is less =
+      counted-few state table partition reach tally is (subst (λ m. rows_up_to state table partition m < top) (sym (reaches.mark_is ∙ mark_is)) less)
 
   pub due-some : may_ask_by state table survey ≡ true → mark ≡ watermark state table → is_counted tally ≡ true
       → due_by (delta_threshold state) (percent_threshold state) reach tally ≡ due state table partition

@@ -1,9 +1,9 @@
 -- What is said of jobs and of what is due, by what walks have counted.
-use Rattle.std.specs.Prelude.{if◌then◌else◌, ◌≡◌, ℕ, ◌+◌, ◌-◌, ◌*◌, ◌&&◌, nat_lt, Bool, false, not, is_some, Option, Some, None, length}
+use Rattle.std.specs.Prelude.{if◌then◌else◌, ◌≡◌, ℕ, ◌+◌, ◌-◌, ◌*◌, ◌<◌, ◌&&◌, nat_lt, Bool, false, not, is_some, Option, Some, None, List, length, filter, sum_by}
 use Rattle.hv_history.specs.declared.entry.JobKind.{JobKind}
 use Rattle.hv_history.specs.declared.entry.JobKind.TheVariants as kind
 use Rattle.hv_history.specs.State.{State, Job, numbered}
-use Rattle.hv_history.specs.Jobs.{Pieces, is_failed, ids_of, is_live_one, unless_empty, kind_over}
+use Rattle.hv_history.specs.Jobs.{Events, Pieces, is_failed, is_up_to, ids_of, events_in, watermark, is_live_one, unless_empty, kind_over}
 use Rattle.hv_history.specs.Thresholds.{is_behind_place}
 use Rattle.hv_book.specs.declared.jobs.JobNote.{JobNote}
 use Rattle.hv_queue.specs.declared.queue.JobPieces.{JobPieces}
@@ -48,6 +48,10 @@ pub record IsReach (state : State) (table : ℕ) (jobs : Survey) (mark : ℕ) (r
 abbrev pub pieces_in : JobPieces → Pieces
 pieces_in pieces = record { ins = pieces.ins; del = pieces.del; base = pieces.base; low = pieces.low.0; high = pieces.high.0 }
 
+-- nothing is merged
+abbrev pub no_pieces : JobPieces
+no_pieces = record { ins = 0; del = 0; base = false; low = record { 0 = 0 }; high = record { 0 = 0 } }
+
 abbrev pub number_or : ℕ → Option ℕ → ℕ
 number_or default None = default
 number_or default (Some n) = n
@@ -64,6 +68,17 @@ pieces_by reach kind low tally = record {
   low = record { 0 = low_by kind low tally.first };
   high = record { 0 = tally.high };
 }
+
+-- ---- how many rows there are
+
+-- that commits say of the partition, under the write ids up to a mark
+abbrev pub rows_up_to : State → ℕ → List ℕ → ℕ → ℕ
+rows_up_to state table partition mark =
+    sum_by (λ (events : Events). events.inserted + events.deleted) (filter (is_up_to mark) (events_in state table partition))
+
+-- there is room for their numbers
+abbrev pub HasFewRows : State → ℕ → List ℕ → Type 0
+HasFewRows state table partition = rows_up_to state table partition (watermark state table) < top
 
 -- ---- what is due
 

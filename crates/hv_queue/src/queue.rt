@@ -1,9 +1,9 @@
-ghost use Rattle.std.specs.Prelude.{◌≡◌, ℕ, ◌+◌, ◌*◌, ◌≤◌, nat_lt, Some, IfOk, length};
+ghost use Rattle.std.specs.Prelude.{◌≡◌, ℕ, ◌+◌, ◌*◌, ◌≤◌, nat_lt, Some, IfOk, IsOk, length};
 ghost use Rattle.hv_history.specs.State.{state_of, Job, numbered};
 ghost use Rattle.hv_history.specs.Legal.{one_if};
 ghost use Rattle.hv_history.specs.Jobs.{ids_of, watermark, mark_by, pieces_for, pieces_up_to, is_empty_of, kind_over, unless_empty, is_live_one, due};
 ghost use Rattle.hv_book.specs.Briefs.{brief_job};
-ghost use Rattle.hv_queue.specs.Queue.{state_by, note_state, front_by, number_or, low_by, pieces_by, pieces_in, is_counted, is_much_by, kind_by, due_by, failed_note, may_ask_by, IsReach};
+ghost use Rattle.hv_queue.specs.Queue.{state_by, note_state, front_by, number_or, low_by, no_pieces, pieces_by, pieces_in, is_counted, is_much_by, kind_by, due_by, failed_note, may_ask_by, HasFewRows, IsReach};
 
 use crate::settings::{delta_threshold, is_behind_place, opening, percent_threshold};
 use hv_base::{JobId, NoMemory, TableId, Text, WriteId};
@@ -152,7 +152,9 @@ fn pieces_up_to(book: &Book, table: u64, partition: &Text, kind: JobKind, mark: 
     pieces_by(reach, kind, low, tally)
 }
 
-fn no_pieces() -> JobPieces {
+fn no_pieces() -> JobPieces
+    ensures { result ≡ no_pieces }
+{
     JobPieces {
         ins: 0,
         del: 0,
@@ -333,9 +335,11 @@ fn may_ask(book: &Book, table: u64, jobs: Survey) -> bool
 /// the transactions, and the table's write ids twice.
 ///
 /// # Errors
-/// `NoMemory` where commits say of the partition that they wrote 2^64 - 1 rows or more: there is no room for such numbers.
+/// `NoMemory` only where commits say of the partition that they wrote 2^64 - 1 rows or more: there may be no room for such
+/// numbers.
 pub fn due(book: &Book, table: TableId, partition: &Text) -> Result<Option<JobKind>, NoMemory>
     ensures due { IfOk result (λ kind. kind ≡ due (state_of book.now.entries) table.0 partition.now) }
+    ensures few { HasFewRows (state_of book.now.entries) table.0 partition.now → IsOk result }
 {
     let jobs = survey_in(book, table.0, partition);
     if !may_ask(book, table.0, jobs) {

@@ -151,8 +151,9 @@ fn last_set(book: &Book, opening: Option<u64>, is_percent: bool) -> Option<(u64,
     ensures { result ≡ fold (set_in opening (key_of is_percent) (reads_of is_percent)) None
         (state_of book.now.entries).transactions }
 {
+    let notes = book.transactions();
     let mut found = None;
-    for i in 0..book.transactions().len() {
+    for i in 0..notes.len() {
         found = set_next(book, opening, is_percent, found, i as u64 + 1);
     }
     found

@@ -3,7 +3,7 @@ use Rattle.std.specs.Prelude.{◌&&◌}
 use Rattle.std.specs.List.{list_any}
 use Rattle.hv_history.specs.State.{state_of, numbered}
 use Rattle.hv_book.specs.Past.{past_in}
-use Rattle.hv_job_fits.specs.Notes.{is_lost_in}
+use Rattle.hv_job_fits.specs.Notes.{is_lost_in, is_forgot}
 use Rattle.hv_job_fits.proofs.AskLemmas.{same-law}
 use Rattle.hv_job_fits.proofs.LostLemmas.{lost-law, forgot-law, forgets-law}
 use Rattle.hv_job_fits.proofs.lost.forgot_fits.Goals as goal
@@ -27,5 +27,6 @@ returns c =
           (c.either-lost.ensures
           ∙ lost-law entries past table write c.past-past.ensures.past c.is_any_lost-pending.result c.is_ended_lost-ended.result
           (c.is_any_lost-pending.ensures ∙ ap (list_any (is_lost_in state.transactions write)) c.of_table.ensures.ids) c.is_ended_lost-ended.ensures)
-          (forgot-law entries past table write c.entry_count-position.result c.past-past.ensures.past c.entry_count-position.ensures.count known c.is_forgotten-forgotten.ensures));
+          (forgot-law entries past table write c.entry_count-position.result c.past-past.ensures.past c.entry_count-position.ensures.count known
+          (c.is_forgotten-forgotten.ensures ∙ ap (list_any (is_forgot c.entry_count-position.result table write)) c.as_slice.ensures.value)));
     }

@@ -1,4 +1,5 @@
 use Rattle.std.proofs.Common.{arith, rules}
+use Rattle.std.proofs.lemmas.Grind.{common_steps}
 use Rattle.hv_queue.proofs.SetLemmas.{bound-small, bound-next}
 use Rattle.hv_queue.proofs.digits.number_of.Goals as goal
 
@@ -12,7 +13,7 @@ pub loop-byte-preserved : goal.loop-byte-preserved
 loop-byte-preserved c =
     let within = c.loop-byte-test.true in
     let few = c.requires in (
-      search rules,
+      first_of (search rules, grind (arith, common_steps)),
       bound-next c.loop-byte.byte-index c.loop-byte.number c.with_digit-number.result c.loop-byte.invariant.1 c.with_digit-number.ensures.bound,
       omega (arith, within, few),
     )

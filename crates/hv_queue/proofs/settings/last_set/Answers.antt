@@ -18,7 +18,7 @@ loop-i-preserved c =
 pub returns : goal.returns
 returns c =
     let ts = (state_of c.args.book.now.entries).transactions in
-    let whole = ap length c.transactions-i-end.ensures.transactions ∙ length-map ts brief in
-    let past : length c.transactions-i-end.result.now ≤ c.loop-i.i = search rules in
+    let whole = ap length c.transactions-notes.ensures.transactions ∙ length-map ts brief in
+    let past : length c.transactions-notes.result.now ≤ c.loop-i.i = first_of (omega arith, search rules) in
     sym (ap (fold (set_in c.args.opening (key_of c.args.is_percent) (reads_of c.args.is_percent)) c.loop-i.found) (set-end ts c.loop-i.i (omega (arith, whole, past))))
     ∙ c.loop-i.invariant
