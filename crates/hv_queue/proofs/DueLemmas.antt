@@ -28,11 +28,11 @@ module _ (entries : List Entry) (table : ℕ) (partition : List ℕ) (survey : S
 
   pub due-none : may_ask_by (state_of entries) table survey ≡ false → None ≡ due (state_of entries) table partition
   unfolding due
-  due-none no =
+  due-none never =
       sym (ap (λ b.
       if b then due_among (delta_threshold (state_of entries)) (percent_threshold (state_of entries)) (jobs_in (state_of entries) table partition)
       (filter (is_up_to (watermark (state_of entries) table)) (events_in (state_of entries) table partition)) else None)
-      (sym may-ask ∙ no))
+      (sym may-ask ∙ never))
 
 -- ---- what is due then
 
