@@ -16,11 +16,11 @@ whole_thousandths text = if are_digits 3 text then Some (number_of text * 1000) 
 abbrev pub padded : List ℕ → ℕ
 padded fraction = number_of (take 3 (fraction ++ 48 ∷ 48 ∷ []))
 
-abbrev pub key_of : Bool → List ℕ
+unfoldable pub key_of : Bool → List ℕ
 key_of is_percent = if is_percent then percent_key else delta_key
 
-abbrev pub reads_of : Bool → List ℕ → Option ℕ
-reads_of is_percent value = if is_percent then thousandths_in value else count_in value
+unfoldable pub reads_of : Bool → List ℕ → Option ℕ
+reads_of is_percent = if is_percent then thousandths_in else count_in
 
 abbrev pub set_with : Option ℕ → Option ℕ → Option (ℕ × ℕ) → Option ℕ → Option (ℕ × ℕ)
 set_with opening value found None = found

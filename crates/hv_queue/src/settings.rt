@@ -9,6 +9,7 @@ use hv_ast::{Setting, Stmt};
 use hv_book::{Book, TransactionNote};
 use hv_history::numbered;
 
+#[tactic(auto, unfolding(crate::specs::Settings::key_of))]
 fn key_of(is_percent: bool) -> &'static str
     ensures { result.now ≡ key_of is_percent }
 {
@@ -19,6 +20,7 @@ fn key_of(is_percent: bool) -> &'static str
     }
 }
 
+#[tactic(auto, unfolding(crate::specs::Settings::reads_of))]
 fn read(is_percent: bool, value: &[u8]) -> Option<u64>
     ensures { result ≡ reads_of is_percent value.now }
 {
@@ -175,14 +177,14 @@ pub fn opening(book: &Book) -> Option<u64>
     book.openings().last
 }
 
-#[tactic(auto, unfolding(hv_history::specs::Thresholds::delta_threshold))]
+#[tactic(auto, unfolding(hv_history::specs::Thresholds::delta_threshold, crate::specs::Settings::key_of, crate::specs::Settings::reads_of))]
 pub fn delta_threshold(book: &Book) -> u64
     ensures { result ≡ delta_threshold (state_of book.now.entries) }
 {
     value_or(10, last_set(book, opening(book), false))
 }
 
-#[tactic(auto, unfolding(hv_history::specs::Thresholds::percent_threshold))]
+#[tactic(auto, unfolding(hv_history::specs::Thresholds::percent_threshold, crate::specs::Settings::key_of, crate::specs::Settings::reads_of))]
 pub fn percent_threshold(book: &Book) -> u64
     ensures { result ≡ percent_threshold (state_of book.now.entries) }
 {

@@ -1,4 +1,4 @@
-use Rattle.std.proofs.Common.{sym, ◌∙◌, subst, true≢false}
+use Rattle.std.proofs.Common.{refl, sym, ◌∙◌, subst, true≢false}
 use Rattle.hv_history.specs.State.{state_of}
 use Rattle.hv_tallies.specs.Walks.{IsTally}
 use Rattle.hv_queue.specs.Queue.{due_by}
@@ -9,6 +9,9 @@ pub returns-then-not-may_ask-clause-due : goal.returns-then-not-may_ask-clause-d
 returns-then-not-may_ask-clause-due c =
     due-none c.args.book.now.entries c.args.table.0 c.args.partition.now c.survey_in-jobs.result c.survey_in-jobs.ensures
     (sym c.may_ask.ensures ∙ c.if-not-may_ask.true)
+
+pub returns-then-not-may_ask-clause-few : goal.returns-then-not-may_ask-clause-few
+returns-then-not-may_ask-clause-few c = λ less. refl
 
 pub returns-then-not-is_counted-clause-few : goal.returns-then-not-is_counted-clause-few
 returns-then-not-is_counted-clause-few c = λ less.
@@ -32,3 +35,6 @@ returns-clause-due c =
     ∙ (λ i. due_by (c.delta_threshold-number.ensures i) (c.percent_threshold-percent.ensures i) reach tally)
     ∙ due-some entries c.args.table.0 c.args.partition.now c.watermark-mark.result.0 c.survey_in-jobs.result reach tally c.survey_in-jobs.ensures c.reach_of-reach.ensures
     is (sym c.may_ask.ensures ∙ c.if-not-may_ask.false) c.watermark-mark.ensures.mark (sym c.is_counted.ensures ∙ c.if-not-is_counted.false)
+
+pub returns-clause-few : goal.returns-clause-few
+returns-clause-few c = λ less. refl
