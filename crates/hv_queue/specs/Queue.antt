@@ -1,9 +1,10 @@
 -- What is said of jobs and of what is due, by what walks have counted.
-use Rattle.std.specs.Prelude.{if◌then◌else◌, ◌≡◌, ℕ, ◌+◌, ◌-◌, ◌*◌, ◌<◌, ◌&&◌, nat_lt, Bool, false, not, is_some, Option, Some, None, List, length, filter, sum_by}
+use Rattle.std.specs.Prelude.{if◌then◌else◌, ◌≡◌, ℕ, ◌+◌, ◌-◌, ◌*◌, ◌<◌, ◌&&◌, nat_lt, Bool, false, not, is_none, is_some, Option, Some, None, List, length, filter, sum_by}
 use Rattle.hv_history.specs.declared.entry.JobKind.{JobKind}
 use Rattle.hv_history.specs.declared.entry.JobKind.TheVariants as kind
 use Rattle.hv_history.specs.State.{State, Job, numbered}
-use Rattle.hv_history.specs.Jobs.{Events, Pieces, is_failed, is_up_to, ids_of, events_in, watermark, is_live_one, unless_empty, kind_over}
+use Rattle.hv_history.specs.Legal.{is_working}
+use Rattle.hv_history.specs.Jobs.{Events, Pieces, is_ready, has_succeeded, is_failed, is_up_to, ids_of, events_in, watermark, is_live_one, unless_empty, kind_over}
 use Rattle.hv_history.specs.Thresholds.{is_behind_place}
 use Rattle.hv_book.specs.declared.jobs.JobNote.{JobNote}
 use Rattle.hv_queue.specs.declared.queue.JobPieces.{JobPieces}
@@ -28,6 +29,18 @@ state_by j = state_if (is_failed j) j.is_empty (is_some j.published) j.is_cleane
 
 abbrev pub note_state : JobNote → JobState
 note_state note = state_if note.is_failed note.is_empty (is_some note.published) note.is_cleaned (is_some note.watermark)
+
+-- nobody took it up, and it has no end
+abbrev pub is_unstarted : Job → Bool
+is_unstarted j = is_none j.watermark && (is_none j.published && (not j.is_empty && is_none j.failure))
+
+-- what a state says of a job, in the history's words
+abbrev pub says : JobState → Job → Bool
+says job.Initiated j = is_unstarted j
+says job.Working j = is_working j
+says job.Ready j = is_ready j
+says job.Succeeded j = has_succeeded j
+says job.Failed j = is_failed j
 
 -- ---- the watermark, by the least write id that is open
 

@@ -1,9 +1,9 @@
-ghost use Rattle.std.specs.Prelude.{◌≡◌, ℕ, ◌+◌, ◌*◌, ◌≤◌, nat_lt, Some, IfOk, IsOk, length};
+ghost use Rattle.std.specs.Prelude.{◌≡◌, ℕ, ◌+◌, ◌*◌, ◌≤◌, nat_lt, Some, IfOk, IsOk, IsTrue, length};
 ghost use Rattle.hv_history.specs.State.{state_of, Job, numbered};
 ghost use Rattle.hv_history.specs.Legal.{one_if};
 ghost use Rattle.hv_history.specs.Jobs.{ids_of, watermark, mark_by, pieces_for, pieces_up_to, is_empty_of, kind_over, unless_empty, is_live_one, due};
 ghost use Rattle.hv_book.specs.Briefs.{brief_job};
-ghost use Rattle.hv_queue.specs.Queue.{state_by, note_state, front_by, number_or, low_by, no_pieces, pieces_by, pieces_in, is_counted, is_much_by, kind_by, due_by, failed_note, may_ask_by, HasFewRows, IsReach};
+ghost use Rattle.hv_queue.specs.Queue.{state_by, note_state, says, front_by, number_or, low_by, no_pieces, pieces_by, pieces_in, is_counted, is_much_by, kind_by, due_by, failed_note, may_ask_by, HasFewRows, IsReach};
 
 use crate::settings::{delta_threshold, is_behind_place, opening, percent_threshold};
 use hv_base::{JobId, NoMemory, TableId, Text, WriteId};
@@ -59,6 +59,7 @@ fn note_state(note: &JobNote) -> JobState
 /// How far the job of this number has come, by its entries alone.
 pub fn job_state(book: &Book, job: JobId) -> JobState
     ensures state { (j : Job) → numbered (state_of book.now.entries).jobs job.0 ≡ Some j → result ≡ state_by j }
+    ensures says { (j : Job) → numbered (state_of book.now.entries).jobs job.0 ≡ Some j → IsTrue (says result j) }
 {
     match numbered(book.jobs(), job.0) {
         Some(note) => note_state(note),
