@@ -38,6 +38,9 @@ or-false : (x : Bool) → x ≡ (x || false)
 or-false true = refl
 or-false false = refl
 
+below-none : (b : ℕ) (x : Bool) → (nat_lt b 0 || x) ≡ x
+below-none b x = ap (λ c. c || x) (le-ltb b 0 (omega arith))
+
 busy-fold : (jobs : List Job) (survey : Survey) → (fold surveyed survey (map brief_job jobs)).busy ≡ (survey.busy || list_any is_busy jobs)
 busy-fold [] survey = or-false survey.busy
 busy-fold (job ∷ jobs) survey =
@@ -149,12 +152,12 @@ module _ (entries : List Entry) (table : ℕ) (partition : List ℕ) where
   busy-is = ap (λ (s : Survey). s.busy) whole-is ∙ busy-fold jobs no_survey
 
   pub base-is : whole.base ≡ base_high jobs
-  base-is = ap (λ (s : Survey). s.base) whole-is ∙ same-below (fold surveyed no_survey (map brief_job jobs)).base (base_high jobs) (λ b. base-fold b jobs no_survey)
+  base-is = ap (λ (s : Survey). s.base) whole-is ∙ same-below (fold surveyed no_survey (map brief_job jobs)).base (base_high jobs) (λ b. base-fold b jobs no_survey ∙ below-none b (nat_lt b (base_high jobs)))
 
   pub compacted-is : whole.compacted ≡ any_high jobs
   compacted-is =
       ap (λ (s : Survey). s.compacted) whole-is
-      ∙ same-below (fold surveyed no_survey (map brief_job jobs)).compacted (any_high jobs) (λ b. compacted-fold b jobs no_survey)
+      ∙ same-below (fold surveyed no_survey (map brief_job jobs)).compacted (any_high jobs) (λ b. compacted-fold b jobs no_survey ∙ below-none b (nat_lt b (any_high jobs)))
 
   pub failed-is : (opening : Option ℕ) → failed_note opening whole.last ≡ failed_behind opening (last_job jobs)
   failed-is opening = ap (λ (s : Survey). failed_note opening s.last) whole-is ∙ ap (failed_note opening) (last-fold jobs no_survey) ∙ failed-last opening (last_job jobs)
