@@ -1,0 +1,4 @@
+pub mod AskLemmas
+pub mod WaitLemmas
+pub mod WorkLemmas
+pub mod LostLemmas

@@ -1,0 +1,7 @@
+mod NoteLemmas
+mod RowLemmas
+mod FrontLemmas
+pub mod SurveyLemmas
+mod SetLemmas
+mod PieceLemmas
+mod DueLemmas

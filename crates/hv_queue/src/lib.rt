@@ -1,0 +1,8 @@
+//! What compaction is due over a book, and how far its jobs have come.
+#![tactic(auto)]
+
+mod digits;
+mod queue;
+mod settings;
+
+pub use queue::{JobPieces, JobState, due, is_empty, is_live, job_state, pieces, watermark};

@@ -1,0 +1,4 @@
+pub mod Tallies
+pub mod Walks
+pub mod Jobs
+pub mod Covered

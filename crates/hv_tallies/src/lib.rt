@@ -1,0 +1,17 @@
+//! What the write ids of a table and the jobs of a partition come to over a book, and which directories a job covers.
+#![tactic(auto)]
+
+mod covering;
+mod covers;
+mod events;
+mod open_ids;
+mod rows;
+mod survey;
+mod tally;
+mod walking;
+
+pub use covering::covered;
+pub use covers::may_go;
+pub use survey::{Survey, asked_at, minor_low, survey_in};
+pub use tally::{Reach, Tally, both, either, one_more};
+pub use walking::walk;
