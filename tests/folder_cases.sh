@@ -1,11 +1,11 @@
 #!/bin/bash
 # What happens around a folder, over real files: tests/folder_cases.sh PROGRAM [EVERY]
 #
-# PROGRAM is the built program, as crates/hive/out/hive. A folder that is exchanged under a run, journals that are missing or
-# empty, and limits of the system. Where EVERY is above 0 and strace is there, a run is also stopped at each EVERY-th of its
-# calls of the system (3 if left out), and something is exchanged there before it goes on, or it is killed there; and a
-# folder is exchanged at moments of chance. Each case that isn't so prints a line; the last line says how many are, and the
-# status is 1 where one isn't.
+# PROGRAM is the built program, as crates/hive/out/hive. A folder that is exchanged, moved or taken away under a run, journals
+# that are missing or empty, and limits of the system and of one text. Where EVERY is above 0 and strace is there, a run is
+# also stopped at each EVERY-th of its calls of the system (3 if left out), and something is exchanged there before it goes
+# on, or it is killed there; and a folder is exchanged at moments of chance. Each case that isn't so prints a line; the last
+# line says how many are, and the status is 1 where one isn't.
 set -u
 # shellcheck source=tests/cases.sh
 . "$(dirname "$(realpath "$0")")/cases.sh"
@@ -66,6 +66,23 @@ exchange_tables() {
 
 take_journal() {
     mkdir kept && mv wh/journal wh/lock kept/
+}
+
+# Nothing takes the place of what these move or take away.
+move_folder() {
+    mv wh old
+}
+
+move_tables() {
+    mv wh/tables wh/kept
+}
+
+move_journal() {
+    mkdir kept && mv wh/journal kept/
+}
+
+remove_folder() {
+    rm -rf wh
 }
 
 # holds PROCESS PATH: the process has it open.
@@ -155,6 +172,22 @@ journal_is_so() {
     has_all wh "$before" && [ $ok = 0 ]
 }
 
+moved_folder_is_so() {
+    [ ! -e wh ] && [ "$(sums other)" = "$(cat wanted)" ] && has_all old "$before"
+}
+
+moved_tables_are_so() {
+    [ ! -e wh/tables ] && mv wh/kept wh/tables && has_all wh "$before"
+}
+
+moved_journal_is_so() {
+    [ ! -e wh/journal ] && mv kept/journal wh/ && has_all wh "$before"
+}
+
+removed_folder_is_so() {
+    [ ! -e wh ] && [ "$(sums other)" = "$(cat wanted)" ]
+}
+
 # exchanged_at_output ACTION: a run waits within a reply of some 200 KB that nobody reads, the action is done, and the run
 # goes on with a statement that changes something.
 exchanged_at_output() {
@@ -180,7 +213,9 @@ exchanged_at_output() {
 
 echo "== exchanged while a reply is printed"
 for kind in standing new; do
-    for case in exchange_folder:folder_is_so exchange_tables:tables_are_so take_journal:journal_is_so; do
+    for case in exchange_folder:folder_is_so exchange_tables:tables_are_so take_journal:journal_is_so \
+        move_folder:moved_folder_is_so move_tables:moved_tables_are_so move_journal:moved_journal_is_so \
+        remove_folder:removed_folder_is_so; do
         fresh
         store other
         [ $kind = new ] || store wh
@@ -188,6 +223,7 @@ for kind in standing new; do
         sums other >wanted
         exchanged_at_output "${case%%:*}"
         so "${case%%:*}, a $kind store: the run ends with 5" is_status 5
+        so "${case%%:*}, a $kind store: the cause is said" said "it isn't the one that this run has opened"
         so "${case%%:*}, a $kind store: the seven rows before are acknowledged" [ "$(acknowledged)" = 7 ]
         so "${case%%:*}, a $kind store: all is as it should be" "${case##*:}"
     done
@@ -314,23 +350,30 @@ for kind in none folder lock journal tables readme; do
     so "the second run is over no new one: $kind" [ ! -s err ]
 done
 
-# limited NUMBER: runs the script with so many descriptors.
+# limited WHAT NUMBER: runs the script with so many descriptors (-n), or so many KB of stack (-s) or memory (-v).
 limited() {
-    bash -c 'ulimit -n "$1" && exec "$2" wh run' - "$1" "$program" <script >out 2>err
+    bash -c 'ulimit "$1" "$2" && exec "$3" wh run' - "$1" "$2" "$program" <script >out 2>err
     status=$?
+}
+
+# nested BEFORE AFTER TIMES TEXT: the text within so many of these.
+nested() {
+    local text=$4
+    for _ in $(seq "$3"); do text=$1$text$2; done
+    echo "$text"
 }
 
 echo "== limits of the system"
 for limit in 4 5 6 7; do
     fresh
     inserts 1 >script
-    limited $limit
+    limited -n $limit
     so "ulimit -n $limit" is_status 5
     so "ulimit -n $limit is said" said "too many files are open"
 done
 fresh
 inserts 1 >script
-limited 8
+limited -n 8
 so "eight descriptors are enough" is_status 0
 fresh
 deep=$(printf 'd%.0s' $(seq 240))
@@ -346,6 +389,25 @@ run "$long/wh" <script
 so "a path of $((${#long} + 3)) bytes is refused" is_status 5
 so "and said to be too long" said "is too long"
 so "nothing stands there" [ "$(find . -name wh | wc -l)" = 1 ]
+while [ ${#long} -lt 4200 ]; do long=$long/$deep; done
+run "$long/wh" <script
+so "a path of $((${#long} + 3)) bytes, which the system doesn't take, is refused" is_status 5
+so "and said to be too long as well" said "is too long"
+fresh
+long=.
+while [ ${#long} -lt 3300 ]; do long=$long/$deep; done
+{
+    echo 'CREATE TABLE p (a INT) PARTITIONED BY (k STRING);'
+    echo "INSERT INTO p VALUES (1, '$(printf 'x%.0s' $(seq 238))');"
+    echo 'SELECT a FROM p;'
+} >script
+for bytes in 3584 3583; do
+    above=$long/$(printf 'e%.0s' $(seq $((bytes - ${#long} - 4))))
+    mkdir -p "$above"
+    run "$above/wh" <script
+    so "a path of $bytes bytes, of which 3583 are taken" is_status $((bytes > 3583 ? 5 : 0))
+done
+so "the longest name of a partition is made in the last one" [ "$(tail -n 1 out)" = 1 ]
 while IFS='|' read -r folder want; do
     run "$folder" <script
     so "$folder is refused" is_status 5
@@ -355,6 +417,30 @@ done <<'S'
 /proc/self/wh|a folder there is gone, or takes no files
 /proc/self/fd/wh|a folder there is gone, or takes no files
 S
+
+echo "== what one text can ask for"
+fresh
+{
+    while IFS='|' read -r front behind; do
+        echo "SELECT $(nested "$front" "$behind" 63 1) AS x;"
+    done <<'S'
+abs(|)
+(|)
+CAST(| AS INT)
+CASE WHEN true THEN | END
+S
+    echo "$(nested 'SELECT x FROM (' ') s' 62 'SELECT 1 AS x');"
+} >script
+limited -s 1024
+so "a stack of 1 MB is enough for the deepest texts" is_status 0
+so "and they are done" [ "$(grep -cx 1 out)" = 5 ]
+{
+    echo 'CREATE TABLE t (a INT);'
+    echo "SELECT $(printf '*,%.0s' $(seq 1999))* FROM t a0$(printf ',t a%s' $(seq 1999));"
+} >script
+limited -v 500000
+so "2,000 stars over 2,000 sources are refused" [ "$(tail -n 1 out)" = 'FAILED 19 Limit' ]
+so "and the run goes on to its end" is_status 1
 
 echo "== a folder with a dropped table"
 fresh
