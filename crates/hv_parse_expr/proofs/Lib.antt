@@ -3,6 +3,7 @@ pub mod Below
 pub mod Depth
 pub mod Found
 pub mod Joins
+pub mod Lone
 pub mod Pushes
 pub mod Reserved
 pub mod Room

@@ -375,9 +375,9 @@ impl<F: Fn(Global, &mut Tokens<'_>, usize) -> Result<Expr, ReadFault>> Grammar<F
         Ok(List::from_vec(found))
     }
 
-    /// `and {OR and}`
+    /// `and {OR and}`, through all levels.
     #[tactic(auto, unfolding(hv_grammar::specs::Reading::disjunction))]
-    pub fn disjunction(&self, tokens: &mut Tokens<'_>) -> Result<Expr, ReadFault>
+    fn whole_disjunction(&self, tokens: &mut Tokens<'_>) -> Result<Expr, ReadFault>
         requires { Nests self.now.depth (F.pre self.now.expr) (F.post self.now.expr) }
         ensures { Reads (reading.disjunction (reading.expr self.now.depth) tokens.old)
             result tokens.new }
@@ -388,5 +388,17 @@ impl<F: Fn(Global, &mut Tokens<'_>, usize) -> Result<Expr, ReadFault>> Grammar<F
         } else {
             Ok(first)
         }
+    }
+
+    /// `and {OR and}`. A literal alone is what each level gives of it, so that it goes through none.
+    pub fn disjunction(&self, tokens: &mut Tokens<'_>) -> Result<Expr, ReadFault>
+        requires { Nests self.now.depth (F.pre self.now.expr) (F.post self.now.expr) }
+        ensures { Reads (reading.disjunction (reading.expr self.now.depth) tokens.old)
+            result tokens.new }
+    {
+        if tokens.sees_lone_literal() {
+            return tokens.literal(self.alloc);
+        }
+        self.whole_disjunction(tokens)
     }
 }

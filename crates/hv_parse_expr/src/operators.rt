@@ -2,6 +2,7 @@
 
 ghost use Rattle.std.specs.Prelude.{◌≡◌, IfOk};
 ghost use Rattle.hv_grammar.specs.Choices as choices;
+ghost use Rattle.hv_parse_expr.specs.Lone as lone;
 
 use hv_ast::{Arithmetic, Binary, Expr, Unary};
 use hv_base::{Boxed, NoMemory};
@@ -74,6 +75,16 @@ pub fn binds(kind: Kind) -> u8
         Kind::OpenIndex => 7,
         Kind::Open | Kind::Dot => 8,
         _ => 0,
+    }
+}
+
+/// A number or a string.
+pub fn is_literal(kind: Kind) -> bool
+    ensures { result ≡ lone.is_literal kind }
+{
+    match kind {
+        Kind::Number | Kind::Text => true,
+        _ => false,
     }
 }
 

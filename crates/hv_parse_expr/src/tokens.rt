@@ -6,10 +6,12 @@ ghost use Rattle.hv_grammar.specs.Choices as choices;
 ghost use Rattle.hv_grammar.specs.QueryReading as query;
 ghost use Rattle.hv_grammar.specs.Reading as reading;
 ghost use Rattle.hv_grammar.specs.StatementReading as statement;
+ghost use Rattle.hv_parse_expr.specs.Lone as lone;
 ghost use Rattle.hv_parse_expr.specs.Reads.{Reads, Holds};
 
 use crate::fault::ReadFault;
 use crate::names::is_name;
+use crate::operators::{binds, is_literal};
 use hv_ast::{CompactionKind, Expr, Lexeme, Literal, Token};
 use hv_base::{Duplicate, Text};
 use hv_grammar::{Kind, kind_of, same_kind};
@@ -147,6 +149,22 @@ impl<'a> Tokens<'a> {
         let behind = self.rest.get(1..).unwrap_or_default();
         let last = self.rest.get(2..).unwrap_or_default();
         is_name(self.peek()) && begins_with(behind, Kind::Dot) && begins_with(last, Kind::Star)
+    }
+
+    /// The kind of the token behind the next one.
+    #[tactic(auto, unfolding(hv_grammar::specs::Readers::next))]
+    fn peek_behind(&self) -> Kind
+        ensures { result ≡ reader.kind_at (reader.next self.now) }
+    {
+        let behind = self.rest.get(1..).unwrap_or_default();
+        first_kind(behind)
+    }
+
+    /// Whether a number or a string comes next, before a token that can't continue it.
+    pub(crate) fn sees_lone_literal(&self) -> bool
+        ensures { result ≡ lone.sees_lone_literal self.now }
+    {
+        is_literal(self.peek()) && binds(self.peek_behind()) == 0
     }
 
     /// The text of the next word, keyword or not, or of an identifier between backquotes.
