@@ -3,4 +3,5 @@ pub mod DateReading
 pub mod DateSteps
 pub mod DateText
 pub mod OrderSteps
+pub mod PlainText
 pub mod PrintSteps

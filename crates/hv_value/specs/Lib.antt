@@ -5,6 +5,7 @@ pub mod HashingLaws
 pub mod Bytes
 pub mod Dates
 pub mod Digits
+pub mod Plain
 pub mod Printing
 pub mod PrintingLaws
 pub mod Conversion

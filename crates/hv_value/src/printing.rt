@@ -1,7 +1,8 @@
 ghost use Rattle.std.specs.Prelude.{◌≡◌, true, map};
 ghost use Rattle.std.specs.Fmt.{signed_decimal};
-ghost use Rattle.std.specs.List.{flat_map, join_with_byte};
+ghost use Rattle.std.specs.List.{flat_map, join_with_byte, list_all};
 ghost use Rattle.hv_value.specs.Dates.{last_digit, civil_text, day_text};
+ghost use Rattle.hv_value.specs.Plain.{is_plain};
 ghost use Rattle.hv_value.specs.Printing.{escaped, string_text, array_text, items_text, item_text, text_of, truth_text, separator, placed_item, printed, Prints};
 
 use crate::dates::CivilDate;
@@ -37,13 +38,49 @@ fn print_byte(byte: u8, in_array: bool, out: &mut Vec<u8>) -> Result<(), NoMemor
     }
 }
 
-fn print_bytes(bytes: &[u8], in_array: bool, out: &mut Vec<u8>) -> Result<(), NoMemory>
+fn print_each(bytes: &[u8], in_array: bool, out: &mut Vec<u8>) -> Result<(), NoMemory>
     ensures { Prints (flat_map (escaped in_array) bytes.now) out.old.items result out.new.items }
 {
     for byte in bytes {
         print_byte(*byte, in_array, out)?;
     }
     Ok(())
+}
+
+// Whether a byte is printed as it is, within an array too.
+#[tactic(auto, unfolding(crate::specs::Plain::is_plain))]
+fn is_plain(byte: u8) -> bool
+    ensures { result ≡ is_plain byte }
+{
+    match byte {
+        b'\t' => false,
+        b'\n' => false,
+        b'\r' => false,
+        b'\\' => false,
+        b'"' => false,
+        _ => true,
+    }
+}
+
+fn are_plain(bytes: &[u8]) -> bool
+    ensures { result ≡ list_all is_plain bytes.now }
+{
+    for byte in bytes {
+        if !is_plain(*byte) {
+            return false;
+        }
+    }
+    true
+}
+
+// Plain bytes at once, and others one by one.
+fn print_bytes(bytes: &[u8], in_array: bool, out: &mut Vec<u8>) -> Result<(), NoMemory>
+    ensures { Prints (flat_map (escaped in_array) bytes.now) out.old.items result out.new.items }
+{
+    if are_plain(bytes) {
+        return append(bytes, out);
+    }
+    print_each(bytes, in_array, out)
 }
 
 fn print_quoted(bytes: &[u8], out: &mut Vec<u8>) -> Result<(), NoMemory>

@@ -1,11 +1,8 @@
-use Rattle.std.proofs.Common.{get_or, refl, arith}
-use Rattle.hv_value.specs.Printing.{escaped}
-use Rattle.hv_value.proofs.PrintSteps.{prints_part, loop_cut}
+use Rattle.std.proofs.Common.{sym, ◌∙◌}
+use Rattle.hv_value.proofs.PlainText.{plain-text}
+use Rattle.hv_value.proofs.PrintSteps.{prints_same}
 use Rattle.hv_value.proofs.printing.print_bytes.Goals as goal
 
-pub returns-in_err-print_byte : goal.returns-in_err-print_byte
-returns-in_err-print_byte c =
-    let bytes = c.args.bytes.now in
-    let i = c.loop-byte.byte-index in
-    prints_part _ _ _ _ c.from_residual.ensures.0
-    (loop_cut (escaped c.args.in_array) bytes i (get_or bytes i 0) 0 _ _ _ (omega arith) refl c.loop-byte.invariant c.in_err-print_byte.ensures)
+pub returns-then-are_plain : goal.returns-then-are_plain
+returns-then-are_plain c =
+    prints_same _ _ _ _ _ (sym (plain-text c.args.in_array c.args.bytes.now (sym c.are_plain.ensures ∙ c.if-are_plain.true))) c.append.ensures

@@ -1,7 +1,7 @@
 use Rattle.std.proofs.Common.{◌≡◌, ◌++◌, take}
 use Rattle.std.specs.List.{flat_map}
 use Rattle.hv_value.specs.Printing.{escaped}
-use Rattle.hv_value.proofs.printing.print_bytes.Given as goal
+use Rattle.hv_value.proofs.printing.print_each.Given as goal
 
 abbrev pub invariant-loop-byte : goal.invariant-loop-byte
 invariant-loop-byte l =
