@@ -14,13 +14,15 @@ use crate::symbols::symbol;
 use crate::words::{begins_word, quoted, word};
 use std::alloc::Global;
 
-fn is_space(byte: u8) -> bool
+/// A space, a tab, CR or LF.
+pub fn is_space(byte: u8) -> bool
     ensures { result ≡ is_space byte }
 {
     byte == b' ' || byte == b'\t' || byte == b'\r' || byte == b'\n'
 }
 
-fn is_quote(byte: u8) -> bool
+/// A single or a double quote.
+pub fn is_quote(byte: u8) -> bool
     ensures { result ≡ is_quote byte }
 {
     byte == b'\'' || byte == b'"'

@@ -14,14 +14,14 @@ use crate::words::continues_word;
 use hv_ast::Lexeme;
 
 /// How many digits stand at the front.
-fn digits_length(text: &[u8]) -> usize
+pub fn digits_length(text: &[u8]) -> usize
     ensures { result ≡ prefix_len is_ascii_digit text.now }
 {
     text.iter().take_while(|byte| byte.is_ascii_digit()).count()
 }
 
 /// The number that the digits write, None exactly where it is above `i64::MAX`.
-fn value_of(digits: &[u8]) -> Option<i64>
+pub fn value_of(digits: &[u8]) -> Option<i64>
     requires { AllDigits 10 digits.now }
     ensures { let value = digits_value 10 digits.now in SomeIff result (value < 2 ^ 63) (pos value) }
 {

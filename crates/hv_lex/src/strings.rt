@@ -19,7 +19,7 @@ fn is_free(taken: bool, byte: u8, wanted: u8) -> bool
 }
 
 /// How many bytes stand before the closing quote.
-fn closing(quote: u8, text: &[u8]) -> Option<usize>
+pub fn closing(quote: u8, text: &[u8]) -> Option<usize>
     ensures { result ≡ closing quote false text.now }
 {
     let mut taken = false;
@@ -81,7 +81,7 @@ fn push_character(content: &mut Vec<u8>, taken: bool, at: usize, byte: u8) -> Re
 }
 
 /// What the text between two quotes stands for, where it begins at `at`.
-fn unescaped(alloc: Global, at: usize, text: &[u8]) -> Result<Vec<u8>, LexFault>
+pub fn unescaped(alloc: Global, at: usize, text: &[u8]) -> Result<Vec<u8>, LexFault>
     requires { (0 < at) × (at + length text.now < 2 ^ 64) }
     ensures { IsUnescaped (unescaped false at text.now) result }
 {

@@ -28,7 +28,7 @@ pub fn continues_word(byte: u8) -> bool
 }
 
 /// How many characters of a word stand at the front.
-fn word_length(text: &[u8]) -> usize
+pub fn word_length(text: &[u8]) -> usize
     ensures { result ≡ prefix_len continues_word text.now }
 {
     text.iter()
@@ -47,7 +47,7 @@ fn lowered(alloc: Global, letters: &[u8]) -> Result<Vec<u8>, NoMemory>
 }
 
 /// ASCII characters in lower case.
-fn lower_case(alloc: Global, letters: &[u8]) -> Result<Text, NoMemory>
+pub fn lower_case(alloc: Global, letters: &[u8]) -> Result<Text, NoMemory>
     requires { IsAscii letters.now }
     ensures { IfOk result (λ text. text ≡ map to_ascii_lowercase letters.now) }
 {

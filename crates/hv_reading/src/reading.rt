@@ -11,12 +11,11 @@ use hv_base::Text;
 use hv_built::is_built;
 use hv_lex::lex;
 use hv_parse_stmt::{is_set, parse_set, parse_stmt};
+use hv_values_text::{Unread, read_values};
 use std::alloc::Global;
 
-/// The statement that a text is, of any form of the language. The error of a SET text is `Syntax`;
-/// of another the first fault of its characters by place, else `Nesting` at the first token that
-/// opens a level too many, else `Syntax`.
-pub fn read_text(alloc: Global, text: &Text) -> Result<Stmt, TextFault>
+/// The statement that a text of any form is: a SET text by its own rule, another by its tokens.
+fn read_any(alloc: Global, text: &Text) -> Result<Stmt, TextFault>
     ensures tree { IfOk result (λ tree. tree_of text.now ≡ Some tree) }
     ensures fault { IfErr result (λ fault. IsFaultOf fault text.now) }
 {
@@ -25,6 +24,21 @@ pub fn read_text(alloc: Global, text: &Text) -> Result<Stmt, TextFault>
     }
     let tokens = lex(alloc, text)?;
     Ok(parse_stmt(&tokens, alloc)?)
+}
+
+/// The statement that a text is, of any form of the language. The error of a SET text is `Syntax`;
+/// of another the first fault of its characters by place, else `Nesting` at the first token that
+/// opens a level too many, else `Syntax`. Most of a journal is INSERTs of written out values, which are
+/// read from their bytes.
+pub fn read_text(alloc: Global, text: &Text) -> Result<Stmt, TextFault>
+    ensures tree { IfOk result (λ tree. tree_of text.now ≡ Some tree) }
+    ensures fault { IfErr result (λ fault. IsFaultOf fault text.now) }
+{
+    match read_values(alloc, text) {
+        Ok(tree) => Ok(tree),
+        Err(Unread::Unknown) => read_any(alloc, text),
+        Err(Unread::NoMemory) => Err(TextFault::NoMemory),
+    }
 }
 
 /// The statement that a text is, where it is of a form that runs today. The error is the text's

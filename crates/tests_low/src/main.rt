@@ -9,6 +9,7 @@ mod cells;
 mod dates;
 mod dirs;
 mod ids;
+mod inserts;
 mod language;
 mod merges;
 mod routes;
@@ -48,6 +49,7 @@ fn call(
         "merge" => merges::answer(alloc, out, words),
         "route" => routes::answer(alloc, out, call, words),
         "language" => language::answer(alloc, out, call, words),
+        "inserts" => inserts::answer(alloc, out, words),
         _ => Ok(()),
     }
 }

@@ -1,0 +1,5 @@
+pub mod Fronts
+pub mod Laws
+pub mod Parts
+pub mod Passing
+pub mod Ways
