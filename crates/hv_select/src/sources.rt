@@ -1,8 +1,8 @@
 //! Sources and joins.
 
-ghost use Rattle.std.specs.Prelude.{◌≡◌, ◌++◌, IfOk, map, ◌∷◌, []};
-ghost use Rattle.hv_typing.specs.Faults.{Types};
-ghost use Rattle.hv_typing.specs.Sources.{is_among, is_taken, filter_typed, output_field, query_brought, first_source, join_kind, with_join, shows_right, joined_with, join_onto, opened_none, opened_of};
+ghost use Rattle.std.specs.Prelude.{◌≡◌, ◌++◌, IfOk, Ok, map, take, length, ◌∷◌, []};
+ghost use Rattle.hv_typing.specs.Faults.{Types, and_then};
+ghost use Rattle.hv_typing.specs.Sources.{is_among, is_taken, filter_typed, output_field, query_brought, first_source, join_kind, with_join, shows_right, if_shown, joined_with, join_onto, opened_none, opened_of};
 
 use hv_ast::{Expr, JoinKind as WrittenKind};
 use hv_base::{Boxed, Duplicate, List, NoMemory, Refusal, Text};
@@ -117,9 +117,7 @@ fn from_first(alloc: Global, source: TypedSource, width: u32) -> Result<Boxed<Ty
 pub fn first_source(alloc: Global, first: Boxed<Brought>) -> Result<Boxed<Sources>, NoMemory>
     ensures { IfOk result (λ sources. sources ≡ first_source first) }
 {
-    let Ok(width) = u32::try_from(first.get().fields.len()) else {
-        return Err(NoMemory);
-    };
+    let width = width_of(first.get().fields.as_slice())?;
     let Brought {
         source,
         alias,
@@ -186,41 +184,6 @@ fn shows_right(written: WrittenKind) -> bool
     }
 }
 
-fn field_copied(alloc: Global, field: &Field) -> Result<Field, NoMemory>
-    ensures { IfOk result (λ copied. copied ≡ field.now) }
-{
-    Ok(Field {
-        source: field.source.duplicate(alloc)?,
-        name: field.name.duplicate(alloc)?,
-        kind: field.kind,
-    })
-}
-
-fn fields_copied(alloc: Global, fields: &[Field]) -> Result<Vec<Field>, NoMemory>
-    ensures { IfOk result (λ copied. copied.items ≡ fields.now) }
-{
-    let mut copied = Vec::with_capacity(alloc, fields.len())?;
-    for field in fields {
-        copied.push(field_copied(alloc, field)?)?;
-    }
-    Ok(copied)
-}
-
-// ON sees the columns of both sides.
-fn on_typed(
-    alloc: Global,
-    left: &[Field],
-    right: &[Field],
-    on: &Option<Expr>,
-) -> Result<Option<Boxed<TypedExpr>>, TypeFault>
-    ensures { Types result (filter_typed (left.now ++ right.now) on.now) }
-{
-    let mut fields = fields_copied(alloc, left)?;
-    let mut more = fields_copied(alloc, right)?;
-    fields.append(&mut more)?;
-    filter_typed(alloc, fields.as_slice(), on)
-}
-
 pub(crate) fn with_name(names: List<Text>, name: Text) -> Result<List<Text>, NoMemory>
     ensures { IfOk result (λ made. made ≡ names ++ name ∷ []) }
 {
@@ -236,6 +199,23 @@ pub(crate) fn with_fields(fields: List<Field>, more: List<Field>) -> Result<List
     let mut more = more.into_vec();
     fields.append(&mut more)?;
     Ok(List::from_vec(fields))
+}
+
+fn first_fields(fields: List<Field>, count: usize) -> List<Field>
+    ensures { result ≡ take count fields }
+{
+    let mut fields = fields.into_vec();
+    fields.truncate(count);
+    List::from_vec(fields)
+}
+
+fn width_of(fields: &[Field]) -> Result<u32, NoMemory>
+    ensures { IfOk result (λ width. width ≡ length fields.now) }
+{
+    let Ok(width) = u32::try_from(fields.len()) else {
+        return Err(NoMemory);
+    };
+    Ok(width)
 }
 
 fn join_of(
@@ -254,18 +234,53 @@ fn join_of(
     }
 }
 
+// Behind the join, where the columns of both sides stand, so many of them the left ones.
 fn joined_with(
+    alloc: Global,
+    sources: Sources,
+    left: usize,
+    written: WrittenKind,
+    alias: Text,
+    join: TypedJoin,
+) -> Result<Boxed<Sources>, NoMemory>
+    ensures { IfOk result (λ joined. joined ≡ record { from = with_join sources.from join; aliases = if_shown written (sources.aliases ++ alias ∷ []) sources.aliases; hidden = if_shown written sources.hidden (sources.hidden ++ alias ∷ []); fields = if_shown written sources.fields (take left sources.fields) }) }
+{
+    let Sources {
+        from,
+        aliases,
+        hidden,
+        fields,
+    } = sources;
+    let from = with_join(alloc, from, join)?;
+    let made = if shows_right(written) {
+        Sources {
+            from,
+            aliases: with_name(aliases, alias)?,
+            hidden,
+            fields,
+        }
+    } else {
+        Sources {
+            from,
+            aliases,
+            hidden: with_name(hidden, alias)?,
+            fields: first_fields(fields, left),
+        }
+    };
+    Boxed::new(alloc, made)
+}
+
+// ON sees the columns of both sides.
+fn joined_on(
     alloc: Global,
     sources: Boxed<Sources>,
     written: WrittenKind,
+    on: &Option<Expr>,
     right: Boxed<Brought>,
-    on: Option<Boxed<TypedExpr>>,
-) -> Result<Boxed<Sources>, NoMemory>
-    ensures { IfOk result (λ joined. joined ≡ joined_with sources written right on) }
+) -> Result<Boxed<Sources>, TypeFault>
+    ensures { Types result (and_then (filter_typed (sources.fields ++ right.fields) on.now) (λ on. Ok (joined_with sources written right on))) }
 {
-    let Ok(width) = u32::try_from(right.get().fields.len()) else {
-        return Err(NoMemory);
-    };
+    let width = width_of(right.get().fields.as_slice())?;
     let Brought {
         source,
         alias,
@@ -277,23 +292,17 @@ fn joined_with(
         hidden,
         fields,
     } = sources.into_inner();
-    let from = with_join(alloc, from, join_of(written, source, width, on))?;
-    let made = if shows_right(written) {
-        Sources {
-            from,
-            aliases: with_name(aliases, alias)?,
-            hidden,
-            fields: with_fields(fields, more)?,
-        }
-    } else {
-        Sources {
-            from,
-            aliases,
-            hidden: with_name(hidden, alias)?,
-            fields,
-        }
+    let left = fields.len();
+    let fields = with_fields(fields, more)?;
+    let on = filter_typed(alloc, fields.as_slice(), on)?;
+    let join = join_of(written, source, width, on);
+    let both = Sources {
+        from,
+        aliases,
+        hidden,
+        fields,
     };
-    Boxed::new(alloc, made)
+    Ok(joined_with(alloc, both, left, written, alias, join)?)
 }
 
 /// A source that is joined: its alias, then ON.
@@ -310,9 +319,7 @@ pub fn join_onto(
     if is_taken(sources.get(), &right.get().alias) {
         return Err(AMBIGUOUS);
     }
-    let left = sources.get().fields.as_slice();
-    let on = on_typed(alloc, left, right.get().fields.as_slice(), on)?;
-    Ok(joined_with(alloc, sources, written, right, on)?)
+    joined_on(alloc, sources, written, on, right)
 }
 
 /// Without FROM there is one row without values.
